@@ -1,0 +1,17 @@
+mod Examples
+pub mod Blocks
+pub mod Multiples
+pub mod Pairs
+pub mod CoverLevels
+pub mod CoverMembers
+pub mod CoverSize
+pub mod Covers
+pub mod CoverBlocks
+pub mod CoverPieces
+pub mod Powers
+pub mod PortRanges
+pub mod Prefixes
+pub mod CommonKeys
+pub mod Ranks
+pub mod RuleSets
+pub mod Routes
