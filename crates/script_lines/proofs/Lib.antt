@@ -1,0 +1,6 @@
+mod Examples
+pub mod FirstLines
+pub mod Told
+mod Scans
+mod Buffers
+mod Hands

@@ -1,0 +1,6 @@
+pub mod Cause
+pub mod Lines
+pub mod Reader
+pub mod Memory
+pub mod Buffer
+pub mod Scan

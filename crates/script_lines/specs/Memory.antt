@@ -1,0 +1,64 @@
+-- Sources and sinks in memory, as contracts see them.
+use Rattle.std.specs.Prelude.{ℕ, ◌+◌, ◌-◌, ◌^◌, ◌<◌, min, max, List, ◌++◌, length, Contains}
+
+-- the greatest count
+abbrev pub last_count : ℕ
+last_count = 2 ^ 64 - 1
+
+-- a count is raised by one, and stands at its last value
+abbrev pub raised : ℕ → ℕ
+raised count = min (count + 1) last_count
+
+-- the numbers of the calls that are to fail, from 1, and how many calls were made
+pub record CallCount : Type 0 where
+  pub listed : List ℕ
+  pub made : ℕ
+
+-- the next call is listed
+abbrev pub IsNextListed : CallCount → Type 0
+IsNextListed count = (count.made < last_count) × Contains count.listed (count.made + 1)
+
+-- one call more
+abbrev pub with_call : CallCount → CallCount
+with_call count = record count { made = raised count.made }
+
+-- what a sink in memory has: its bytes, the room that is made for more, and how often a write failed
+pub record Kept : Type 0 where
+  pub bytes : List ℕ
+  pub room : ℕ
+  pub failed : ℕ
+
+-- room for so many bytes more, or what was made before
+abbrev pub with_room : Kept → ℕ → Kept
+with_room kept n = record kept { room = max kept.room n }
+
+-- the whole piece is taken
+abbrev pub with_piece : Kept → List ℕ → Kept
+with_piece kept piece = record kept { bytes = kept.bytes ++ piece; room = kept.room - length piece }
+
+-- a failed write that took nothing
+abbrev pub with_fault : Kept → Kept
+with_fault kept = record kept { failed = raised kept.failed }
+
+-- what a failing sink has
+pub record FailingKept : Type 0 where
+  pub kept : Kept
+  pub calls : CallCount
+
+-- what a failing source has: the bytes left, the most bytes of a read, how often a read failed, and its calls
+pub record FailingLeft : Type 0 where
+  pub bytes : List ℕ
+  pub piece : ℕ
+  pub failed : ℕ
+  pub calls : CallCount
+
+-- so many bytes are left, each of them this one, and a read gives so many at most
+pub record Filling : Type 0 where
+  pub byte : ℕ
+  pub count : ℕ
+  pub piece : ℕ
+
+-- what an adapter has: the reader or writer, and how often it failed
+pub record Counted (Inner : Type 0) : Type 0 where
+  pub inner : Inner
+  pub failed : ℕ

@@ -1,0 +1,105 @@
+// Std's readers and writers as sources and sinks.
+ghost use Rattle.std.specs.Prelude.{◌≡◌, ◌<◌, ◌≤◌, ℕ, length, take, IfSome, IfNone};
+ghost use Rattle.std.specs.Io.KnownBytes.{Appends};
+
+use crate::counts::fail;
+use crate::{Failed, Sink, Source};
+use std::io::{Read, Write};
+use std::marker::Model;
+
+/// Std's reader as a source. It tells of its bytes what the reader tells, and each error of the reader
+/// is a failure.
+#[derive(Drop)]
+pub struct ReadFrom<R> {
+    reader: R,
+    failed: u64,
+}
+
+impl<R> Model for ReadFrom<R> {
+    ghost use Rattle.script_lines.specs.Memory.{Counted};
+
+    ghost Value = { Counted R };
+
+    ghost view = { λ s. record { inner = s.reader; failed = s.failed } };
+}
+
+impl<R> ReadFrom<R> {
+    /// A source over this reader, which hasn't failed yet. Takes no memory.
+    pub fn new(reader: R) -> ReadFrom<R>
+        ensures { result ≡ record { inner = reader; failed = 0 } }
+    {
+        ReadFrom { reader, failed: 0 }
+    }
+}
+
+impl<R: Read> Source for ReadFrom<R> {
+    ghost left = { λ s. R.remaining s.inner };
+
+    ghost faults = { λ s. s.failed };
+
+    fn read(&mut self, into: &mut [u8]) -> Result<usize, Failed> {
+        match self.reader.read(into) {
+            Ok(n) => Ok(n),
+            Err(_) => Err(fail(&mut self.failed)),
+        }
+    }
+}
+
+/// Std's writer as a sink. It tells of its bytes what the writer tells. It flushes after each write. An
+/// error of the writer, a failed flush, and a write that takes nothing of a piece that isn't empty are
+/// failures.
+#[derive(Drop)]
+pub struct WriteTo<W> {
+    writer: W,
+    failed: u64,
+}
+
+impl<W> Model for WriteTo<W> {
+    ghost use Rattle.script_lines.specs.Memory.{Counted};
+
+    ghost Value = { Counted W };
+
+    ghost view = { λ s. record { inner = s.writer; failed = s.failed } };
+}
+
+impl<W> WriteTo<W> {
+    /// A sink over this writer, which hasn't failed yet. Takes no memory.
+    pub fn new(writer: W) -> WriteTo<W>
+        ensures { result ≡ record { inner = writer; failed = 0 } }
+    {
+        WriteTo { writer, failed: 0 }
+    }
+}
+
+impl<W: Write> Sink for WriteTo<W> {
+    ghost taken = { λ s. W.contents s.inner };
+
+    ghost faults = { λ s. s.failed };
+
+    fn write(&mut self, from: &[u8]) -> Result<usize, Failed> {
+        match written(&mut self.writer, from) {
+            Some(n) => Ok(n),
+            None => Err(fail(&mut self.failed)),
+        }
+    }
+}
+
+// Writes and flushes. None: one of the two failed, or nothing of a piece was taken.
+fn written<W: Write>(writer: &mut W, from: &[u8]) -> Option<usize>
+    ensures some { 0 < length from.now → IfSome result (λ n. 0 < n) }
+    ensures count { IfSome result (λ n. n ≤ length from.now) }
+    ensures bytes { IfSome result (λ n. Appends (W.contents writer.old) (W.contents writer.new) (take n from.now)) }
+    ensures part { IfNone result ((n : ℕ) × (n ≤ length from.now) × Appends (W.contents writer.old) (W.contents writer.new) (take n from.now)) }
+{
+    let n = match writer.write(from) {
+        Ok(n) => n,
+        Err(_) => return None,
+    };
+    if n == 0 && !from.is_empty() {
+        return None;
+    }
+    match writer.flush() {
+        Ok(()) => Some(n),
+        Err(_) => None,
+    }
+}

@@ -1,0 +1,91 @@
+// Bytes that are read and not used.
+ghost use Rattle.std.specs.Prelude.{◌≡◌, ◌<◌, ◌≤◌, ◌+◌, [], length, drop, slice_range, IfOk, OnErr};
+ghost use Rattle.std.specs.Io.KnownBytes.{Keeps};
+ghost use Rattle.script_lines.specs.Cause.{HasCause};
+ghost use Rattle.script_lines.specs.Buffer.{Gains};
+
+use crate::{Failed, Source};
+use std::marker::Model;
+
+// A line and what a read gave beyond it.
+pub const BUFFER_BYTES: usize = 4096;
+
+// Contracts see the bytes held, in their order.
+#[derive(Drop)]
+pub struct Buffer {
+    array: [u8; BUFFER_BYTES],
+    start: usize,
+    end: usize,
+}
+
+impl Model for Buffer {
+    ghost use Rattle.std.specs.Prelude.{◌≤◌, ℕ, List, slice_range};
+
+    ghost Value = { List ℕ };
+
+    ghost view = { λ b. slice_range b.array b.start b.end };
+
+    ghost invariant = { λ b. (b.start ≤ b.end) × (b.end ≤ 4096) };
+}
+
+impl Buffer {
+    pub fn new() -> Buffer
+        ensures { result ≡ [] }
+    {
+        Buffer {
+            array: [0; BUFFER_BYTES],
+            start: 0,
+            end: 0,
+        }
+    }
+
+    // The bytes held.
+    pub fn bytes(&self) -> &[u8]
+        ensures { result.now ≡ self.now }
+    {
+        &self.array[self.start..self.end]
+    }
+
+    // Lets go of the first n bytes.
+    pub fn skip(&mut self, n: usize)
+        requires { n ≤ length self.old }
+        ensures { self.new ≡ drop n self.old }
+    {
+        self.start += n;
+    }
+
+    // Reads more bytes after those held, and answers how many; none at the end of the input.
+    pub fn fill<S: Source>(&mut self, source: &mut S) -> Result<usize, Failed>
+        requires { length self.old < 4096 }
+        ensures ok { IfOk result (λ n. Gains self.old self.new (S.left source.old) (S.left source.new) n) }
+        ensures err { OnErr result (self.new ≡ self.old) }
+        ensures left_err { OnErr result (Keeps (S.left source.old) (S.left source.new)) }
+        ensures cause { HasCause (S.faults source.old) (S.faults source.new) result }
+    {
+        make_room(&mut self.array, &mut self.start, &mut self.end);
+        match source.read(&mut self.array[self.end..]) {
+            Ok(n) => {
+                self.end += n;
+                Ok(n)
+            }
+            Err(failed) => Err(failed),
+        }
+    }
+}
+
+// Where the array is used up, the bytes held move to its front.
+fn make_room(array: &mut [u8; BUFFER_BYTES], start: &mut usize, end: &mut usize)
+    requires order { start.old ≤ end.old }
+    requires within { end.old ≤ 4096 }
+    requires short { end.old < start.old + 4096 }
+    ensures len { length array.new ≡ 4096 }
+    ensures order { start.new ≤ end.new }
+    ensures room { end.new < 4096 }
+    ensures same { slice_range array.new start.new end.new ≡ slice_range array.old start.old end.old }
+{
+    if *end == BUFFER_BYTES {
+        array.copy_within(*start.., 0);
+        *end -= *start;
+        *start = 0;
+    }
+}

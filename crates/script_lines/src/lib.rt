@@ -1,0 +1,78 @@
+//! Where a script comes from, where a report goes, and the lines of a script.
+//!
+//! - A `Source` gives bytes and a `Sink` takes them. Each may tell its bytes (`left`, `taken`), and each
+//!   counts its failures (`faults`), so that a contract above says what was read and written, and
+//!   answers a failure only where the count rose.
+//! - `Lines` cuts what a source gives into lines. Where the reads cut the bytes doesn't matter: a line
+//!   is handed out as soon as it is whole, and nothing is read while a whole line or a faulty byte is
+//!   held. It has a buffer of its own and takes no memory.
+//! - `MemSource`, `MemSink` and `FillSource` stand in for files, `FailSource` and `FailSink` fail at the
+//!   calls that they are told to, `ReadFrom` and `WriteTo` adapt std's readers and writers.
+//!
+//! What isn't told isn't claimed: std's input and output tell nothing of their bytes.
+#![tactic(auto)]
+
+mod adapters;
+mod buffer;
+mod counts;
+mod fake;
+mod memory;
+mod reader;
+mod scan;
+mod sink;
+mod source;
+#[cfg(test)]
+mod tests;
+
+pub use adapters::{ReadFrom, WriteTo};
+pub use fake::{FailSink, FailSource};
+pub use memory::{FillSource, MemSink, MemSource};
+pub use reader::Lines;
+pub use sink::{Sink, write_all};
+pub use source::Source;
+use thiserror::Error;
+
+/// The bytes of a line that is not too long, without its line feed.
+pub const LINE_BYTES: usize = 512;
+
+/// The bytes of a script that is not too long.
+pub const SCRIPT_BYTES: u32 = 16_777_216;
+
+/// A line of a script: its number, from 1, and its bytes without the line feed, which are the first
+/// `len` of `bytes`. The others are 0.
+#[derive(Clone, Copy, Debug, PartialEq, Eq)]
+pub struct Line {
+    pub number: u32,
+    pub len: u16,
+    pub bytes: [u8; LINE_BYTES],
+}
+
+/// Why no line comes. Where it is a byte, `line` is the number of its line, from 1.
+#[derive(Clone, Copy, Debug, PartialEq, Eq, Error)]
+pub enum LineFault {
+    /// The source failed. What was read before is kept, and a later call goes on with it.
+    #[error("read failed")]
+    Read,
+    /// There is a byte after the first 16,777,216 of the script.
+    #[error("script too long")]
+    ScriptTooLong { line: u32 },
+    /// A line has a byte after its first 512, and it is no line feed.
+    #[error("line too long")]
+    TooLong { line: u32 },
+    /// A byte is neither printable (32 to 126) nor a tab, a carriage return or a line feed.
+    #[error("bad byte")]
+    BadByte { line: u32 },
+}
+
+/// Whether lines go on, are at their end, or stopped at a fault.
+#[derive(Clone, Copy, Debug, PartialEq, Eq)]
+pub enum Over {
+    Going,
+    Ended,
+    Stopped(LineFault),
+}
+
+/// A call of a source or a sink failed.
+#[derive(Clone, Copy, Debug, PartialEq, Eq, Error)]
+#[error("a read or a write failed")]
+pub struct Failed;

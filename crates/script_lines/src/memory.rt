@@ -1,0 +1,193 @@
+// A source and a sink in memory, and a source of one byte again and again.
+ghost use Rattle.std.specs.Prelude.{◌≡◌, ◌<◌, ◌≤◌, ℕ, List, [], Option, Some, length, IfOk, OnOk, OnErr};
+ghost use Rattle.script_lines.specs.Memory.{Kept, Filling};
+
+use crate::counts::fail;
+use crate::{Failed, Sink, Source};
+use std::alloc::{AllocError, Global};
+use std::marker::Model;
+
+/// These bytes, as many at a time as the buffer takes. It never fails.
+#[derive(Drop)]
+pub struct MemSource<'a> {
+    bytes: &'a [u8],
+}
+
+impl<'a> Model for MemSource<'a> {
+    ghost Value = { List ℕ };
+
+    ghost view = { λ s. s.bytes.now };
+}
+
+impl<'a> MemSource<'a> {
+    /// A source that has these bytes left. Takes no memory.
+    pub fn new(bytes: &'a [u8]) -> MemSource<'a>
+        ensures { result ≡ bytes.entry.now }
+    {
+        MemSource { bytes }
+    }
+}
+
+impl Source for MemSource<'_> {
+    ghost use Rattle.std.specs.Prelude.{◌≡◌, ◌≤◌, length, min, Ok, Some, IfOk};
+    ghost use Rattle.std.specs.Io.KnownBytes.{ReadConsumes};
+    ghost use Rattle.script_lines.specs.Cause.{HasCause};
+
+    ghost left = { λ s. Some s };
+
+    ghost faults = { λ s. 0 };
+
+    fn read(&mut self, into: &mut [u8]) -> Result<usize, Failed>
+        ensures count { IfOk result (λ n. n ≤ length into.new) }
+        ensures bytes { ReadConsumes (Some self.old) (Some self.new) result into.new }
+        ensures cause { HasCause 0 0 result }
+        ensures most { result ≡ Ok (min (length self.old) (length into.new)) }
+    {
+        let n = self.bytes.len().min(into.len());
+        into[..n].copy_from_slice(&self.bytes[..n]);
+        self.bytes = &self.bytes[n..];
+        Ok(n)
+    }
+}
+
+/// One byte so many times, without memory for them. It never fails.
+#[derive(Drop)]
+pub struct FillSource {
+    byte: u8,
+    count: u32,
+    piece: u32,
+}
+
+impl Model for FillSource {
+    ghost Value = { Filling };
+
+    ghost view = { λ s. record { byte = s.byte; count = s.count; piece = s.piece } };
+
+    ghost invariant = { λ s. 0 < s.piece };
+}
+
+impl FillSource {
+    /// A source that has `count` times `byte` left, and gives at most `piece` of them at a time. Takes no
+    /// memory.
+    pub fn new(byte: u8, count: u32, piece: u32) -> FillSource
+        requires some { 0 < piece }
+        ensures { result ≡ record { byte = byte; count = count; piece = piece } }
+    {
+        FillSource { byte, count, piece }
+    }
+}
+
+impl Source for FillSource {
+    ghost use Rattle.std.specs.Prelude.{◌≡◌, ◌≤◌, length, min, replicate, Ok, Some, IfOk};
+    ghost use Rattle.std.specs.Io.KnownBytes.{ReadConsumes};
+    ghost use Rattle.script_lines.specs.Cause.{HasCause};
+
+    ghost left = { λ s. Some (replicate s.count s.byte) };
+
+    ghost faults = { λ s. 0 };
+
+    fn read(&mut self, into: &mut [u8]) -> Result<usize, Failed>
+        ensures count { IfOk result (λ n. n ≤ length into.new) }
+        ensures bytes { ReadConsumes (Some (replicate self.old.count self.old.byte)) (Some (replicate self.new.count self.new.byte)) result into.new }
+        ensures cause { HasCause 0 0 result }
+        ensures most { result ≡ Ok (min (min self.old.count self.old.piece) (length into.new)) }
+        ensures byte { self.new.byte ≡ self.old.byte }
+        ensures piece { self.new.piece ≡ self.old.piece }
+    {
+        let n = (self.count.min(self.piece) as usize).min(into.len());
+        into[..n].fill(self.byte);
+        self.count -= n as u32;
+        Ok(n)
+    }
+}
+
+/// Bytes in memory. Room for them is made beforehand, and a write takes no memory.
+#[derive(Drop)]
+pub struct MemSink {
+    bytes: Vec<u8>,
+    room: u64,
+    failed: u64,
+}
+
+impl Model for MemSink {
+    ghost use Rattle.std.specs.Prelude.{◌+◌, ◌≤◌, vec_len, vec_capacity};
+    ghost use Rattle.script_lines.specs.Memory.{Kept};
+
+    ghost Value = { Kept };
+
+    ghost view = { λ s. record { bytes = s.bytes.items; room = s.room; failed = s.failed } };
+
+    ghost invariant = { λ s. vec_len s.bytes + s.room ≤ vec_capacity s.bytes };
+}
+
+impl MemSink {
+    ghost use Rattle.std.specs.Prelude.{◌≡◌, ◌≤◌, [], IfOk, OnOk, OnErr};
+    ghost use Rattle.script_lines.specs.Memory.{with_fault, with_room};
+
+    /// A sink with no bytes and no room.
+    pub fn new(alloc: Global) -> Result<MemSink, AllocError>
+        ensures { IfOk result (λ sink. sink ≡ record { bytes = []; room = 0; failed = 0 }) }
+    {
+        Ok(MemSink {
+            bytes: Vec::new(alloc),
+            room: 0,
+            failed: 0,
+        })
+    }
+
+    /// Makes room for `n` more bytes than there are now; room that was made before counts. Refused for want
+    /// of memory alone, and then all is as it was.
+    pub fn reserve(&mut self, n: u64) -> Result<(), AllocError>
+        ensures ok { OnOk result (self.new ≡ with_room self.old n) }
+        ensures err { OnErr result (self.new ≡ self.old) }
+    {
+        self.bytes.reserve(n as usize)?;
+        self.room = self.room.max(n);
+        Ok(())
+    }
+
+    /// The bytes so far.
+    pub fn bytes(&self) -> &[u8]
+        ensures { result.now ≡ self.now.bytes }
+    {
+        &self.bytes
+    }
+
+    // Counts a failed write.
+    pub(crate) fn fail(&mut self) -> Failed
+        ensures counted { self.new ≡ with_fault self.old }
+        ensures later { self.old.failed ≤ self.new.failed }
+    {
+        fail(&mut self.failed)
+    }
+}
+
+impl Sink for MemSink {
+    ghost use Rattle.std.specs.Prelude.{◌≡◌, ◌↔◌, ◌<◌, ◌≤◌, ℕ, length, take, Some, Ok, IsOk, IfOk, OnOk, OnErr};
+    ghost use Rattle.std.specs.Io.KnownBytes.{Appends};
+    ghost use Rattle.script_lines.specs.Cause.{HasCause};
+    ghost use Rattle.script_lines.specs.Memory.{with_piece, with_fault};
+
+    ghost taken = { λ s. Some s.bytes };
+
+    ghost faults = { λ s. s.failed };
+
+    fn write(&mut self, from: &[u8]) -> Result<usize, Failed>
+        ensures some { 0 < length from.now → IfOk result (λ n. 0 < n) }
+        ensures count { IfOk result (λ n. n ≤ length from.now) }
+        ensures bytes { IfOk result (λ n. Appends (Some self.old.bytes) (Some self.new.bytes) (take n from.now)) }
+        ensures part { OnErr result ((n : ℕ) × (n ≤ length from.now) × Appends (Some self.old.bytes) (Some self.new.bytes) (take n from.now)) }
+        ensures cause { HasCause self.old.failed self.new.failed result }
+        ensures fits { IsOk result ↔ (length from.now ≤ self.old.room) }
+        ensures all { IfOk result (λ n. n ≡ length from.now) }
+        ensures ok { OnOk result (self.new ≡ with_piece self.old from.now) }
+        ensures err { OnErr result (self.new ≡ with_fault self.old) }
+    {
+        if from.len() as u64 > self.room {
+            return Err(self.fail());
+        }
+        self.bytes.extend_from_slice(from).unwrap();
+        self.room -= from.len() as u64;
+        Ok(from.len())
+    }
+}
