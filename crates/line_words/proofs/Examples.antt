@@ -1,0 +1,23 @@
+-- Words of each kind, by computation.
+use Rattle.std.proofs.Common.{◌≡◌, Ok, Err, Some, None, refl}
+use Rattle.std.specs.Prelude.{codes}
+use Rattle.line_words.specs.declared.WordFault.TheVariants.{BadPrefix, HostBits}
+use Rattle.line_words.specs.Kinds.{ipv4_number, ipv4_notation}
+
+address : ipv4_number (codes "10.1.2.3") ≡ Some 0x0a010203
+address = refl
+
+three-parts : ipv4_number (codes "10.1.2") ≡ None
+three-parts = refl
+
+leading-zero : ipv4_number (codes "010.1.2.3") ≡ None
+leading-zero = refl
+
+block : ipv4_notation.block (codes "10.0.0.0/8") ≡ Ok (record { addr = 0x0a000000000000000000000000000000; len = 8 })
+block = refl
+
+host-bits : ipv4_notation.block (codes "10.0.0.1/8") ≡ Err HostBits
+host-bits = refl
+
+too-long : ipv4_notation.block (codes "10.0.0.0/33") ≡ Err BadPrefix
+too-long = refl

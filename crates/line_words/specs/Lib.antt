@@ -1,0 +1,5 @@
+pub mod Words
+pub mod Walk
+pub mod Kinds
+pub mod Commands
+pub mod Texts

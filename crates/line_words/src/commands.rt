@@ -1,0 +1,49 @@
+//! The commands that both kinds of script have.
+
+ghost use Rattle.std.specs.Prelude.{◌≡◌};
+ghost use Rattle.line_words.specs.Kinds.{ipv4_notation};
+ghost use Rattle.line_words.specs.Commands.{commit_of, common_command, frame_of};
+
+use crate::WordFault;
+use crate::kinds::{frame_key, key_of};
+use crate::words::Words;
+use rule_model::Key;
+
+/// A command that both kinds of script have. A frame is read as a packet with its key.
+#[derive(Clone, Copy, Debug, PartialEq, Eq)]
+pub enum CommonCommand {
+    Packet(Key),
+    Commit,
+}
+
+/// The command of a line that begins with this word, from the words behind it.
+///
+/// UnknownCommand where the word begins no common command, then WordCount where there are more or fewer
+/// words than the command has, and else the fault of the leftmost bad one.
+pub fn common_command(first: &[u8], rest: Words<'_>) -> Result<CommonCommand, WordFault>
+    ensures { result ≡ common_command ipv4_notation CommonCommand.Packet CommonCommand.Commit first.now rest.entry }
+{
+    match first {
+        b"packet" => key_of(rest).map(CommonCommand::Packet),
+        b"frame" => frame_of(rest).map(CommonCommand::Packet),
+        b"commit" => commit_of(rest),
+        _ => Err(WordFault::UnknownCommand),
+    }
+}
+
+/// A commit, where no word is left.
+fn commit_of(words: Words<'_>) -> Result<CommonCommand, WordFault>
+    ensures { result ≡ commit_of CommonCommand.Commit words.entry }
+{
+    words.end()?;
+    Ok(CommonCommand::Commit)
+}
+
+/// The key of the frame that is the one word.
+fn frame_of(mut words: Words<'_>) -> Result<Key, WordFault>
+    ensures { result ≡ frame_of ipv4_notation words.entry }
+{
+    let digits = words.required()?;
+    words.end()?;
+    frame_key(digits)
+}

@@ -1,0 +1,99 @@
+//! The words of script lines, for the readers of both kinds of script.
+//!
+//! A line is cut into words at blanks (`Words`), from the left and one at a time, so that no room is
+//! kept for them. A reader first takes as many words as its command has, and only then looks at what
+//! they are: a wrong number of words is found before a bad word, and of bad words the leftmost.
+//!
+//!     route add 10.0.0.0/8 7     the reader's own: two words, a prefix and a result
+//!     packet KEY                 common to both: five words, two addresses, a protocol, two ports
+//!     frame HEX                  common to both: one word, the bytes of a packet
+//!     commit                     common to both: no word
+//!
+//! Each kind of word has one function (`numbers`, `addresses`, `kinds`), and each fault of a word one
+//! variant of `WordFault`. Nothing takes memory: a frame is decoded into fixed room.
+#![tactic(auto)]
+
+ghost use Rattle.std.specs.Prelude.{◌≡◌, Some};
+
+use packet_keys::FrameFault;
+use std::error::Error;
+use std::fmt;
+
+mod addresses;
+mod commands;
+mod kinds;
+mod numbers;
+mod words;
+
+pub use addresses::ipv4_prefix;
+pub use commands::{CommonCommand, common_command};
+pub use kinds::result_of;
+pub use words::{Words, command_words};
+
+/// Why a line is no command.
+#[derive(Clone, Copy, Debug, PartialEq, Eq)]
+pub enum WordFault {
+    /// The first words begin no command of the script's kind.
+    UnknownCommand,
+    /// The command has another number of words.
+    WordCount,
+    /// The word is not an address, a slash and a length.
+    BadPrefix,
+    /// A bit past the prefix's length is set.
+    HostBits,
+    /// The word is no number of 32 bits.
+    BadResult,
+    /// The word is no number of 32 bits above 0.
+    BadSequence,
+    /// The word is neither `permit` nor `deny`.
+    BadAction,
+    /// The word is neither a protocol's name nor a number of 8 bits.
+    BadProtocol,
+    /// The word is no port, or no range of ports.
+    BadPorts,
+    /// The word is no address.
+    BadAddress,
+    /// The word is not pairs of hexadecimal digits.
+    BadHex,
+    /// The word's bytes are a frame that has no key.
+    Frame(FrameFault),
+}
+
+impl WordFault {
+    ghost use Rattle.line_words.specs.Texts.{word_fault_text};
+
+    /// The fault's name in a report.
+    pub fn text(&self) -> &'static str
+        ensures { result.now ≡ word_fault_text self.now }
+    {
+        match self {
+            WordFault::UnknownCommand => "unknown command",
+            WordFault::WordCount => "word count",
+            WordFault::BadPrefix => "bad prefix",
+            WordFault::HostBits => "host bits",
+            WordFault::BadResult => "bad result",
+            WordFault::BadSequence => "bad sequence",
+            WordFault::BadAction => "bad action",
+            WordFault::BadProtocol => "bad protocol",
+            WordFault::BadPorts => "bad ports",
+            WordFault::BadAddress => "bad address",
+            WordFault::BadHex => "bad hex",
+            WordFault::Frame(FrameFault::Empty) => "empty packet",
+            WordFault::Frame(FrameFault::Version) => "bad version",
+            WordFault::Frame(FrameFault::HeaderLength) => "bad header length",
+            WordFault::Frame(FrameFault::Short) => "short packet",
+        }
+    }
+}
+
+impl fmt::Display for WordFault {
+    ghost use Rattle.line_words.specs.Texts.{word_fault_text};
+
+    ghost output = { λ fault. Some (word_fault_text fault) };
+
+    fn fmt<W: fmt::Write>(&self, f: &mut fmt::Formatter<W>) -> fmt::Result {
+        f.write_str(self.text())
+    }
+}
+
+impl Error for WordFault {}

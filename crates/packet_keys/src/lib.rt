@@ -1,0 +1,195 @@
+//! The key of a packet, from the bytes of its headers.
+//!
+//! A frame begins with its IPv4 header (RFC 791, section 3.1). For TCP (RFC 9293, section 3.1) and UDP
+//! (RFC 768) the two ports are the first four bytes behind that header, of which only the first
+//! fragment of a packet has them:
+//!
+//!     byte 0             6          9         12       16       header's end
+//!     version, words ..  fragment ..  protocol ..  source  destination ..  source port, destination port
+//!
+//! `key_of_frame` looks at these fields alone, tests lengths before it reads, and names the first fault
+//! that it meets. It takes no memory.
+#![tactic(auto)]
+
+ghost use Rattle.std.specs.Prelude.{◌≡◌, ◌↔◌, ◌+◌, ◌<◌, ◌≤◌, length, IsTrue, IsErr, OnOk, IfOk, IfErr};
+ghost use Rattle.rule_model.specs.AddressBlock.{ipv4_address};
+ghost use Rattle.packet_keys.specs.Frame.{key_of_frame, header_len, version_of, has_ports, number_at, port_at};
+
+use byteorder::{BigEndian, ByteOrder};
+use rule_model::{Addr, Key};
+use thiserror::Error;
+
+/// The bytes of an IPv4 header without options.
+const LEAST_HEADER: usize = 20;
+
+/// The protocols with ports.
+const TCP: u8 = 6;
+
+const UDP: u8 = 17;
+
+/// Why a frame has no key.
+#[derive(Clone, Copy, Debug, PartialEq, Eq, Error)]
+pub enum FrameFault {
+    /// There is no byte.
+    #[error("empty packet")]
+    Empty,
+    /// The version is not 4.
+    #[error("bad version")]
+    Version,
+    /// The header is shorter than five words of four bytes.
+    #[error("bad header length")]
+    HeaderLength,
+    /// The header is cut off, or the ports of a first fragment of TCP or UDP are.
+    #[error("short packet")]
+    Short,
+}
+
+/// The key of a frame that begins with an IPv4 header.
+///
+/// Ports are those of the first fragment of a TCP or UDP packet, and 0 otherwise. Faults are found in
+/// the order of `FrameFault`'s variants.
+pub fn key_of_frame(frame: &[u8]) -> Result<Key, FrameFault>
+    ensures { result ≡ key_of_frame frame.now }
+{
+    let header_len = whole_header_len(frame)?;
+    let (sport, dport) = ports_after(frame, header_len)?;
+    Ok(Key {
+        src: address_at(frame, 12),
+        dst: address_at(frame, 16),
+        proto: frame[9],
+        sport,
+        dport,
+    })
+}
+
+/// The length in bytes of the header that the frame begins with, the whole of which is there.
+fn whole_header_len(frame: &[u8]) -> Result<usize, FrameFault>
+    ensures len { IfOk result (λ len. len ≡ header_len frame.now) }
+    ensures whole { IfOk result (λ len. (LEAST_HEADER ≤ len) × (len ≤ length frame.now)) }
+    ensures version { OnOk result (version_of frame.now ≡ 4) }
+    ensures err { IfErr result (λ fault. key_of_frame frame.now ≡ Err fault) }
+{
+    let first = *frame.first().ok_or(FrameFault::Empty)?;
+    if first >> 4 != 4 {
+        return Err(FrameFault::Version);
+    }
+    let header_len = 4 * usize::from(first & 0x0f);
+    if header_len < LEAST_HEADER {
+        return Err(FrameFault::HeaderLength);
+    }
+    if frame.len() < header_len {
+        return Err(FrameFault::Short);
+    }
+    Ok(header_len)
+}
+
+/// The source and the destination port behind a header of so many bytes, 0 where there are none.
+fn ports_after(frame: &[u8], header_len: usize) -> Result<(u16, u16), FrameFault>
+    requires least { LEAST_HEADER ≤ header_len }
+    requires whole { header_len ≤ length frame.now }
+    requires small { header_len ≤ 60 }
+    ensures source { IfOk result (λ ports. ports.0 ≡ port_at frame.now header_len) }
+    ensures destination { IfOk result (λ ports. ports.1 ≡ port_at frame.now (header_len + 2)) }
+    ensures fault { IfErr result (λ fault. fault ≡ FrameFault.Short) }
+    ensures cut_off { IsErr result ↔ (IsTrue (has_ports frame.now) × (length frame.now < header_len + 4)) }
+{
+    if !has_ports(frame) {
+        return Ok((0, 0));
+    }
+    if frame.len() < header_len + 4 {
+        return Err(FrameFault::Short);
+    }
+    Ok((
+        number_of_two(frame, header_len),
+        number_of_two(frame, header_len + 2),
+    ))
+}
+
+/// Whether ports follow the header: it is the first fragment of a TCP or UDP packet.
+fn has_ports(frame: &[u8]) -> bool
+    requires { LEAST_HEADER ≤ length frame.now }
+    ensures { result ≡ has_ports frame.now }
+{
+    let fragment_offset = number_of_two(frame, 6) & 0x1fff;
+    matches!(frame[9], TCP | UDP) && fragment_offset == 0
+}
+
+/// The number of two bytes at a place, the most significant first.
+fn number_of_two(frame: &[u8], place: usize) -> u16
+    requires { place + 2 ≤ length frame.now }
+    ensures { result ≡ number_at frame.now place 2 }
+{
+    BigEndian::read_u16(&frame[place..])
+}
+
+/// The address whose four bytes stand at a place.
+fn address_at(frame: &[u8], place: usize) -> Addr
+    requires { place + 4 ≤ length frame.now }
+    ensures { result ≡ ipv4_address (number_at frame.now place 4) }
+{
+    Addr::from(BigEndian::read_u32(&frame[place..])) << 96
+}
+
+#[cfg(test)]
+mod tests {
+    use super::*;
+    use std::test::Fail;
+
+    /// An IPv4 address, as a key has it.
+    fn ipv4(a: u8, b: u8, c: u8, d: u8) -> Addr {
+        Addr::from(u32::from_be_bytes([a, b, c, d])) << 96
+    }
+
+    #[test]
+    fn frames_and_their_keys(rt: HostRuntime) -> Result<(), Fail> {
+        let zeros = Key {
+            src: 0,
+            dst: 0,
+            proto: 0,
+            sport: 0,
+            dport: 0,
+        };
+        let whole = Key {
+            src: ipv4(10, 1, 2, 3),
+            dst: ipv4(10, 1, 2, 4),
+            proto: 6,
+            sport: 1234,
+            dport: 80,
+        };
+        let fragment = Key {
+            sport: 0,
+            dport: 0,
+            ..whole
+        };
+        let header = *b"\x45\0\0\x1c\0\0\0\0\x40\x06\0\0\x0a\x01\x02\x03\x0a\x01\x02\x04";
+        let first =
+            b"\x45\0\0\x1c\0\0\0\0\x40\x06\0\0\x0a\x01\x02\x03\x0a\x01\x02\x04\x04\xd2\0\x50";
+        let later = b"\x45\0\0\x14\0\0\0\x01\x40\x06\0\0\x0a\x01\x02\x03\x0a\x01\x02\x04";
+        let table: [(&[u8], Result<Key, FrameFault>); 8] = [
+            (b"", Err(FrameFault::Empty)),
+            (b"\x65", Err(FrameFault::Version)),
+            (b"\x44", Err(FrameFault::HeaderLength)),
+            (
+                b"\x45\0\0\0\0\0\0\0\0\0\0\0\0\0\0\0\0\0\0",
+                Err(FrameFault::Short),
+            ),
+            (b"\x45\0\0\0\0\0\0\0\0\0\0\0\0\0\0\0\0\0\0\0", Ok(zeros)),
+            (&header, Err(FrameFault::Short)),
+            (first, Ok(whole)),
+            (later, Ok(fragment)),
+        ];
+        for (frame, answer) in table {
+            assert_eq!(rt; key_of_frame(frame), answer, "{frame:?}");
+        }
+        let texts = [
+            (FrameFault::Empty, "empty packet"),
+            (FrameFault::Version, "bad version"),
+            (FrameFault::HeaderLength, "bad header length"),
+            (FrameFault::Short, "short packet"),
+        ];
+        for (fault, text) in texts {
+            assert_eq!(rt; fault.to_string(rt.alloc())?.as_str(), text);
+        }
+        Ok(())
+    }
+}

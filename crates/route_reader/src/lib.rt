@@ -1,0 +1,225 @@
+//! The commands of a route script.
+//!
+//!     route add PREFIX RESULT
+//!     packet KEY
+//!     frame HEX
+//!     commit
+//!
+//! `read_route` is equal to the grammar both ways: it answers a command only where the line is one, and
+//! a fault only where the line has that fault. Faults are found in a fixed order: the words that begin
+//! no command, then a wrong number of words, then the leftmost bad word. What is common to both kinds of
+//! script stands in `line_words`; here is what routes alone have. Nothing takes memory.
+#![tactic(auto)]
+
+ghost use Rattle.std.specs.Prelude.{◌≡◌, ◌≤◌, ◌∷◌, length, take};
+ghost use Rattle.line_words.specs.Commands.{common_command};
+ghost use Rattle.line_words.specs.Kinds.{ipv4_notation};
+ghost use Rattle.route_reader.specs.Grammar.{addition, route_command, route_line, route_words};
+
+use line_words::{
+    CommonCommand, WordFault, Words, command_words, common_command, ipv4_prefix, result_of,
+};
+use rule_model::{Key, Prefix};
+use script_lines::{LINE_BYTES, Line};
+
+/// A command of a route script. A frame is read as a packet with its key.
+#[derive(Clone, Copy, Debug, PartialEq, Eq)]
+pub enum RouteCommand {
+    /// Adds a route with its result.
+    Add(Prefix, u32),
+    /// Asks for the answer of a packet.
+    Packet(Key),
+    /// Carries out the pending batch.
+    Commit,
+}
+
+/// Reads a line of a route script: the command that it is, or nothing where it has no word or its first
+/// word begins with `#`.
+///
+/// UnknownCommand comes where the first word, or for `route` the first two, begin no command. WordCount
+/// comes where the command has another number of words. Else the fault is that of the leftmost word
+/// that isn't of its kind.
+pub fn read_route(line: &Line) -> Result<Option<RouteCommand>, WordFault>
+    requires { line.now.len ≤ LINE_BYTES }
+    ensures { result ≡ route_line ipv4_notation (take line.now.len line.now.bytes) }
+{
+    match command_words(&line.bytes[..usize::from(line.len)]) {
+        None => Ok(None),
+        Some((first, words)) => Ok(Some(command_of(first, words)?)),
+    }
+}
+
+/// The command of a line that begins with this word, from the words behind it.
+fn command_of(first: &[u8], rest: Words<'_>) -> Result<RouteCommand, WordFault>
+    ensures { result ≡ route_command ipv4_notation (first.now ∷ rest.entry) }
+{
+    match first {
+        b"route" => route_words(rest),
+        _ => packet_or_commit(first, rest),
+    }
+}
+
+/// The command of a line that begins with none of the words of routes.
+fn packet_or_commit(first: &[u8], rest: Words<'_>) -> Result<RouteCommand, WordFault>
+    ensures { result ≡ common_command ipv4_notation RouteCommand.Packet RouteCommand.Commit first.now rest.entry }
+{
+    match common_command(first, rest)? {
+        CommonCommand::Packet(key) => Ok(RouteCommand::Packet(key)),
+        CommonCommand::Commit => Ok(RouteCommand::Commit),
+    }
+}
+
+/// The command of a line whose first word is `route`, from the words behind it.
+fn route_words(mut words: Words<'_>) -> Result<RouteCommand, WordFault>
+    ensures { result ≡ route_words ipv4_notation words.entry }
+{
+    let verb = words.next().ok_or(WordFault::UnknownCommand)?;
+    match verb {
+        b"add" => addition(words),
+        _ => Err(WordFault::UnknownCommand),
+    }
+}
+
+/// The addition of a route, from its two words.
+fn addition(mut words: Words<'_>) -> Result<RouteCommand, WordFault>
+    ensures { result ≡ addition ipv4_notation words.entry }
+{
+    let prefix = words.required()?;
+    let answer = words.required()?;
+    words.end()?;
+    Ok(RouteCommand::Add(ipv4_prefix(prefix)?, result_of(answer)?))
+}
+
+#[cfg(test)]
+mod tests {
+    use super::*;
+    use packet_keys::FrameFault;
+    use rule_model::Addr;
+    use std::test::Fail;
+
+    /// A line of these bytes.
+    fn line_of(text: &[u8]) -> Line
+        requires { length text.now ≤ LINE_BYTES }
+        ensures { result.len ≤ LINE_BYTES }
+    {
+        let mut bytes = [0u8; LINE_BYTES];
+        bytes[..text.len()].copy_from_slice(text);
+        Line {
+            number: 1,
+            len: text.len() as u16,
+            bytes,
+        }
+    }
+
+    /// The key of a TCP packet from 10.1.2.3 port 1234 to 10.1.2.4 port 80.
+    fn web_key() -> Key {
+        Key {
+            src: Addr::from(0x0a01_0203u32) << 96,
+            dst: Addr::from(0x0a01_0204u32) << 96,
+            proto: 6,
+            sport: 1234,
+            dport: 80,
+        }
+    }
+
+    #[test]
+    fn lines_and_their_commands(rt: HostRuntime) -> Result<(), Fail> {
+        let ten = Prefix::v4(0x0a00_0000, 8)?;
+        let host = Prefix::v4(0xffff_ffff, 32)?;
+        let table: [(&[u8], Result<Option<RouteCommand>, WordFault>); 42] = [
+            (
+                b"route add 10.0.0.0/8 7",
+                Ok(Some(RouteCommand::Add(ten, 7))),
+            ),
+            (
+                b"\t route  add\t10.0.0.0/8 4294967295\r",
+                Ok(Some(RouteCommand::Add(ten, 4294967295))),
+            ),
+            (
+                b"route add 255.255.255.255/32 0",
+                Ok(Some(RouteCommand::Add(host, 0))),
+            ),
+            (
+                b"route add 0.0.0.0/0 0",
+                Ok(Some(RouteCommand::Add(Prefix::any(), 0))),
+            ),
+            (
+                b"packet 10.1.2.3 10.1.2.4 tcp 1234 80",
+                Ok(Some(RouteCommand::Packet(web_key()))),
+            ),
+            (
+                b"packet 10.1.2.3 10.1.2.4 6 1234 80",
+                Ok(Some(RouteCommand::Packet(web_key()))),
+            ),
+            (
+                b"frame 4500001c00000000400600000a0102030A01020404d20050",
+                Ok(Some(RouteCommand::Packet(web_key()))),
+            ),
+            (b"commit\r", Ok(Some(RouteCommand::Commit))),
+            (b"", Ok(None)),
+            (b" \t\r", Ok(None)),
+            (b"# route add", Ok(None)),
+            (b"  #commit", Ok(None)),
+            (b"route", Err(WordFault::UnknownCommand)),
+            (b"route del 10.0.0.0/8", Err(WordFault::UnknownCommand)),
+            (b"acl del 7", Err(WordFault::UnknownCommand)),
+            (b"Commit", Err(WordFault::UnknownCommand)),
+            (b"commits", Err(WordFault::UnknownCommand)),
+            (b"route add 10.0.0.0/8", Err(WordFault::WordCount)),
+            (b"route add 10.0.0.1/8 x 7", Err(WordFault::WordCount)),
+            (
+                b"packet 10.1.2.3 10.1.2.4 tcp 1234",
+                Err(WordFault::WordCount),
+            ),
+            (b"frame", Err(WordFault::WordCount)),
+            (b"commit #", Err(WordFault::WordCount)),
+            (b"route add 10.0.0.0/33 7", Err(WordFault::BadPrefix)),
+            (b"route add 010.0.0.0/8 7", Err(WordFault::BadPrefix)),
+            (b"route add 10.0.0.0 7", Err(WordFault::BadPrefix)),
+            (b"route add 10.0.0/8 7", Err(WordFault::BadPrefix)),
+            (b"route add 10.0.0.0.0/8 7", Err(WordFault::BadPrefix)),
+            (b"route add 10.0.0.256/8 7", Err(WordFault::BadPrefix)),
+            (b"route add 10.0.0.0/8/8 7", Err(WordFault::BadPrefix)),
+            (b"route add 10.0.0.1/8 7", Err(WordFault::HostBits)),
+            (b"route add 10.0.0.1/8 x", Err(WordFault::HostBits)),
+            (
+                b"route add 10.0.0.0/8 4294967296",
+                Err(WordFault::BadResult),
+            ),
+            (b"route add 10.0.0.0/8 00", Err(WordFault::BadResult)),
+            (b"route add 10.0.0.0/8 +7", Err(WordFault::BadResult)),
+            (
+                b"packet 10.1.2.3 10.1.2 tcp 1234 80",
+                Err(WordFault::BadAddress),
+            ),
+            (
+                b"packet 10.1.2.3 10.1.2.4 TCP 1234 80",
+                Err(WordFault::BadProtocol),
+            ),
+            (
+                b"packet 10.1.2.3 10.1.2.4 256 x 80",
+                Err(WordFault::BadProtocol),
+            ),
+            (
+                b"packet 10.1.2.3 10.1.2.4 tcp 1234 65536",
+                Err(WordFault::BadPorts),
+            ),
+            (b"frame 4g", Err(WordFault::BadHex)),
+            (b"frame 450", Err(WordFault::BadHex)),
+            (b"frame 65", Err(WordFault::Frame(FrameFault::Version))),
+            (
+                b"frame 45000000000000000000000000000000000000",
+                Err(WordFault::Frame(FrameFault::Short)),
+            ),
+        ];
+        for (text, answer) in table {
+            assert!(rt; text.len() <= LINE_BYTES);
+            assert_eq!(rt; read_route(&line_of(text)), answer, "{text:?}");
+        }
+        assert_eq!(rt;
+            WordFault::HostBits.to_string(rt.alloc())?.as_str(),
+            "host bits"
+        );
+        Ok(())
+    }
+}
