@@ -1,0 +1,5 @@
+pub mod Batch
+pub mod Common
+pub mod Naming
+pub mod Store
+pub mod Verdict

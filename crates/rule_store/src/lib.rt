@@ -1,0 +1,69 @@
+//! Rule sets, batches of changes to them, and which batches a memory takes.
+//!
+//! A [`Store`] is a set of rules, read by falling priority. The rules stand in a slab, and beside it a
+//! list of slab keys by falling priority: a rule is found by halving that list, and an insertion or a
+//! removal shifts keys alone. Memory is taken by `reserve`, never by a change.
+//!
+//! A [`Batch`] is a list of commands. [`Store::check`] names the first command of a batch that the set
+//! doesn't take, without memory.
+#![tactic(auto)]
+
+use rule_model::{Rank, Rule};
+use thiserror::Error;
+
+mod entries;
+mod pending;
+mod stored;
+#[cfg(test)]
+mod tests;
+
+pub use entries::entries_needed;
+pub use pending::{Batch, PushFault};
+pub use stored::Store;
+
+/// How port ranges are encoded in entries.
+#[derive(Clone, Copy, Debug, PartialEq, Eq)]
+pub enum Mode {
+    /// One entry for each pair of blocks of the two ranges' covers.
+    Cover,
+    /// One entry for each rule, which tests a bit for each range that is no block.
+    Bits,
+}
+
+/// One change of a batch.
+#[derive(Clone, Copy, Debug, PartialEq, Eq)]
+pub enum Command {
+    Add(Rule),
+    Set { priority: Rank, result: u32 },
+    Del(Rank),
+}
+
+impl Command {
+    ghost use Rattle.std.specs.Prelude.{◌≡◌};
+    ghost use Rattle.rule_store.specs.Batch.{named_priority};
+
+    /// The priority that the command names.
+    pub fn priority(&self) -> Rank
+        ensures { result ≡ named_priority self.now }
+    {
+        match self {
+            Command::Add(rule) => rule.priority,
+            Command::Set { priority, .. } => *priority,
+            Command::Del(priority) => *priority,
+        }
+    }
+}
+
+/// Why a command of a batch fails, with the priority that it names.
+#[derive(Clone, Copy, Debug, PartialEq, Eq, Error)]
+pub enum BatchFault {
+    /// An earlier command of the batch names it, and the two are no removal and then an addition.
+    #[error("named twice")]
+    Twice(Rank),
+    /// It is to be added, and the set has it.
+    #[error("taken")]
+    Taken(Rank),
+    /// It is to be changed or removed, and the set doesn't have it.
+    #[error("absent")]
+    Absent(Rank),
+}

@@ -1,0 +1,174 @@
+//! The commands of a batch that waits for its commit.
+
+ghost use Rattle.std.specs.Prelude.{◌≡◌, ◌↔◌, ◌<◌, ◌≤◌, [], ◌∷◌, ◌++◌, Err, Some, IsTrue, length, OnOk, OnErr, slice_get, take};
+ghost use Rattle.rule_store.specs.Naming as naming;
+
+use crate::Command;
+use rule_model::Rank;
+use std::alloc::Global;
+use std::collections::BTreeMap;
+use std::marker::Model;
+use thiserror::Error;
+
+/// The greatest number of commands of a batch.
+pub const BATCH_COMMANDS: u32 = 4096;
+
+/// Why a batch doesn't take a command.
+#[derive(Clone, Copy, Debug, PartialEq, Eq, Error)]
+pub enum PushFault {
+    /// It has 4,096 commands.
+    #[error("batch full")]
+    Full,
+    /// There is no memory for one more.
+    #[error("out of memory")]
+    Memory,
+}
+
+/// How the commands of a batch use a priority that they name.
+#[derive(Clone, Copy, Debug, PartialEq, Eq)]
+enum Uses {
+    /// One command names it, and removes it.
+    Removed,
+    /// Otherwise.
+    Used,
+}
+
+/// How a command names its priority among the earlier ones of its batch.
+#[derive(Clone, Copy, Debug, PartialEq, Eq)]
+pub(crate) enum Naming {
+    /// None of them names it.
+    First,
+    /// One of them names it and removes it, and this one adds it.
+    Replacing,
+    /// Otherwise.
+    Repeated,
+}
+
+/// A command, and how it names its priority.
+#[derive(Clone, Copy, Debug, PartialEq, Eq)]
+pub(crate) struct Named {
+    pub(crate) command: Command,
+    pub(crate) naming: Naming,
+}
+
+/// Commands in the order in which they came, 4,096 at most.
+#[derive(Drop)]
+pub struct Batch {
+    commands: Vec<Named>,
+    // How each priority that is named is used, so that a further command is told in few steps how it names its own.
+    uses: BTreeMap<Rank, Uses>,
+}
+
+impl Model for Batch {
+    ghost use Rattle.std.specs.Prelude.{List};
+    ghost use Rattle.rule_store.specs.declared.Command.{Command};
+    ghost use Rattle.rule_store.specs.Naming.{commands_of, IsIndexed};
+
+    ghost Value = { List Command };
+
+    ghost view = { λ b. commands_of b.commands.items };
+
+    ghost invariant = { λ b. IsIndexed b.commands.items b.uses };
+}
+
+// How a priority is used after one command more.
+fn uses_with(uses: Option<Uses>, command: &Command) -> Uses
+    ensures { result ≡ naming.uses_with uses command.now }
+{
+    match (uses, command) {
+        (None, Command::Del(_)) => Uses::Removed,
+        _ => Uses::Used,
+    }
+}
+
+// How a command names a priority that is used so.
+fn naming_by(uses: Option<Uses>, command: &Command) -> Naming
+    ensures { result ≡ naming.naming_by uses command.now }
+{
+    match (uses, command) {
+        (None, _) => Naming::First,
+        (Some(Uses::Removed), Command::Add(_)) => Naming::Replacing,
+        _ => Naming::Repeated,
+    }
+}
+
+impl Batch {
+    ghost use Rattle.rule_store.specs.Naming.{naming_after};
+
+    /// A batch without commands. It takes no memory yet.
+    pub fn new(alloc: Global) -> Batch
+        ensures { result ≡ [] }
+    {
+        Batch {
+            commands: Vec::new(alloc),
+            uses: BTreeMap::new(alloc),
+        }
+    }
+
+    /// Puts a command behind the others. `Full` comes exactly at 4,096 commands; after a refusal the batch
+    /// is as before.
+    pub fn push(&mut self, command: Command) -> Result<(), PushFault>
+        ensures pushed { OnOk result (self.new ≡ self.old ++ command ∷ []) }
+        ensures full { (result ≡ Err PushFault.Full) ↔ (length self.old ≡ 4096) }
+        ensures same { OnErr result (self.new ≡ self.old) }
+    {
+        if self.commands.len() >= BATCH_COMMANDS as usize {
+            return Err(PushFault::Full);
+        }
+        let priority = command.priority();
+        let uses = self.uses.get(&priority).copied();
+        let naming = naming_by(uses, &command);
+        if self.commands.reserve(1).is_err() {
+            return Err(PushFault::Memory);
+        }
+        if self
+            .uses
+            .insert(priority, uses_with(uses, &command))
+            .is_err()
+        {
+            return Err(PushFault::Memory);
+        }
+        self.commands.push_reserved(Named { command, naming });
+        Ok(())
+    }
+
+    /// How many commands there are, 4,096 at most.
+    pub fn len(&self) -> u32
+        ensures count { result ≡ length self.now }
+        ensures most { result ≤ 4096 }
+    {
+        self.commands.len() as u32
+    }
+
+    /// Whether there is no command.
+    pub fn is_empty(&self) -> bool
+        ensures { IsTrue result ↔ (self.now ≡ []) }
+    {
+        self.commands.is_empty()
+    }
+
+    /// The command at a place, from 0 in the order of the pushes.
+    pub fn at(&self, i: u32) -> Command
+        requires { i < length self.now }
+        ensures { slice_get self.now i ≡ Some result }
+    {
+        self.commands[i as usize].command
+    }
+
+    /// Takes every command out. The memory of the list stays for later ones.
+    pub fn clear(&mut self)
+        ensures { self.new ≡ [] }
+    {
+        self.commands.clear();
+        self.uses.clear();
+    }
+
+    /// The command at a place, and how it names its priority.
+    pub(crate) fn named(&self, i: u32) -> Named
+        requires { i < length self.now }
+        ensures command { slice_get self.now i ≡ Some result.command }
+        ensures naming { result.naming ≡ naming_after (take i self.now) result.command }
+    {
+        self.commands[i as usize]
+    }
+}

@@ -1,0 +1,205 @@
+//! A set of rules by falling priority.
+
+ghost use Rattle.std.specs.Prelude.{take, ◌≡◌, ◌↔◌, ◌+◌, ◌-◌, ◌<◌, ◌≤◌, ◌^◌, ℕ, [], ◌∷◌, None, Some, IsTrue, IsFalse, IsSome, IfOk, IfErr, IfSome, OnOk, OnErr, length, slice_get, slice_index, option_copied, is_some, MatchResult, All, not};
+ghost use Rattle.slab.specs.Slab.{get};
+ghost use Rattle.rule_model.specs.RuleSet.{IsRuleSet, best_rule, has_priority, rule_at};
+ghost use Rattle.rule_store.specs.Batch.{batch_fault, with_rule};
+ghost use Rattle.rule_store.specs.Store.{IsPlace, rules_under, with_answer, without_rule};
+ghost use Rattle.rule_store.specs.Naming.{named_fault};
+
+use crate::pending::{Named, Naming};
+use crate::{Batch, BatchFault, Command};
+use rule_model::{Key, Rank, Rule, matches};
+use slab::Slab;
+use std::alloc::{AllocError, Global};
+use std::marker::Model;
+
+/// A set of rules, no two of one priority.
+#[derive(Drop)]
+pub struct Store {
+    rules: Slab<Rule>,
+    // The slab keys of the rules, by falling priority.
+    order: Vec<usize>,
+    // How many rules more have their room in both.
+    spare: u32,
+}
+
+impl Model for Store {
+    ghost use Rattle.std.specs.Prelude.{vec_capacity};
+    ghost use Rattle.rule_store.specs.Store.{StoredRules, IsStored, rules_under};
+
+    ghost Value = { StoredRules };
+
+    ghost view = { λ s. record { rules = rules_under s.rules s.order.items; spare = s.spare } };
+
+    ghost invariant = { λ s. IsStored s.rules s.order.items (vec_capacity s.order) s.spare };
+}
+
+// The place of the first rule whose priority isn't above this one, by halving.
+fn place_of(rules: &Slab<Rule>, order: &[usize], priority: Rank) -> usize
+    requires present { All (λ key. IsSome (get rules.now key)) order.now }
+    requires falling { IsRuleSet (rules_under rules.now order.now) }
+    ensures { IsPlace (rules_under rules.now order.now) priority result }
+{
+    let mut low = 0;
+    let mut high = order.len();
+    while low < high {
+        let middle = low + (high - low) / 2;
+        if priority < rules[order[middle]].priority {
+            low = middle + 1;
+        } else {
+            high = middle;
+        }
+    }
+    low
+}
+
+impl Store {
+    /// A set without rules. It takes no memory yet.
+    pub fn new(alloc: Global) -> Store
+        ensures rules { result.rules ≡ [] }
+        ensures spare { result.spare ≡ 0 }
+    {
+        Store {
+            rules: Slab::new(alloc),
+            order: Vec::new(alloc),
+            spare: 0,
+        }
+    }
+
+    /// Takes memory for `n` rules more, so that as many insertions need none.
+    pub fn reserve(&mut self, n: u32) -> Result<(), AllocError>
+        requires { length self.old.rules + n < 2 ^ 32 }
+        ensures rules { self.new.rules ≡ self.old.rules }
+        ensures enough { OnOk result (n ≤ self.new.spare) }
+        ensures least { self.old.spare ≤ self.new.spare }
+        ensures same { OnErr result (self.new ≡ self.old) }
+    {
+        self.rules.reserve(n as usize)?;
+        self.order.reserve(n as usize)?;
+        self.spare = self.spare.max(n);
+        Ok(())
+    }
+
+    /// Puts a rule into the set, in the room that was reserved.
+    pub fn insert(&mut self, rule: Rule)
+        requires room { 0 < self.old.spare }
+        requires absent { IsFalse (has_priority self.old.rules rule.priority) }
+        ensures rules { self.new.rules ≡ with_rule self.old.rules rule }
+        ensures spare { self.new.spare + 1 ≡ self.old.spare }
+    {
+        let place = place_of(&self.rules, self.order.as_slice(), rule.priority);
+        let key = self.rules.insert_reserved(rule);
+        self.order.insert(place, key).unwrap();
+        self.spare -= 1;
+    }
+
+    /// Gives a rule of the set another result.
+    pub fn change(&mut self, priority: Rank, answer: u32)
+        requires { IsTrue (has_priority self.old.rules priority) }
+        ensures rules { self.new.rules ≡ with_answer self.old.rules priority answer }
+        ensures spare { self.new.spare ≡ self.old.spare }
+    {
+        let place = place_of(&self.rules, self.order.as_slice(), priority);
+        self.rules[self.order[place]].result = answer;
+    }
+
+    /// Takes a rule out of the set. Its room stays for another.
+    pub fn remove(&mut self, priority: Rank)
+        requires { IsTrue (has_priority self.old.rules priority) }
+        ensures rules { self.new.rules ≡ without_rule self.old.rules priority }
+        ensures spare { self.new.spare ≡ self.old.spare + 1 }
+    {
+        let place = place_of(&self.rules, self.order.as_slice(), priority);
+        let key = self.order.remove(place);
+        self.rules.remove(key);
+        self.spare += 1;
+    }
+
+    /// How many rules there are.
+    pub fn len(&self) -> u32
+        ensures count { result ≡ length self.now.rules }
+        ensures falling { IsRuleSet self.now.rules }
+    {
+        self.order.len() as u32
+    }
+
+    /// Whether there is no rule.
+    pub fn is_empty(&self) -> bool
+        ensures { IsTrue result ↔ (self.now.rules ≡ []) }
+    {
+        self.order.is_empty()
+    }
+
+    /// The rule at a place, from 0 by falling priority.
+    pub fn at(&self, i: u32) -> &Rule
+        requires { i < length self.now.rules }
+        ensures { slice_get self.now.rules i ≡ Some result.now }
+    {
+        &self.rules[self.order[i as usize]]
+    }
+
+    /// The rule of this priority, if there is one.
+    pub fn rule(&self, priority: Rank) -> Option<&Rule>
+        ensures found { option_copied result ≡ rule_at self.now.rules priority }
+        ensures present { is_some result ≡ has_priority self.now.rules priority }
+    {
+        let place = place_of(&self.rules, self.order.as_slice(), priority);
+        if place == self.order.len() {
+            return None;
+        }
+        let rule = &self.rules[self.order[place]];
+        if rule.priority == priority {
+            Some(rule)
+        } else {
+            None
+        }
+    }
+
+    /// The rule that answers a packet's key: of those that match it the one of greatest priority, and none
+    /// only where none matches.
+    pub fn best(&self, key: &Key) -> Option<&Rule>
+        ensures { option_copied result ≡ best_rule self.now.rules key.now }
+    {
+        for place in self.order.iter() {
+            let rule = &self.rules[*place];
+            if matches(rule, key) {
+                return Some(rule);
+            }
+        }
+        None
+    }
+
+    /// The first command of a batch that the set doesn't take, and why: `Twice` where an earlier command of
+    /// the batch names its priority, but for an addition behind one removal; else `Taken` where it adds a
+    /// priority that the set has and the batch doesn't remove before; else `Absent` where it changes or
+    /// removes a priority that the set doesn't have.
+    pub fn check(&self, batch: &Batch) -> Result<(), BatchFault>
+        ensures { MatchResult result (λ _. batch_fault self.now.rules batch.now ≡ None)
+            (λ fault. batch_fault self.now.rules batch.now ≡ Some fault) }
+    {
+        for i in 0..batch.len() {
+            if let Some(fault) = self.fault_of(&batch.named(i)) {
+                return Err(fault);
+            }
+        }
+        Ok(())
+    }
+
+    // Why a command that so names its priority fails, if it does.
+    fn fault_of(&self, named: &Named) -> Option<BatchFault>
+        ensures { result ≡ named_fault self.now.rules named.now }
+    {
+        let priority = named.command.priority();
+        match named.naming {
+            Naming::Repeated => Some(BatchFault::Twice(priority)),
+            Naming::Replacing => None,
+            Naming::First => match (named.command, self.rule(priority)) {
+                (Command::Add(_), Some(_)) => Some(BatchFault::Taken(priority)),
+                (Command::Add(_), None) => None,
+                (_, Some(_)) => None,
+                (_, None) => Some(BatchFault::Absent(priority)),
+            },
+        }
+    }
+}
