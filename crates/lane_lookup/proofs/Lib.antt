@@ -1,0 +1,5 @@
+pub mod Rows
+pub mod Zeros
+pub mod Places
+pub mod Steps
+pub mod Eights

@@ -1,0 +1,5 @@
+use Rattle.std.proofs.Common.{◌≡◌, replicate}
+use Rattle.lane_lookup.proofs.columns.blank_lanes.Given as goal
+
+abbrev pub invariant-loop-lane : goal.invariant-loop-lane
+invariant-loop-lane l = l.lanes.items ≡ replicate l.lane (record { values = replicate l.slots 0; masks = replicate l.slots 0 })

@@ -1,0 +1,64 @@
+// One lane of every slot: a column of values, and one of masks.
+ghost use Rattle.std.specs.Prelude.{◌≡◌, ℕ, ◌+◌, ◌<◌, ◌≤◌, length, replicate, slice_index, IfOk};
+ghost use Rattle.lane_lookup.specs.Columns.{lane_off, with_cell};
+
+use std::alloc::{AllocError, Global};
+use std::marker::Model;
+use std::simd::prelude::*;
+
+/// The values and the masks of one lane, by slot.
+#[derive(Drop)]
+pub(crate) struct Column {
+    values: Vec<u32>,
+    masks: Vec<u32>,
+}
+
+impl Model for Column {
+    ghost use Rattle.lane_lookup.specs.Columns.{Lane};
+
+    ghost Value = { Lane };
+
+    ghost view = { λ c. record { values = c.values.items; masks = c.masks.items } };
+}
+
+impl Column {
+    /// Zeros for this many slots.
+    pub(crate) fn new(alloc: Global, slots: usize) -> Result<Column, AllocError>
+        ensures { IfOk result (λ column. column ≡ record { values = replicate slots 0; masks = replicate slots 0 }) }
+    {
+        Ok(Column {
+            values: Vec::from_elem(alloc, 0, slots)?,
+            masks: Vec::from_elem(alloc, 0, slots)?,
+        })
+    }
+
+    /// Puts one slot's value and mask.
+    pub(crate) fn set(&mut self, slot: usize, value: u32, mask: u32)
+        requires values { slot < length self.old.values }
+        requires masks { slot < length self.old.masks }
+        ensures { self.new ≡ with_cell self.old value mask slot }
+    {
+        self.values[slot] = value;
+        self.masks[slot] = mask;
+    }
+
+    /// Of the eight slots from `at` on, the bits of the lane that keep each from hitting the word.
+    pub(crate) fn off(&self, at: usize, word: u32) -> u32x8
+        requires values { at + 8 ≤ length self.now.values }
+        requires masks { at + 8 ≤ length self.now.masks }
+        ensures len { length result ≡ 8 }
+        ensures lanes { (k : ℕ) → k < 8 → slice_index result k ≡ lane_off self.now word (at + k) }
+    {
+        off_eight(&self.values, &self.masks, at, word)
+    }
+}
+
+/// The same of a column of values and one of masks.
+fn off_eight(values: &[u32], masks: &[u32], at: usize, word: u32) -> u32x8
+    requires values { at + 8 ≤ length values.now }
+    requires masks { at + 8 ≤ length masks.now }
+    ensures len { length result ≡ 8 }
+    ensures lanes { (k : ℕ) → k < 8 → slice_index result k ≡ lane_off (record { values = values.now; masks = masks.now }) word (at + k) }
+{
+    (u32x8::splat(word) ^ u32x8::from_slice(&values[at..])) & u32x8::from_slice(&masks[at..])
+}

@@ -1,0 +1,164 @@
+// A list of slots, kept in columns too.
+ghost use Rattle.std.specs.Prelude.{◌≡◌, ◌<◌, ◌≤◌, None, length, replicate, slice_set, IfOk};
+ghost use Rattle.std.specs.List.{AllByRecursion};
+ghost use Rattle.slot_order.specs.Order as order;
+ghost use Rattle.ternary_word.specs.Entry.{first_hitting};
+ghost use Rattle.lane_lookup.specs.Columns.{HasPlace, with_row};
+
+use crate::column::Column;
+use crate::eight::first_of_eight;
+use std::alloc::{AllocError, Global};
+use std::marker::Model;
+use ternary_word::{Entry, LANES, Word, hits};
+
+/// Slots of entries, seen as the list of them.
+#[derive(Drop)]
+pub struct Columns {
+    slots: Vec<Option<Entry>>,
+    lanes: Vec<Column>,
+    vacant: Vec<u32>,
+}
+
+impl Model for Columns {
+    ghost use Rattle.std.specs.Prelude.{List, Option};
+    ghost use Rattle.ternary_word.specs.declared.Entry.{Entry};
+    ghost use Rattle.lane_lookup.specs.Columns.{AreColumns};
+
+    ghost Value = { List (Option Entry) };
+
+    ghost view = { λ c. c.slots.items };
+
+    ghost invariant = { λ c. AreColumns c.slots.items c.lanes.items c.vacant.items };
+}
+
+impl Columns {
+    /// From 1 to 65,536 slots, all empty.
+    pub fn new(alloc: Global, slots: u32) -> Result<Columns, AllocError>
+        requires least { 0 < slots }
+        requires most { slots ≤ 65536 }
+        ensures { IfOk result (λ columns. columns ≡ replicate slots None) }
+    {
+        let n = slots as usize;
+        Ok(Columns {
+            slots: Vec::from_elem(alloc, None, n)?,
+            lanes: blank_lanes(alloc, n)?,
+            vacant: Vec::from_elem(alloc, 1, n)?,
+        })
+    }
+
+    /// The number of slots.
+    pub fn len(&self) -> u32
+        ensures value { result ≡ length self.now }
+        ensures most { result ≤ 65536 }
+    {
+        self.slots.len() as u32
+    }
+
+    /// What stands in a slot: an entry, or None exactly where the slot is empty.
+    pub fn get(&self, slot: u32) -> Option<Entry>
+        requires { slot < length self.now }
+        ensures { result ≡ order.slot self.now slot }
+    {
+        self.slots[slot as usize]
+    }
+
+    /// Puts an entry into a slot, or empties it.
+    pub fn set(&mut self, slot: u32, entry: Option<Entry>)
+        requires { slot < length self.old }
+        ensures { self.new ≡ slice_set self.old slot entry }
+    {
+        let slot = slot as usize;
+        self.slots[slot] = entry;
+        match &entry {
+            None => self.vacant[slot] = 1,
+            Some(row) => {
+                self.vacant[slot] = 0;
+                put_row(&mut self.lanes, slot, &row.value, &row.mask);
+            }
+        }
+    }
+
+    /// The least slot that hits the word, or None exactly where no slot does.
+    pub fn first(&self, word: &Word) -> Option<u32>
+        ensures { result ≡ first_hitting self.now word.now }
+    {
+        let eights = self.slots.len() / 8;
+        for step in 0..eights {
+            let before = first_of_eight(&self.lanes, &self.vacant, word, step * 8);
+            if before < 8 {
+                return Some((step * 8) as u32 + before);
+            }
+        }
+        for slot in eights * 8..self.slots.len() {
+            if let Some(entry) = &self.slots[slot]
+                && hits(entry, word)
+            {
+                return Some(slot as u32);
+            }
+        }
+        None
+    }
+}
+
+/// A column of zeros for each lane.
+fn blank_lanes(alloc: Global, slots: usize) -> Result<Vec<Column>, AllocError>
+    ensures { IfOk result (λ lanes. lanes.items ≡ replicate 11 (record { values = replicate slots 0; masks = replicate slots 0 })) }
+{
+    let mut lanes = Vec::with_capacity(alloc, LANES)?;
+    for lane in 0..LANES {
+        lanes.push(Column::new(alloc, slots)?)?;
+    }
+    Ok(lanes)
+}
+
+/// Puts one slot's value and mask, each of eleven lanes, into the columns.
+fn put_row(lanes: &mut Vec<Column>, slot: usize, value: &Word, mask: &Word)
+    requires count { length lanes.old.items ≡ 11 }
+    requires place { AllByRecursion (HasPlace slot) lanes.old.items }
+    ensures row { lanes.new.items ≡ with_row lanes.old.items value.now.lane mask.now.lane slot }
+    ensures widths { (length value.now.lane ≡ 11) × (length mask.now.lane ≡ 11) }
+{
+    for lane in 0..LANES {
+        lanes[lane].set(slot, value.lane[lane], mask.lane[lane]);
+    }
+}
+
+#[cfg(test)]
+mod tests {
+    use super::*;
+    use rule_model::Rank;
+    use std::test::Fail;
+
+    /// An entry that hits words with the lowest bit of each lane set.
+    fn odd() -> Entry {
+        Entry {
+            value: Word { lane: [1; LANES] },
+            mask: Word { lane: [1; LANES] },
+            tag: Rank { high: 0, low: 0 },
+            result: 0,
+        }
+    }
+
+    #[test]
+    fn finds_the_least_slot(rt: HostRuntime) -> Result<(), Fail> {
+        let word = Word { lane: [3; LANES] };
+        for (slots, first, second, want) in [
+            (11u32, Some(10u32), None, Some(10)),
+            (8, Some(5), Some(2), Some(2)),
+            (1, None, None, None),
+        ] {
+            assert!(rt; 0 < slots && slots <= 65_536);
+            let mut columns = Columns::new(rt.alloc(), slots)?;
+            for place in [first, second] {
+                if let Some(slot) = place
+                    && slot < columns.len()
+                {
+                    columns.set(slot, Some(odd()));
+                    assert_eq!(rt; columns.get(slot), Some(odd()));
+                }
+            }
+            assert_eq!(rt; columns.first(&word), want, "{slots} slots");
+        }
+        Ok(())
+    }
+}

@@ -1,0 +1,10 @@
+mod Examples
+mod OneRoute
+pub mod Lookups
+pub mod One
+pub mod Spans
+pub mod Kept
+pub mod States
+pub mod Cuts
+pub mod Shown
+pub mod Least

@@ -1,0 +1,6 @@
+pub mod State
+pub mod Hitless
+pub mod Insertion
+pub mod Order
+pub mod Cause
+pub mod Tcam
