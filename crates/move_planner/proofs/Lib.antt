@@ -1,0 +1,14 @@
+pub mod Chain
+pub mod Ends
+mod Examples
+pub mod Inserted
+pub mod Orders
+pub mod Outcomes
+pub mod Placed
+pub mod Planned
+pub mod Planner
+pub mod Readied
+pub mod Shifted
+pub mod Turned
+pub mod Walked
+pub mod Ways

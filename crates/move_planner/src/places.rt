@@ -1,0 +1,96 @@
+//! Where a new id may stand, and which place it takes.
+ghost use Rattle.std.specs.Prelude.{◌≡◌, ◌<◌, ◌≤◌, ◌+◌, ◌-◌, ◌/◌, ◌^◌, ℕ, IsTrue, Some, length};
+ghost use Rattle.slot_order.specs.Order.{slot as held_in};
+ghost use Rattle.slot_pool.specs.Arrangement.{nearest_free};
+ghost use Rattle.overlap_index.specs.Live.{AreApart, is_live, is_above};
+ghost use Rattle.move_planner.specs.Placement.{first_lower, last_upper, next_slot, span_of};
+ghost use Rattle.move_planner.specs.Steps.{lesser, greater};
+
+use overlap_index::Index;
+use slot_pool::Arrangement;
+
+/// The least slot of an id below this one.
+pub(crate) fn first_lower(slots: &Arrangement, index: &Index, id: u32) -> Option<u32>
+    requires { IsTrue (is_live index.now.live id) }
+    ensures first { result ≡ first_lower (is_above index.now.live) slots.now id }
+    ensures apart { AreApart index.now.slots index.now.live }
+{
+    let mut first = None;
+    for other in index.below(id) {
+        first = lesser(first, slots.home(other));
+    }
+    first
+}
+
+/// The greatest slot of an id above this one, where each id stands in one slot.
+pub(crate) fn last_upper(slots: &Arrangement, index: &Index, id: u32) -> Option<u32>
+    requires live { IsTrue (is_live index.now.live id) }
+    requires once { (i j other : ℕ) → held_in slots.now i ≡ Some other → held_in slots.now j ≡ Some other → i ≡ j }
+    ensures last { result ≡ last_upper (is_above index.now.live) slots.now id }
+    ensures apart { AreApart index.now.slots index.now.live }
+{
+    let mut last = None;
+    for other in index.above(id) {
+        last = greater(last, slots.home(other));
+    }
+    last
+}
+
+// The lesser of two slots, or the one that there is.
+fn lesser(a: Option<u32>, b: Option<u32>) -> Option<u32>
+    ensures { result ≡ lesser a b }
+{
+    match (a, b) {
+        (Some(a), Some(b)) => Some(a.min(b)),
+        (Some(a), None) => Some(a),
+        (None, b) => b,
+    }
+}
+
+// The greater of two slots, or the one that there is.
+fn greater(a: Option<u32>, b: Option<u32>) -> Option<u32>
+    ensures { result ≡ greater a b }
+{
+    match (a, b) {
+        (Some(a), Some(b)) => Some(a.max(b)),
+        (Some(a), None) => Some(a),
+        (None, b) => b,
+    }
+}
+
+/// The slot behind this one, or the first of all.
+pub(crate) fn next_slot(slot: Option<u32>) -> u32
+    requires { next_slot slot < 2 ^ 32 }
+    ensures { result ≡ next_slot slot }
+{
+    match slot {
+        Some(slot) => slot + 1,
+        None => 0,
+    }
+}
+
+/// How far the last upper id of one stands past its first lower one.
+pub(crate) fn span(slots: &Arrangement, index: &Index, id: u32) -> u32
+    requires live { IsTrue (is_live index.now.live id) }
+    requires once { (i j other : ℕ) → held_in slots.now i ≡ Some other → held_in slots.now j ≡ Some other → i ≡ j }
+    ensures span { result ≡ span_of (is_above index.now.live) slots.now id }
+    ensures apart { AreApart index.now.slots index.now.live }
+{
+    let end = first_lower(slots, index, id).unwrap_or(slots.slots());
+    match last_upper(slots, index, id) {
+        Some(upper) => upper.saturating_sub(end),
+        None => 0,
+    }
+}
+
+/// The place in a gap, from `start` on and before `end`, that a new id takes: the free slot nearest
+/// to the middle, the lower one of two. `None` exactly where no slot of the gap is free.
+pub(crate) fn choose(slots: &Arrangement, start: u32, end: u32) -> Option<u32>
+    requires some { 0 < length slots.now }
+    requires few { length slots.now ≤ 4096 }
+    requires ordered { start ≤ end }
+    requires inside { end ≤ length slots.now }
+    ensures { result ≡ nearest_free slots.now start end ((start + end - 1) / 2) }
+{
+    slots.nearest_free(start, end, (start + end).saturating_sub(1) / 2)
+}

@@ -1,0 +1,4 @@
+pub mod Above
+mod Examples
+pub mod Listed
+pub mod Live

@@ -1,0 +1,124 @@
+//! Which of the live ids overlap, above and below.
+//!
+//! An id is live from `add` to `remove`, with a piece of a rule and its priority. Of two live ids
+//! whose pieces overlap, as some packet key matches both, the one of higher priority is above the
+//! other. `above` and `below` name them by looking at each live piece once. Only `new` and `add`
+//! take memory.
+#![tactic(auto)]
+
+ghost use Rattle.std.specs.Prelude.{◌≡◌, ◌<◌, ◌≤◌, ◌↔◌, ℕ, [], ◌∷◌, ◌++◌, IsTrue, IsFalse, IfOk, OnOk, OnErr, Contains, nat_lt, nat_eq};
+ghost use Rattle.std.specs.List.{IsDistinct};
+ghost use Rattle.rule_model.specs.Piece.{pieces_meet};
+ghost use Rattle.overlap_index.specs.Live.{AreApart, is_live, is_over, is_on, with_id, without_id, ids_above, ids_below};
+
+mod overlaps;
+#[cfg(test)]
+mod tests;
+
+pub use overlaps::Overlaps;
+use overlaps::Side;
+use rule_model::{Piece, Rank};
+use std::alloc::{AllocError, AllocFailed, Global};
+use std::marker::Model;
+
+/// The greatest number of ids.
+pub const MOST_IDS: u32 = 65_536;
+
+/// A live id with its piece and its priority.
+#[derive(Clone, Copy, Debug)]
+pub struct LivePiece {
+    pub id: u32,
+    pub piece: Piece,
+    pub rank: Rank,
+}
+
+/// The live ids below a number, each with its piece and its priority.
+#[derive(Debug, Drop)]
+pub struct Index {
+    slots: u32,
+    live: Vec<LivePiece>,
+}
+
+impl Model for Index {
+    ghost use Rattle.overlap_index.specs.Live.{LivePieces, AreApart};
+
+    ghost Value = { LivePieces };
+
+    ghost view = { λ i. record { slots = i.slots; live = i.live.items } };
+
+    ghost invariant = { λ i. AreApart i.slots i.live.items };
+}
+
+impl Index {
+    /// Makes an index of ids below `slots`, from 1 to `MOST_IDS`, none of them live.
+    pub fn new(alloc: Global, slots: u32) -> Result<Index, AllocError>
+        requires some { 1 ≤ slots }
+        requires most { slots ≤ MOST_IDS }
+        ensures slots { IfOk result (λ index. index.slots ≡ slots) }
+        ensures live { IfOk result (λ index. index.live ≡ []) }
+    {
+        let live = Vec::with_capacity(alloc, slots as usize)?;
+        Ok(Index { slots, live })
+    }
+
+    /// Makes an id live, with its piece and its priority. After a refusal all is as before.
+    pub fn add(&mut self, id: u32, piece: &Piece, priority: Rank) -> Result<(), AllocError>
+        requires small { id < self.old.slots }
+        requires absent { IsFalse (is_live self.old.live id) }
+        ensures live { OnOk result (self.new.live ≡ self.old.live ++ record { id = id; piece = piece.now; rank = priority } ∷ []) }
+        ensures slots { self.new.slots ≡ self.old.slots }
+        ensures refused { OnErr result (self.new ≡ self.old) }
+    {
+        let one = LivePiece {
+            id,
+            piece: *piece,
+            rank: priority,
+        };
+        self.live.push(one)?;
+        Ok(())
+    }
+
+    /// Makes a live id no longer live.
+    pub fn remove(&mut self, id: u32)
+        requires { IsTrue (is_live self.old.live id) }
+        ensures live { self.new.live ≡ without_id self.old.live id }
+        ensures slots { self.new.slots ≡ self.old.slots }
+    {
+        self.live.retain(|one| one.id != id);
+    }
+
+    /// The live ids of higher priority whose pieces overlap that of a live id, each once, in any
+    /// order.
+    pub fn above(&self, id: u32) -> Overlaps<'_>
+        requires { IsTrue (is_live self.now.live id) }
+        ensures exact { (other : ℕ) → Contains result other ↔ Contains (ids_above self.now.live id) other }
+        ensures once { IsDistinct nat_eq result }
+        ensures apart { AreApart self.now.slots self.now.live }
+    {
+        Overlaps::new(Side::Above, self.piece_of(id), self.live.as_slice())
+    }
+
+    /// The live ids of lower priority whose pieces overlap that of a live id, each once, in any
+    /// order.
+    pub fn below(&self, id: u32) -> Overlaps<'_>
+        requires { IsTrue (is_live self.now.live id) }
+        ensures exact { (other : ℕ) → Contains result other ↔ Contains (ids_below self.now.live id) other }
+        ensures once { IsDistinct nat_eq result }
+        ensures apart { AreApart self.now.slots self.now.live }
+    {
+        Overlaps::new(Side::Below, self.piece_of(id), self.live.as_slice())
+    }
+
+    /// What is live by a live id.
+    fn piece_of(&self, id: u32) -> LivePiece
+        requires { IsTrue (is_live self.now.live id) }
+        ensures { with_id self.now.live id ≡ result ∷ [] }
+    {
+        for one in &self.live {
+            if one.id == id {
+                return *one;
+            }
+        }
+        unreachable!()
+    }
+}

@@ -1,0 +1,5 @@
+mod Examples
+pub mod Finds
+pub mod Places
+pub mod Scan
+pub mod Searches

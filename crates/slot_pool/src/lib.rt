@@ -1,0 +1,193 @@
+//! Which id each slot holds.
+//!
+//! An `Arrangement` is a list of slots, each empty or an id, and contracts see it as that list. An
+//! id may stand in several slots, as it does while an entry moves. Searches for a free slot look
+//! outwards from where it is wanted, so they take as many steps as it is away. No call but `new`
+//! and `try_copy` takes memory.
+#![tactic(auto)]
+
+ghost use Rattle.std.specs.Prelude.{◌≡◌, ◌==◌, ℕ, ◌+◌, ◌<◌, ◌≤◌, None, Some, IfOk, length, replicate, slice_set, count_by, is_none};
+ghost use Rattle.slot_order.specs.Order.{slot as held_in};
+ghost use Rattle.slot_pool.specs.Arrangement.{is_free, passes, is_free_within, home_of, nearest_free, next_free_above, last_free_below, HasTwin};
+
+#[cfg(test)]
+mod tests;
+
+use std::alloc::{AllocError, Global};
+use std::marker::Model;
+
+/// The greatest number of slots.
+pub const MOST_SLOTS: u32 = 65_536;
+
+/// Slots, each empty or holding an id.
+#[derive(Debug, Drop)]
+pub struct Arrangement {
+    slots: Vec<Option<u32>>,
+}
+
+impl Model for Arrangement {
+    ghost use Rattle.std.specs.Prelude.{◌≤◌, length};
+    ghost use Rattle.slot_pool.specs.Arrangement.{Slots};
+
+    ghost Value = { Slots };
+
+    ghost view = { λ a. a.slots.items };
+
+    ghost invariant = { λ a. (1 ≤ length a.slots.items) × (length a.slots.items ≤ 65536) };
+}
+
+impl Arrangement {
+    /// Makes `slots` empty slots, from 1 to `MOST_SLOTS`.
+    pub fn new(alloc: Global, slots: u32) -> Result<Arrangement, AllocError>
+        requires some { 1 ≤ slots }
+        requires most { slots ≤ MOST_SLOTS }
+        ensures { IfOk result (λ arrangement. arrangement ≡ replicate slots None) }
+    {
+        let slots = vec![in alloc; None; slots as usize]?;
+        Ok(Arrangement { slots })
+    }
+
+    /// The number of slots, from 1 to `MOST_SLOTS`.
+    pub fn slots(&self) -> u32
+        ensures number { result ≡ length self.now }
+        ensures some { 1 ≤ result }
+        ensures most { result ≤ MOST_SLOTS }
+    {
+        self.slots.len() as u32
+    }
+
+    /// The id that stands in a slot, or `None` exactly where the slot is empty.
+    pub fn at(&self, slot: u32) -> Option<u32>
+        requires { slot < length self.now }
+        ensures { result ≡ held_in self.now slot }
+    {
+        self.slots[slot as usize]
+    }
+
+    /// The least slot that holds an id, or `None` exactly where none does.
+    pub fn home(&self, id: u32) -> Option<u32>
+        ensures { result ≡ home_of self.now id }
+    {
+        for slot in 0..self.slots() {
+            if self.holds(slot, id) {
+                return Some(slot);
+            }
+        }
+        None
+    }
+
+    /// The number of empty slots.
+    pub fn free_count(&self) -> u32
+        ensures { result ≡ count_by (λ held. is_none held) self.now }
+    {
+        self.slots.iter().filter(|held| held.is_none()).count() as u32
+    }
+
+    /// The empty slot from `from` on and before `to` that is nearest to `mid`, the lower one of two
+    /// at the same distance. `None` exactly where no slot there is empty.
+    pub fn nearest_free(&self, from: u32, to: u32, mid: u32) -> Option<u32>
+        requires from { from ≤ length self.now }
+        requires to { to ≤ length self.now }
+        requires mid { mid < length self.now }
+        ensures { result ≡ nearest_free self.now from to mid }
+    {
+        for distance in 0..self.slots() {
+            if distance <= mid && self.is_free_within(mid - distance, from, to) {
+                return Some(mid - distance);
+            }
+            if self.is_free_within(mid + distance, from, to) {
+                return Some(mid + distance);
+            }
+        }
+        None
+    }
+
+    /// The least empty slot above a slot, or `None` exactly where there is none.
+    pub fn next_free_above(&self, slot: u32) -> Option<u32>
+        requires { slot < length self.now }
+        ensures { result ≡ next_free_above self.now slot }
+    {
+        let slots = self.slots();
+        for above in slot + 1..slots {
+            if self.is_free(above) {
+                return Some(above);
+            }
+        }
+        None
+    }
+
+    /// The greatest empty slot below a slot, or `None` exactly where there is none.
+    pub fn last_free_below(&self, slot: u32) -> Option<u32>
+        requires { slot < length self.now }
+        ensures { result ≡ last_free_below self.now slot }
+    {
+        for below in (0..slot).rev() {
+            if self.is_free(below) {
+                return Some(below);
+            }
+        }
+        None
+    }
+
+    /// Puts an id into an empty slot, and changes no other one.
+    pub fn put(&mut self, slot: u32, id: u32)
+        requires place { slot < length self.old }
+        requires free { held_in self.old slot ≡ None }
+        ensures { self.new ≡ slice_set self.old slot (Some id) }
+    {
+        self.slots[slot as usize] = Some(id);
+    }
+
+    /// Empties a slot, and changes no other one.
+    pub fn erase(&mut self, slot: u32)
+        requires { slot < length self.old }
+        ensures { self.new ≡ slice_set self.old slot None }
+    {
+        self.slots[slot as usize] = None;
+    }
+
+    /// Puts an id over the one in a slot, which stands in another slot too, and changes no other
+    /// slot.
+    pub fn over(&mut self, slot: u32, id: u32)
+        requires place { slot < length self.old }
+        requires twin { HasTwin self.old slot }
+        ensures { self.new ≡ slice_set self.old slot (Some id) }
+    {
+        self.slots[slot as usize] = Some(id);
+    }
+
+    /// Makes a copy of its own memory.
+    pub fn try_copy(&self, alloc: Global) -> Result<Arrangement, AllocError>
+        ensures { IfOk result (λ copy. copy ≡ self.now) }
+    {
+        let slots = Vec::from_slice(alloc, &self.slots)?;
+        Ok(Arrangement { slots })
+    }
+
+    /// Whether a slot is empty.
+    fn is_free(&self, slot: u32) -> bool
+        requires { slot < length self.now }
+        ensures { result ≡ is_free self.now slot }
+    {
+        self.at(slot).is_none()
+    }
+
+    /// Whether a slot holds an id.
+    fn holds(&self, slot: u32, id: u32) -> bool
+        requires { slot < length self.now }
+        ensures { result ≡ passes (λ held. held == id) (held_in self.now slot) }
+    {
+        match self.at(slot) {
+            Some(held) => held == id,
+            None => false,
+        }
+    }
+
+    /// Whether a slot is empty and lies from `from` on and before `to`.
+    fn is_free_within(&self, slot: u32, from: u32, to: u32) -> bool
+        requires { to ≤ length self.now }
+        ensures { result ≡ is_free_within self.now from to slot }
+    {
+        from <= slot && slot < to && self.is_free(slot)
+    }
+}
