@@ -1,10 +1,8 @@
 -- Common commands, as each reader names them.
-use Rattle.std.proofs.Common.{◌≡◌, ℕ, ◌⊎◌, inl, inr, Bool, true, false, Result, Ok, Err, List, [], ◌∷◌, refl, ap}
+use Rattle.std.proofs.Common.{◌≡◌, ℕ, Bool, true, false, Result, Ok, Err, List, [], ◌∷◌, refl}
 use Rattle.std.specs.Prelude.{codes, if◌then◌else◌}
 use Rattle.std.specs.Str.{bytes_eq}
 use Rattle.rule_model.specs.declared.Key.{Key}
-use Rattle.line_words.specs.declared.WordFault.{WordFault}
-use Rattle.line_words.specs.declared.WordFault.TheVariants.{UnknownCommand}
 use Rattle.line_words.specs.Commands.{common_command, commit_of, frame_of}
 use Rattle.line_words.specs.Kinds.{Notation, key_of}
 use Rattle.line_words.specs.Words.{◌>>=◌}

@@ -12,7 +12,9 @@ use rule_model::Key;
 /// A command that both kinds of script have. A frame is read as a packet with its key.
 #[derive(Clone, Copy, Debug, PartialEq, Eq)]
 pub enum CommonCommand {
+    /// Asks for the answer of a packet.
     Packet(Key),
+    /// Carries out the pending batch.
     Commit,
 }
 

@@ -22,9 +22,10 @@ use thiserror::Error;
 /// The bytes of an IPv4 header without options.
 const LEAST_HEADER: usize = 20;
 
-/// The protocols with ports.
+/// The protocol number of TCP, which has ports.
 const TCP: u8 = 6;
 
+/// The protocol number of UDP, which has ports.
 const UDP: u8 = 17;
 
 /// Why a frame has no key.
@@ -44,10 +45,12 @@ pub enum FrameFault {
     Short,
 }
 
-/// The key of a frame that begins with an IPv4 header.
+/// The key of a frame that begins with an IPv4 header (RFC 791, section 3.1).
 ///
-/// Ports are those of the first fragment of a TCP or UDP packet, and 0 otherwise. Faults are found in
-/// the order of `FrameFault`'s variants.
+/// Ports are those of the first fragment of a TCP or UDP packet (RFC 9293, section 3.1, and RFC 768), and
+/// 0 otherwise. Faults are found in this order: Empty where there is no byte, Version where the version
+/// isn't 4, HeaderLength where the header has fewer than five words, and Short where the header or its
+/// ports are cut off. No other field is looked at.
 pub fn key_of_frame(frame: &[u8]) -> Result<Key, FrameFault>
     ensures { result ≡ key_of_frame frame.now }
 {

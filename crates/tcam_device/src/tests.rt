@@ -1,5 +1,5 @@
 // Look-ups and writes of the devices in memory.
-use crate::{Device, DeviceFault, FlakyTcam, MemTcam, Write};
+use crate::{Device, DeviceFault, Field, FlakyTcam, MemTcam, Write};
 use rule_model::{Key, Rank};
 use std::process::Abort;
 use std::test::Fail;
@@ -77,10 +77,20 @@ fn finds_the_least_slot(rt: HostRuntime) -> Result<(), Fail> {
     Ok(())
 }
 
+/// An entry that tests bit 3 of the destination port's table word.
+fn bit_three() -> Entry {
+    let lane = [0, 0, 0, 0, 0, 0, 0, 0, 0, 0, 8];
+    Entry {
+        value: Word { lane },
+        mask: Word { lane },
+        ..ten()
+    }
+}
+
 #[test]
 fn fails_at_the_second_write(rt: HostRuntime) -> Result<(), Fail> {
     let mut device = FlakyTcam::new(rt.alloc(), 8, &[2])?;
-    device.reserve(2)?;
+    device.reserve(4)?;
     device.write(Write::Slot(3, Some(ten())))?;
     assert_eq!(rt; device.write(Write::Slot(3, None)), Err(DeviceFault));
     assert_eq!(rt; device.look(&to(0x0a01_0203)), FOUND);
@@ -90,5 +100,14 @@ fn fails_at_the_second_write(rt: HostRuntime) -> Result<(), Fail> {
     assert_eq!(rt; device.look(&to(0x0a01_0203)), None);
     assert_eq!(rt; device.slot(3), None);
     assert_eq!(rt; device.journal().len(), 2);
+    device.write(Write::Table(Field::Dst, 2, 8))?;
+    device.write(Write::Slot(0, Some(bit_three())))?;
+    for (dport, want) in [(2, FOUND), (3, None)] {
+        let key = Key {
+            dport,
+            ..to(0x0b00_0001)
+        };
+        assert_eq!(rt; device.look(&key), want, "port {dport}");
+    }
     Ok(())
 }
