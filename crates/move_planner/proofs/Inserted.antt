@@ -1,5 +1,5 @@
 -- What the moves of a placement do: the order after each, who stands at the end, and how many there are.
-use Rattle.std.proofs.Common.{◌≡◌, ◌≢◌, ℕ, suc, ◌+◌, ◌-◌, ◌*◌, ◌<◌, ◌≤◌, true, IsTrue, Option, None, Some, List, [], ◌∷◌, ◌++◌, length, map, take, drop, Contains, inl, inr, arith, refl, sym, ◌∙◌, subst, ap, length-append, append-nil, append_assoc}
+use Rattle.std.proofs.Common.{◌≡◌, ℕ, ◌+◌, ◌-◌, ◌*◌, ◌<◌, ◌≤◌, true, IsTrue, Some, List, [], ◌∷◌, ◌++◌, length, map, take, drop, Contains, inl, inr, arith, refl, sym, ◌∙◌, subst, ap, length-append, append-nil, append_assoc}
 use Rattle.std.proofs.lemmas.Bool.{cases_lt, cases_eq}
 use Rattle.std.proofs.lemmas.List.{take-map, take-append-le, take_all, length-map}
 use Rattle.slot_order.specs.Order.{slot, Ordered}
@@ -16,7 +16,7 @@ use Rattle.overlap_index.specs.Live.{LivePieces, is_above}
 use Rattle.overlap_index.proofs.Listed.{in_map}
 use Rattle.overlap_index.proofs.Above.{rank_in, rank_is, piece_in, piece_is, live_is, above_is}
 use Rattle.move_planner.specs.declared.Move.{Move}
-use Rattle.move_planner.specs.Placement.{Above, after_moves, gap_start, gap_end, span_of, IsInOrder, IsPlacement}
+use Rattle.move_planner.specs.Placement.{after_moves, gap_start, gap_end, span_of, IsInOrder, IsPlacement}
 use Rattle.std.proofs.Math.Seq.{drop-append_seam}
 use Rattle.move_planner.specs.Insertion.{IsLive, IsOther, StandOnce, BoundsLiveChains, AreMade, moves_since, free_slots}
 use Rattle.move_planner.specs.Steps.{IsReady, IsTurned, IsPlaced}

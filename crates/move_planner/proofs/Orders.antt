@@ -1,14 +1,13 @@
 -- Who stands before whom, from the order of an arrangement alone.
-use Rattle.std.proofs.Common.{◌≡◌, ℕ, ◌<◌, ◌≤◌, true, false, Option, None, Some, length, arith, inl, inr, sym, ◌∙◌, ap, subst}
+use Rattle.std.proofs.Common.{◌≡◌, ℕ, ◌<◌, ◌≤◌, true, None, Some, arith, inl, inr, sym, ◌∙◌, ap, subst}
 use Rattle.std.proofs.lemmas.Bool.{cases_lt, cases_eq, both_ways}
 use Rattle.slot_order.specs.Order.{slot}
-use Rattle.slot_order.proofs.Writes.{slot_inside}
 use Rattle.slot_pool.specs.Arrangement.{Slots}
 use Rattle.slot_pool.proofs.Places.{first_slot_is}
 use Rattle.slot_pool.proofs.Scan.{last_slot_is}
 use Rattle.overlap_index.specs.Live.{LivePieces, AreApart, is_above}
 use Rattle.overlap_index.proofs.Above.{rank_in, ranks_fall}
-use Rattle.move_planner.specs.Placement.{Above, first_lower, last_upper, lower_of_held, upper_of_held, step_down, step_up, StopsBelow, StopsAbove, IsInOrder}
+use Rattle.move_planner.specs.Placement.{Above, first_lower, last_upper, lower_of_held, upper_of_held, StopsBelow, StopsAbove, IsInOrder}
 use Rattle.move_planner.specs.Steps.{IsTaken, StepsDown, StepsUp}
 use Rattle.move_planner.proofs.Chain.{passes_is}
 use Rattle.move_planner.proofs.Planner.{IsRanked}

@@ -1,5 +1,5 @@
 -- What holds of a call's outcome, from what held before.
-use Rattle.std.specs.Prelude.{Result, Ok, Err, OnOk, IfOk}
+use Rattle.std.specs.Prelude.{Result, Ok, Err, OnOk}
 
 pub on_ok : {T E : Type 0} (P Q : Type 0) (outcome : Result T E) → (P → Q) → OnOk outcome P → OnOk outcome Q
 on_ok P Q (Ok x) f h = f h

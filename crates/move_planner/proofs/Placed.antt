@@ -1,21 +1,20 @@
 -- The last part of an insertion is a placement.
-use Rattle.std.proofs.Common.{◌≡◌, ℕ, ◌+◌, ◌-◌, ◌/◌, ◌<◌, ◌≤◌, Option, None, Some, List, [], ◌∷◌, ◌++◌, length, map, set, inl, inr, arith, refl, sym, ◌∙◌, subst, ap, append_assoc, length-append}
+use Rattle.std.proofs.Common.{◌≡◌, ℕ, ◌+◌, ◌-◌, ◌/◌, ◌≤◌, Option, None, Some, List, [], ◌∷◌, ◌++◌, length, map, inl, inr, arith, refl, sym, ◌∙◌, ap, append_assoc, length-append}
 use Rattle.std.specs.Prelude.{slice_index_or}
 use Rattle.std.specs.Option.{unwrap_or}
 use Rattle.std.proofs.lemmas.List.{length-map}
-use Rattle.slot_order.specs.Order.{slot}
 use Rattle.slot_order.proofs.Writes.{slot_inside}
 use Rattle.slot_order.proofs.Count.{length-chain_moves}
-use Rattle.slot_pool.specs.Arrangement.{Slots, HasTwin, nearest_free, next_free_above, last_free_below}
-use Rattle.slot_pool.proofs.Scan.{IsFree, IsFreeBetween, nearest_free_is, next_free_is, last_free_is}
+use Rattle.slot_pool.specs.Arrangement.{Slots, HasTwin, nearest_free}
+use Rattle.slot_pool.proofs.Scan.{IsFree, nearest_free_is, next_free_is}
 use Rattle.overlap_index.specs.Live.{LivePieces, is_above}
 use Rattle.overlap_index.proofs.Above.{rank_in}
 use Rattle.move_planner.specs.declared.Move.{Move}
-use Rattle.move_planner.specs.declared.Move.TheVariants.{Put, Erase}
+use Rattle.move_planner.specs.declared.Move.TheVariants.{Put}
 use Rattle.move_planner.specs.declared.chains.Chain.{Chain}
-use Rattle.move_planner.specs.Placement.{Above, after_move, after_moves, moves_along, first_lower, last_upper, next_slot, gap_start, gap_end, gap_slot, IsPlacement, into_gap, push_down, push_up}
+use Rattle.move_planner.specs.Placement.{Above, after_move, after_moves, moves_along, first_lower, last_upper, next_slot, gap_start, gap_end, gap_slot, into_gap, push_down, push_up}
 use Rattle.move_planner.specs.Insertion.{free_slots}
-use Rattle.move_planner.specs.Steps.{CanMake, IsReady, IsPlaced, DownWay, UpWay, IsWay}
+use Rattle.move_planner.specs.Steps.{IsReady, IsPlaced, IsWay}
 use Rattle.move_planner.proofs.Chain.{write_of, IsDown, IsUp}
 use Rattle.move_planner.proofs.Planner.{Related}
 use Rattle.move_planner.proofs.Readied.{down_size, up_size}

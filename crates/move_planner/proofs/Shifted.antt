@@ -1,5 +1,5 @@
 -- What the moves along the last members of a chain have left.
-use Rattle.std.proofs.Common.{◌≡◌, ◌≢◌, ℕ, zero, suc, ◌+◌, ◌<◌, None, Some, Option, List, [], ◌∷◌, ◌++◌, length, set, Contains, ◌⊎◌, inl, inr, arith, refl, sym, ◌∙◌, subst, ap, length-set, length-drop, get_or-drop, drop, append-nil, append_assoc}
+use Rattle.std.proofs.Common.{◌≡◌, ◌≢◌, ℕ, suc, ◌+◌, ◌<◌, None, Some, Option, List, [], ◌∷◌, ◌++◌, length, set, Contains, inl, inr, arith, refl, sym, ◌∙◌, subst, ap, length-set, length-drop, get_or-drop, drop, append-nil, append_assoc}
 use Rattle.std.specs.Prelude.{slice_index_or, is_none, cond}
 use Rattle.std.proofs.Math.Seq.{drop-cons, drop-append_seam}
 use Rattle.std.proofs.lemmas.List.{get_or_default}
@@ -9,7 +9,7 @@ use Rattle.slot_order.proofs.Writes.{slot_same, slot_other, slot_inside}
 use Rattle.slot_order.proofs.Rules.{contains_head, contains_tail}
 use Rattle.slot_pool.specs.Arrangement.{Slots, HasTwin}
 use Rattle.move_planner.specs.declared.Move.{Move}
-use Rattle.move_planner.specs.declared.Move.TheVariants.{Put, Erase}
+use Rattle.move_planner.specs.declared.Move.TheVariants.{Put}
 use Rattle.move_planner.specs.Placement.{after_move, after_moves, moves_along, put_held}
 use Rattle.move_planner.specs.Insertion.{free_slots, moves_since, AreMade}
 use Rattle.move_planner.specs.Steps.{IsTaken, CanMake, CanShift}

@@ -1,19 +1,18 @@
 -- The chain that makes way for a new id whose gap is full.
-use Rattle.std.proofs.Common.{◌≡◌, ℕ, zero, suc, ◌+◌, ◌-◌, ◌/◌, ◌<◌, ◌≤◌, ◌⊎◌, true, false, ◌&&◌, Bool, Option, None, Some, IsSome, List, [], ◌∷◌, length, filter, inl, inr, arith, refl, sym, ◌∙◌, subst, ap}
+use Rattle.std.proofs.Common.{◌≡◌, ℕ, zero, suc, ◌+◌, ◌-◌, ◌/◌, ◌<◌, ◌≤◌, true, false, ◌&&◌, Bool, Option, None, Some, IsSome, length, filter, inl, inr, arith, refl, sym, ◌∙◌, subst, ap}
 use Rattle.std.specs.Prelude.{nat_lt, nat_le, is_none}
 use Rattle.std.specs.List.{range_with_len}
 use Rattle.std.specs.Int.{abs_diff}
 use Rattle.std.specs.Option.{unwrap_or}
 use Rattle.std.proofs.lemmas.Bool.{cases_Bool, cases_lt, cases_eq, cond-true, cond-false, and_from, lt-ltb, le-leb, ltb-true, ltb-false}
 use Rattle.slot_order.specs.Order.{slot}
-use Rattle.slot_pool.specs.Arrangement.{Slots, is_free, is_free_within, nearest, nearer, nearest_free, next_free_above, last_free_below}
+use Rattle.slot_pool.specs.Arrangement.{Slots, is_free, is_free_within, nearest, nearer, next_free_above, last_free_below}
 use Rattle.slot_pool.proofs.Places.{find_range_none}
 use Rattle.slot_pool.proofs.Scan.{find_back_none}
 use Rattle.overlap_index.specs.Live.{LivePieces, is_above}
 use Rattle.move_planner.specs.declared.chains.Chain.{Chain}
 use Rattle.move_planner.specs.Placement.{Above, first_lower, last_upper, next_slot, gap_start, gap_end, gap_slot, DownChain, UpChain}
-use Rattle.move_planner.specs.Insertion.{free_slots}
-use Rattle.move_planner.specs.Steps.{CanShift, IsReady, IsDown, IsUp, FindsDown, FindsUp, FindsDownFrom, FindsUpFrom, shorter, DownWay, UpWay, IsWay}
+use Rattle.move_planner.specs.Steps.{CanShift, IsReady, IsDown, IsUp, FindsDownFrom, FindsUpFrom, shorter, DownWay, UpWay, IsWay}
 use Rattle.move_planner.proofs.Planner.{down_one, up_one}
 use Rattle.move_planner.proofs.Shifted.{free_somewhere}
 use Rattle.move_planner.proofs.Turned.{low_at, high_at, down_shifts, up_shifts}

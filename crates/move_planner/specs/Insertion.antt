@@ -1,5 +1,5 @@
 -- What an insertion finds and what it leaves.
-use Rattle.std.specs.Prelude.{◌≡◌, ◌≢◌, ℕ, Bool, IsTrue, Option, Some, List, ◌++◌, length, drop, Contains, count_by, is_none}
+use Rattle.std.specs.Prelude.{◌≡◌, ◌≢◌, ℕ, IsTrue, Some, List, ◌++◌, length, drop, Contains, count_by, is_none}
 use Rattle.slot_order.specs.Order.{slot}
 use Rattle.slot_order.specs.Moves.{BoundsChains}
 use Rattle.slot_pool.specs.Arrangement.{Slots}

@@ -1,9 +1,55 @@
-//! The moves that make room for a new entry.
+//! The moves that make room for a new entry, as a list of moves that is made before the first is carried out.
+//!
+//! # The one hard idea
+//! A look-up answers the entry of the least slot that hits. So two entries need an order only where one packet key
+//! hits both: the higher priority stands first. In an arrangement that is in order after every single move, each
+//! look-up on the way finds the old answer. So an entry is copied to its new slot before anything goes over its old
+//! one. Two copies of an entry are harmless, as long as both are in order; no copy at all isn't.
+//!
+//! # Where a new entry goes
+//! Of the entries that overlap it, the last upper one and the first lower one bound a gap.
+//!
+//! 1. A slot of the gap is free: the entry goes into the one nearest to the middle (`choose`, one function, so that
+//!    another choice can stand in its place).
+//! 2. None is: the first lower entry makes way downwards or the last upper one upwards, along the shorter of two
+//!    chains, and the new entry is put over the slot that this leaves.
+//! 3. The last upper entry stands past the first lower one, as it may where these two don't overlap: the lower one
+//!    moves past the upper one, or the upper before the lower, and its old slot is erased. Then the gap is taken anew.
+//!
+//! # Chains
+//! An entry that moves to a free slot may pass one that it has to stand before. So that one moves first. A down chain
+//! from a slot is that slot, then the first lower entry of the one in it, and so on, up to the first that isn't before
+//! the free slot `f`. Its last member is put into `f`, then each earlier one over the slot of the one after it:
+//!
+//! ```text
+//! f <- c3 <- c2 <- c1
+//! ```
+//!
+//! Each of these moves passes only entries that don't overlap the one that moves, so the order holds after each. The
+//! up chain is the mirror. In a table of 8 slots the routes 10.0.0.0/8, 10.1.2.0/24 and 10.1.0.0/16 stand in slots 3, 1
+//! and 2, and 10.1.0.0/20 has to stand behind the /24 and before the /16:
+//!
+//! ```text
+//! slot     0    1    2    3    4
+//! before   .   /24  /16  /8    .     down: 4 <- 3 <- 2, two members; up: 0 <- 1, one member
+//! move 1  /24  /24  /16  /8    .     the /24 is put into slot 0
+//! move 2  /24  /20  /16  /8    .     the /20 is put over slot 1
+//! ```
+//!
+//! # What it costs
+//! A chain's entries overlap one after the other at falling priorities. So with the new entry it has at most as many
+//! members as the longest such chain among the live pieces has, `m`, and an insertion of crossing span `c` takes at
+//! most `m * (1 + c)` moves: each turn of rule 3 narrows the span.
+//!
+//! # What isn't promised
+//! A least number of moves. The rules look at one entry at a time; we don't know a good way to look further ahead that
+//! stays simple. The idea of ordering only entries that overlap is that of D. Shah and P. Gupta, "Fast Updating
+//! Algorithms for TCAMs", IEEE Micro 21(1), 2001.
 #![tactic(auto)]
 
 ghost use Rattle.std.specs.Prelude.{◌≡◌, ℕ, ◌+◌, ◌*◌, ◌<◌, ◌≤◌, ◌++◌, ◌∷◌, [], IsTrue, IfOk, OnOk, OnErr, length, take, slice_index_or};
 ghost use Rattle.overlap_index.specs.Live.{is_live, is_above};
-ghost use Rattle.move_planner.specs.Placement.{IsPlacement, IsInOrder, span_of, after_move, after_moves};
+ghost use Rattle.move_planner.specs.Placement.{IsPlacement, IsInOrder, gap_start, gap_end, span_of, after_move, after_moves};
 ghost use Rattle.move_planner.specs.Insertion.{IsLive, IsOther, StandOnce, BoundsLiveChains, free_slots, moves_since};
 ghost use Rattle.move_planner.specs.Steps.{CanMake};
 
@@ -11,6 +57,8 @@ mod chains;
 mod crossings;
 mod places;
 mod placing;
+#[cfg(test)]
+mod tests;
 
 use crossings::{find_crossing, uncross};
 use overlap_index::Index;
@@ -20,17 +68,21 @@ use slot_pool::Arrangement;
 use std::alloc::{AllocError, Global};
 use std::marker::Model;
 
-/// One move of a plan: an id is put into a slot, or a slot is erased.
+/// One move of a plan.
 #[derive(Clone, Copy, Debug, PartialEq, Eq)]
 pub enum Move {
+    /// Into a slot goes an id: the slot is empty, or what it holds stands in another one too.
     Put(u32, u32),
+    /// A slot is emptied.
     Erase(u32),
 }
 
-/// How many moves an insertion took, and its crossing span.
+/// What an insertion took.
 #[derive(Clone, Copy, Debug, PartialEq, Eq)]
 pub struct Insert {
+    /// The number of moves.
     pub writes: u32,
+    /// By how many slots the last upper id stood past the first lower one, 0 where it didn't.
     pub span: u32,
 }
 
@@ -98,12 +150,15 @@ impl Plan {
     }
 }
 
-/// Plans the moves that place a new live id, and makes them in the arrangement, each move where
-/// every id that stands is still in order. Wants at most 4,096 slots of which one is free, all ids
-/// that are live in the index but the new one in one slot each, and in order. After a refusal the
+/// Plans the moves that place a new live id, and makes them in the arrangement.
+///
+/// `slots` has at most 4,096 slots, of which one is free. `id` is live in `index` and stands in no slot; every other live
+/// id stands in exactly one, and all in order. The plan gains the moves, each of which leaves the arrangement in order,
+/// and at the end every live id stands in exactly one slot. The answer is the number of the moves and how far the last
+/// upper entry stood past the first lower one, 0 where nothing crossed. The one refusal is want of memory: then the
 /// arrangement is the old one after the moves that the plan gained.
 ///
-/// Source: after D. Shah and P. Gupta, "Fast Updating Algorithms for TCAMs", IEEE Micro 21(1), 2001.
+/// Source: D. Shah and P. Gupta, "Fast Updating Algorithms for TCAMs", IEEE Micro 21(1), 2001.
 pub fn plan_insert(
     alloc: Global,
     slots: &mut Arrangement,
@@ -121,6 +176,7 @@ pub fn plan_insert(
     ensures placement { OnOk result (IsPlacement (is_above index.now.live) id slots.old (moves_since plan.old plan.new)) }
     ensures writes { IfOk result (λ insert. insert.writes ≡ length (moves_since plan.old plan.new)) }
     ensures span { IfOk result (λ insert. insert.span ≡ span_of (is_above index.now.live) slots.old id) }
+    ensures uncrossed { IfOk result (λ insert. gap_start (is_above index.now.live) slots.old id ≤ gap_end (is_above index.now.live) slots.old id → insert.span ≡ 0) }
     ensures order { OnOk result ((n : ℕ) → n ≤ length (moves_since plan.old plan.new)
         → IsInOrder (is_above index.now.live) (after_moves slots.old (take n (moves_since plan.old plan.new)))) }
     ensures standing { OnOk result (StandOnce (IsLive index.now.live) slots.new) }
@@ -135,152 +191,4 @@ pub fn plan_insert(
     place(alloc, slots, index, plan, id)?;
     let writes = (plan.len() - before) as u32;
     Ok(Insert { writes, span })
-}
-
-#[cfg(test)]
-mod tests {
-    use super::*;
-    use rule_model::{Piece, Ports, Prefix, Rank};
-    use std::process::Abort;
-    use std::test::Fail;
-
-    fn to(addr: u32, len: u8) -> Result<Piece, Fail> {
-        let dst = Prefix::v4(addr, len).ok().ok_or("a prefix")?;
-        Ok(Piece {
-            src: Prefix::any(),
-            dst,
-            proto: None,
-            sport: Ports::any(),
-            dport: Ports::any(),
-            srcbit: None,
-            dstbit: None,
-        })
-    }
-
-    fn insert(
-        alloc: Global,
-        slots: &mut Arrangement,
-        index: &mut Index,
-        plan: &mut Plan,
-        id: u32,
-        piece: &Piece,
-        rank: Rank,
-    ) -> Result<Insert, AllocError> {
-        index.add(id, piece, rank)?;
-        plan_insert(alloc, slots, index, id, plan)
-    }
-
-    fn last(plan: &Plan, back: u64) -> Move {
-        plan.at(plan.len() - back)
-    }
-
-    #[test]
-    fn nested_routes(rt: HostRuntime) -> Result<(), Fail> {
-        let alloc = rt.alloc();
-        let mut slots = Arrangement::new(alloc, 8)?;
-        let mut index = Index::new(alloc, 8)?;
-        let mut plan = Plan::new(alloc);
-        let routes = [(0x0a00_0000u32, 8u8), (0x0a01_0200, 24), (0x0a01_0000, 16)];
-        let mut id = 0;
-        for (addr, len) in routes {
-            let rank = Rank {
-                high: len,
-                low: u128::from(addr),
-            };
-            let made = insert(
-                alloc,
-                &mut slots,
-                &mut index,
-                &mut plan,
-                id,
-                &to(addr, len)?,
-                rank,
-            )?;
-            assert_eq!(rt; made, Insert { writes: 1, span: 0 });
-            id += 1;
-        }
-        assert_eq!(rt; slots.at(3), Some(0));
-        assert_eq!(rt; slots.at(1), Some(1));
-        assert_eq!(rt; slots.at(2), Some(2));
-        let rank = Rank {
-            high: 20,
-            low: 0x0a01_0000,
-        };
-        let made = insert(
-            alloc,
-            &mut slots,
-            &mut index,
-            &mut plan,
-            3,
-            &to(0x0a01_0000, 20)?,
-            rank,
-        )?;
-        assert_eq!(rt; made, Insert { writes: 2, span: 0 });
-        assert_eq!(rt; last(&plan, 2), Move::Put(0, 1));
-        assert_eq!(rt; last(&plan, 1), Move::Put(1, 3));
-        Ok(())
-    }
-
-    fn lines(
-        rt: &impl Abort,
-        alloc: Global,
-        list: &[(u32, u32, u8)],
-        places: &[u32],
-        want: Insert,
-    ) -> Result<(), Fail> {
-        let mut slots = Arrangement::new(alloc, 8)?;
-        let mut index = Index::new(alloc, 8)?;
-        let mut plan = Plan::new(alloc);
-        let mut id = 0;
-        let mut made = Insert { writes: 0, span: 0 };
-        for (sequence, addr, len) in list {
-            let rank = Rank {
-                high: 0,
-                low: 4_294_967_296 - u128::from(*sequence),
-            };
-            made = insert(
-                alloc,
-                &mut slots,
-                &mut index,
-                &mut plan,
-                id,
-                &to(*addr, *len)?,
-                rank,
-            )?;
-            id += 1;
-        }
-        assert_eq!(rt; made, want);
-        let mut id = 0;
-        for place in places {
-            assert_eq!(rt; plan.at(id), Move::Put(*place, id as u32));
-            id += 1;
-        }
-        Ok(())
-    }
-
-    #[test]
-    fn crossings(rt: HostRuntime) -> Result<(), Fail> {
-        let one = [(100, 0x0a00_0000, 8), (300, 0x0b00_0000, 8), (200, 0, 0)];
-        lines(
-            &rt,
-            rt.alloc(),
-            &one,
-            &[3, 2],
-            Insert { writes: 4, span: 1 },
-        )?;
-        let two = [
-            (100, 0x0a00_0000, 8),
-            (300, 0x0b00_0000, 8),
-            (101, 0x0c00_0000, 8),
-            (301, 0x0d00_0000, 8),
-            (200, 0, 0),
-        ];
-        lines(
-            &rt,
-            rt.alloc(),
-            &two,
-            &[3, 2, 4, 1],
-            Insert { writes: 6, span: 3 },
-        )
-    }
 }

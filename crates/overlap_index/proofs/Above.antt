@@ -1,6 +1,6 @@
 -- What the index's test says: who stands above whom.
-use Rattle.std.proofs.Common.{◌≡◌, ℕ, ◌<◌, Bool, true, false, List, [], ◌∷◌, map, filter, Contains, arith, inl, inr, refl, sym, ◌∙◌, subst, ap}
-use Rattle.std.specs.Prelude.{◌==◌, ◌↔◌, ◌&&◌, nat_lt, nat_eq, if◌then◌else◌}
+use Rattle.std.proofs.Common.{◌≡◌, ℕ, ◌<◌, true, List, [], ◌∷◌, map, filter, Contains, arith, inl, inr, refl, sym, ◌∙◌, subst, ap}
+use Rattle.std.specs.Prelude.{◌==◌, ◌↔◌, nat_lt, nat_eq, if◌then◌else◌}
 use Rattle.std.specs.List.{list_any, IsDistinct}
 use Rattle.std.proofs.lemmas.Bool.{and_parts, and_from, ltb-true, lt-ltb, eqb-true, eq-eqb, cond-true, cond-false, false_from_ne_true}
 use Rattle.slot_order.proofs.Rules.{contains_cases, contains_none}

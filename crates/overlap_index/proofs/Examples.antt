@@ -1,5 +1,5 @@
 -- Which ids are above and below some others, by computation.
-use Rattle.std.proofs.Common.{◌≡◌, ℕ, List, [], ◌∷◌, None, Some, true, false, refl}
+use Rattle.std.proofs.Common.{◌≡◌, List, [], ◌∷◌, None, false, refl}
 use Rattle.rule_model.specs.declared.Piece.{Piece}
 use Rattle.rule_model.specs.AddressBlock.{AddressBlock, any_address, ipv4_block}
 use Rattle.rule_model.specs.PortRange.{PortRange, any_port}

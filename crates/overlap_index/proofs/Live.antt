@@ -1,14 +1,14 @@
 -- Live ids: each stands once, and the index's test says who overlaps whom and is higher.
-use Rattle.std.proofs.Common.{◌≡◌, ◌≢◌, ℕ, ◌<◌, Bool, true, false, not, List, [], ◌∷◌, ◌++◌, length, map, filter, Contains, ◌⊎◌, arith, inl, inr, refl, sym, ◌∙◌, subst, ap}
-use Rattle.std.specs.Prelude.{◌==◌, ◌↔◌, ◌||◌, nat_lt, nat_eq, slice_index_or}
+use Rattle.std.proofs.Common.{◌≡◌, ℕ, ◌<◌, Bool, true, false, List, [], ◌∷◌, ◌++◌, length, map, filter, Contains, ◌⊎◌, inl, inr, refl, sym, ◌∙◌, subst, ap}
+use Rattle.std.specs.Prelude.{◌==◌, ◌↔◌, ◌||◌, nat_eq, slice_index_or}
 use Rattle.std.specs.List.{list_any, AllByRecursion, IsDistinct}
-use Rattle.std.proofs.lemmas.Bool.{cases_Bool, cond-true, cond-false, and_parts, or_cases, false_from_ne_true, eqb-true, eq-eqb}
+use Rattle.std.proofs.lemmas.Bool.{cases_Bool, cond-true, cond-false, false_from_ne_true, eqb-true, eq-eqb}
 use Rattle.slot_order.proofs.Rules.{contains_head, contains_tail, contains_cases, contains_none}
 use Rattle.overlap_index.specs.declared.overlaps.Side.{Side}
 use Rattle.overlap_index.specs.declared.overlaps.Side.TheVariants.{Above, Below}
 use Rattle.overlap_index.specs.declared.LivePiece.{LivePiece}
-use Rattle.overlap_index.specs.Live.{AreApart, is_live, is_over, is_on, ids_on, with_id, without_id, ids_above, ids_below, is_above}
-use Rattle.overlap_index.proofs.Listed.{any_is, any_from, in_map, map_in, in_filter, filter_in, filter_agrees, filter_nothing}
+use Rattle.overlap_index.specs.Live.{AreApart, is_live, is_over, is_on, ids_on, with_id, ids_above, ids_below}
+use Rattle.overlap_index.proofs.Listed.{any_is, any_from, in_map, map_in, in_filter, filter_agrees, filter_nothing}
 
 -- the ids of some live pieces
 abbrev ids : List LivePiece → List ℕ

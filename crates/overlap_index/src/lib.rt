@@ -35,7 +35,9 @@ pub struct LivePiece {
 /// The live ids below a number, each with its piece and its priority.
 #[derive(Debug, Drop)]
 pub struct Index {
+    // The number that ids are below.
     slots: u32,
+    // In the order in which they came, no id twice.
     live: Vec<LivePiece>,
 }
 

@@ -10,7 +10,9 @@ use std::marker::Model;
 /// Which of the pieces that overlap one: those of higher or those of lower priority.
 #[derive(Clone, Copy, Debug, Drop)]
 pub enum Side {
+    /// Higher priority.
     Above,
+    /// Lower priority.
     Below,
 }
 
@@ -19,6 +21,7 @@ pub enum Side {
 pub struct Overlaps<'a> {
     side: Side,
     of: LivePiece,
+    // The live pieces that weren't looked at yet.
     rest: &'a [LivePiece],
 }
 

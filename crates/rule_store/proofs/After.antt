@@ -8,12 +8,9 @@ use Rattle.rule_model.specs.RuleSet.{IsRuleSet, has_priority}
 use Rattle.rule_store.specs.declared.Command.{Command}
 use Rattle.rule_store.specs.declared.Command.TheVariants.{Add, Set, Del}
 use Rattle.rule_store.specs.Batch.{removes, batch_fault_after, IsSound, additions, with_rule, with_result_after, set_after}
+use Rattle.rule_store.specs.Applied.{kept_rules}
 use Rattle.rule_store.proofs.Falling.{IsRuleSet-with_rule, IsRuleSet-filter, IsRuleSet-map}
 use Rattle.rule_store.proofs.Sound.{IsTaken, taken, sound-parts, removes-append, additions-append, fresh-taken}
-
--- the rules of the set that a batch leaves, with their results after it
-abbrev pub kept_rules : List Rule → List Command → List Rule
-kept_rules rules batch = map (with_result_after batch) (filter (λ rule. not (removes rule.priority batch)) rules)
 
 -- the kept rules and so many additions
 abbrev pub with_rules : List Rule → List Rule → List Rule
@@ -38,7 +35,7 @@ has_priority-with_rules rules (new ∷ added) priority absent none =
     has_priority-with_rules (with_rule rules new) added priority
     (has_priority-with_rule rules new priority ∙ or_from _ _ (or_parts _ _ none).0 absent) (or_parts _ _ none).1
 
-has_priority-kept : (rules : List Rule) (batch : List Command) (priority : ℕ) → IsFalse (has_priority rules priority) ⊎ IsTrue (removes priority batch) → IsFalse (has_priority (kept_rules rules batch) priority)
+pub has_priority-kept : (rules : List Rule) (batch : List Command) (priority : ℕ) → IsFalse (has_priority rules priority) ⊎ IsTrue (removes priority batch) → IsFalse (has_priority (kept_rules rules batch) priority)
 has_priority-kept [] batch priority gone = refl
 has_priority-kept (rule ∷ rules) batch priority gone =
     cond_both (not (removes rule.priority batch)) (rule ∷ kept) kept (λ left. IsFalse (has_priority (map (with_result_after batch) left) priority))

@@ -1,8 +1,8 @@
 -- An accepted batch leaves a set whose entries fit.
-use Rattle.std.proofs.Common.{◌≡◌, ℕ, zero, suc, ◌+◌, ◌-◌, ◌*◌, ◌^◌, ◌<◌, ◌≤◌, Bool, true, false, not, ◌&&◌, ◌||◌, cond, fold, List, [], ◌∷◌, ◌++◌, length, map, filter, sum_by, Option, Some, None, IsTrue, IsFalse, Contains, ◌⊎◌, inl, inr, refl, sym, ap, ap₂, subst, ◌∙◌, arith, eqb, ltb, nat_lt, le_refl, zero-add, length-append}
+use Rattle.std.proofs.Common.{◌≡◌, ℕ, zero, suc, ◌+◌, ◌*◌, ◌^◌, ◌≤◌, Bool, true, false, not, ◌||◌, cond, List, [], ◌∷◌, ◌++◌, length, map, filter, sum_by, Option, Some, None, IsTrue, IsFalse, Contains, inl, inr, refl, sym, ap, ap₂, subst, ◌∙◌, arith, eqb, ltb, le_refl, zero-add, length-append}
 use Rattle.std.proofs.lemmas.Bool.{cases_Bool, cond-true, cond-false, cond_both, eqb-true, eq-eqb, or_left, or_cases, ltb-false}
 use Rattle.std.proofs.lemmas.List.{append-nil, append_assoc}
-use Rattle.std.proofs.lemmas.List.Sums.{sum_by-cons, sum_by-append, sum_by_push, count_by-le-length}
+use Rattle.std.proofs.lemmas.List.Sums.{sum_by-cons, sum_by_push}
 use Rattle.std.proofs.lemmas.List.Folds.{list_any-append}
 use Rattle.std.proofs.Math.Nat.{mul-le-mul_left, mul-le-mul_right}
 use Rattle.slot_order.proofs.Rules.{contains_head, contains_tail}
@@ -18,10 +18,11 @@ use Rattle.rule_store.specs.declared.Command.{Command}
 use Rattle.rule_store.specs.declared.Command.TheVariants.{Add, Set, Del}
 use Rattle.rule_store.specs.Batch.{removes, batch_fault, batch_fault_after, IsSound, additions, with_rule, with_result_after, set_after}
 use Rattle.rule_store.specs.Common.{common_within, common_size, same_ends, kept_size}
-use Rattle.rule_store.specs.Verdict.{Verdict, Accepted, Unsound, OutOfBits, OutOfSlots, entries_needed, entries_of, pieces_of, fresh_pieces, added_pieces, added_pieces_over, entries_added, field_bits, verdict, verdict_by, room_verdict, slots_verdict, bits_verdict}
-use Rattle.rule_store.proofs.After.{kept_rules, with_rules}
+use Rattle.rule_store.specs.Verdict.{Verdict, Accepted, OutOfBits, OutOfSlots, entries_needed, entries_of, fresh_pieces, added_pieces, added_pieces_over, entries_added, verdict, verdict_by, room_verdict, slots_verdict}
+use Rattle.rule_store.specs.Applied.{kept_rules}
+use Rattle.rule_store.proofs.After.{with_rules}
 use Rattle.rule_store.proofs.CommonBlocks.{whole_from, common-both, common-first, common-second, common-port, common-halves}
-use Rattle.rule_store.proofs.Members.{sound-gone, member-has, IsGone}
+use Rattle.rule_store.proofs.Members.{sound-gone, member-has}
 use Rattle.rule_store.proofs.Pieces.{pieces_of-length, fresh-kept}
 use Rattle.rule_store.proofs.Sound.{IsTaken, taken, sound-parts, additions-append, fresh-taken}
 

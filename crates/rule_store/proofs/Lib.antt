@@ -13,5 +13,6 @@ pub mod Ranks
 pub mod Sets
 pub mod Slots
 pub mod Sound
+pub mod Steps
 pub mod Stores
 pub mod Sums

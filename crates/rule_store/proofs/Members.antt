@@ -1,17 +1,18 @@
 -- The members of the set after a batch, and what an addition of a sound batch replaces.
-use Rattle.std.proofs.Common.{◌≡◌, ℕ, ◌+◌, Bool, true, false, not, ◌||◌, cond, List, [], ◌∷◌, ◌++◌, map, filter, Option, Some, None, IsTrue, IsFalse, IsSome, Contains, ◌⊎◌, ◌↔◌, inl, inr, refl, sym, ap, subst, ◌∙◌, eqb, ltb}
-use Rattle.std.proofs.lemmas.Bool.{cases_Bool, cond-true, cond-false, cond_both, not-true, not_from_false, or_cases, or_left, or_right, eq-eqb, eqb-true}
+use Rattle.std.proofs.Common.{◌≡◌, ℕ, true, not, List, [], ◌∷◌, ◌++◌, map, filter, None, IsTrue, IsFalse, IsSome, Contains, ◌⊎◌, ◌↔◌, inl, inr, refl, sym, ap, subst, ◌∙◌, ltb}
+use Rattle.std.proofs.lemmas.Bool.{cond-true, cond_both, not-true, not_from_false, or_cases, or_left, or_right, eq-eqb, eqb-true}
 use Rattle.std.proofs.lemmas.List.{append_assoc}
 use Rattle.slot_order.proofs.Rules.{contains_head, contains_tail, contains_cases, contains_none}
 use Rattle.rule_model.specs.declared.Rule.{Rule}
-use Rattle.rule_model.specs.RuleSet.{IsRuleSet, has_priority, rule_at}
+use Rattle.rule_model.specs.RuleSet.{has_priority}
 use Rattle.rule_store.specs.declared.Command.{Command}
 use Rattle.rule_store.specs.declared.Command.TheVariants.{Add, Set, Del}
 use Rattle.rule_store.specs.Batch.{removes, batch_fault_after, IsSound, additions, with_rule, with_result_after, set_after}
 use Rattle.rule_store.specs.Verdict.{replaced_rule}
 use Rattle.rule_store.proofs.Sets.{rule_at-none}
-use Rattle.rule_store.proofs.After.{kept_rules, with_rules}
-use Rattle.rule_store.proofs.Sound.{IsTaken, taken, sound-parts, removes-append, fresh-taken}
+use Rattle.rule_store.specs.Applied.{kept_rules}
+use Rattle.rule_store.proofs.After.{with_rules}
+use Rattle.rule_store.proofs.Sound.{taken, sound-parts, removes-append, fresh-taken}
 
 -- a member of a list that begins with it
 here : {X : Type 0} (first x : X) (rest : List X) → first ≡ x → Contains (first ∷ rest) x

@@ -1,3 +1,4 @@
+pub mod Applied
 pub mod Batch
 pub mod Common
 pub mod Naming

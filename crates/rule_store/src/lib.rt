@@ -2,15 +2,22 @@
 //!
 //! A [`Store`] is a set of rules, read by falling priority. The rules stand in a slab, and beside it a
 //! list of slab keys by falling priority: a rule is found by halving that list, and an insertion or a
-//! removal shifts keys alone. Memory is taken by `reserve`, never by a change.
+//! removal shifts keys alone. Memory is taken by `reserve`, never by a change; contracts see how many
+//! rules more have theirs as `spare`.
 //!
-//! A [`Batch`] is a list of commands. [`Store::check`] names the first command of a batch that the set
-//! doesn't take, without memory.
+//! A [`Batch`] is a list of commands. Each is kept with how it names its priority among the earlier ones,
+//! told at its push by a map from priorities to their uses. So [`Store::check`] names the first command
+//! that the set doesn't take by one look-up a command, without memory, and [`Store::apply`] makes the
+//! changes of a batch that has none. An addition behind a removal of the same priority replaces the rule.
+//!
+//! `entries_of` and `entries_added` count the entries of the memory that a set takes and that a batch adds:
+//! for a rule that replaces another only the pieces which that one doesn't have.
 #![tactic(auto)]
 
 use rule_model::{Rank, Rule};
 use thiserror::Error;
 
+mod applied;
 mod entries;
 mod pending;
 mod stored;

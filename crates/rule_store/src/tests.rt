@@ -136,6 +136,26 @@ fn sets(rt: HostRuntime) -> Result<(), Fail> {
     Ok(())
 }
 
+// A removal, a change and an addition at once, over the lines 1 and 3.
+#[test]
+fn applied(rt: HostRuntime) -> Result<(), Fail> {
+    let mut store = Store::new(rt.alloc());
+    store.reserve(2)?;
+    put(&rt, &mut store, line(1, 0, 65535, 1));
+    put(&rt, &mut store, line(3, 0, 65535, 1));
+    let batch = batch(rt.alloc(), &[del(1), set(3), add(2)])?;
+    assert_eq!(rt; store.len(), 2);
+    store.reserve(batch.len())?;
+    assert!(rt; store.check(&batch).is_ok());
+    store.apply(&batch);
+    assert_eq!(rt; store.len(), 2);
+    for (i, sequence, answer) in [(0, 2, 1), (1, 3, 0)] {
+        assert_eq!(rt; store.at(i).priority, rank(sequence));
+        assert_eq!(rt; store.at(i).result, answer);
+    }
+    Ok(())
+}
+
 // A line on the ports 80 to 443 has 8 blocks, and one on 80 to 447 has 5, all but one of them the same.
 #[test]
 fn entries(rt: HostRuntime) -> Result<(), Fail> {

@@ -1,9 +1,7 @@
 -- What a walk over the slots has found, as the searches of an arrangement say it.
-use Rattle.std.proofs.Common.{◌≡◌, ℕ, zero, suc, ◌+◌, ◌<◌, ◌≤◌, Bool, true, false, None, Some, Option, [], ◌∷◌, ◌⊎◌, find, filter, reverse, arith, inl, inr, sym, ◌∙◌, ap, refl}
-use Rattle.std.specs.Prelude.{nat_lt}
+use Rattle.std.proofs.Common.{◌≡◌, ℕ, zero, suc, ◌+◌, ◌<◌, ◌≤◌, Bool, true, false, None, Some, Option, ◌⊎◌, find, filter, reverse, arith, inl, inr, ◌∙◌, ap, refl}
 use Rattle.std.proofs.lemmas.Bool.{cases_Bool, cases_eq, cases_lt, cond-true, cond-false, lt-ltb, le-ltb}
 use Rattle.std.specs.List.{range_with_len}
-use Rattle.std.specs.Option.{option_or}
 use Rattle.std.specs.Int.{abs_diff}
 use Rattle.slot_pool.specs.Arrangement.{nearest, nearer}
 use Rattle.slot_pool.proofs.Places.{IsFirst, find_range, find_range_none}

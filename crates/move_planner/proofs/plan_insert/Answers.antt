@@ -1,9 +1,9 @@
-use Rattle.std.proofs.Common.{◌≡◌, ◌+◌, ◌-◌, ◌*◌, ◌<◌, ◌≤◌, length, arith, sym, ◌∙◌, subst, ap}
+use Rattle.std.proofs.Common.{◌+◌, ◌-◌, ◌*◌, ◌<◌, ◌≤◌, arith, sym, subst}
 use Rattle.overlap_index.specs.Live.{is_above}
-use Rattle.move_planner.specs.Placement.{gap_start, gap_end, span_of}
+use Rattle.move_planner.specs.Placement.{gap_start, gap_end}
 use Rattle.move_planner.specs.Insertion.{StandOnce, IsLive}
 use Rattle.move_planner.specs.Steps.{IsReady, IsTurned}
-use Rattle.move_planner.proofs.Inserted.{IsWholly, wholly, turned_more, counted}
+use Rattle.move_planner.proofs.Inserted.{wholly, turned_more, counted}
 use Rattle.move_planner.proofs.plan_insert.Goals as goal
 
 pub loop-crossing-smaller : goal.loop-crossing-smaller

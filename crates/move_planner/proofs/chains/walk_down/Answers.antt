@@ -1,4 +1,4 @@
-use Rattle.std.proofs.Common.{sym, ap, Some, refl}
+use Rattle.std.proofs.Common.{refl}
 use Rattle.overlap_index.specs.Live.{is_above}
 use Rattle.move_planner.proofs.Walked.{walked_down_on, walked_down_end}
 use Rattle.move_planner.proofs.chains.walk_down.Goals as goal

@@ -1,7 +1,7 @@
-use Rattle.std.proofs.Common.{◌≡◌, Some, None, sym, ◌∙◌, subst}
+use Rattle.std.proofs.Common.{sym, ◌∙◌, subst}
 use Rattle.overlap_index.specs.Live.{is_above}
 use Rattle.move_planner.specs.Steps.{FindsCrossing}
-use Rattle.move_planner.proofs.Turned.{not_crossed, not_crossed_low, not_crossed_high}
+use Rattle.move_planner.proofs.Crossed.{not_crossed, not_crossed_low}
 use Rattle.move_planner.proofs.crossings.find_crossing.Goals as goal
 
 pub returns-in_err-lower : goal.returns-in_err-lower

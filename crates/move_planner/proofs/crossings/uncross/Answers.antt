@@ -1,10 +1,7 @@
-use Rattle.std.proofs.Common.{◌≡◌, Some, None, sym, ◌∙◌, subst}
 use Rattle.slot_order.proofs.Writes.{slot_inside}
-use Rattle.overlap_index.specs.Live.{is_above}
-use Rattle.slot_pool.specs.Arrangement.{next_free_above, last_free_below}
-use Rattle.move_planner.specs.Steps.{FindsDown, FindsUp, IsDown, IsUp}
 use Rattle.move_planner.proofs.Outcomes.{on_ok}
-use Rattle.move_planner.proofs.Turned.{low_at, high_at, down_shifts, up_shifts, down_leaves, up_leaves, free_beside, found_down, found_up, no_down, no_up}
+use Rattle.move_planner.proofs.Crossed.{free_beside, found_down, found_up, no_down, no_up}
+use Rattle.move_planner.proofs.Turned.{low_at, high_at, down_shifts, up_shifts, down_leaves, up_leaves}
 use Rattle.move_planner.proofs.crossings.uncross.Goals as goal
 
 pub down_chain-requires-clause-inside : goal.down_chain-requires-clause-inside

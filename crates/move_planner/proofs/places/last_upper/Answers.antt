@@ -1,5 +1,5 @@
-use Rattle.std.proofs.Common.{◌≡◌, ◌∙◌, ◌++◌, ◌∷◌, [], append-nil, append_assoc, ap, refl, sym, subst}
-use Rattle.slot_pool.specs.Arrangement.{last_slot, home_of}
+use Rattle.std.proofs.Common.{◌≡◌, ◌∙◌, ◌++◌, ◌∷◌, [], append-nil, append_assoc, ap, refl, sym}
+use Rattle.slot_pool.specs.Arrangement.{last_slot}
 use Rattle.overlap_index.specs.Live.{is_above}
 use Rattle.overlap_index.proofs.Above.{ids_above_are}
 use Rattle.move_planner.specs.Steps.{greater}

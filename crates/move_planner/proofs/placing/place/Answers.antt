@@ -1,7 +1,7 @@
-use Rattle.std.proofs.Common.{◌≡◌, ◌≤◌, None, Some, [], ◌∷◌, ◌++◌, length, inl, sym, ◌∙◌, subst, ap}
+use Rattle.std.proofs.Common.{◌≡◌, ◌≤◌, [], ◌∷◌, ◌++◌, length, inl, sym, ◌∙◌, subst, ap}
 use Rattle.move_planner.specs.declared.Move.TheVariants.{Put}
 use Rattle.overlap_index.specs.Live.{is_above}
-use Rattle.move_planner.specs.Placement.{after_move, gap_start, gap_end, gap_slot}
+use Rattle.move_planner.specs.Placement.{after_move, gap_end}
 use Rattle.move_planner.proofs.Outcomes.{on_ok_both}
 use Rattle.move_planner.proofs.Readied.{end_inside}
 use Rattle.move_planner.proofs.Ways.{way_shifts}

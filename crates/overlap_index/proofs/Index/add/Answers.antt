@@ -1,5 +1,5 @@
-use Rattle.std.proofs.Common.{◌≡◌, ◌<◌, ◌++◌, ◌∷◌, [], false, sym, ap, subst}
-use Rattle.overlap_index.specs.Live.{AreApart, is_live}
+use Rattle.std.proofs.Common.{◌≡◌, ◌<◌, false, sym, ap, subst}
+use Rattle.overlap_index.specs.Live.{is_live}
 use Rattle.overlap_index.proofs.Live.{apart_more}
 use Rattle.overlap_index.proofs.Index.add.Goals as goal
 

@@ -1,4 +1,3 @@
-use Rattle.overlap_index.specs.Live.{AreApart}
 use Rattle.overlap_index.proofs.Live.{apart_none}
 use Rattle.overlap_index.proofs.Index.new.Goals as goal
 

@@ -1,6 +1,6 @@
-use Rattle.std.proofs.Common.{◌≡◌, ℕ, ◌+◌, ◌-◌, ◌<◌, ◌≤◌, ◌==◌, false, length}
+use Rattle.std.proofs.Common.{◌≡◌, ℕ, ◌<◌, ◌==◌, false}
 use Rattle.slot_order.specs.Order.{slot as held_in}
-use Rattle.slot_pool.specs.Arrangement.{is_free, passes, is_free_within}
+use Rattle.slot_pool.specs.Arrangement.{passes}
 use Rattle.slot_pool.proofs.Arrangement.home.Given as goal
 
 -- no slot so far holds the id

@@ -1,6 +1,5 @@
-use Rattle.std.proofs.Common.{◌≡◌, ℕ, ◌+◌, ◌-◌, ◌<◌, ◌≤◌, ◌==◌, false, length}
-use Rattle.slot_order.specs.Order.{slot as held_in}
-use Rattle.slot_pool.specs.Arrangement.{is_free, passes, is_free_within}
+use Rattle.std.proofs.Common.{◌≡◌, ℕ, ◌<◌, false, length}
+use Rattle.slot_pool.specs.Arrangement.{is_free_within}
 use Rattle.std.specs.Int.{abs_diff}
 use Rattle.slot_pool.proofs.Arrangement.nearest_free.Given as goal
 

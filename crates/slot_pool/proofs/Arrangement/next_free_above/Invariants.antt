@@ -1,6 +1,5 @@
-use Rattle.std.proofs.Common.{◌≡◌, ℕ, ◌+◌, ◌-◌, ◌<◌, ◌≤◌, ◌==◌, false, length}
-use Rattle.slot_order.specs.Order.{slot as held_in}
-use Rattle.slot_pool.specs.Arrangement.{is_free, passes, is_free_within}
+use Rattle.std.proofs.Common.{◌≡◌, ℕ, ◌<◌, false}
+use Rattle.slot_pool.specs.Arrangement.{is_free}
 use Rattle.slot_pool.proofs.Arrangement.next_free_above.Given as goal
 
 -- no slot so far is empty

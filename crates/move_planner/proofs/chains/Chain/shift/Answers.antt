@@ -1,7 +1,6 @@
-use Rattle.std.proofs.Common.{◌≡◌, ◌+◌, ◌-◌, ◌<◌, ◌∙◌, suc, drop, length, arith, sym, ap, subst, refl}
-use Rattle.slot_order.specs.Order.{slot}
+use Rattle.std.proofs.Common.{◌-◌, ◌∙◌, arith, sym, ap}
 use Rattle.slot_order.proofs.Writes.{slot_inside}
-use Rattle.move_planner.proofs.Shifted.{NextMember, goes_to, next_member, shift_held, shift_on, shifted_twin, made_by}
+use Rattle.move_planner.proofs.Shifted.{NextMember, goes_to, next_member, shift_held, shift_on}
 use Rattle.move_planner.proofs.chains.Chain.shift.Goals as goal
 
 pub at-requires : goal.at-requires
