@@ -1,0 +1,26 @@
+use Rattle.std.proofs.Common.{rules, ◌≡◌, ◌∙◌, List, length, ℕ, Option, Some, None, Err, refl, sym, ap, subst}
+use Rattle.std.specs.Prelude.{option_map}
+use Rattle.rule_store.specs.declared.Command.{Command}
+use Rattle.rule_store.specs.declared.BatchFault.{BatchFault}
+use Rattle.rule_store.specs.Batch.{batch_fault}
+use Rattle.rule_store.specs.Verdict.{verdict, verdict_by, room_verdict}
+use Rattle.batch_order.specs.Managed.{Managed, HeldCommit, Judges, Answers, refusal_of}
+use Rattle.batch_order.proofs.manager.Manager.prepare.Goals as goal
+
+-- no commit is under way where none has a number of writes left
+idle_from : (held : Option HeldCommit) (left : Option ℕ) → left ≡ option_map (λ one. length one.writes) held → ((n : ℕ) → left ≡ Some n → ⊥) → held ≡ None
+idle_from None left is none = refl
+idle_from (Some held) left is none = absurd (none (length held.writes) is)
+
+-- an unsound batch is refused for its fault
+unsound_answer : (manager : Managed) (held : Option HeldCommit) (batch : List Command) (fault : BatchFault) → held ≡ None → batch_fault manager.rules batch ≡ Some fault
+    → Judges manager held batch (Err (refusal_of fault))
+unsound_answer manager held batch fault none is =
+    subst (λ h. Judges manager h batch (Err (refusal_of fault))) (sym none)
+    (subst (λ f. Answers (verdict_by f (room_verdict manager.slots manager.mode manager.rules batch)) (Err (refusal_of fault))) (sym is) refl)
+
+pub returns-in-Err-clause-judged : goal.returns-in-Err-clause-judged
+returns-in-Err-clause-judged g c =
+    let idle = idle_from c.args.self.now.held c.left.result c.left.ensures (λ n is. c.in_default.not-Some n is) in
+    let fault : batch_fault c.args.self.now.rules c.args.batch.now ≡ Some c.in-Err.fault = subst (λ (m : Managed). batch_fault m.rules c.args.batch.now ≡ Some c.in-Err.fault) c.self.view_is c.in-Err.ensures in
+    rw c.refusal_of.ensures (unsound_answer c.args.self.now c.args.self.now.held c.args.batch.now c.in-Err.fault idle fault)

@@ -1,0 +1,39 @@
+-- The entries that are live, each under an id.
+use Rattle.std.specs.Prelude.{◌≡◌, ℕ, ◌+◌, ◌<◌, ◌≤◌, IsTrue, IsFalse, Option, Some, None, List, ◌++◌, ◌-◌, length, map, drop, nat_eq}
+use Rattle.std.specs.List.{AllByRecursion, IsDistinct}
+use Rattle.ternary_word.specs.declared.Entry.{Entry}
+use Rattle.overlap_index.specs.declared.LivePiece.{LivePiece}
+use Rattle.overlap_index.specs.Live.{AreApart, is_live}
+
+-- the live ids with their pieces, the number that ids are below, and the entry of each id
+pub record Entries : Type 0 where
+  pub slots : ℕ
+  pub live : List LivePiece
+  pub entries : List (Option Entry)
+
+-- each id has a place, and the ids that aren't live are the spare ones
+pub record AreKept (slots : ℕ) (live : List LivePiece) (entries : List (Option Entry)) (spare : List ℕ) : Type 0 where
+  pub places : length entries ≡ slots
+  pub few : slots ≤ 4096
+  pub count : length spare + length live ≡ slots
+  pub small : AllByRecursion (λ id. id < slots) spare
+  pub absent : AllByRecursion (λ id. IsFalse (is_live live id)) spare
+  pub once : IsDistinct nat_eq spare
+  pub apart : AreApart slots live
+
+-- the ids below a number, each once
+pub record AreAll (slots : ℕ) (ids : List ℕ) : Type 0 where
+  pub count : length ids ≡ slots
+  pub small : AllByRecursion (λ id. id < slots) ids
+  pub once : IsDistinct nat_eq ids
+
+-- some entries became live, under these ids and in this order
+pub record AddsIds (old new : Entries) (ids : List ℕ) : Type 0 where
+  pub made : List LivePiece
+  pub live : new.live ≡ old.live ++ made
+  pub ids_are : map (λ one. one.id) made ≡ ids
+  pub slots : new.slots ≡ old.slots
+
+-- these are the ids that became live last
+abbrev pub AreLast : List LivePiece → List ℕ → Type 0
+AreLast live ids = (length ids ≤ length live) × (map (λ one. one.id) (drop (length live - length ids) live) ≡ ids)

@@ -1,0 +1,4 @@
+pub mod Entries
+pub mod Planning
+pub mod Managed
+pub mod Kept

@@ -1,0 +1,101 @@
+-- What a manager keeps, and how it judges a batch.
+use Rattle.std.specs.Prelude.{◌≡◌, ℕ, ◌≤◌, ◌⊎◌, Bool, true, false, Result, Ok, Err, IsOk, Option, Some, None, List, [], ◌∷◌, length, slice_get}
+use Rattle.std.specs.List.{AllByRecursion}
+use Rattle.rule_model.specs.declared.Rule.{Rule}
+use Rattle.rule_model.specs.Rule.{route_rule}
+use Rattle.rule_store.specs.declared.Mode.{Mode}
+use Rattle.rule_store.specs.declared.Command.{Command}
+use Rattle.rule_store.specs.declared.Command.TheVariants.{Add, Set, Del}
+use Rattle.rule_store.specs.declared.BatchFault.{BatchFault}
+use Rattle.rule_store.specs.declared.BatchFault.TheVariants.{Twice, Taken, Absent}
+use Rattle.rule_store.specs.Batch.{set_after}
+use Rattle.rule_store.specs.Verdict.{Verdict, Accepted, Unsound, OutOfBits, OutOfSlots, verdict}
+use Rattle.tcam_device.specs.declared.Write.{Write}
+use Rattle.tcam_device.specs.State.{IsInUse}
+use Rattle.batch_order.specs.declared.Refusal.{Refusal}
+use Rattle.batch_order.specs.declared.Refusal.TheVariants as refusal
+use Rattle.batch_order.specs.declared.Step.{Step}
+use Rattle.batch_order.specs.declared.Step.TheVariants.{Wrote, Finished, Idle}
+use Rattle.batch_order.specs.declared.Done.{Done}
+use Rattle.batch_order.specs.declared.Ready.{Ready}
+
+-- a commit under way: the writes still to make, its numbers, and the set that it leads to
+pub record HeldCommit : Type 0 where
+  pub writes : List Write
+  pub counts : Done
+  pub rules : List Rule
+
+-- a manager: the slots in use, the encoding of port ranges, the rules of the set, and the commit under way
+pub record Managed : Type 0 where
+  pub slots : ℕ
+  pub mode : Mode
+  pub rules : List Rule
+  pub held : Option HeldCommit
+
+-- the fault of a batch as a refusal
+abbrev pub refusal_of : BatchFault → Refusal
+refusal_of (Twice priority) = refusal.Twice priority
+refusal_of (Taken priority) = refusal.Taken priority
+refusal_of (Absent priority) = refusal.Absent priority
+
+-- what an idle manager answers by the verdict: an accepted batch may want memory, and nothing else
+abbrev pub Answers : Verdict → Result Ready Refusal → Type 0
+Answers Accepted result = IsOk result ⊎ (result ≡ Err refusal.Memory)
+Answers (Unsound fault) result = result ≡ Err (refusal_of fault)
+Answers (OutOfBits field needed free) result = result ≡ Err (refusal.Bits field needed free)
+Answers (OutOfSlots needed free) result = result ≡ Err (refusal.Slots needed free)
+
+-- what a manager answers to a batch: busy where a commit is under way, and else by the verdict
+abbrev pub Judges : Managed → Option HeldCommit → List Command → Result Ready Refusal → Type 0
+Judges manager (Some held) batch result = result ≡ Err (refusal.Busy (length held.writes))
+Judges manager None batch result = Answers (verdict manager.slots manager.mode manager.rules batch) result
+
+-- the numbers before the first write
+abbrev pub ready_of : Done → Ready
+ready_of counts =
+    record { writes = counts.writes; words = counts.words; most = counts.most; span = counts.span }
+
+-- a batch is taken: its writes are held, each within the slots in use, and it leads to the set after it
+pub record Holds (old : Managed) (batch : List Command) (ready : Ready) (new : Managed) : Type 0 where
+  pub held : HeldCommit
+  pub new_is : new ≡ record old { held = Some held }
+  pub rules : held.rules ≡ set_after old.rules batch
+  pub counts : ready ≡ ready_of held.counts
+  pub number : held.counts.writes ≡ length held.writes
+  pub in_use : AllByRecursion (IsInUse old.slots) held.writes
+
+-- the next write to make, if a commit is under way and has one left
+abbrev pub next_of : Option HeldCommit → Option Write
+next_of None = None
+next_of (Some held) = slice_get held.writes 0
+
+-- the writes that a step made
+abbrev pub writes_of : Step → List Write
+writes_of (Wrote write) = write ∷ []
+writes_of (Finished counts) = []
+writes_of Idle = []
+
+-- with writes left the next one was made, and with none left the rules are the new set
+abbrev pub StepsOn : Managed → HeldCommit → List Write → Step → Managed → Type 0
+StepsOn old held [] step new = (step ≡ Finished held.counts) × (new ≡ record old { rules = held.rules; held = None })
+StepsOn old held (write ∷ writes) step new =
+    (step ≡ Wrote write) × (new ≡ record old { held = Some (record held { writes = writes }) })
+
+-- what a step does: it is idle where no commit is under way, and then nothing changes
+abbrev pub Steps : Managed → Option HeldCommit → Step → Managed → Type 0
+Steps old None step new = (step ≡ Idle) × (new ≡ old)
+Steps old (Some held) step new = StepsOn old held held.writes step new
+
+-- a route: a rule on the destination address alone
+pub record IsRoute (rule : Rule) : Type 0 where
+  pub route : rule ≡ route_rule rule.priority rule.dst rule.result
+
+-- a change that adds a route
+abbrev pub AddsRoute : Command → Type 0
+AddsRoute (Add rule) = IsRoute rule
+AddsRoute (Set priority answer) = ⊥
+AddsRoute (Del priority) = ⊥
+
+-- the batch adds routes and does nothing else
+abbrev pub OnlyAddsRoutes : List Command → Type 0
+OnlyAddsRoutes batch = AllByRecursion AddsRoute batch

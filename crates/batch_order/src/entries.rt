@@ -1,0 +1,123 @@
+//! The entries that are live, each under an id.
+
+ghost use Rattle.std.specs.Prelude.{◌≡◌, ◌<◌, ◌≤◌, ◌+◌, ◌∷◌, ◌++◌, ℕ, IsTrue, IsFalse, IsOk, IfOk, OnOk, OnErr, Some, None, length, replicate, slice_set, slice_index_or, vec_capacity};
+ghost use Rattle.ternary_word.specs.Entry as words;
+ghost use Rattle.ternary_word.specs.Entry.{IsEncodable};
+ghost use Rattle.overlap_index.specs.Live.{AreApart, is_live, without_id};
+ghost use Rattle.batch_order.specs.Entries.{AreAll};
+
+use overlap_index::Index;
+use rule_model::{Piece, Rank};
+use std::alloc::{AllocError, Global};
+use std::marker::Model;
+use ternary_word::{Entry, entry_of};
+
+/// The live entries, each under an id below the number of slots, and which of them overlap.
+#[derive(Drop)]
+pub(crate) struct LiveEntries {
+    index: Index,
+    /// The entry of each live id.
+    entries: Vec<Option<Entry>>,
+    /// The ids that aren't live.
+    spare: Vec<u32>,
+}
+
+impl Model for LiveEntries {
+    ghost use Rattle.std.specs.Prelude.{◌≤◌, vec_capacity};
+    ghost use Rattle.batch_order.specs.Entries.{Entries, AreKept};
+
+    ghost Value = { Entries };
+
+    ghost view = { λ l. record { slots = l.index.slots; live = l.index.live; entries = l.entries.items } };
+
+    ghost invariant = { λ l. AreKept l.index.slots l.index.live l.entries.items l.spare.items × (l.index.slots ≤ vec_capacity l.spare) };
+}
+
+impl LiveEntries {
+    ghost use Rattle.std.specs.Prelude.{[], IfOk, ◌≡◌};
+
+    /// No entry, with ids for so many, 1 to 4,096.
+    pub(crate) fn new(alloc: Global, slots: u32) -> Result<LiveEntries, AllocError>
+        requires least { 1 ≤ slots }
+        requires most { slots ≤ 4096 }
+        ensures { IfOk result (λ made. made ≡ record { slots = slots; live = []; entries = replicate slots None }) }
+    {
+        Ok(LiveEntries {
+            index: Index::new(alloc, slots)?,
+            entries: no_entries(alloc, slots)?,
+            spare: all_ids(alloc, slots)?,
+        })
+    }
+
+    /// Which ids overlap.
+    pub(crate) fn index(&self) -> &Index
+        ensures slots { result.now.slots ≡ self.now.slots }
+        ensures live { result.now.live ≡ self.now.live }
+    {
+        &self.index
+    }
+
+    /// The entry of an id, or None where it isn't live.
+    pub(crate) fn at(&self, id: u32) -> Option<Entry>
+        ensures { result ≡ slice_index_or self.now.entries id None }
+    {
+        match self.entries.get(id as usize) {
+            Some(entry) => *entry,
+            None => None,
+        }
+    }
+
+    /// Makes an entry live and answers its id, which wasn't live before; want of memory changes nothing.
+    pub(crate) fn add(&mut self, piece: &Piece, tag: Rank, answer: u32) -> Result<u32, AllocError>
+        requires room { length self.old.live < self.old.slots }
+        requires encodable { IsEncodable piece.now }
+        ensures id { IfOk result (λ id. id < self.old.slots) }
+        ensures absent { IfOk result (λ id. IsFalse (is_live self.old.live id)) }
+        ensures live { IfOk result (λ id. self.new.live ≡ self.old.live ++ record { id = id; piece = piece.now; rank = tag } ∷ []) }
+        ensures entries { IfOk result (λ id. self.new.entries ≡ slice_set self.old.entries id (Some (words.entry_of piece.now tag answer))) }
+        ensures slots { self.new.slots ≡ self.old.slots }
+        ensures refused { OnErr result (self.new ≡ self.old) }
+    {
+        let id = self.spare[self.spare.len() - 1];
+        self.index.add(id, piece, tag)?;
+        self.spare.pop();
+        self.entries[id as usize] = Some(entry_of(piece, tag, answer));
+        Ok(id)
+    }
+
+    /// An id is live no more.
+    pub(crate) fn forget(&mut self, id: u32)
+        requires { IsTrue (is_live self.old.live id) }
+        ensures apart { AreApart self.old.slots self.old.live }
+        ensures live { self.new.live ≡ without_id self.old.live id }
+        ensures entries { self.new.entries ≡ slice_set self.old.entries id None }
+        ensures slots { self.new.slots ≡ self.old.slots }
+    {
+        self.index.remove(id);
+        self.entries[id as usize] = None;
+        self.spare.push_reserved(id);
+    }
+}
+
+/// The places of so many entries, all empty.
+fn no_entries(alloc: Global, slots: u32) -> Result<Vec<Option<Entry>>, AllocError>
+    ensures { IfOk result (λ entries. entries.items ≡ replicate slots None) }
+{
+    let mut entries = Vec::with_capacity(alloc, slots as usize)?;
+    for _ in 0..slots {
+        entries.push(None)?;
+    }
+    Ok(entries)
+}
+
+/// All ids, rising.
+fn all_ids(alloc: Global, slots: u32) -> Result<Vec<u32>, AllocError>
+    ensures all { IfOk result (λ ids. AreAll slots ids.items) }
+    ensures capacity { IfOk result (λ ids. slots ≤ vec_capacity ids) }
+{
+    let mut ids = Vec::with_capacity(alloc, slots as usize)?;
+    for id in 0..slots {
+        ids.push(id)?;
+    }
+    Ok(ids)
+}

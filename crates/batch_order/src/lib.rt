@@ -1,0 +1,99 @@
+//! The manager: it judges a batch by the rules alone, plans every write of the commit before the first one,
+//! and then makes the writes one at a time.
+//!
+//! **What it keeps.** The rules of the set, the arrangement of their entries in the slots, the index of which
+//! entries overlap, and each entry under its id. While a commit is under way it also holds the plan: the writes
+//! still to make, and the arrangement that they lead to.
+//!
+//! **The one hard idea.** Packets are looked up between any two writes, so a commit can't pass through a state
+//! that answers neither as the old set nor as the new one. Additions go in by falling priority, each where every
+//! overlapping entry of higher priority stands before it and every one of lower priority behind it; entries that
+//! are in the way move by a copy to their new slot before their old one is overwritten. Two copies of an entry
+//! are acceptable, none isn't.
+//!
+//! **Memory.** `prepare` takes all of it, the device's too; `step` takes none. So want of memory can't come
+//! between two writes of a commit, and a batch that is refused changes nothing.
+#![tactic(auto)]
+
+ghost use Rattle.std.specs.Prelude.{◌≡◌};
+ghost use Rattle.batch_order.specs.Managed as managed;
+
+mod entries;
+mod manager;
+mod plan;
+mod planning;
+
+pub use manager::Manager;
+pub use rule_model::Field;
+use rule_model::Rank;
+use rule_store::BatchFault;
+pub use rule_store::Mode;
+use tcam_device::Write;
+use thiserror::Error;
+
+/// Why a batch isn't taken. Nothing was written then, and rules, manager and device are as they were.
+#[derive(Clone, Copy, Debug, PartialEq, Eq, Error)]
+pub enum Refusal {
+    /// A plan is held, with this many writes still to make.
+    #[error("a plan is held with {left} writes to make")]
+    Busy { left: u64 },
+    /// An earlier command of the batch names the priority.
+    #[error("priority named twice")]
+    Twice(Rank),
+    /// A rule that is to be added has a priority of the set.
+    #[error("priority taken")]
+    Taken(Rank),
+    /// The set has no rule of the priority that is to be changed or removed.
+    #[error("priority absent")]
+    Absent(Rank),
+    /// The additions need more bits for their port ranges than a field has free.
+    #[error("{need} bits needed and {free} free")]
+    Bits { field: Field, need: u32, free: u32 },
+    /// The additions need more entries than there are free slots.
+    #[error("{need} slots needed and {free} free")]
+    Slots { need: u32, free: u32 },
+    /// Want of memory.
+    #[error("out of memory")]
+    Memory,
+}
+
+/// The numbers of a commit that is about to be made: its writes and those to the translation tables, the writes
+/// of its longest insertion, and the greatest crossing span of one.
+#[derive(Clone, Copy, Debug, PartialEq, Eq)]
+pub struct Ready {
+    pub writes: u64,
+    pub words: u32,
+    pub most: u32,
+    pub span: u32,
+}
+
+/// The same numbers of a commit that was made.
+#[derive(Clone, Copy, Debug, PartialEq, Eq)]
+pub struct Done {
+    pub writes: u64,
+    pub words: u32,
+    pub most: u32,
+    pub span: u32,
+}
+
+/// What one step did.
+#[derive(Clone, Copy, Debug, PartialEq, Eq)]
+pub enum Step {
+    /// It made this write, the next of the plan.
+    Wrote(Write),
+    /// The plan had no write left: the rules are the new set now, and no plan is held.
+    Finished(Done),
+    /// No plan was held, and nothing changed.
+    Idle,
+}
+
+/// The fault of a batch as a refusal.
+fn refusal_of(fault: BatchFault) -> Refusal
+    ensures { result ≡ managed.refusal_of fault }
+{
+    match fault {
+        BatchFault::Twice(priority) => Refusal::Twice(priority),
+        BatchFault::Taken(priority) => Refusal::Taken(priority),
+        BatchFault::Absent(priority) => Refusal::Absent(priority),
+    }
+}

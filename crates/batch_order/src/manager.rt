@@ -1,0 +1,278 @@
+//! The manager of one device.
+
+ghost use Rattle.std.specs.Prelude.{◌≡◌, ◌+◌, ◌-◌, ◌++◌, ◌∷◌, [], ◌≤◌, ◌<◌, ◌↔◌, ℕ, List, Option, Some, None, Err, IfSome, IsSome, IfOk, IfErr, OnOk, OnErr, length, option_map, fold};
+ghost use Rattle.tcam_device.specs.Cause.{HasCause};
+ghost use Rattle.tcam_device.specs.State.{IsInUse};
+ghost use Rattle.rule_store.specs.Verdict.{entries_of, verdict, Accepted};
+ghost use Rattle.rule_store.specs.Batch.{batch_fault, with_rule};
+ghost use Rattle.batch_order.specs.Planning.{AreNew};
+ghost use Rattle.batch_order.specs.Managed.{Judges, Answers, Holds, Steps, next_of, OnlyAddsRoutes, writes_of};
+
+use crate::entries::LiveEntries;
+use crate::plan::{Plan, ready};
+use crate::planning::{additions, falling, forget_all, plan_additions};
+use crate::{Done, Ready, Refusal, Step, refusal_of};
+use rule_model::Rule;
+use rule_store::{Batch, Mode, Store};
+use slot_pool::Arrangement;
+use std::alloc::{AllocError, Global};
+use std::marker::Model;
+use tcam_device::{Device, DeviceFault, Write};
+
+/// A commit under way: its writes and how many of them were made, its numbers, and the rules that it adds.
+#[derive(Drop)]
+pub(crate) struct Held {
+    pub(crate) writes: Vec<Write>,
+    pub(crate) made: usize,
+    pub(crate) counts: Done,
+    pub(crate) added: Vec<Rule>,
+}
+
+/// The manager of one device: its rules, where their entries stand, and the commit under way, if there is one.
+#[derive(Drop)]
+pub struct Manager {
+    alloc: Global,
+    mode: Mode,
+    rules: Store,
+    live: LiveEntries,
+    /// Where the entries stand once the writes that are held are made.
+    arrangement: Arrangement,
+    held: Option<Held>,
+}
+
+impl Model for Manager {
+    ghost use Rattle.std.specs.Prelude.{length, option_map};
+    ghost use Rattle.batch_order.specs.Managed.{Managed};
+    ghost use Rattle.batch_order.specs.Kept.{IsManaged, held_of};
+
+    ghost Value = { Managed };
+
+    ghost view = { λ m. record {
+      slots = length m.arrangement;
+      mode = m.mode;
+      rules = m.rules.rules;
+      held = option_map (held_of m.rules.rules) m.held;
+    } };
+
+    ghost invariant = { λ m. IsManaged m.mode m.rules m.live m.arrangement m.held };
+}
+
+impl Manager {
+    /// A manager of a blank device with so many slots in use, 1 to 4,096, and no rules.
+    pub fn new(alloc: Global, slots: u32, mode: Mode) -> Result<Manager, AllocError>
+        requires least { 1 ≤ slots }
+        requires most { slots ≤ 4096 }
+        requires cover { mode ≡ Mode.Cover }
+        ensures { IfOk result (λ manager. manager ≡ record { slots = slots; mode = mode; rules = []; held = None }) }
+    {
+        Ok(Manager {
+            alloc,
+            mode,
+            rules: Store::new(alloc),
+            live: LiveEntries::new(alloc, slots)?,
+            arrangement: Arrangement::new(alloc, slots)?,
+            held: None,
+        })
+    }
+
+    /// The rules of the set; while a commit is under way, those of the old set.
+    pub fn rules(&self) -> &Store
+        ensures { result.now.rules ≡ self.now.rules }
+    {
+        &self.rules
+    }
+
+    /// How many entries the rules of the set take.
+    pub fn entries(&self) -> u32
+        ensures { result ≡ entries_of self.now.mode self.now.rules }
+    {
+        self.rules.entries_of(self.mode) as u32
+    }
+
+    /// How many writes of the commit under way are still to make. None comes exactly where no commit is under way.
+    pub fn left(&self) -> Option<u64>
+        ensures { result ≡ option_map (λ held. length held.writes) self.now.held }
+    {
+        match &self.held {
+            None => None,
+            Some(held) => Some((held.writes.len() - held.made) as u64),
+        }
+    }
+
+    /// Judges a batch and, where it is taken, plans all of its writes and takes all memory for them, the device's
+    /// too. A refusal writes nothing, and leaves rules, manager and device as they were.
+    pub fn prepare<D: Device>(&mut self, batch: &Batch, device: &mut D) -> Result<Ready, Refusal>
+        requires slots { self.old.slots ≤ D.slot_count device.old }
+        requires changes { OnlyAddsRoutes batch.now }
+        ensures judged { Judges self.old self.old.held batch.now result }
+        ensures ready { IfOk result (λ ready. Holds self.old batch.now ready self.new) }
+        ensures refused { OnErr result (self.new ≡ self.old) }
+        ensures reserved { IfOk result (λ ready. ready.writes ≤ D.spare device.new) }
+        ensures spare { D.spare device.old ≤ D.spare device.new }
+        ensures journal { D.journal device.new ≡ D.journal device.old }
+        ensures slot_count { D.slot_count device.new ≡ D.slot_count device.old }
+        ensures faults { D.faults device.new ≡ D.faults device.old }
+    {
+        if let Some(left) = self.left() {
+            return Err(Refusal::Busy { left });
+        }
+        match self.rules.check(batch) {
+            Ok(()) => {}
+            Err(fault) => return Err(refusal_of(fault)),
+        }
+        match self.check_slots(batch) {
+            Ok(()) => {}
+            Err(refusal) => return Err(refusal),
+        }
+        match self.plan(batch, device) {
+            Ok(ready) => Ok(ready),
+            Err(AllocError) => Err(Refusal::Memory),
+        }
+    }
+
+    /// Whether the entries that the batch adds fit the free slots.
+    fn check_slots(&self, batch: &Batch) -> Result<(), Refusal>
+        requires idle { self.now.held ≡ None }
+        requires sound { batch_fault self.now.rules batch.now ≡ None }
+        requires changes { OnlyAddsRoutes batch.now }
+        ensures fits { OnOk result (verdict self.now.slots self.now.mode self.now.rules batch.now ≡ Accepted) }
+        ensures short { IfErr result (λ refusal. Answers (verdict self.now.slots self.now.mode self.now.rules batch.now) (Err refusal)) }
+    {
+        // A batch has 4,096 commands at most, so the number fits.
+        let _commands = batch.len();
+        let need = self.rules.entries_added(self.mode, batch) as u32;
+        let free = self.arrangement.free_count();
+        if need > free {
+            return Err(Refusal::Slots { need, free });
+        }
+        Ok(())
+    }
+
+    /// Plans the commit of a batch that is taken, on a copy of the arrangement, and reserves the device for it. On
+    /// want of memory all is as it was.
+    fn plan<D: Device>(&mut self, batch: &Batch, device: &mut D) -> Result<Ready, AllocError>
+        requires idle { self.old.held ≡ None }
+        requires sound { batch_fault self.old.rules batch.now ≡ None }
+        requires fits { verdict self.old.slots self.old.mode self.old.rules batch.now ≡ Accepted }
+        requires changes { OnlyAddsRoutes batch.now }
+        ensures ready { IfOk result (λ ready. Holds self.old batch.now ready self.new) }
+        ensures refused { OnErr result (self.new ≡ self.old) }
+        ensures reserved { IfOk result (λ ready. ready.writes ≤ D.spare device.new) }
+        ensures spare { D.spare device.old ≤ D.spare device.new }
+        ensures journal { D.journal device.new ≡ D.journal device.old }
+        ensures slot_count { D.slot_count device.new ≡ D.slot_count device.old }
+        ensures faults { D.faults device.new ≡ D.faults device.old }
+    {
+        let added = additions(self.alloc, batch)?;
+        self.rules.reserve(added.len() as u32)?;
+        let sorted = falling(self.alloc, added.as_slice())?;
+        let mut arrangement = self.arrangement.try_copy(self.alloc)?;
+        let mut plan = Plan::new(self.alloc);
+        let ids = plan_additions(
+            self.alloc,
+            &sorted,
+            &mut self.live,
+            &mut arrangement,
+            &mut plan,
+        )?;
+        match device.reserve(plan.writes.len() as u64) {
+            Ok(()) => {}
+            Err(fault) => {
+                forget_all(&mut self.live, ids);
+                return Err(fault);
+            }
+        }
+        let counts = plan.counts();
+        let Plan {
+            writes,
+            most: _,
+            span: _,
+        } = plan;
+        self.arrangement = arrangement;
+        self.held = Some(Held {
+            writes,
+            made: 0,
+            counts,
+            added,
+        });
+        Ok(ready(&counts))
+    }
+
+    /// Makes the next write of the commit under way; with none left, the rules become the new set.
+    pub fn step<D: Device>(&mut self, device: &mut D) -> Result<Step, DeviceFault>
+        requires slots { self.old.slots ≤ D.slot_count device.old }
+        requires room { IfSome self.old.held (λ held. length held.writes ≤ D.spare device.old) }
+        ensures stepped { IfOk result (λ step. Steps self.old self.old.held step self.new) }
+        ensures journal { IfOk result (λ step. D.journal device.new ≡ option_map (λ writes. writes ++ writes_of step) (D.journal device.old)) }
+        ensures spare { IfOk result (λ step. D.spare device.new + length (writes_of step) ≡ D.spare device.old) }
+        ensures failed { OnErr result (self.new ≡ self.old) }
+        ensures journal_err { OnErr result (D.journal device.new ≡ D.journal device.old) }
+        ensures spare_err { OnErr result (D.spare device.new ≡ D.spare device.old) }
+        ensures slot_count { D.slot_count device.new ≡ D.slot_count device.old }
+        ensures cause { HasCause (D.faults device.old) (D.faults device.new) result }
+    {
+        match self.next_write() {
+            None => Ok(self.finish()),
+            Some(write) => {
+                device.write(write)?;
+                Ok(self.advance())
+            }
+        }
+    }
+
+    /// The next write, if a commit is under way and has one left.
+    fn next_write(&self) -> Option<Write>
+        ensures next { result ≡ next_of self.now.held }
+        ensures in_use { IfSome result (IsInUse self.now.slots) }
+    {
+        match &self.held {
+            None => None,
+            Some(held) => held.writes.get(held.made).copied(),
+        }
+    }
+
+    /// The next write was made.
+    fn advance(&mut self) -> Step
+        requires { IfSome self.old.held (λ held. 0 < length held.writes) }
+        ensures { Steps self.old self.old.held result self.new }
+    {
+        match &mut self.held {
+            None => Step::Idle,
+            Some(held) => {
+                held.made += 1;
+                Step::Wrote(held.writes[held.made - 1])
+            }
+        }
+    }
+
+    /// With a commit under way that has no write left, the rules become the new set.
+    fn finish(&mut self) -> Step
+        requires { IfSome self.old.held (λ held. held.writes ≡ []) }
+        ensures { Steps self.old self.old.held result self.new }
+    {
+        match self.held.take() {
+            None => Step::Idle,
+            Some(held) => {
+                let Held {
+                    writes: _,
+                    made: _,
+                    counts,
+                    added,
+                } = held;
+                insert_all(&mut self.rules, added.as_slice());
+                Step::Finished(counts)
+            }
+        }
+    }
+}
+
+/// Puts rules into the set.
+fn insert_all(rules: &mut Store, added: &[Rule])
+    requires room { length added.now ≤ rules.old.spare }
+    requires new { AreNew rules.old.rules added.now }
+    ensures rules { rules.new.rules ≡ fold with_rule rules.old.rules added.now }
+{
+    for place in 0..added.len() {
+        rules.insert(added[place]);
+    }
+}
