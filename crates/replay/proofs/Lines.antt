@@ -1,0 +1,31 @@
+-- A line made word by word is the text of its words.
+use Rattle.std.proofs.Common.{◌≡◌, ℕ, List, [], ◌∷◌, ◌++◌, refl, ap, ◌∙◌, append_assoc}
+use Rattle.replay.specs.Text.{line_text, with_words}
+
+-- what stands before the first word stands before the line
+line_text-behind : (before word : List ℕ) (words : List (List ℕ)) → line_text ((before ++ word) ∷ words) ≡ before ++ line_text (word ∷ words)
+line_text-behind before word [] = append_assoc before word (10 ∷ [])
+line_text-behind before word (next ∷ words) = append_assoc before word (32 ∷ line_text (next ∷ words))
+
+-- a space before a word
+spaced : (word : List ℕ) (words : List (List ℕ)) → line_text ((32 ∷ word) ∷ words) ≡ 32 ∷ line_text (word ∷ words)
+spaced word [] = refl
+spaced word (next ∷ words) = refl
+
+-- the first word and those behind it, with the line feed
+pub with_words-line : (line : List ℕ) (words : List (List ℕ)) → with_words line words ++ 10 ∷ [] ≡ line_text (line ∷ words)
+with_words-line line [] = refl
+with_words-line line (word ∷ words) =
+    with_words-line (line ++ 32 ∷ word) words ∙ line_text-behind line (32 ∷ word) words ∙ ap (λ text. line ++ text) (spaced word words)
+
+-- a text, a sign and a text behind a line, one after the other
+onto : (line a : List ℕ) (sign : ℕ) (b : List ℕ) → ((line ++ a) ++ sign ∷ []) ++ b ≡ line ++ (a ++ sign ∷ b)
+onto line a sign b = append_assoc (line ++ a) (sign ∷ []) b ∙ append_assoc line a (sign ∷ b)
+
+-- the four parts of an address behind a line
+pub four_parts : (line a b c d : List ℕ) → ((((((line ++ a) ++ 46 ∷ []) ++ b) ++ 46 ∷ []) ++ c) ++ 46 ∷ []) ++ d ≡ line ++ (a ++ 46 ∷ b ++ 46 ∷ c ++ 46 ∷ d)
+four_parts line a b c d = rw (onto line a 46 b, onto line (a ++ 46 ∷ b) 46 c, onto line (a ++ 46 ∷ b ++ 46 ∷ c) 46 d) refl
+
+-- an address and a length behind a line and a space
+pub address_and_length : (line address len : List ℕ) → (((line ++ 32 ∷ []) ++ address) ++ 47 ∷ []) ++ len ≡ line ++ 32 ∷ (address ++ 47 ∷ len)
+address_and_length line address len = onto (line ++ 32 ∷ []) address 47 len ∙ append_assoc line (32 ∷ []) (address ++ 47 ∷ len)

@@ -1,0 +1,106 @@
+-- The lines of a report.
+use Rattle.std.specs.Prelude.{ℕ, ◌-◌, ◌/◌, ◌%◌, ◌^◌, ◌==◌, Some, None, List, [], ◌∷◌, ◌++◌, codes, decimal, if◌then◌else◌}
+use Rattle.rule_model.specs.Rank.{high_of, low_of}
+use Rattle.rule_model.specs.declared.Field.{Field}
+use Rattle.rule_model.specs.declared.Field.TheVariants.{Src, Dst}
+use Rattle.rule_model.specs.RuleSet.{Answer}
+use Rattle.rule_store.specs.declared.BatchFault.{BatchFault}
+use Rattle.rule_store.specs.declared.BatchFault.TheVariants.{Twice, Taken, Absent}
+use Rattle.rule_store.specs.Verdict.{Verdict, Accepted, Unsound, OutOfBits, OutOfSlots}
+use Rattle.batch_order.specs.declared.Done.{Done}
+use Rattle.batch_order.specs.declared.Refusal.{Refusal}
+use Rattle.batch_order.specs.declared.Refusal.TheVariants as refusal
+use Rattle.replay.specs.declared.Family.{Family}
+use Rattle.replay.specs.declared.Family.TheVariants.{Route, Acl}
+
+-- words with one space between them, and a line feed behind the last
+abbrev pub line_text : List (List ℕ) → List ℕ
+line_text [] = 10 ∷ []
+line_text (word ∷ []) = word ++ 10 ∷ []
+line_text (word ∷ next ∷ words) = word ++ 32 ∷ line_text (next ∷ words)
+
+-- a line with these words more, each behind a space
+abbrev pub with_words : List ℕ → List (List ℕ) → List ℕ
+with_words line [] = line
+with_words line (word ∷ words) = with_words (line ++ 32 ∷ word) words
+
+-- an IPv4 address in dotted decimal, from the number that it is
+abbrev pub dotted : ℕ → List ℕ
+dotted address =
+    decimal (address / 2 ^ 24) ++ 46 ∷ decimal (address / 2 ^ 16 % 256) ++ 46 ∷ decimal (address / 2 ^ 8 % 256)
+    ++ 46 ∷ decimal (address % 256)
+
+-- a rule's name: the prefix of a route, or the sequence number of a line
+abbrev pub rule_name : Family → ℕ → List ℕ
+rule_name Route rank = dotted (low_of rank) ++ 47 ∷ decimal (high_of rank)
+rule_name Acl rank = decimal (2 ^ 32 - low_of rank)
+
+-- a result: the number of a route, or the action of a line
+abbrev pub result_name : Family → ℕ → List ℕ
+result_name Route answer = decimal answer
+result_name Acl answer = if answer == 1 then codes "permit" else codes "deny"
+
+-- what a look-up answered, as words
+abbrev pub answer_words : Family → Answer → List (List ℕ)
+answer_words family None = codes "none" ∷ []
+answer_words family (Some found) = rule_name family found.0 ∷ result_name family found.1 ∷ []
+
+-- what the set answers a packet
+abbrev pub packet_line : Family → Answer → List ℕ
+packet_line family found = line_text (codes "packet" ∷ answer_words family found)
+
+-- the name of a field of ports
+abbrev pub field_text : Field → List ℕ
+field_text Src = codes "src"
+field_text Dst = codes "dst"
+
+-- an accepted commit, by its number and its counts
+abbrev pub accepted_line : ℕ → Done → List ℕ
+accepted_line commit counts =
+    line_text
+    (codes "commit" ∷ decimal commit ∷ codes "ok" ∷ codes "writes" ∷ decimal counts.writes ∷ codes "words"
+    ∷ decimal counts.words ∷ codes "most" ∷ decimal counts.most ∷ codes "span" ∷ decimal counts.span ∷ [])
+
+-- a batch's fault, as words
+abbrev pub fault_words : Family → BatchFault → List (List ℕ)
+fault_words family (Twice priority) = codes "twice" ∷ rule_name family priority ∷ []
+fault_words family (Taken priority) = codes "taken" ∷ rule_name family priority ∷ []
+fault_words family (Absent priority) = codes "absent" ∷ rule_name family priority ∷ []
+
+-- why a batch is refused, as words
+abbrev pub reason_words : Family → Verdict → List (List ℕ)
+reason_words family Accepted = []
+reason_words family (Unsound fault) = fault_words family fault
+reason_words family (OutOfBits field needed free) =
+    codes "bits" ∷ field_text field ∷ decimal needed ∷ decimal free ∷ []
+reason_words family (OutOfSlots needed free) = codes "slots" ∷ decimal needed ∷ decimal free ∷ []
+
+-- the verdict that a refusal tells: a held plan and want of memory tell none against the batch
+abbrev pub verdict_told : Refusal → Verdict
+verdict_told (refusal.Busy left) = Accepted
+verdict_told (refusal.Twice priority) = Unsound (Twice priority)
+verdict_told (refusal.Taken priority) = Unsound (Taken priority)
+verdict_told (refusal.Absent priority) = Unsound (Absent priority)
+verdict_told (refusal.Bits field needed free) = OutOfBits field needed free
+verdict_told (refusal.Slots needed free) = OutOfSlots needed free
+verdict_told refusal.Memory = Accepted
+
+-- a refused commit, by its number and the reason
+abbrev pub refused_line : Family → ℕ → Verdict → List ℕ
+refused_line family commit reason =
+    line_text (codes "commit" ∷ decimal commit ∷ codes "refused" ∷ reason_words family reason)
+
+-- the fault of a script's line
+abbrev pub fault_line : ℕ → List ℕ → List ℕ
+fault_line line text = line_text (codes "line" ∷ decimal line ∷ text ∷ [])
+
+-- rules of the set, their entries, the device writes of the run, and the commands that are pending
+abbrev pub end_line : ℕ → ℕ → ℕ → ℕ → List ℕ
+end_line rules entries writes pending =
+    line_text
+    (codes "end" ∷ codes "rules" ∷ decimal rules ∷ codes "entries" ∷ decimal entries ∷ codes "writes" ∷ decimal writes
+    ∷ codes "pending" ∷ decimal pending ∷ [])
+
+-- the words are no command line
+abbrev pub usage_line : List ℕ
+usage_line = line_text (codes "usage" ∷ [])

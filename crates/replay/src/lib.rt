@@ -1,0 +1,52 @@
+//! Runs of acts over a device: the pending batch, the commits, and the lines of the report.
+//!
+//! A [`Run`] takes the acts of a script one at a time. A change joins the pending batch; a packet is looked up in
+//! the device as it stands; a commit is judged by the manager and, where it is taken, carried out write by write.
+//! Each line of the report is handed to the sink as one piece, with its line feed, as soon as it is known.
+#![tactic(auto)]
+
+mod report;
+mod run;
+
+pub use batch_order::Mode;
+pub use report::{write_fault, write_text};
+use rule_model::Key;
+use rule_store::Command;
+pub use run::Run;
+use std::alloc::AllocError;
+use thiserror::Error;
+
+/// How rules are named in a report, and what a route's priority is.
+#[derive(Clone, Copy, Debug, PartialEq, Eq)]
+pub enum Family {
+    Route,
+    Acl,
+}
+
+/// What one line of a script does.
+#[derive(Clone, Copy, Debug, PartialEq, Eq)]
+pub enum Act {
+    /// A change joins the pending batch.
+    Command(Command),
+    /// A packet is looked up.
+    Packet(Key),
+    /// The pending batch is committed.
+    Commit,
+}
+
+/// Why an act isn't carried out to its end.
+#[derive(Clone, Copy, Debug, PartialEq, Eq, Error)]
+pub enum RunFault {
+    /// 4,096 changes are pending.
+    #[error("batch full")]
+    BatchFull,
+    /// The sink failed.
+    #[error("the report can't be written")]
+    Sink,
+    /// The device failed.
+    #[error("the device can't be written")]
+    Device,
+    /// Want of memory.
+    #[error("out of memory")]
+    Memory,
+}
