@@ -1,0 +1,5 @@
+mod ClearFaults
+mod CommandLines
+mod Slots
+mod TakenSlots
+mod Words

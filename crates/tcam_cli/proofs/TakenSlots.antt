@@ -1,0 +1,346 @@
+-- Where clap finds no fault, the text of --slots is a number from 1 to 4096.
+use Rattle.std.proofs.Common.{◌≡◌, ◌⊎◌, ◌∙◌, ◌&&◌, ◌||◌, ℕ, Bool, cond, true, false, not, zero, suc, refl, sym, subst, ap, List, [], ◌∷◌, length, drop, codes, Option, Some, None, is_some, inl, inr}
+use Rattle.std.specs.Prelude.{⊤, encode_utf8, slice_get, unwrap_or, find, fold, option_and_then, option_map}
+use Rattle.std.specs.Option.{option_map_or}
+use Rattle.std.specs.Str.{bytes_eq, chars}
+use Rattle.clap.specs.Lexer.{long_of, short_of}
+use Rattle.clap.specs.ValueTests.{is_unsigned_in}
+use Rattle.clap.specs.Facts.{parser_of_value}
+use Rattle.clap.specs.Walk.{Held, Names, Outcome, Row, Rule, Step, Text, Waiting, Walk, after_flag, after_step, arg_by_id, arg_by_index, arg_by_long, arg_by_short, at_row, attached_value, bundle, bundle_met, bundle_step, done, flag_met, default_rows, has_row, idle, more_values, nothing_held, reading_by, rows_after, settled_rows, used_by_id, is_pending, long_met, long_or_other, next, option, option_met, option_word, plain, plain_word, positional, positional_held, reacted, refused, settled, short_met, short_or_plain, subcommand, subcommand_met, subcommand_or_other, takes_several, takes_values, to_positional, trailing, used, value, waits, walk, walk_from, walked, walked_from, answers_to, with_default, word_met}
+use Rattle.clap.specs.Simple.{App, Shape, argument_words, built, entered, filled, help_rule, label_of, names_of, rows_at, subcommand_of}
+use Rattle.clap.specs.Kinds.{Kinds, or_else, values_kinds}
+use Rattle.clap.specs.Faults.{bundle_fault, bundle_step_fault, built_fault, entered_fault, fault_of, level_fault, flag_word_fault, flags_fault, long_fault, option_fault, other_fault, positional_fault, react_fault, settle_fault, short_fault, step_fault, stray_fault, turn_fault, use_fault, walk_fault, word_fault}
+use Rattle.clap.specs.declared.error.kind.ErrorKind.{ErrorKind}
+use Rattle.clap.specs.declared.error.kind.ErrorKind.TheVariants as kind
+use Rattle.clap.specs.declared.parser.matches.ValueSource.TheVariants.{CommandLine, DefaultValue}
+use Rattle.tcam_cli.specs.CommandLine.{route_command, slots_option, tcam_command, text_of}
+
+abbrev is_ok : Text → Bool
+is_ok = is_unsigned_in 1 4096
+
+abbrev slots_id : Text
+slots_id = codes "slots"
+
+-- the first row of --slots, if there is one, begins with a number in the range
+abbrev GoodIn : Option Row → Type 0
+GoodIn None = ⊤
+GoodIn (Some r) = is_ok (unwrap_or (slice_get r.values 0) []) ≡ true
+
+abbrev pub Good : List Row → Type 0
+Good rows = GoodIn (find (λ r. bytes_eq r.id slots_id) rows)
+
+-- an argument of the subcommand, as clap fills it in
+abbrev pub IsRule : Rule → Type 0
+IsRule a = (a ≡ filled slots_option) ⊎ (a ≡ filled help_rule)
+
+abbrev pub AllRules : List Rule → Type 0
+AllRules [] = ⊤
+AllRules (a ∷ rest) = IsRule a × AllRules rest
+
+abbrev FoundOk : Option Rule → Type 0
+FoundOk None = ⊤
+FoundOk (Some a) = IsRule a
+
+-- ---- small parts
+
+or_nil : (a b : Kinds) → or_else a b ≡ [] → (a ≡ []) × (b ≡ [])
+or_nil [] b e = (refl, e)
+or_nil (k ∷ ks) b e = cc
+
+some_kind : (k : ErrorKind) (ks : Kinds) → (k ∷ ks) ≡ [] → ⊥
+some_kind k ks e = cc
+
+cond_nil : (t : Bool) (k : ErrorKind) (b : Kinds) → cond t (k ∷ []) b ≡ [] → (t ≡ false) × (b ≡ [])
+cond_nil true k b e = absurd (some_kind k [] e)
+cond_nil false k b e = (refl, e)
+
+else_nil : (t : Bool) (k : ErrorKind) → cond t [] (k ∷ []) ≡ [] → t ≡ true
+else_nil true k e = refl
+else_nil false k e = absurd (some_kind k [] e)
+
+found : (p : Rule → Bool) (xs : List Rule) → AllRules xs → FoundOk (find p xs)
+found p [] all = tt
+found p (x ∷ xs) all = go (p x) (found p xs all.1)
+  where
+    go : (b : Bool) → FoundOk (find p xs) → FoundOk (cond b (Some x) (find p xs))
+    go true rest = all.0
+    go false rest = rest
+
+or_no : (a b : Bool) → (a || b) ≡ false → (a ≡ false) × (b ≡ false)
+or_no false b e = (refl, e)
+or_no true b e = cc
+
+-- a row that joins where there was none is the one found
+fresh : (change : Row → List Row) (new : Row) → bytes_eq new.id slots_id ≡ true → (rows : List Row) → has_row slots_id rows ≡ false
+    → find (λ r. bytes_eq r.id slots_id) (at_row slots_id change (new ∷ []) rows) ≡ Some new
+fresh change new is [] none = rw is refl
+fresh change new is (r ∷ rs) none =
+    let parts = or_no (bytes_eq r.id slots_id) (has_row slots_id rs) none in
+    rw parts.0 (rw parts.0 (fresh change new is rs parts.1))
+
+unchanged : (rows : List Row) → has_row slots_id rows ≡ false → at_row slots_id (λ _. []) [] rows ≡ rows
+unchanged [] none = refl
+unchanged (r ∷ rs) none =
+    let parts = or_no (bytes_eq r.id slots_id) (has_row slots_id rs) none in
+    rw parts.0 (ap (λ xs. r ∷ xs) (unchanged rs parts.1))
+
+fresh_again : (change : Row → List Row) (new : Row) → bytes_eq new.id slots_id ≡ true → (rows : List Row) → has_row slots_id rows ≡ false
+    → find (λ r. bytes_eq r.id slots_id) (at_row slots_id change (new ∷ []) (at_row slots_id (λ _. []) [] rows)) ≡ Some new
+fresh_again change new is rows none =
+    ap (λ xs. find (λ r. bytes_eq r.id slots_id) (at_row slots_id change (new ∷ []) xs)) (unchanged rows none) ∙ fresh change new is rows none
+
+row_read : (rows : List Row) → has_row slots_id rows ≡ true → Good rows → is_ok (text_of slots_id rows) ≡ true
+row_read [] has good = cc
+row_read (r ∷ rs) has good = go (bytes_eq r.id slots_id) refl (λ h g. row_read rs h g)
+  where
+    go : (b : Bool) → bytes_eq r.id slots_id ≡ b → (has_row slots_id rs ≡ true → Good rs → is_ok (text_of slots_id rs) ≡ true)
+        → is_ok (text_of slots_id (r ∷ rs)) ≡ true
+    go true e rest =
+        let here = rw e at good in
+        rw e here
+    go false e rest =
+        let later = rw e at good in
+        let has_later = rw e at has in
+        rw e (rest has_later later)
+
+-- ---- one use of an argument
+
+first_ok : (v : Text) (ws : List Text) → values_kinds false (parser_of_value (filled slots_option).parser) (v ∷ ws) ≡ [] → is_ok v ≡ true
+unfolding slots_option
+first_ok v ws none = else_nil (is_ok v) kind.ValueValidation (or_nil _ (values_kinds false (parser_of_value (filled slots_option).parser) ws) none).0
+
+slots_used : (vs : List Text) (rows : List Row) → use_fault false (filled slots_option) vs rows ≡ [] → Good (used (filled slots_option) vs rows)
+unfolding slots_option
+slots_used [] rows none = absurd (some_kind _ _ none)
+slots_used (v ∷ ws) rows none =
+    let parts = or_nil _ _ none in
+    let inner = or_nil (cond (has_row slots_id rows && not false) (kind.ArgumentConflict ∷ []) []) (values_kinds false (parser_of_value (filled slots_option).parser) (v ∷ ws)) parts.1 in
+    let new : has_row slots_id rows ≡ false = go (has_row slots_id rows) inner.0 in
+    subst GoodIn (sym (fresh_again (more_values CommandLine (v ∷ ws)) _ refl rows new)) (first_ok v ws inner.1)
+  where
+    go : (b : Bool) → cond (b && not false) (kind.ArgumentConflict ∷ []) [] ≡ [] → b ≡ false
+    go true e = absurd (some_kind _ _ e)
+    go false e = refl
+
+help_used : (again : Bool) (vs : List Text) (rows : List Row) → use_fault again (filled help_rule) vs rows ≡ [] → ⊥
+help_used again vs rows none = some_kind kind.DisplayHelp [] (or_nil _ (kind.DisplayHelp ∷ []) none).1
+
+use_keeps : (again : Bool) → again ≡ false → (a : Rule) → IsRule a → (vs : List Text) (rows : List Row) → use_fault again a vs rows ≡ [] → Good (used a vs rows)
+use_keeps again once a (inl is) vs rows none =
+    let first = subst (λ (b : Bool). use_fault b a vs rows ≡ []) once none in
+    subst (λ (x : Rule). Good (used x vs rows)) (sym is) (slots_used vs rows (subst (λ (x : Rule). use_fault false x vs rows ≡ []) is first))
+use_keeps again once a (inr is) vs rows none = absurd (help_used again vs rows (subst (λ (x : Rule). use_fault again x vs rows ≡ []) is none))
+
+-- ---- the walk
+
+module _ (c : List Rule) (all : AllRules c) (again : Bool) (once : again ≡ false) where
+  settled_keeps : (h : Held) → settle_fault c again h ≡ [] → Good h.rows → Good (settled c h).rows
+  settled_keeps h none good = go h.pending none
+    where
+      one : (o : Option Rule) → FoundOk o → (vs : List Text) → option_map_or (λ a. use_fault again a vs h.rows) o [] ≡ []
+          → Good (used_by_id o vs h.rows)
+      one None is vs e = good
+      one (Some a) is vs e = use_keeps again once a is vs h.rows e
+
+      go : (o : Option (Text × List Text)) → option_map_or (λ p. option_map_or (λ a. use_fault again a p.1 h.rows) (arg_by_id c p.0) []) o [] ≡ []
+          → Good (settled_rows c o h.rows)
+      go None e = good
+      go (Some p) e = one (arg_by_id c p.0) (found _ c all) p.1 e
+
+  react_keeps : (a : Rule) → IsRule a → (vs : List Text) (h : Held) → react_fault c again a vs h ≡ [] → Good (reacted c a vs h).rows
+  react_keeps a is vs h none = use_keeps again once a is vs (settled c h).rows (or_nil (settle_fault c again h) _ none).1
+
+  option_keeps : (a : Rule) → IsRule a → (v : Option Text) (h : Held) → option_fault c again a v h ≡ [] → Good h.rows → Good (option_met c a v h).0.rows
+  option_keeps a is (Some v) h none good = react_keeps a is (v ∷ []) h none
+  option_keeps a is None h none good = settled_keeps h none good
+
+  long_keeps : (o : Option Rule) → FoundOk o → (v : Option Text) (h : Held) → long_fault c again o v h ≡ [] → Good h.rows → Good (long_met c o v h).0.rows
+  long_keeps None is v h none good = good
+  long_keeps (Some a) is v h none good = go (takes_values a) none
+    where
+      flag : (o : Option Text) → cond (is_some o) (kind.TooManyValues ∷ []) (react_fault c again a [] h) ≡ [] → Good (flag_met c a o h).0.rows
+      flag (Some x) e = good
+      flag None e = react_keeps a is [] h e
+
+      go : (b : Bool) → cond b (option_fault c again a v h) (cond (is_some v) (kind.TooManyValues ∷ []) (react_fault c again a [] h)) ≡ []
+          → Good (cond b (option_met c a v h) (flag_met c a v h)).0.rows
+      go true e = option_keeps a is v h e good
+      go false e = flag v e
+
+  short_keeps : (o : Option Rule) → FoundOk o → (rest : Text) (h : Held) (faults : Held → Kinds) (then : Held → Held × Outcome)
+      → ((x : Held) → faults x ≡ [] → Good x.rows → Good (then x).0.rows)
+      → short_fault c again o rest h faults ≡ [] → Good h.rows → Good (short_met c o rest h then).0.rows
+  short_keeps None is rest h faults then keeps none good = good
+  short_keeps (Some a) is rest h faults then keeps none good = go (takes_values a) none
+    where
+      go : (b : Bool) → cond b (option_fault c again a (attached_value rest) h) (or_else (react_fault c again a [] h) (faults (reacted c a [] h))) ≡ []
+          → Good (cond b (option_met c a (attached_value rest) h) (then (reacted c a [] h))).0.rows
+      go true e = option_keeps a is (attached_value rest) h e good
+      go false e =
+          let parts = or_nil _ _ e in
+          keeps (reacted c a [] h) parts.1 (react_keeps a is [] h parts.0)
+
+  step_keeps : (o : Option ℕ) (flags : Text) (skip : ℕ) (so_far : Outcome) (h : Held) (faults : Text → ℕ → Held → Kinds)
+      (then : Text → ℕ → Outcome → Held → Held × Outcome)
+      → ((t : Text) (n : ℕ) (x : Outcome) (y : Held) → faults t n y ≡ [] → Good y.rows → Good (then t n x y).0.rows)
+      → bundle_step_fault c again o flags skip h faults ≡ [] → Good h.rows → Good (bundle_step c o flags skip so_far h then).0.rows
+  step_keeps None flags skip so_far h faults then keeps none good = good
+  step_keeps (Some x) flags zero so_far h faults then keeps none good =
+      let rest = drop (length (encode_utf8 x)) flags in
+      short_keeps (arg_by_short c x) (found _ c all) rest h (faults rest 0) (then rest 0 done) (keeps rest 0 done) none good
+  step_keeps (Some x) flags (suc skip) so_far h faults then keeps none good = keeps (drop (length (encode_utf8 x)) flags) skip so_far h none good
+
+  bundle_keeps : (k : ℕ) (flags : Text) (skip : ℕ) (so_far : Outcome) (h : Held) → flags_fault c again k flags skip h ≡ [] → Good h.rows
+      → Good (bundle_met c k flags skip so_far h).0.rows
+  unfolding flags_fault bundle_met
+  bundle_keeps zero flags skip so_far h none good = good
+  bundle_keeps (suc k) flags skip so_far h none good =
+      step_keeps (slice_get (chars flags) 0) flags skip so_far h (flags_fault c again k) (bundle_met c k) (bundle_keeps k) none good
+
+  plain_keeps : (waiting : Waiting) (word : Text) (h : Held) → Good h.rows → Good (plain_word c waiting word h).0.rows
+  plain_keeps (option id) word h good = go (arg_by_id c id)
+    where
+      go : (o : Option Rule) → Good (option_word o id word h).0.rows
+      go None = good
+      go (Some a) = good
+  plain_keeps idle word h good = good
+  plain_keeps positional word h good = good
+
+  after_keeps : (waiting : Waiting) (word : Text) (h : Held) (o : Outcome) → Good h.rows → Good (after_flag c waiting word h o).0.rows
+  after_keeps waiting word h done good = good
+  after_keeps waiting word h (waits id) good = good
+  after_keeps waiting word h plain good = plain_keeps waiting word h good
+  after_keeps waiting word h refused good = plain_keeps waiting word h good
+
+  flag_keeps : (waiting : Waiting) (word : Text) (o : Option (Text × Option Text)) (h : Held) → flag_word_fault c again o word h ≡ [] → Good h.rows
+      → Good (long_or_other c waiting word o h).0.rows
+  flag_keeps waiting word (Some p) h none good =
+      after_keeps waiting word _ (long_met c (arg_by_long c p.0) p.1 h).1 (long_keeps (arg_by_long c p.0) (found _ c all) p.1 h none good)
+  flag_keeps waiting word None h none good = go (short_of word) none
+    where
+      go : (o : Option Text) → option_map_or (λ flags. bundle_fault c again flags h) o [] ≡ [] → Good (short_or_plain c waiting word o h).0.rows
+      go None e = plain_keeps waiting word h good
+      go (Some flags) e =
+          after_keeps waiting word _ (bundle c flags h).1 (bundle_keeps (length flags) flags h.skip plain (record h { skip = 0 }) e good)
+
+  other_keeps : (o : Option Text) (waiting : Waiting) (position : ℕ) (word : Text) (h : Held)
+      → ((o ≡ None) → cond (bytes_eq word (45 ∷ 45 ∷ [])) [] (flag_word_fault c again (long_of word) word h) ≡ []) → Good h.rows
+      → Good (subcommand_or_other c o waiting position word h).0.rows
+  other_keeps (Some name) waiting position word h none good = good
+  other_keeps None waiting position word h none good = go (bytes_eq word (45 ∷ 45 ∷ [])) (none refl)
+    where
+      go : (b : Bool) → cond b [] (flag_word_fault c again (long_of word) word h) ≡ [] → Good (cond b (h, trailing position) (long_or_other c waiting word (long_of word) h)).0.rows
+      go true e = good
+      go false e = flag_keeps waiting word (long_of word) h e good
+
+  positional_keeps : (a : Rule) (word : Text) (h : Held) → positional_fault c again a h ≡ [] → Good h.rows → Good (positional_held c a word h).rows
+  positional_keeps a word h none good = go (is_pending a h.pending && takes_several a) none
+    where
+      go : (b : Bool) → cond b [] (settle_fault c again h) ≡ [] → Good (cond b h (settled c h)).rows
+      go true e = good
+      go false e = settled_keeps h e good
+
+module _ (s : Shape) (all : AllRules s.rules) (once : s.args_override_self ≡ false) (names : Names) where
+  turn_keeps : (w : Walk) (word : Text) → turn_fault s names w word ≡ [] → Good w.held.rows → Good (walked s.rules names w word).held.rows
+  unfolding walked
+  turn_keeps w word none good = go w.stopped none
+    where
+      to : (h : Held) (o : Option Rule) → option_map_or (λ a. positional_fault s.rules s.args_override_self a h) o (stray_fault s) ≡ [] → Good h.rows
+          → Good (to_positional s.rules o word w h).held.rows
+      to h None e kept = kept
+      to h (Some a) e kept = positional_keeps s.rules all s.args_override_self once a word h e kept
+
+      after : (h : Held) (step : Step) → step_fault s w.position h step ≡ [] → Good h.rows → Good (after_step s.rules word w h step).held.rows
+      after h (next x) e kept = kept
+      after h (trailing p) e kept = kept
+      after h (subcommand t) e kept = kept
+      after h value e kept = to h (arg_by_index s.rules w.position) e kept
+
+      met : (b : Bool) → cond b [] (other_fault s (subcommand_met names w.waiting word) word w.held) ≡ []
+          → Good (cond b (w.held, value) (subcommand_or_other s.rules (subcommand_met names w.waiting word) w.waiting w.position word w.held)).0.rows
+      met true e = good
+      met false e = other_keeps s.rules all s.args_override_self once (subcommand_met names w.waiting word) w.waiting w.position word w.held
+          (λ is. subst (λ (o : Option Text). other_fault s o word w.held ≡ []) is e) good
+
+      go : (o : Option (Text × List Text)) → cond (is_some o) [] (or_else (word_fault s names w.is_trailing w.waiting word w.held)
+          (step_fault s w.position (word_met s.rules names w.is_trailing w.waiting w.position word w.held).0
+          (word_met s.rules names w.is_trailing w.waiting w.position word w.held).1)) ≡ [] → Good (walked_from s.rules names o w word).held.rows
+      go (Some p) e = good
+      go None e =
+          let parts = or_nil (word_fault s names w.is_trailing w.waiting word w.held) _ e in
+          after _ _ parts.1 (met w.is_trailing parts.0)
+
+  walk_keeps : (words : List Text) (w : Walk) → walk_fault s names w words ≡ [] → Good w.held.rows → Good (fold (walked s.rules names) w words).held.rows
+  unfolding walk_fault
+  walk_keeps [] w none good = good
+  walk_keeps (word ∷ rest) w none good =
+      let parts = or_nil (turn_fault s names w word) _ none in
+      walk_keeps rest (walked s.rules names w word) parts.1 (turn_keeps w word parts.0 good)
+
+-- ---- after the walk
+
+help_default : (rows : List Row) → is_ok (text_of slots_id rows) ≡ true → is_ok (text_of slots_id (with_default rows (filled help_rule))) ≡ true
+help_default rows ok = go (has_row (codes "help") rows)
+  where
+    go : (b : Bool) → is_ok (text_of slots_id (cond b rows rows)) ≡ true
+    go true = ok
+    go false = ok
+
+slots_default : (rows : List Row) → Good rows → is_ok (text_of slots_id (with_default rows (filled slots_option))) ≡ true
+unfolding slots_option
+slots_default rows good = go (has_row slots_id rows) refl
+  where
+    go : (b : Bool) → has_row slots_id rows ≡ b
+        → is_ok (text_of slots_id (cond b rows (default_rows slots_id (reading_by (filled slots_option)) (filled slots_option).defaults rows))) ≡ true
+    go true e = row_read rows e good
+    go false e = subst (λ (o : Option Row). is_ok (unwrap_or (option_and_then (λ r. slice_get r.values 0) o) []) ≡ true)
+        (sym (fresh (more_values DefaultValue (codes "4096" ∷ [])) _ refl rows e)) refl
+
+-- the arguments of the subcommand, as clap fills them in
+abbrev pub HasRules : Shape → Type 0
+HasRules s = (s.rules ≡ filled slots_option ∷ filled help_rule ∷ []) × (s.args_override_self ≡ false)
+
+level_ok : (s : Shape) → HasRules s → (words : List Text) → level_fault s [] nothing_held words false [] ≡ [] → is_ok (text_of slots_id (rows_after s.rules [] words)) ≡ true
+level_ok s rules words none =
+    let all : AllRules s.rules = subst AllRules (sym rules.0) (inl refl, (inr refl, tt)) in
+    let end = (walk s.rules [] nothing_held words).held in
+    let walked_by = or_nil (walk_fault s [] (walk_from nothing_held) words) _ none in
+    let settled_by = or_nil (settle_fault s.rules s.args_override_self end) _ walked_by.1 in
+    let good : Good end.rows = walk_keeps s all rules.1 [] words (walk_from nothing_held) walked_by.0 tt in
+    let kept = settled_keeps s.rules all s.args_override_self rules.1 end settled_by.0 good in
+    subst (λ rs. is_ok (text_of slots_id (fold with_default (settled s.rules end).rows rs)) ≡ true) (sym rules.0)
+    (help_default (with_default (settled s.rules end).rows (filled slots_option)) (slots_default (settled s.rules end).rows kept))
+
+entered_ok : (sub : Shape) → HasRules sub → (words : List Text) (name : Text) (rows : List Row) (p : Shape → Bool)
+    → option_map_or (λ s. level_fault s [] nothing_held words false []) (find p (sub ∷ [])) [] ≡ []
+    → option_map (λ s. rows_at s words) (find p (sub ∷ [])) ≡ Some (name, rows) → is_ok (text_of slots_id rows) ≡ true
+entered_ok sub rules words name rows p = go (p sub)
+  where
+    go : (b : Bool) → option_map_or (λ s. level_fault s [] nothing_held words false []) (cond b (Some sub) None) [] ≡ []
+        → option_map (λ s. rows_at s words) (cond b (Some sub) None) ≡ Some (name, rows) → is_ok (text_of slots_id rows) ≡ true
+    go true none are =
+        let same : rows_after sub.rules [] words ≡ rows = ap (λ (o : Option (Text × List Row)). unwrap_or (option_map (λ x. x.1) o) rows) are in
+        subst (λ (rs : List Row). is_ok (text_of slots_id rs) ≡ true) same (level_ok sub rules words none)
+    go false none are = cc
+
+stopped_ok : (a : App) (sub : Shape) → a.subs ≡ sub ∷ [] → HasRules sub → (stop : Option (Text × List Text)) (name : Text) (rows : List Row)
+    → entered_fault a stop ≡ [] → entered a stop ≡ Some (name, rows) → is_ok (text_of slots_id rows) ≡ true
+stopped_ok a sub subs rules None name rows none are = cc
+stopped_ok a sub subs rules (Some p) name rows none are =
+    entered_ok sub rules p.1 name rows (λ s. answers_to p.0 (label_of s))
+    (subst (λ (ss : List Shape). option_map_or (λ s. level_fault s [] nothing_held p.1 false []) (find (λ s. answers_to p.0 (label_of s)) ss) [] ≡ []) subs none)
+    (subst (λ (ss : List Shape). option_map (λ s. rows_at s p.1) (find (λ s. answers_to p.0 (label_of s)) ss) ≡ Some (name, rows)) subs are)
+
+built_ok : (a : App) (sub : Shape) → a.subs ≡ sub ∷ [] → HasRules sub → (words : List Text) (name : Text) (rows : List Row)
+    → built_fault a nothing_held words ≡ [] → entered a (walk a.top.rules (names_of a) nothing_held words).stopped ≡ Some (name, rows)
+    → is_ok (text_of slots_id rows) ≡ true
+built_ok a sub subs rules words name rows none are =
+    let stop = (walk a.top.rules (names_of a) nothing_held words).stopped in
+    let past_walk = or_nil (walk_fault a.top (names_of a) (walk_from nothing_held) words) _ none in
+    stopped_ok a sub subs rules stop name rows (or_nil (entered_fault a stop) _ past_walk.1).0 are
+
+-- where clap finds no fault and a subcommand, its number of slots is in the range
+pub slots_taken : (words : List Text) (name : Text) (rows : List Row) → fault_of tcam_command words ≡ [] → subcommand_of tcam_command words ≡ Some (name, rows)
+    → is_unsigned_in 1 4096 (text_of (codes "slots") rows) ≡ true
+unfolding tcam_command route_command slots_option
+slots_taken words name rows none are = built_ok (built tcam_command) _ refl (refl, refl) (argument_words tcam_command words) name rows none are

@@ -1,0 +1,76 @@
+-- What words ask for, by what clap made of them.
+use Rattle.std.proofs.Common.{◌≡◌, ◌∙◌, refl, sym, ap, subst, true, List, [], Option, Some, None, Bool, cond, codes}
+use Rattle.std.specs.Prelude.{◌≤◌, ℕ, IfOk, Ok, Err, Result, option_map, unwrap_or}
+use Rattle.clap.specs.Walk.{Row, Text}
+use Rattle.clap.specs.Simple.{App, argument_words, built, is_simple, subcommand_of, subcommand_rows_of}
+use Rattle.clap.specs.Walk.{nothing_held, rows_of}
+use Rattle.clap.proofs.WalkLemmas.{first_value-rows}
+use Rattle.clap.specs.declared.parser.matches.Found.{Found}
+use Rattle.std.specs.Borrow.{Bor}
+use Rattle.clap.specs.Faults.{fault_of, is_simple_and_free}
+use Rattle.clap.specs.Kinds.{IsAmong}
+use Rattle.clap.specs.Matches.{first_value}
+use Rattle.clap.specs.declared.error.kind.ErrorKind.{ErrorKind}
+use Rattle.clap.specs.declared.parser.matches.ArgMatches.{ArgMatches}
+use Rattle.clap.proofs.OnLiterals.{clap_on_literals}
+use Rattle.tcam_cli.specs.declared.command_line.Job.{Job}
+use Rattle.tcam_cli.specs.declared.command_line.Job.TheVariants.{Route}
+use Rattle.tcam_cli.specs.declared.command_line.WordsFault.{WordsFault}
+use Rattle.tcam_cli.specs.CommandLine.{Asked, asked_by, job_by_faults, job_of, job_of_fault, job_of_subcommand, tested_job, number_of, Reads, NoJob, route_command, slots_option, tcam_command, text_of}
+use Rattle.std.specs.Str.{bytes_eq}
+use Rattle.clap.specs.ValueTests.{is_unsigned_in}
+use Rattle.tcam_cli.proofs.TakenSlots.{slots_taken}
+use Rattle.tcam_cli.proofs.ClearFaults.{Clear, built-clear, fault_job}
+
+pub simple_and_free : is_simple_and_free tcam_command ≡ true
+unfolding clap_on_literals tcam_command route_command slots_option
+simple_and_free = refl
+
+pub simple : is_simple tcam_command ≡ true
+unfolding clap_on_literals tcam_command route_command slots_option
+simple = refl
+
+tcam-clear : (words : List Text) → Clear (fault_of tcam_command words)
+unfolding tcam_command route_command slots_option
+tcam-clear words = built-clear (built tcam_command) _ nothing_held (argument_words tcam_command words) refl refl refl
+
+-- where clap takes the words, the test of --slots passes
+tested : (words : List Text) → fault_of tcam_command words ≡ [] → (o : Option (Text × List Row)) → subcommand_of tcam_command words ≡ o
+    → job_of_subcommand o ≡ tested_job o
+tested words none None are = refl
+tested words none (Some (name, rows)) are = go (is_unsigned_in 1 4096 (text_of (codes "slots") rows)) (slots_taken words name rows none are)
+  where
+    go : (b : Bool) → b ≡ true
+        → cond (bytes_eq name (codes "route")) (Reads (number_of (codes "slots") rows)) NoJob
+        ≡ cond (bytes_eq name (codes "route")) (cond b (Reads (number_of (codes "slots") rows)) NoJob) NoJob
+    go b e = rw e refl
+
+pub taken : (a : App) (words : List Text) (m : ArgMatches) → a ≡ tcam_command → fault_of a words ≡ [] → subcommand_rows_of m ≡ subcommand_of a words
+    → job_of words ≡ tested_job (subcommand_rows_of m)
+taken a words m is none rows =
+    let free = ap (λ (x : App). fault_of x words) (sym is) ∙ none in
+    ap (λ ks. job_by_faults ks (subcommand_of tcam_command words)) free ∙ tested words free (subcommand_of tcam_command words) refl
+    ∙ ap tested_job (ap (λ (x : App). subcommand_of x words) (sym is) ∙ sym rows)
+
+pub refused : (a : App) (words : List Text) (k : ErrorKind) → a ≡ tcam_command → IsAmong k (fault_of a words) → job_of words ≡ job_of_fault k
+refused a words k is among =
+    fault_job (fault_of tcam_command words) (subcommand_of tcam_command words) k (tcam-clear words) (subst (λ (x : App). IsAmong k (fault_of x words)) is among)
+
+-- an answer that names a job
+pub then_asked : (r : Result Job WordsFault) (x y : Asked) → y ≡ x → IfOk r (λ job. x ≡ asked_by job) → IfOk r (λ job. y ≡ asked_by job)
+then_asked (Ok job) x y is h = is ∙ h
+then_asked (Err e) x y is h = tt
+
+pub no_route : (r : Result Job WordsFault) → IfOk r (λ job. (n : ℕ) → job ≡ Route n → ⊥) → IfOk r (λ job. (n : ℕ) → job ≡ Route n → (1 ≤ n) × (n ≤ 4096))
+no_route (Ok job) h = λ n e. absurd (h n e)
+no_route (Err e) h = tt
+
+-- the first text of an argument, where none stands for the empty text
+pub given_text : (f : Found) (id : Text) (o : Option (Bor Text)) (r d : Bor Text) → r ≡ unwrap_or o d → d.now ≡ []
+    → option_map (λ s. s.now) o ≡ first_value f id → text_of id (rows_of f) ≡ r.now
+given_text f id o r d is empty given =
+    ap (λ x. unwrap_or x []) (sym (first_value-rows f id) ∙ sym given) ∙ go o ∙ ap (λ (s : Bor Text). s.now) (sym is)
+  where
+    go : (x : Option (Bor Text)) → unwrap_or (option_map (λ s. s.now) x) [] ≡ (unwrap_or x d).now
+    go None = sym empty
+    go (Some t) = refl

@@ -1,0 +1,119 @@
+-- The command lines, by the declaration that clap is given, and what each asks for.
+use Rattle.std.specs.Prelude.{ℕ, Option, Some, None, unwrap_or, List, [], ◌∷◌, ◌++◌, true, codes, if◌then◌else◌}
+use Rattle.std.specs.Str.{bytes_eq}
+use Rattle.std.specs.Str.Parse.{digits_value, without_leading_plus}
+use Rattle.clap.specs.Walk.{Rule, Row, Text, first_of}
+use Rattle.clap.specs.ValueTests.{is_unsigned_in}
+use Rattle.clap.specs.Simple.{App, new_app, new_rule, on_top, with_rule, with_subcommand, subcommand_of}
+use Rattle.clap.specs.Faults.{fault_of}
+use Rattle.clap.specs.Kinds.{Kinds}
+use Rattle.clap.specs.declared.error.kind.ErrorKind.{ErrorKind}
+use Rattle.clap.specs.declared.error.kind.ErrorKind.TheVariants as kind
+use Rattle.clap.specs.declared.builder.action.ArgAction.TheVariants.{Set}
+use Rattle.clap.specs.declared.builder.value_parser.ValueParser.TheVariants.{Unsigned}
+use Rattle.tcam_cli.specs.declared.command_line.Job.{Job}
+use Rattle.tcam_cli.specs.declared.command_line.Job.TheVariants.{Route, Help, Version}
+
+-- what a command line asks for: nothing, a text of the program's own, or to read a script of
+-- routes with so many slots in use
+pub data Asked : Type 0 where
+  NoJob : Asked
+  Tells : List ℕ → Asked
+  Reads : ℕ → Asked
+
+-- --slots, a number from 1 to 4096, by default 4096
+unfoldable pub slots_option : Rule
+slots_option = record (new_rule (codes "slots")) {
+  long = Some (codes "slots");
+  action = Some Set;
+  parser = Some (Unsigned 1 4096);
+  defaults = codes "4096" ∷ [];
+}
+
+-- the subcommand for route scripts
+unfoldable pub route_command : App
+route_command = with_rule (new_app (codes "route")) slots_option
+
+-- tcam with a required subcommand and a version; help is asked for by its flag alone
+unfoldable pub tcam_command : App
+tcam_command = with_subcommand (on_top (λ top. record top {
+  has_version = true;
+  subcommand_required = true;
+  disable_help_subcommand = true;
+}) (new_app (codes "tcam"))) route_command.top
+
+-- the text that an argument was given, or has by default
+abbrev pub text_of : Text → List Row → Text
+text_of id rows = unwrap_or (first_of id rows) []
+
+-- the number that a text writes in decimal digits
+abbrev pub number_in : Text → ℕ
+number_in text = digits_value 10 (without_leading_plus text)
+
+-- the number that an argument was given, or has by default
+abbrev pub number_of : Text → List Row → ℕ
+number_of id rows = number_in (text_of id rows)
+
+-- what a subcommand and its arguments ask for: a script of routes over so many slots
+abbrev pub job_of_rows : Text → List Row → Asked
+job_of_rows name rows =
+    if bytes_eq name (codes "route") then Reads (number_of (codes "slots") rows) else NoJob
+
+-- what a subcommand asks for, if there is one
+abbrev pub job_of_subcommand : Option (Text × List Row) → Asked
+job_of_subcommand None = NoJob
+job_of_subcommand (Some (name, rows)) = job_of_rows name rows
+
+-- the same for rows that may not be clap's, whose text of --slots is tested again; where clap takes
+-- the words the test passes, and the two are one
+abbrev pub job_of_slots : Text → Asked
+job_of_slots text = if is_unsigned_in 1 4096 text then Reads (number_in text) else NoJob
+
+abbrev pub tested_job_of_rows : Text → List Row → Asked
+tested_job_of_rows name rows =
+    if bytes_eq name (codes "route") then job_of_slots (text_of (codes "slots") rows) else NoJob
+
+abbrev pub tested_job : Option (Text × List Row) → Asked
+tested_job None = NoJob
+tested_job (Some (name, rows)) = tested_job_of_rows name rows
+
+-- the help: what the program does, its command lines and an example
+unfoldable pub help_text : List ℕ
+help_text = codes "tcam: the table manager of a ternary content-addressable memory."
+    ++ 10 ∷ codes "It reads a script from standard input, carries its commits out over a modelled"
+    ++ 10 ∷ codes "device one write at a time, and writes a report to standard output."
+    ++ 10 ∷ 10 ∷ codes "    tcam route [--slots N]    a script of routes; N slots in use, 1 to 4096, by default 4096"
+    ++ 10 ∷ codes "    tcam --help               this text"
+    ++ 10 ∷ codes "    tcam --version            name and version"
+    ++ 10 ∷ 10 ∷ codes "Example:"
+    ++ 10 ∷ 10 ∷ codes "    printf 'route add 10.0.0.0/8 7"
+    ++ 92 ∷ codes "ncommit"
+    ++ 92 ∷ codes "npacket 0.0.0.0 10.1.2.3 0 0 0"
+    ++ 92 ∷ codes "n' | tcam route"
+    ++ 10 ∷ []
+
+-- the name and the version
+unfoldable pub version_text : List ℕ
+version_text = codes "tcam 0.1.0" ++ 10 ∷ []
+
+-- what words ask for that clap doesn't take, by the kind of error that it answers
+abbrev pub job_of_fault : ErrorKind → Asked
+job_of_fault kind.DisplayHelp = Tells help_text
+job_of_fault kind.DisplayVersion = Tells version_text
+job_of_fault k = NoJob
+
+-- the same by the kinds that it may answer, and what the subcommand does where there is none
+abbrev pub job_by_faults : Kinds → Option (Text × List Row) → Asked
+job_by_faults [] subcommand = job_of_subcommand subcommand
+job_by_faults (k ∷ []) subcommand = job_of_fault k
+job_by_faults (k ∷ l ∷ ks) subcommand = NoJob
+
+-- what words ask for, the program's name first
+abbrev pub job_of : List Text → Asked
+job_of words = job_by_faults (fault_of tcam_command words) (subcommand_of tcam_command words)
+
+-- what an answer says that words ask for
+abbrev pub asked_by : Job → Asked
+asked_by (Route slots) = Reads slots
+asked_by Help = Tells help_text
+asked_by Version = Tells version_text

@@ -1,0 +1,151 @@
+//! The words of the command line, as `clap` takes them.
+
+ghost use Rattle.std.specs.Prelude.{◌≡◌, ◌≤◌, codes, Err, IfOk, IsErrOf, IfSome, IsNone, false, map, string_bytes};
+ghost use Rattle.clap.specs.Words.{app_of, rule_of, rows_of, found_of, subcommand_rows_of, kind_of};
+ghost use Rattle.clap.specs.declared.builder.command.Command.TheViews.{out-Command};
+ghost use Rattle.tcam_cli.specs.CommandLine.{NoJob, Reads, asked_by, job_of, job_of_fault, job_of_slots, tested_job};
+ghost use Rattle.tcam_cli.specs.CommandLine.{route_command as route_app, slots_option, tcam_command as tcam_app, text_of};
+
+use clap::error::ErrorKind;
+use clap::{Arg, ArgAction, ArgMatches, Command, Error};
+use std::alloc::{AllocError, Global};
+
+/// What `--help` prints.
+pub const HELP: &str = "\
+tcam: the table manager of a ternary content-addressable memory.
+It reads a script from standard input, carries its commits out over a modelled
+device one write at a time, and writes a report to standard output.
+
+    tcam route [--slots N]    a script of routes; N slots in use, 1 to 4096, by default 4096
+    tcam --help               this text
+    tcam --version            name and version
+
+Example:
+
+    printf 'route add 10.0.0.0/8 7\\ncommit\\npacket 0.0.0.0 10.1.2.3 0 0 0\\n' | tcam route
+";
+
+/// What `--version` prints.
+pub const VERSION: &str = "tcam 0.1.0\n";
+
+/// What a command line asks for.
+#[derive(Clone, Copy, Debug, PartialEq, Eq)]
+pub enum Job {
+    /// A route script from the source, with so many slots in use, 1 to 4,096.
+    Route { slots: u32 },
+    /// The help text.
+    Help,
+    /// Name and version.
+    Version,
+}
+
+/// Why words ask for nothing.
+#[derive(Clone, Copy, Debug, PartialEq, Eq)]
+pub enum WordsFault {
+    /// They are no command line.
+    Usage,
+    /// Want of memory.
+    Memory,
+}
+
+/// How many slots are in use.
+fn slots_arg<'a>(alloc: Global) -> Arg<'a>
+    ensures rule { rule_of result ≡ slots_option }
+    ensures global { result.global ≡ false }
+{
+    Arg::new(alloc, "slots")
+        .long("slots")
+        .action(ArgAction::Set)
+        .value_parser(clap::value_parser!(u64).range(1..4097))
+        .default_value("4096")
+}
+
+/// The subcommand for route scripts.
+fn route_command<'a>(alloc: Global) -> Result<Command<'a>, AllocError>
+    ensures app { IfOk result (λ c. app_of c ≡ route_app) }
+    ensures local { IfOk result (λ c. (out-Command c).has_globals ≡ false) }
+{
+    Ok(Command::new(alloc, "route").arg(slots_arg(alloc))?)
+}
+
+/// The declared command line: a required subcommand, help by its flag alone, and a version.
+fn tcam_command<'a>(alloc: Global) -> Result<Command<'a>, AllocError>
+    ensures { IfOk result (λ c. app_of c ≡ tcam_app) }
+{
+    Ok(
+        Command::new(alloc, "tcam")
+            .version("0.1.0")
+            .subcommand_required(true)
+            .disable_help_subcommand(true)
+            .subcommand(route_command(alloc)?)?,
+    )
+}
+
+/// What the words ask for, the program's name first.
+///
+/// Usage: they are no command line. Memory: there was no room to read them in.
+pub fn read_words(alloc: Global, words: &[String]) -> Result<Job, WordsFault>
+    ensures asked { IfOk result (λ job. job_of (map string_bytes words.now) ≡ asked_by job) }
+    ensures usage { IsErrOf result WordsFault.Usage → job_of (map string_bytes words.now) ≡ NoJob }
+    ensures slots { IfOk result (λ job. (n : _) → job ≡ Job.Route n → (1 ≤ n) × (n ≤ 4096)) }
+{
+    let command = match tcam_command(alloc) {
+        Ok(command) => command,
+        Err(_) => return Err(WordsFault::Memory),
+    };
+    match command.try_get_matches_from(words) {
+        Ok(matches) => job_of_matches(&matches),
+        Err(error) => job_of_error(&error),
+    }
+}
+
+/// The job of words that were taken.
+fn job_of_matches(matches: &ArgMatches) -> Result<Job, WordsFault>
+    ensures asked { IfOk result (λ job. tested_job (subcommand_rows_of matches.now) ≡ asked_by job) }
+    ensures usage { IsErrOf result WordsFault.Usage → tested_job (subcommand_rows_of matches.now) ≡ NoJob }
+    ensures slots { IfOk result (λ job. (n : _) → job ≡ Job.Route n → (1 ≤ n) × (n ≤ 4096)) }
+{
+    match matches.subcommand() {
+        Some((name, route)) if name == "route" => job_of_route(route),
+        _ => Err(WordsFault::Usage),
+    }
+}
+
+/// The job of the arguments of `route`.
+fn job_of_route(route: &ArgMatches) -> Result<Job, WordsFault>
+    ensures asked { IfOk result (λ job. job_of_slots (text_of (codes "slots") (rows_of (found_of route.now))) ≡ asked_by job) }
+    ensures usage { IsErrOf result WordsFault.Usage → job_of_slots (text_of (codes "slots") (rows_of (found_of route.now))) ≡ NoJob }
+    ensures slots { IfOk result (λ job. (n : _) → job ≡ Job.Route n → (1 ≤ n) × (n ≤ 4096)) }
+{
+    match slots_of(route.get_str("slots").unwrap_or("")) {
+        Some(slots) => Ok(Job::Route { slots }),
+        None => Err(WordsFault::Usage),
+    }
+}
+
+/// A number of slots from its text.
+fn slots_of(text: &str) -> Option<u32>
+    ensures some { IfSome result (λ n. job_of_slots text.now ≡ Reads n) }
+    ensures range { IfSome result (λ n. (1 ≤ n) × (n ≤ 4096)) }
+    ensures none { IsNone result → job_of_slots text.now ≡ NoJob }
+{
+    match text.parse::<u32>() {
+        Ok(slots) if 1 <= slots && slots <= 4096 => Some(slots),
+        _ => None,
+    }
+}
+
+/// The job of words that weren't: help, the version, or none.
+fn job_of_error(error: &Error) -> Result<Job, WordsFault>
+    ensures asked { IfOk result (λ job. job_of_fault (kind_of error.now) ≡ asked_by job) }
+    ensures usage { IsErrOf result WordsFault.Usage → job_of_fault (kind_of error.now) ≡ NoJob }
+    ensures memory { kind_of error.now ≡ ErrorKind.OutOfMemory → result ≡ Err WordsFault.Memory }
+    ensures slots { IfOk result (λ job. (n : _) → job ≡ Job.Route n → ⊥) }
+{
+    match error.kind() {
+        ErrorKind::DisplayHelp => Ok(Job::Help),
+        ErrorKind::DisplayVersion => Ok(Job::Version),
+        ErrorKind::OutOfMemory => Err(WordsFault::Memory),
+        _ => Err(WordsFault::Usage),
+    }
+}

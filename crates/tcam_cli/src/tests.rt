@@ -1,0 +1,72 @@
+//! The worked rows, over memory.
+
+use crate::Status;
+use crate::top::run;
+use script_lines::{MemSink, MemSource};
+use std::alloc::{AllocError, Global};
+use std::process::Abort;
+use std::test::Fail;
+use tcam_device::MemTcam;
+
+/// The words of a command line that blanks part.
+fn words_of(alloc: Global, line: &str) -> Result<Vec<String>, AllocError> {
+    let mut words = Vec::new(alloc);
+    for word in line.split(' ') {
+        words.push(String::from_str(alloc, word)?)?;
+    }
+    Ok(words)
+}
+
+/// Runs a script over a blank device of 4,096 slots, and compares status, report and number of writes.
+fn check(
+    rt: &(impl Abort + AllocGlobal),
+    line: &str,
+    script: &str,
+    status: Status,
+    report: &str,
+    writes: usize,
+) -> Result<(), Fail> {
+    let alloc = rt.alloc();
+    let words = words_of(alloc, line)?;
+    let mut source = MemSource::new(script.as_bytes());
+    let mut sink = MemSink::new(alloc)?;
+    sink.reserve(4096)?;
+    let mut device = MemTcam::new(alloc, 4096)?;
+    let ended = run(alloc, words.as_slice(), &mut source, &mut sink, &mut device);
+    assert_eq!(rt; sink.bytes(), report.as_bytes(), "{line}: {script}");
+    assert_eq!(rt; ended, status, "{line}: {script}");
+    assert_eq!(rt; device.journal().len(), writes, "{line}: {script}");
+    Ok(())
+}
+
+const EIGHT: &str = "tcam route --slots 8";
+
+const FIRST: &str = "route add 10.0.0.0/8 7\ncommit\npacket 0.0.0.0 10.1.2.3 0 0 0\n";
+
+const FIRST_REPORT: &str =
+    "commit 1 ok writes 1 words 0 most 1 span 0\npacket 10.0.0.0/8 7\nend rules 1 entries 1 writes 1 pending 0\n";
+
+#[test]
+fn commits(rt: HostRuntime) -> Result<(), Fail> {
+    check(&rt, EIGHT, FIRST, Status::Done, FIRST_REPORT, 1)
+}
+
+#[test]
+fn refusals(rt: HostRuntime) -> Result<(), Fail> {
+    let two = "route add 10.0.0.0/8 7\nroute add 11.0.0.0/8 8\ncommit\n";
+    let report = "commit 1 refused slots 2 1\nend rules 0 entries 0 writes 0 pending 0\n";
+    check(&rt, "tcam route --slots 1", two, Status::Refused, report, 0)
+}
+
+#[test]
+fn faults(rt: HostRuntime) -> Result<(), Fail> {
+    check(
+        &rt,
+        "tcam route",
+        "route add 10.0.0.1/8 7",
+        Status::Script,
+        "line 1 host bits\n",
+        0,
+    )?;
+    check(&rt, "tcam acl", FIRST, Status::Usage, "usage\n", 0)
+}

@@ -1,0 +1,209 @@
+//! The top call: a command line, a source, a sink and a device.
+
+ghost use Rattle.std.specs.Prelude.{◌≡◌, ◌≢◌, ◌⊎◌, ◌+◌, ◌<◌, ◌≤◌, ◌^◌, Some, None, IfNone, IfSome, IfOk, IfErr, length, map, string_bytes};
+ghost use Rattle.script_lines.specs.Cause.{Rose};
+ghost use Rattle.tcam_device.specs.Cause as devices;
+ghost use Rattle.replay.specs.Running.{IsRouteAct};
+ghost use Rattle.tcam_cli.specs.CommandLine.{NoJob, job_of};
+
+use crate::Status;
+use crate::command_line::{HELP, Job, VERSION, WordsFault, read_words};
+use line_words::WordFault;
+use replay::{Act, Family, Mode, Run, RunFault, write_fault, write_text};
+use route_reader::{RouteCommand, read_route};
+use rule_model::route_rule;
+use rule_store::Command;
+use script_lines::{Failed, Line, LineFault, Lines, Sink, Source};
+use std::alloc::Global;
+use tcam_device::Device;
+
+/// Runs what the words of a command line ask for, the program's name first, over a device of at least 4,096 slots.
+///
+/// `Usage` comes where the words are no command line, and there nothing else comes but a failing sink and want of
+/// memory. `ReadFault`, `WriteFault` and `DeviceFault` come only where the count of failures of source, sink or
+/// device rose. Each line of the report is handed to the sink as soon as it is known, and none after one that failed.
+pub fn run<S: Source, K: Sink, D: Device>(
+    alloc: Global,
+    words: &[String],
+    source: &mut S,
+    sink: &mut K,
+    device: &mut D,
+) -> Status
+    requires slots { 4096 ≤ D.slot_count device.old }
+    ensures usage { result ≡ Status.Usage → job_of (map (λ w. string_bytes w) words.now) ≡ NoJob }
+    ensures no_job { job_of (map (λ w. string_bytes w) words.now) ≡ NoJob → (result ≡ Status.Usage) ⊎ ((result ≡ Status.WriteFault) ⊎ (result ≡ Status.Memory)) }
+    ensures read { result ≡ Status.ReadFault → Rose (S.faults source.old) (S.faults source.new) }
+    ensures write { result ≡ Status.WriteFault → Rose (K.faults sink.old) (K.faults sink.new) }
+    ensures device { result ≡ Status.DeviceFault → devices.Rose (D.faults device.old) (D.faults device.new) }
+{
+    match read_words(alloc, words) {
+        Ok(Job::Route { slots }) => run_route(alloc, slots, source, sink, device),
+        Ok(Job::Help) => tell(sink, HELP, Status::Done),
+        Ok(Job::Version) => tell(sink, VERSION, Status::Done),
+        Err(WordsFault::Usage) => tell(sink, "usage\n", Status::Usage),
+        Err(WordsFault::Memory) => Status::Memory,
+    }
+}
+
+/// Carries out a route script from the source.
+fn run_route<S: Source, K: Sink, D: Device>(
+    alloc: Global,
+    slots: u32,
+    source: &mut S,
+    sink: &mut K,
+    device: &mut D,
+) -> Status
+    requires least { 1 ≤ slots }
+    requires most { slots ≤ 4096 }
+    requires device { 4096 ≤ D.slot_count device.old }
+    ensures no_usage { result ≢ Status.Usage }
+    ensures read { result ≡ Status.ReadFault → Rose (S.faults source.old) (S.faults source.new) }
+    ensures write { result ≡ Status.WriteFault → Rose (K.faults sink.old) (K.faults sink.new) }
+    ensures device { result ≡ Status.DeviceFault → devices.Rose (D.faults device.old) (D.faults device.new) }
+{
+    match Run::new(alloc, slots, Mode::Cover, Family::Route) {
+        Ok(mut run) => run_script(&mut run, source, sink, device),
+        Err(_) => Status::Memory,
+    }
+}
+
+/// Carries out a script to its end or its first fault.
+fn run_script<S: Source, K: Sink, D: Device>(
+    run: &mut Run,
+    source: &mut S,
+    sink: &mut K,
+    device: &mut D,
+) -> Status
+    requires slots { run.old.manager.slots ≤ D.slot_count device.old }
+    requires idle { run.old.manager.held ≡ None }
+    requires commits { run.old.commits ≡ 0 }
+    ensures no_usage { result ≢ Status.Usage }
+    ensures read { result ≡ Status.ReadFault → Rose (S.faults source.old) (S.faults source.new) }
+    ensures write { result ≡ Status.WriteFault → Rose (K.faults sink.old) (K.faults sink.new) }
+    ensures device { result ≡ Status.DeviceFault → devices.Rose (D.faults device.old) (D.faults device.new) }
+{
+    let mut lines = Lines::new();
+    loop {
+        match turn(&mut lines, run, source, sink, device) {
+            Some(status) => return status,
+            None => {}
+        }
+    }
+}
+
+/// Carries out the next line. None: the run goes on.
+fn turn<S: Source, K: Sink, D: Device>(
+    lines: &mut Lines,
+    run: &mut Run,
+    source: &mut S,
+    sink: &mut K,
+    device: &mut D,
+) -> Option<Status>
+    requires slots { run.old.manager.slots ≤ D.slot_count device.old }
+    requires idle { run.old.manager.held ≡ None }
+    requires commits { run.old.commits ≤ lines.old.before }
+    requires within { lines.old.before ≤ 16777216 }
+    ensures falls { IfNone result (lines.old.before < lines.new.before) }
+    ensures within { IfNone result (lines.new.before ≤ 16777216) }
+    ensures commits { IfNone result (run.new.commits ≤ lines.new.before) }
+    ensures idle { IfNone result (run.new.manager.held ≡ None) }
+    ensures slots { run.new.manager.slots ≡ run.old.manager.slots }
+    ensures slot_count { D.slot_count device.new ≡ D.slot_count device.old }
+    ensures reads { S.faults source.old ≤ S.faults source.new }
+    ensures writes { K.faults sink.old ≤ K.faults sink.new }
+    ensures makes { D.faults device.old ≤ D.faults device.new }
+    ensures no_usage { result ≢ Some Status.Usage }
+    ensures read { result ≡ Some Status.ReadFault → Rose (S.faults source.old) (S.faults source.new) }
+    ensures write { result ≡ Some Status.WriteFault → Rose (K.faults sink.old) (K.faults sink.new) }
+    ensures device { result ≡ Some Status.DeviceFault → devices.Rose (D.faults device.old) (D.faults device.new) }
+{
+    let line = match lines.next(source) {
+        Err(LineFault::Read) => return Some(Status::ReadFault),
+        Err(LineFault::ScriptTooLong { line }) => return Some(fault(line, "script too long", sink)),
+        Err(LineFault::TooLong { line }) => return Some(fault(line, "line too long", sink)),
+        Err(LineFault::BadByte { line }) => return Some(fault(line, "bad byte", sink)),
+        Ok(None) => return Some(finish(run, sink)),
+        Ok(Some(line)) => line,
+    };
+    let act = match read_act(&line) {
+        Err(text) => return Some(fault(line.number, text, sink)),
+        Ok(None) => return None,
+        Ok(Some(act)) => act,
+    };
+    match run.apply(&act, sink, device) {
+        Ok(()) => None,
+        Err(RunFault::BatchFull) => Some(fault(line.number, "batch full", sink)),
+        Err(RunFault::Sink) => Some(Status::WriteFault),
+        Err(RunFault::Device) => Some(Status::DeviceFault),
+        Err(RunFault::Memory) => Some(Status::Memory),
+    }
+}
+
+/// What a line of a route script does, or the text of its fault.
+fn read_act(line: &Line) -> Result<Option<Act>, &'static str>
+    requires { line.now.len ≤ 512 }
+    ensures kind { IfOk result (λ found. IfSome found IsRouteAct) }
+    ensures short { IfErr result (λ text. length text.now ≤ 32) }
+{
+    match read_route(line) {
+        Ok(None) => Ok(None),
+        Ok(Some(command)) => Ok(Some(act_of(&command))),
+        Err(fault) => Err(fault_text(&fault)),
+    }
+}
+
+/// The act that a command of a route script is.
+fn act_of(command: &RouteCommand) -> Act
+    ensures { IsRouteAct result }
+{
+    match command {
+        RouteCommand::Add(prefix, answer) => Act::Command(Command::Add(route_rule(
+            *prefix, *answer,
+        ))),
+        RouteCommand::Packet(key) => Act::Packet(*key),
+        RouteCommand::Commit => Act::Commit,
+    }
+}
+
+/// The text of a word's fault.
+fn fault_text(fault: &WordFault) -> &'static str
+    ensures { length result.now ≤ 32 }
+{
+    fault.text()
+}
+
+/// Writes the end line of a script that was read to its end.
+fn finish<K: Sink>(run: &mut Run, sink: &mut K) -> Status
+    ensures run { run.new ≡ run.old }
+    ensures later { K.faults sink.old ≤ K.faults sink.new }
+    ensures kind { (result ≡ Status.Done) ⊎ ((result ≡ Status.Refused) ⊎ ((result ≡ Status.WriteFault) × Rose (K.faults sink.old) (K.faults sink.new))) }
+{
+    match run.finish(sink) {
+        Ok(false) => Status::Done,
+        Ok(true) => Status::Refused,
+        Err(Failed) => Status::WriteFault,
+    }
+}
+
+/// Writes the line that names the fault of a script's line.
+fn fault<K: Sink>(line: u32, text: &str, sink: &mut K) -> Status
+    requires { length text.now ≤ 32 }
+    ensures later { K.faults sink.old ≤ K.faults sink.new }
+    ensures kind { (result ≡ Status.Script) ⊎ ((result ≡ Status.WriteFault) × Rose (K.faults sink.old) (K.faults sink.new)) }
+{
+    match write_fault(sink, line, text) {
+        Ok(()) => Status::Script,
+        Err(Failed) => Status::WriteFault,
+    }
+}
+
+/// Writes a text, and answers the status that follows.
+fn tell<K: Sink>(sink: &mut K, text: &str, last: Status) -> Status
+    ensures later { K.faults sink.old ≤ K.faults sink.new }
+    ensures kind { (result ≡ last) ⊎ ((result ≡ Status.WriteFault) × Rose (K.faults sink.old) (K.faults sink.new)) }
+{
+    match write_text(sink, text) {
+        Ok(()) => last,
+        Err(Failed) => Status::WriteFault,
+    }
+}
