@@ -6,7 +6,7 @@ use script_lines::{MemSink, MemSource};
 use std::alloc::{AllocError, Global};
 use std::process::Abort;
 use std::test::Fail;
-use tcam_device::MemTcam;
+use tcam_device::{FlakyTcam, MemTcam};
 
 /// The words of a command line that blanks part.
 fn words_of(alloc: Global, line: &str) -> Result<Vec<String>, AllocError> {
@@ -48,6 +48,17 @@ const FIRST_REPORT: &str =
 
 #[test]
 fn commits(rt: HostRuntime) -> Result<(), Fail> {
+    check(
+        &rt,
+        EIGHT,
+        "",
+        Status::Done,
+        "end rules 0 entries 0 writes 0 pending 0\n",
+        0,
+    )?;
+    let none =
+        "commit 1 ok writes 0 words 0 most 0 span 0\nend rules 0 entries 0 writes 0 pending 0\n";
+    check(&rt, EIGHT, "commit\r\n", Status::Done, none, 0)?;
     check(&rt, EIGHT, FIRST, Status::Done, FIRST_REPORT, 1)
 }
 
@@ -69,4 +80,19 @@ fn faults(rt: HostRuntime) -> Result<(), Fail> {
         0,
     )?;
     check(&rt, "tcam acl", FIRST, Status::Usage, "usage\n", 0)
+}
+
+#[test]
+fn failing_device(rt: HostRuntime) -> Result<(), Fail> {
+    let alloc = rt.alloc();
+    let words = words_of(alloc, EIGHT)?;
+    let mut device = FlakyTcam::new(alloc, 4096, &[1])?;
+    let mut source = MemSource::new(FIRST.as_bytes());
+    let mut sink = MemSink::new(alloc)?;
+    sink.reserve(4096)?;
+    let ended = run(alloc, words.as_slice(), &mut source, &mut sink, &mut device);
+    assert_eq!(rt; ended, Status::DeviceFault);
+    assert_eq!(rt; sink.bytes().len(), 0);
+    assert_eq!(rt; device.journal().len(), 0);
+    Ok(())
 }
