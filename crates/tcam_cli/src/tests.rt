@@ -2,7 +2,7 @@
 
 use crate::Status;
 use crate::top::run;
-use script_lines::{MemSink, MemSource};
+use script_lines::{FailSink, FailSource, MemSink, MemSource};
 use std::alloc::{AllocError, Global};
 use std::process::Abort;
 use std::test::Fail;
@@ -94,5 +94,72 @@ fn failing_device(rt: HostRuntime) -> Result<(), Fail> {
     assert_eq!(rt; ended, Status::DeviceFault);
     assert_eq!(rt; sink.bytes().len(), 0);
     assert_eq!(rt; device.journal().len(), 0);
+    Ok(())
+}
+
+#[test]
+fn full(rt: HostRuntime) -> Result<(), Fail> {
+    let four =
+        "route add 10.0.0.0/8 1\ncommit\nroute add 10.1.0.0/16 2\ncommit\nroute add 0.0.0.0/0 3\ncommit\nroute add 11.0.0.0/8 4\ncommit\n";
+    let report =
+        "commit 1 ok writes 1 words 0 most 1 span 0\ncommit 2 ok writes 1 words 0 most 1 span 0\ncommit 3 ok writes 1 words 0 most 1 span 0\ncommit 4 refused slots 1 0\nend rules 3 entries 3 writes 3 pending 0\n";
+    check(
+        &rt,
+        "tcam route --slots 3",
+        four,
+        Status::Refused,
+        report,
+        3,
+    )
+}
+
+#[test]
+fn nested(rt: HostRuntime) -> Result<(), Fail> {
+    let script =
+        "route add 10.0.0.0/8 7\ncommit\nroute add 10.1.2.0/24 8\ncommit\nroute add 10.1.0.0/16 9\ncommit\nroute add 10.1.0.0/20 5\ncommit\n";
+    let report =
+        "commit 1 ok writes 1 words 0 most 1 span 0\ncommit 2 ok writes 1 words 0 most 1 span 0\ncommit 3 ok writes 1 words 0 most 1 span 0\ncommit 4 ok writes 2 words 0 most 2 span 0\nend rules 4 entries 4 writes 5 pending 0\n";
+    check(&rt, EIGHT, script, Status::Done, report, 5)
+}
+
+#[test]
+fn named(rt: HostRuntime) -> Result<(), Fail> {
+    let script =
+        "route add 10.0.0.0/8 7\ncommit\nroute add 10.0.0.0/8 8\ncommit\nroute add 11.0.0.0/8 1\nroute add 11.0.0.0/8 2\ncommit\n";
+    let report =
+        "commit 1 ok writes 1 words 0 most 1 span 0\ncommit 2 refused taken 10.0.0.0/8\ncommit 3 refused twice 11.0.0.0/8\nend rules 1 entries 1 writes 1 pending 0\n";
+    check(&rt, EIGHT, script, Status::Refused, report, 1)
+}
+
+#[test]
+fn failing_sink(rt: HostRuntime) -> Result<(), Fail> {
+    let alloc = rt.alloc();
+    let words = words_of(alloc, EIGHT)?;
+    let mut device = MemTcam::new(alloc, 4096)?;
+    let mut source = MemSource::new(FIRST.as_bytes());
+    let mut sink = FailSink::new(alloc, &[1])?;
+    sink.reserve(4096)?;
+    let ended = run(alloc, words.as_slice(), &mut source, &mut sink, &mut device);
+    assert_eq!(rt; ended, Status::WriteFault);
+    assert_eq!(rt; sink.bytes().len(), 0);
+    assert_eq!(rt; device.journal().len(), 1);
+    Ok(())
+}
+
+#[test]
+fn failing_source(rt: HostRuntime) -> Result<(), Fail> {
+    let alloc = rt.alloc();
+    let words = words_of(alloc, EIGHT)?;
+    let script = "route add 10.0.0.0/8 7\ncommit\n";
+    let mut device = MemTcam::new(alloc, 4096)?;
+    let mut source = FailSource::new(script.as_bytes(), 1, &[31]);
+    let mut sink = MemSink::new(alloc)?;
+    sink.reserve(4096)?;
+    let ended = run(alloc, words.as_slice(), &mut source, &mut sink, &mut device);
+    assert_eq!(rt; ended, Status::ReadFault);
+    assert_eq!(rt;
+        sink.bytes(),
+        b"commit 1 ok writes 1 words 0 most 1 span 0\n".as_slice()
+    );
     Ok(())
 }
