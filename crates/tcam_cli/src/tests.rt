@@ -71,15 +71,45 @@ fn refusals(rt: HostRuntime) -> Result<(), Fail> {
 
 #[test]
 fn faults(rt: HostRuntime) -> Result<(), Fail> {
+    let host = "line 1 host bits\n";
     check(
         &rt,
-        "tcam route",
+        EIGHT,
         "route add 10.0.0.1/8 7",
         Status::Script,
-        "line 1 host bits\n",
+        host,
         0,
     )?;
+    let prefix = "line 1 bad prefix\n";
+    check(
+        &rt,
+        EIGHT,
+        "route add 10.0.0.0/33 7",
+        Status::Script,
+        prefix,
+        0,
+    )?;
+    let command = "line 1 unknown command\n";
+    check(&rt, EIGHT, "acl del 7", Status::Script, command, 0)
+}
+
+#[test]
+fn usage(rt: HostRuntime) -> Result<(), Fail> {
+    check(&rt, "tcam frob", FIRST, Status::Usage, "usage\n", 0)?;
     check(&rt, "tcam acl", FIRST, Status::Usage, "usage\n", 0)
+}
+
+#[test]
+fn pending(rt: HostRuntime) -> Result<(), Fail> {
+    let report = "end rules 0 entries 0 writes 0 pending 1\n";
+    check(
+        &rt,
+        EIGHT,
+        "route add 10.0.0.0/8 7",
+        Status::Done,
+        report,
+        0,
+    )
 }
 
 #[test]
