@@ -1,0 +1,4 @@
+mod Examples
+pub mod Left
+pub mod Lines
+pub mod States

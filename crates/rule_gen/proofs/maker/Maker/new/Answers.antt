@@ -1,0 +1,13 @@
+use Rattle.std.proofs.Common.{◌∙◌, sym, ap, subst, All, arith}
+use Rattle.rule_gen.specs.Line.{IsListCommand}
+use Rattle.rule_gen.specs.Rest.{commands_left}
+use Rattle.rule_gen.proofs.Left.{commands_left-all}
+use Rattle.rule_gen.proofs.Lines.{made_commands-lines}
+use Rattle.rule_gen.proofs.maker.Maker.new.Goals as goal
+
+pub returns-clause-commands : goal.returns-clause-commands
+returns-clause-commands c = rw c.new.ensures (commands_left-all c.args.seed c.args.rules c.args.batches _ (omega arith))
+
+pub returns-clause-lines : goal.returns-clause-lines
+returns-clause-lines c =
+    subst (All IsListCommand) (sym (returns-clause-commands c)) (made_commands-lines c.args.seed c.args.rules c.args.batches c.requires.most_rules)
