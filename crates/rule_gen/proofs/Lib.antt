@@ -1,3 +1,4 @@
+pub mod Batches
 mod Examples
 pub mod Left
 pub mod Lines

@@ -1,3 +1,4 @@
+pub mod Batches
 pub mod Made
 pub mod Line
 pub mod Rest

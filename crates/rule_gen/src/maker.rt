@@ -1,6 +1,7 @@
 //! The commands, one after the other.
 
 ghost use Rattle.std.specs.Prelude.{◌≡◌, ◌+◌, ◌*◌, ◌%◌, ◌<◌, ◌≤◌, ◌∷◌, [], ◌↔◌, IfNone, IfSome, IsNone, All};
+ghost use Rattle.rule_gen.specs.Batches.{AreBatches};
 ghost use Rattle.rule_gen.specs.Line.{IsListCommand};
 ghost use Rattle.rule_gen.specs.Made.{made_commands, made_sequence};
 
@@ -45,7 +46,12 @@ impl Maker {
         requires some_batches { 1 ≤ batches }
         requires most_batches { batches ≤ 64 }
         ensures commands { result ≡ made_commands seed rules batches }
+
+        // A script of an access list over IPv4 could ask for each change.
         ensures lines { All IsListCommand result }
+
+        // Each batch has at most two changes for a rule, and is ended by its commit.
+        ensures batches { AreBatches (2 * rules) 0 result }
     {
         // The first batch has none before it, so that no removal is left in it.
         Maker {
@@ -64,7 +70,7 @@ impl Maker {
         ensures end { IsNone result ↔ (self.old ≡ []) }
         ensures unchanged { IfNone result (self.new ≡ self.old) }
 
-        // A change is one that a script of an access list over IPv4 could ask for.
+        // A script of an access list over IPv4 could ask for such a change.
         ensures line { IfSome result IsListCommand }
     {
         if self.batch > self.batches {

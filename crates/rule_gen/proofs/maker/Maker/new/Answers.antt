@@ -1,6 +1,8 @@
-use Rattle.std.proofs.Common.{◌∙◌, sym, ap, subst, All, arith}
+use Rattle.std.proofs.Common.{◌*◌, ◌∙◌, sym, ap, subst, All, arith}
+use Rattle.rule_gen.specs.Batches.{AreBatches}
 use Rattle.rule_gen.specs.Line.{IsListCommand}
 use Rattle.rule_gen.specs.Rest.{commands_left}
+use Rattle.rule_gen.proofs.Batches.{made_commands-batches}
 use Rattle.rule_gen.proofs.Left.{commands_left-all}
 use Rattle.rule_gen.proofs.Lines.{made_commands-lines}
 use Rattle.rule_gen.proofs.maker.Maker.new.Goals as goal
@@ -11,3 +13,7 @@ returns-clause-commands c = rw c.new.ensures (commands_left-all c.args.seed c.ar
 pub returns-clause-lines : goal.returns-clause-lines
 returns-clause-lines c =
     subst (All IsListCommand) (sym (returns-clause-commands c)) (made_commands-lines c.args.seed c.args.rules c.args.batches c.requires.most_rules)
+
+pub returns-clause-batches : goal.returns-clause-batches
+returns-clause-batches c =
+    subst (AreBatches (2 * c.args.rules) 0) (sym (returns-clause-commands c)) (made_commands-batches c.args.seed c.args.rules c.args.batches)
