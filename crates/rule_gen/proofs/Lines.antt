@@ -1,5 +1,5 @@
 -- The commands are changes of an access list over IPv4.
-use Rattle.std.proofs.Common.{◌≡◌, ℕ, zero, suc, ◌+◌, ◌-◌, ◌*◌, ◌/◌, ◌%◌, ◌^◌, ◌<◌, ◌≤◌, Bool, true, false, Option, Some, None, IfSome, Result, Ok, Err, List, [], ◌∷◌, ◌++◌, map, flat_map, if◌then◌else◌, ◌==◌, All, refl, sym, ◌∙◌, subst, ap, arith}
+use Rattle.std.proofs.Common.{◌≡◌, ℕ, zero, suc, ◌+◌, ◌-◌, ◌*◌, ◌/◌, ◌%◌, ◌^◌, ◌<◌, ◌≤◌, Bool, true, false, Some, None, IfSome, Result, Ok, Err, List, [], ◌∷◌, ◌++◌, map, flat_map, if◌then◌else◌, ◌==◌, All, refl, sym, ◌∙◌, subst, ap, arith}
 use Rattle.std.specs.List.{range_with_len}
 use Rattle.std.specs.Result.{IsOk}
 use Rattle.std.proofs.Math.Nat.{mul-mod_left, mul_assoc, div-mul-le_self}
@@ -7,16 +7,14 @@ use Rattle.std.proofs.lemmas.Nat.{pow-add}
 use Rattle.std.proofs.lemmas.List.Elements.{All-nil, All-cons, All-append}
 use Rattle.rule_model.specs.declared.PrefixFault.{PrefixFault}
 use Rattle.rule_model.specs.declared.PrefixFault.TheVariants.{Length, HostBits}
-use Rattle.rule_model.specs.declared.Rule.{Rule}
 use Rattle.rule_model.specs.AddressBlock.{AddressBlock, IsAddressBlock, IsIpv4Block, any_address, ipv4_block}
-use Rattle.rule_model.specs.PortRange.{PortRange, IsPortRange, any_port}
+use Rattle.rule_model.specs.PortRange.{IsPortRange, any_port}
 use Rattle.rule_model.specs.Rank.{list_rank}
-use Rattle.rule_model.specs.Rule.{HasConditions}
 use Rattle.rule_store.specs.declared.Command.TheVariants.{Add, Del}
 use Rattle.rule_gen.specs.declared.Made.{Made}
 use Rattle.rule_gen.specs.declared.Made.TheVariants.{Change, Commit}
 use Rattle.rule_gen.specs.Line.{IsListRank, IsListRule, IsListCommand}
-use Rattle.rule_gen.specs.Made.{draw, network, made_address, made_source, made_proto, made_ports, rule_from, made_sequence, made_rule, made_removals, made_additions, made_batch, made_commands}
+use Rattle.rule_gen.specs.Made.{draw, network, made_address, rule_from, made_sequence, made_rule, made_removals, made_additions, made_batch, made_commands}
 
 -- a prefix that has neither fault
 pub no_fault : (r : Result AddressBlock PrefixFault) → (r ≡ Err Length → ⊥) → (r ≡ Err HostBits → ⊥) → IsOk r

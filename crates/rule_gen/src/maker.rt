@@ -36,9 +36,8 @@ impl Model for Maker {
 }
 
 impl Maker {
-    /// All commands of a seed up to 2,147,483,647: 1 to 64 batches of 1 to 256 rules each. Every batch but
-    /// the first removes the rules of the one before, all of them, before it adds its own, and ends with a
-    /// commit. It takes no memory.
+    /// All commands of a seed up to 2,147,483,647: 1 to 64 batches of 1 to 256 rules each. A batch first
+    /// removes all rules of the one before it, then adds its own, and ends with a commit. It takes no memory.
     pub fn new(seed: u32, rules: u32, batches: u32) -> Maker
         requires seed { seed ≤ 2147483647 }
         requires some_rules { 1 ≤ rules }

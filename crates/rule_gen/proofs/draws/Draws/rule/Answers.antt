@@ -1,7 +1,7 @@
-use Rattle.std.proofs.Common.{◌≡◌, ◌∙◌, sym, subst}
+use Rattle.std.proofs.Common.{sym, subst}
 use Rattle.rule_gen.specs.Line.{IsListRule}
 use Rattle.rule_gen.proofs.Lines.{rule_from-line}
-use Rattle.rule_gen.proofs.States.{IsDrawn, rule_of, rule_of-drawn}
+use Rattle.rule_gen.proofs.States.{rule_of-drawn}
 use Rattle.rule_gen.proofs.draws.Draws.rule.Goals as goal
 
 pub returns-clause-rule : goal.returns-clause-rule

@@ -1,7 +1,6 @@
-use Rattle.std.proofs.Common.{◌*◌, ◌∙◌, sym, ap, subst, All, arith}
+use Rattle.std.proofs.Common.{◌*◌, sym, subst, All, arith}
 use Rattle.rule_gen.specs.Batches.{AreBatches}
 use Rattle.rule_gen.specs.Line.{IsListCommand}
-use Rattle.rule_gen.specs.Rest.{commands_left}
 use Rattle.rule_gen.proofs.Batches.{made_commands-batches}
 use Rattle.rule_gen.proofs.Left.{commands_left-all}
 use Rattle.rule_gen.proofs.Lines.{made_commands-lines}

@@ -1,6 +1,4 @@
-use Rattle.std.proofs.Common.{◌≡◌, ◌-◌, ◌+◌, List, [], ◌∷◌, sym, ◌∙◌, ap, arith}
-use Rattle.rule_store.specs.declared.Command.TheVariants.{Add, Del}
-use Rattle.rule_gen.specs.declared.Made.TheVariants.{Change}
+use Rattle.std.proofs.Common.{sym, ◌∙◌, arith}
 use Rattle.rule_gen.proofs.Left.{commands_left-removal, commands_left-addition, commands_left-commit, commands_left-none}
 use Rattle.rule_gen.proofs.maker.Maker.next.Goals as goal
 
