@@ -8,3 +8,5 @@ pub mod States
 pub mod Cuts
 pub mod Shown
 pub mod Least
+pub mod Wider
+pub mod WiderInsertions

@@ -1,5 +1,5 @@
 -- Every state that writes leave has its sizes, and words of 16 bits in its tables.
-use Rattle.std.proofs.Common.{◌≡◌, ◌<◌, ◌^◌, ℕ, List, [], ◌∷◌, length, replicate, Option, None, sym, ◌∙◌, subst, set, get_or, arith, inl, inr, length-set}
+use Rattle.std.proofs.Common.{◌≡◌, ◌<◌, ◌^◌, ℕ, List, [], ◌∷◌, length, replicate, Option, None, refl, sym, ◌∙◌, subst, set, get_or, arith, inl, inr, length-set}
 use Rattle.std.specs.Prelude.{slice_index}
 use Rattle.std.specs.List.{AllByRecursion}
 use Rattle.std.proofs.lemmas.Bool.{cases_eq, cases_lt}
@@ -74,3 +74,13 @@ IsState-after slots state (write ∷ writes) is fit = IsState-after slots (apply
 -- a device's state, by its journal
 pub IsState-replay : (slots : ℕ) (journal : List Write) → AllByRecursion HasWord journal → IsState slots (replay slots journal)
 IsState-replay slots journal fit = IsState-after slots (blank slots) journal (IsState-blank slots) fit
+
+-- a state whose tables were never written is one, of as many slots as it has
+pub IsState-plain : (state : State) → state.src ≡ blank_table → state.dst ≡ blank_table → IsState (length state.slots) state
+IsState-plain state src dst = record {
+  size = refl;
+  src_size = subst (λ table. length table ≡ 2 ^ 16) (sym src) blank_size;
+  dst_size = subst (λ table. length table ≡ 2 ^ 16) (sym dst) blank_size;
+  src_words = subst (λ table. (port : ℕ) → slice_index table port < 2 ^ 16) (sym src) blank_words;
+  dst_words = subst (λ table. (port : ℕ) → slice_index table port < 2 ^ 16) (sym dst) blank_words;
+}

@@ -1,0 +1,106 @@
+-- Planned insertions write slots of the arrangement only.
+use Rattle.std.proofs.Common.{◌≡◌, ◌<◌, ◌+◌, ℕ, Option, None, Some, List, [], ◌∷◌, ◌++◌, length, map, subst, arith}
+use Rattle.std.specs.List.{AllByRecursion}
+use Rattle.slot_order.specs.Order.{slot}
+use Rattle.slot_order.proofs.Inside.{all_append}
+use Rattle.slot_pool.specs.Arrangement.{Slots, next_free_above, last_free_below}
+use Rattle.slot_pool.proofs.Places.{first_slot_is}
+use Rattle.slot_pool.proofs.Scan.{last_slot_is, next_free_is, last_free_is, nearest_free_is}
+use Rattle.overlap_index.specs.declared.LivePiece.{LivePiece}
+use Rattle.overlap_index.specs.Live.{is_above}
+use Rattle.move_planner.specs.declared.Move.{Move}
+use Rattle.move_planner.specs.declared.Move.TheVariants.{Put, Erase}
+use Rattle.move_planner.specs.Placement.{Above, after_moves, first_lower, last_upper, gap_start, gap_end, lower_of_held, upper_of_held, IsDownChain, IsUpChain, put_held, moves_along, DownChain, UpChain, IsPlacement, into_gap, push_down, push_up, uncross_down, uncross_up}
+use Rattle.move_planner.proofs.Settled.{length-after_moves}
+use Rattle.tcam_device.specs.State.{IsInUse}
+use Rattle.commit_writes.specs.Planned.{Entries, Planned, ArePlanned, write_for, planned_writes}
+
+-- the move's slot is one of so many
+abbrev IsInside : ℕ → Move → Type 0
+IsInside size (Put slot id) = slot < size
+IsInside size (Erase slot) = slot < size
+
+abbrev AreInside : ℕ → List Move → Type 0
+AreInside size moves = AllByRecursion (IsInside size) moves
+
+both : (size : ℕ) (first second : List Move) → AreInside size first → AreInside size second → AreInside size (first ++ second)
+both size first second a b = all_append (IsInside size) first second a b
+
+lower_inside : (above : Above) (slots : Slots) (id place : ℕ) → first_lower above slots id ≡ Some place → place < length slots
+lower_inside above slots id place is = let found = first_slot_is (λ other. above id other) slots place is in let inside : place < 0 + length slots = found.inside in omega arith
+
+upper_inside : (above : Above) (slots : Slots) (id place : ℕ) → last_upper above slots id ≡ Some place → place < length slots
+upper_inside above slots id place is = let found = last_slot_is (λ other. above other id) slots place is in let inside : place < 0 + length slots = found.inside in omega arith
+
+lower_held : (above : Above) (slots : Slots) (held : Option ℕ) (place : ℕ) → lower_of_held above slots held ≡ Some place → place < length slots
+lower_held above slots None place is = absurd (cc)
+lower_held above slots (Some id) place is = lower_inside above slots id place is
+
+upper_held : (above : Above) (slots : Slots) (held : Option ℕ) (place : ℕ) → upper_of_held above slots held ≡ Some place → place < length slots
+upper_held above slots None place is = absurd (cc)
+upper_held above slots (Some id) place is = upper_inside above slots id place is
+
+put_inside : (size to : ℕ) (held : Option ℕ) → to < size → AreInside size (put_held to held)
+put_inside size to None inside = tt
+put_inside size to (Some id) inside = (inside, tt)
+
+-- along a chain each member goes to the free slot or to that of the next one
+down_inside : (above : Above) (slots : Slots) (free from : ℕ) (rest : List ℕ) → free < length slots → IsDownChain above slots free (from ∷ rest) → AreInside (length slots) (moves_along slots free (from ∷ rest))
+down_inside above slots free from [] inside chain = put_inside (length slots) free (slot slots from) inside
+down_inside above slots free from (next ∷ rest) inside chain =
+    both (length slots) (moves_along slots free (next ∷ rest)) (put_held next (slot slots from)) (down_inside above slots free next rest inside chain.2)
+    (put_inside (length slots) next (slot slots from) (lower_held above slots (slot slots from) next chain.1))
+
+up_inside : (above : Above) (slots : Slots) (free from : ℕ) (rest : List ℕ) → free < length slots → IsUpChain above slots free (from ∷ rest) → AreInside (length slots) (moves_along slots free (from ∷ rest))
+up_inside above slots free from [] inside chain = put_inside (length slots) free (slot slots from) inside
+up_inside above slots free from (next ∷ rest) inside chain =
+    both (length slots) (moves_along slots free (next ∷ rest)) (put_held next (slot slots from)) (up_inside above slots free next rest inside chain.2)
+    (put_inside (length slots) next (slot slots from) (upper_held above slots (slot slots from) next chain.1))
+
+next_inside : (slots : Slots) (place at : ℕ) → next_free_above slots place ≡ Some at → at < length slots
+next_inside slots place at is = (next_free_is slots place at is).1.inside
+
+last_inside : (slots : Slots) (place at : ℕ) → last_free_below slots place ≡ Some at → at < length slots
+last_inside slots place at is = (last_free_is slots place at is).1.inside
+
+down_chain : (above : Above) (slots : Slots) (from place : ℕ) (down : DownChain above slots from (next_free_above slots place)) → AreInside (length slots) (moves_along slots down.free (from ∷ down.rest))
+down_chain above slots from place down = down_inside above slots down.free from down.rest (next_inside slots place down.free down.to) down.chain
+
+up_chain : (above : Above) (slots : Slots) (from place : ℕ) (up : UpChain above slots from (last_free_below slots place)) → AreInside (length slots) (moves_along slots up.free (from ∷ up.rest))
+up_chain above slots from place up = up_inside above slots up.free from up.rest (last_inside slots place up.free up.to) up.chain
+
+-- the moves of a placement are of slots of the arrangement
+placement_inside : (above : Above) (id : ℕ) (slots : Slots) (moves : List Move) → IsPlacement above id slots moves → AreInside (length slots) moves
+placement_inside above id slots moves (into_gap at low found) =
+    ((nearest_free_is slots (gap_start above slots id) (gap_end above slots id) _ at found).free.inside, tt)
+placement_inside above id slots moves (push_down lower low none is down shorter) =
+    both (length slots) (moves_along slots down.free (lower ∷ down.rest)) (Put lower id ∷ []) (down_chain above slots lower lower down) (lower_inside above slots id lower is, tt)
+placement_inside above id slots moves (push_up upper low none is up shorter) =
+    both (length slots) (moves_along slots up.free (upper ∷ up.rest)) (Put upper id ∷ []) (up_chain above slots upper upper up) (upper_inside above slots id upper is, tt)
+placement_inside above id slots moves (uncross_down {moves = rest} lower upper is_lower is_upper less down on) =
+    both (length slots) (moves_along slots down.free (lower ∷ down.rest)) (Erase lower ∷ rest) (down_chain above slots lower upper down) (
+      lower_inside above slots id lower is_lower,
+      subst (λ size. AreInside size rest) (length-after_moves slots (moves_along slots down.free (lower ∷ down.rest) ++ Erase lower ∷ []))
+          (placement_inside above id (after_moves slots (moves_along slots down.free (lower ∷ down.rest) ++ Erase lower ∷ [])) rest on),
+    )
+placement_inside above id slots moves (uncross_up {moves = rest} lower upper is_lower is_upper less none up on) =
+    both (length slots) (moves_along slots up.free (upper ∷ up.rest)) (Erase upper ∷ rest) (up_chain above slots upper upper up) (
+      upper_inside above slots id upper is_upper,
+      subst (λ size. AreInside size rest) (length-after_moves slots (moves_along slots up.free (upper ∷ up.rest) ++ Erase upper ∷ []))
+          (placement_inside above id (after_moves slots (moves_along slots up.free (upper ∷ up.rest) ++ Erase upper ∷ [])) rest on),
+    )
+
+writes_inside : (entries : Entries) (size : ℕ) (moves : List Move) → AreInside size moves → AllByRecursion (IsInUse size) (map (write_for entries) moves)
+writes_inside entries size [] inside = tt
+writes_inside entries size (Put at id ∷ moves) inside = (inside.0, writes_inside entries size moves inside.1)
+writes_inside entries size (Erase at ∷ moves) inside = (inside.0, writes_inside entries size moves inside.1)
+
+-- and so are the writes of planned insertions
+pub planned_in_use : (live : List LivePiece) (slots : Slots) (entries : Entries) (planned : List Planned)
+    → ArePlanned live slots planned → AllByRecursion (IsInUse (length slots)) (planned_writes entries planned)
+planned_in_use live slots entries [] are = tt
+planned_in_use live slots entries (insertion ∷ planned) are =
+    all_append (IsInUse (length slots)) (map (write_for entries) insertion.moves) (planned_writes entries planned)
+    (writes_inside entries (length slots) insertion.moves (placement_inside (is_above (live ++ insertion.one ∷ [])) insertion.one.id slots insertion.moves are.1))
+    (subst (λ size. AllByRecursion (IsInUse size) (planned_writes entries planned)) (length-after_moves slots insertion.moves)
+    (planned_in_use (live ++ insertion.one ∷ []) (after_moves slots insertion.moves) entries planned are.3))

@@ -1,0 +1,132 @@
+-- A commit's writes are its segment on a device with more slots, too.
+use Rattle.std.proofs.Common.{◌≡◌, ℕ, ◌-◌, List, [], ◌∷◌, ◌++◌, length, map, flat_map, sym, ◌∙◌, subst, ap}
+use Rattle.std.specs.List.{AllByRecursion, AllZip}
+use Rattle.std.proofs.lemmas.List.{length-map}
+use Rattle.slot_order.proofs.Inside.{all_append}
+use Rattle.rule_model.specs.declared.Rule.{Rule}
+use Rattle.rule_store.specs.declared.Mode.{Mode}
+use Rattle.rule_store.specs.declared.Command.{Command}
+use Rattle.slot_pool.specs.Arrangement.{Slots}
+use Rattle.overlap_index.specs.declared.LivePiece.{LivePiece}
+use Rattle.ternary_word.specs.Entry.{RankedPiece}
+use Rattle.tcam_device.specs.declared.Write.{Write}
+use Rattle.tcam_device.specs.State.{State, IsInUse, state_after, on_device}
+use Rattle.tcam_device.specs.Insertion.{Insertion, insertions, IsGreatestSpan, AreBoundedBy, IsUncrossed}
+use Rattle.rule_store.specs.Batch.{set_after}
+use Rattle.tcam_device.proofs.Wider.{padded, slot-padded, state_after-padded, slots-after, IsHitless-padded}
+use Rattle.tcam_device.proofs.WiderInsertions.{widened, insertions-padded, longest-padded, writes-widened, entries-widened, IsGreatestSpan-widened, AreBoundedBy-widened, IsUncrossed-widened}
+use Rattle.commit_writes.specs.declared.Done.{Done}
+use Rattle.commit_writes.specs.Bits.{FieldBits, bits_with}
+use Rattle.commit_writes.specs.Shape.{Stands, Rewrites, Erases, rewritten_pieces, erased_pieces, HasCommitShape}
+use Rattle.commit_writes.specs.Commit.{IsSegment, AreCounts}
+use Rattle.commit_writes.specs.Planned.{Entries, Planned, ArePlanned, held_entry, contents, plain_state, planned_writes, IsRouteSegment}
+use Rattle.commit_writes.proofs.InUse.{planned_in_use}
+
+-- writes within the first slots
+abbrev pub AreInUse : State → List Write → Type 0
+AreInUse state writes = AllByRecursion (IsInUse (length state.slots)) writes
+
+all_front : {X : Type 0} (P : X → Type 0) (xs ys : List X) → AllByRecursion P (xs ++ ys) → AllByRecursion P xs
+all_front P [] ys all = tt
+all_front P (x ∷ xs) ys all = (all.0, all_front P xs ys all.1)
+
+all_back : {X : Type 0} (P : X → Type 0) (xs ys : List X) → AllByRecursion P (xs ++ ys) → AllByRecursion P ys
+all_back P [] ys all = all
+all_back P (x ∷ xs) ys all = all_back P xs ys all.1
+
+zip_wider : {X Y : Type 0} (P Q : X → Y → Type 0) → ((x : X) (y : Y) → P x y → Q x y) → (xs : List X) (ys : List Y) → AllZip P xs ys → AllZip Q xs ys
+zip_wider P Q each [] [] all = tt
+zip_wider P Q each [] (y ∷ ys) all = absurd all
+zip_wider P Q each (x ∷ xs) [] all = absurd all
+zip_wider P Q each (x ∷ xs) (y ∷ ys) all = (each x y all.0, zip_wider P Q each xs ys all.1)
+
+stands : (more : ℕ) (state : State) (at : ℕ) (ranked : RankedPiece) → Stands state at ranked → Stands (padded more state) at ranked
+stands more state at ranked is = (is.0, slot-padded state.slots more at ∙ is.1, is.2)
+
+rewrites : (more : ℕ) (state : State) (pieces : List RankedPiece) (writes : List Write) → AllZip (Rewrites state) pieces writes → AllZip (Rewrites (padded more state)) pieces writes
+rewrites more state pieces writes all = zip_wider (Rewrites state) (Rewrites (padded more state)) (λ ranked write is. (is.0, stands more state is.0 ranked is.1, is.2)) pieces writes all
+
+erases : (more : ℕ) (state : State) (pieces : List RankedPiece) (writes : List Write) → AllZip (Erases state) pieces writes → AllZip (Erases (padded more state)) pieces writes
+erases more state pieces writes all = zip_wider (Erases state) (Erases (padded more state)) (λ ranked write is. (is.0, stands more state is.0 ranked is.1, is.2)) pieces writes all
+
+pub HasCommitShape-padded : (more : ℕ) (mode : Mode) (bits : FieldBits) (rules : List Rule) (batch : List Command) (state : State) (writes : List Write)
+    → AreInUse state writes → HasCommitShape mode bits rules batch state writes → HasCommitShape mode bits rules batch (padded more state) writes
+HasCommitShape-padded more mode bits rules batch state writes inside shape = record {
+  tables = shape.tables;
+  inserted = shape.inserted;
+  rewritten = shape.rewritten;
+  erased = shape.erased;
+  parts = shape.parts;
+  words = shape.words;
+  whole = ap (λ (made : List Insertion). flat_map (λ (insertion : Insertion). insertion.writes) made) made
+      ∙ writes-widened more (insertions (state_after state shape.tables) shape.inserted) ∙ shape.whole;
+  entries = ap (λ (made : List Insertion). map (λ (insertion : Insertion). insertion.entry) made) made
+      ∙ entries-widened more (insertions (state_after state shape.tables) shape.inserted) ∙ shape.entries;
+  results = subst (λ (now : State). AllZip (Rewrites now) changed shape.rewritten) (sym (state_after-padded more state (shape.tables ++ shape.inserted) two))
+      (rewrites more (state_after state (shape.tables ++ shape.inserted)) changed shape.rewritten shape.results);
+  erases = subst (λ (now : State). AllZip (Erases now) gone shape.erased) (sym (state_after-padded more state (shape.tables ++ shape.inserted ++ shape.rewritten) three))
+      (erases more (state_after state (shape.tables ++ shape.inserted ++ shape.rewritten)) gone shape.erased shape.erases);
+}
+  where
+    changed : List RankedPiece
+    changed = rewritten_pieces mode (bits_with mode rules batch bits) rules batch
+
+    gone : List RankedPiece
+    gone = erased_pieces mode (bits_with mode rules batch bits) rules batch
+
+    all : AreInUse state (shape.tables ++ (shape.inserted ++ (shape.rewritten ++ shape.erased)))
+    all = subst (AreInUse state) shape.parts inside
+
+    first : AreInUse state shape.tables
+    first = all_front (IsInUse (length state.slots)) shape.tables _ all
+
+    later : AreInUse state (shape.inserted ++ (shape.rewritten ++ shape.erased))
+    later = all_back (IsInUse (length state.slots)) shape.tables _ all
+
+    two : AreInUse state (shape.tables ++ shape.inserted)
+    two = all_append (IsInUse (length state.slots)) shape.tables shape.inserted first (all_front (IsInUse (length state.slots)) shape.inserted _ later)
+
+    three : AreInUse state (shape.tables ++ shape.inserted ++ shape.rewritten)
+    three = all_append (IsInUse (length state.slots)) (shape.tables ++ shape.inserted) shape.rewritten two
+        (all_front (IsInUse (length state.slots)) shape.rewritten shape.erased (all_back (IsInUse (length state.slots)) shape.inserted _ later))
+
+    made : insertions (state_after (padded more state) shape.tables) shape.inserted ≡ map (widened more) (insertions (state_after state shape.tables) shape.inserted)
+    made =
+        ap (λ (now : State). insertions now shape.inserted) (state_after-padded more state shape.tables first)
+        ∙ insertions-padded more (state_after state shape.tables) shape.inserted
+        (subst (λ n. AllByRecursion (IsInUse n) shape.inserted) (sym (slots-after state shape.tables))
+        (all_front (IsInUse (length state.slots)) shape.inserted _ later))
+
+pub IsSegment-padded : (more : ℕ) (mode : Mode) (bits : FieldBits) (rules : List Rule) (batch : List Command) (state : State) (made : List Write)
+    → AreInUse state made → IsSegment mode bits rules batch state made → IsSegment mode bits rules batch (padded more state) made
+IsSegment-padded more mode bits rules batch state made inside segment = record {
+  hitless = IsHitless-padded more rules (set_after rules batch) state made inside segment.hitless;
+  shape = HasCommitShape-padded more mode bits rules batch state made inside segment.shape;
+  bound = λ chain bounds. subst (AreBoundedBy _) (sym (insertions-padded more state made inside)) (AreBoundedBy-widened more _ (insertions state made) (segment.bound chain bounds));
+  tight = λ chain bounds. subst (AreBoundedBy _) (sym (insertions-padded more state made inside)) (AreBoundedBy-widened more _ (insertions state made) (segment.tight chain bounds));
+}
+
+pub AreCounts-padded : (more : ℕ) (state : State) (made : List Write) (counts : Done) → AreInUse state made → AreCounts state made counts → AreCounts (padded more state) made counts
+AreCounts-padded more state made counts inside are = record {
+  writes = are.writes;
+  words = are.words;
+  most = are.most ∙ sym (longest-padded more state made inside);
+  span = subst (λ (all : List Insertion). IsGreatestSpan all counts.span) (sym (insertions-padded more state made inside)) (IsGreatestSpan-widened more (insertions state made) counts.span are.span);
+}
+
+pub IsRouteSegment-padded : (more : ℕ) (rules : List Rule) (batch : List Command) (state : State) (made : List Write) (counts : Done)
+    → AreInUse state made → IsRouteSegment rules batch state made counts → IsRouteSegment rules batch (padded more state) made counts
+IsRouteSegment-padded more rules batch state made counts inside is = record {
+  segment = IsSegment-padded more _ _ rules batch state made inside is.segment;
+  numbers = AreCounts-padded more state made counts inside is.numbers;
+  uncrossed = subst (IsUncrossed 33) (sym (insertions-padded more state made inside)) (IsUncrossed-widened more 33 (insertions state made) is.uncrossed);
+}
+
+-- so are planned insertions, which write slots of their arrangement only
+pub wider_planned : (rules : List Rule) (batch : List Command) (live : List LivePiece) (slots : Slots) (entries : Entries) (planned : List Planned) (counts : Done) (device_slots : ℕ)
+    → ArePlanned live slots planned
+    → IsRouteSegment rules batch (plain_state (contents entries slots)) (planned_writes entries planned) counts
+    → IsRouteSegment rules batch (on_device device_slots (plain_state (contents entries slots))) (planned_writes entries planned) counts
+wider_planned rules batch live slots entries planned counts device_slots are is =
+    IsRouteSegment-padded (device_slots - length (contents entries slots)) rules batch (plain_state (contents entries slots)) (planned_writes entries planned) counts
+    (subst (λ n. AllByRecursion (IsInUse n) (planned_writes entries planned)) (sym (length-map slots (held_entry entries))) (planned_in_use live slots entries planned are)) is

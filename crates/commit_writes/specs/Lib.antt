@@ -1,0 +1,4 @@
+pub mod Bits
+pub mod Shape
+pub mod Commit
+pub mod Planned

@@ -1,0 +1,21 @@
+//! What a commit writes, and the numbers of its writes: the pure theory that the manager's plans are held to.
+//!
+//! An accepted batch leads from a set of rules to the set after it by a **segment** of device writes, which has four
+//! parts: words of the translation tables, insertions, new results, erases. `specs/Shape` says which writes these are,
+//! `specs/Commit` that a segment is hitless and within the bounds on insertions, `specs/Bits` which range of ports has
+//! which bit meanwhile. None of them knows how a segment is planned.
+//!
+//! `specs/Planned` speaks of a plan: insertions one after the other, each with the moves of its placement. The lemma
+//! that the manager rests on is in `proofs/`: from an arrangement in order, the device writes of such insertions are a
+//! segment. There is no code but the numbers of a commit.
+#![tactic(auto)]
+
+/// The numbers of a commit: its device writes and those to the translation tables, the writes of its longest insertion,
+/// and the greatest crossing span of one.
+#[derive(Clone, Copy, Debug, PartialEq, Eq)]
+pub struct Done {
+    pub writes: u64,
+    pub words: u32,
+    pub most: u32,
+    pub span: u32,
+}
