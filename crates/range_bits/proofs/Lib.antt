@@ -1,0 +1,4 @@
+mod Examples
+pub mod FieldMaps
+pub mod Places
+pub mod Words
