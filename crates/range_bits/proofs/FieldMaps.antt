@@ -1,12 +1,13 @@
 -- What is kept of the live ranges of a field: 16 bits, right ranges, and no range with two bits.
-use Rattle.std.proofs.Common.{◌≡◌, ◌≢◌, ℕ, ◌+◌, ◌<◌, ◌≤◌, Bool, true, false, ◌==◌, ◌&&◌, Option, Some, None, is_none, IsSome, IfSome, List, [], ◌∷◌, length, get_or, set, map, ◌⊎◌, inl, inr, refl, ap, sym, ◌∙◌, subst, arith, eq-eqb, eqb-true}
+use Rattle.std.proofs.Common.{◌≡◌, ◌≢◌, ℕ, ◌+◌, ◌<◌, true, false, ◌==◌, Option, Some, None, is_none, is_some, cond, IsSome, IfSome, length, get_or, set, ◌⊎◌, inl, inr, refl, ap, sym, ◌∙◌, subst, arith, eq-eqb, eqb-true}
 use Rattle.std.proofs.lemmas.Bool.{cases_lt, cases_eq, and_parts, and_from, both_ways, false_from_ne_true}
 use Rattle.std.proofs.lemmas.List.{length-set, get_or-replicate, get_or-set_same, get_or-set_other, get_or_past, get_or_default}
+use Rattle.std.proofs.lemmas.List.Sums.{sum_by-set}
 use Rattle.std.proofs.lemmas.List.Quantifiers.{position-Some}
 use Rattle.rule_model.specs.PortRange.{PortRange, IsPortRange, same_range}
 use Rattle.range_bits.specs.LiveRanges.{LiveRanges, no_ranges, is_range, bit_of, free_bit, range_at}
 use Rattle.range_bits.specs.FieldMap.{IsFieldMap, live_count}
-use Rattle.range_bits.proofs.Places.{position_is, fails_everywhere, free-none}
+use Rattle.range_bits.proofs.Places.{position_is, position_none, fails_everywhere, free-none}
 
 -- the test for a range
 pub same_range-is : (a b : PortRange) → same_range a b ≡ true → a ≡ b
@@ -41,6 +42,9 @@ live_inside live bit range held =
 pub not_live : (live : LiveRanges) (range : PortRange) → bit_of live range ≡ None → (bit : ℕ) → range_at live bit ≢ Some range
 not_live live range none bit held =
     both_ways _ (fails_everywhere (is_range range) live bit None none (live_inside live bit range held)) (is_range-at range (range_at live bit) held)
+
+pub bit_of-none : (live : LiveRanges) (range : PortRange) → ((bit : ℕ) → range_at live bit ≢ Some range) → bit_of live range ≡ None
+bit_of-none live range none = position_none (is_range range) live None (λ bit inside. is_range-other range (range_at live bit) (none bit))
 
 -- the walk over the bits finds a range
 pub found_range : (ranges live : LiveRanges) (bit : ℕ) (range : PortRange) → ranges ≡ live → bit < length ranges
@@ -83,13 +87,16 @@ IsFieldMap-freed live bit is = record {
 }
 
 -- a bit is given to a range that isn't live
-given_at : (live : LiveRanges) (given bit : ℕ) (new range : PortRange) → given < length live → range_at (set live given (Some new)) bit ≡ Some range
+pub given_at : (live : LiveRanges) (given bit : ℕ) (new range : PortRange) → given < length live → range_at (set live given (Some new)) bit ≡ Some range
     → ((bit ≡ given) × (range ≡ new)) ⊎ ((bit ≢ given) × (range_at live bit ≡ Some range))
 given_at live given bit new range inside held =
     elim (cases_eq bit given) [
-      | inl same ↦ inl (same, (let now : range_at (set live given (Some new)) given ≡ Some new = get_or-set_same live given (Some new) None inside in
-          let here : range_at (set live given (Some new)) given ≡ range_at (set live given (Some new)) bit = ap (range_at (set live given (Some new))) (sym same) in
-          cc))
+      | inl same ↦ inl (
+        same,
+        (let now : range_at (set live given (Some new)) given ≡ Some new = get_or-set_same live given (Some new) None inside in
+            let here : range_at (set live given (Some new)) given ≡ range_at (set live given (Some new)) bit = ap (range_at (set live given (Some new))) (sym same) in
+            cc),
+      )
       | inr other ↦ inr (other, sym (get_or-set_other live given bit (Some new) None other) ∙ held)
     ]
 
@@ -154,3 +161,12 @@ not_full live bit is found count = let none = (free-none live).1 (count ∙ sym 
 
 pub is_full : (live : LiveRanges) → IsFieldMap live → None ≡ free_bit live → live_count live ≡ 16
 is_full live is none = (free-none live).0 (sym none) ∙ is.places
+
+-- one range more is live
+pub live_count-given : (live : LiveRanges) (bit : ℕ) (range : PortRange) → range_at live bit ≡ None → bit < length live
+    → live_count (set live bit (Some range)) ≡ live_count live + 1
+live_count-given live bit range free inside =
+    let sums : live_count (set live bit (Some range)) + cond {A = ℕ} (is_some (range_at live bit)) 1 0 ≡ live_count live + 1 =
+    sum_by-set (λ held. cond (is_some held) 1 0) live bit (Some range) None inside in
+    let none : cond {A = ℕ} (is_some (range_at live bit)) 1 0 ≡ 0 = ap (λ (h : Option PortRange). cond {A = ℕ} (is_some h) 1 0) free in
+    omega arith

@@ -1,3 +1,4 @@
+pub mod Changes
 mod Examples
 pub mod FieldMaps
 pub mod Places

@@ -1,9 +1,9 @@
 -- The first place of a list that passes a test, and how many places do.
-use Rattle.std.proofs.Common.{◌≡◌, ℕ, zero, suc, ◌+◌, ◌<◌, ◌≤◌, Bool, true, false, cond, Option, Some, None, is_some, is_none, List, [], ◌∷◌, length, get_or, set, le_refl, inl, inr, refl, ◌↔◌, ap, sym, ◌∙◌, arith}
+use Rattle.std.proofs.Common.{◌≡◌, ℕ, zero, suc, ◌+◌, ◌<◌, ◌≤◌, Bool, true, false, cond, Option, Some, None, is_some, is_none, List, [], ◌∷◌, length, get_or, le_refl, inl, inr, refl, ◌↔◌, ap, sym, ◌∙◌, arith}
 use Rattle.std.specs.List.{position, position_or_len, count_by}
 use Rattle.std.proofs.lemmas.Bool.{cases_lt, cond-true, cond-false, lt-ltb, le-ltb}
 use Rattle.std.proofs.lemmas.List.{get_or_read}
-use Rattle.std.proofs.lemmas.List.Sums.{position_or_len_is, fails_before_first, count_by-le-length, sum_by-set, sum_by-cons}
+use Rattle.std.proofs.lemmas.List.Sums.{position_or_len_is, fails_before_first, count_by-le-length, sum_by-cons}
 
 pub position_is : {X : Type 0} (p : X → Bool) (xs : List X) (i : ℕ) (d : X) → i < length xs → ((k : ℕ) → k < i → p (get_or xs k d) ≡ false) → p (get_or xs i d) ≡ true
     → position p xs ≡ Some i
@@ -64,14 +64,6 @@ all_from_count (Some x ∷ xs) count (suc k) inside = let step = count-some x xs
 
 pub free-none : {X : Type 0} (xs : List (Option X)) → (position is_none xs ≡ None) ↔ (some_count xs ≡ length xs)
 free-none xs = (
-    λ none. count-all xs (λ k inside. fails_everywhere is_none xs k None none inside),
-    λ count. position_none is_none xs None (all_from_count xs count),
+  λ none. count-all xs (λ k inside. fails_everywhere is_none xs k None none inside),
+  λ count. position_none is_none xs None (all_from_count xs count),
 )
-
--- one place fewer has a value
-pub count-freed : {X : Type 0} (xs : List (Option X)) (i : ℕ) → i < length xs → is_some (get_or xs i None) ≡ true → some_count (set xs i None) + 1 ≡ some_count xs
-count-freed xs i inside some =
-    let sums : some_count (set xs i None) + cond {A = ℕ} (is_some (get_or xs i None)) 1 0 ≡ some_count xs + 0 =
-        sum_by-set (λ x. cond (is_some x) 1 0) xs i None None inside in
-    let one : cond {A = ℕ} (is_some (get_or xs i None)) 1 0 ≡ 1 = cond-true {A = ℕ} (is_some (get_or xs i None)) 1 0 some in
-    omega arith

@@ -1,5 +1,5 @@
 -- The word of a port, bit by bit.
-use Rattle.std.proofs.Common.{◌≡◌, ◌≢◌, ℕ, zero, suc, ◌+◌, ◌-◌, ◌*◌, ◌/◌, ◌%◌, ◌^◌, ◌<◌, ◌≤◌, max, Bool, true, false, ◌==◌, Option, Some, None, List, [], ◌∷◌, length, get_or, drop, ◌↔◌, IsTrue, inl, inr, refl, ap, sym, ◌∙◌, subst, arith, bit_and, bit_or, bit_xor, eq-eqb, ne_eqb, eqb-true}
+use Rattle.std.proofs.Common.{◌≡◌, ◌≢◌, ℕ, zero, suc, ◌+◌, ◌-◌, ◌*◌, ◌%◌, ◌^◌, ◌<◌, ◌≤◌, max, Bool, true, false, ◌==◌, Option, Some, None, [], ◌∷◌, length, get_or, drop, ◌↔◌, IsTrue, inl, inr, refl, ap, sym, ◌∙◌, subst, arith, bit_and, bit_or, bit_xor, eq-eqb, ne_eqb, eqb-true}
 use Rattle.std.specs.Int.{bit_at}
 use Rattle.std.specs.Int.Bits.{or_add_and, xor_add_and}
 use Rattle.std.specs.List.{fold, enumerate_from}
@@ -81,7 +81,7 @@ pub with_bit-same : (word bit : ℕ) (on : Bool) → is_bit_set (with_bit word b
 with_bit-same word bit true =
     let low = bit_at-lt word bit in
     let one : bit_at (bit_or word (2 ^ bit)) bit ≡ 1 =
-        bit_at_or word (2 ^ bit) bit ∙ ap (λ b. max (bit_at word bit) b) (bit_at-pow_same bit) ∙ (omega arith) in
+    bit_at_or word (2 ^ bit) bit ∙ ap (λ b. max (bit_at word bit) b) (bit_at-pow_same bit) ∙ (omega arith) in
     eq-eqb _ 1 (ap (λ w. bit_at w bit) (with_bit-on word bit) ∙ one)
 with_bit-same word bit false =
     elim (cases_Bool (is_bit_set word bit)) [
@@ -93,7 +93,7 @@ with_bit-same word bit false =
           let flipped : with_bit word bit false ≡ bit_xor word (2 ^ bit) = omega arith in
           let was = eqb-true (bit_at word bit) 1 set in
           let none : bit_at (bit_xor word (2 ^ bit)) bit ≡ 0 =
-              bit_at_xor word (2 ^ bit) bit ∙ ap (λ b. (bit_at word bit + b) % 2) (bit_at-pow_same bit) ∙ ap (λ b. (b + 1) % 2) was in
+          bit_at_xor word (2 ^ bit) bit ∙ ap (λ b. (bit_at word bit + b) % 2) (bit_at-pow_same bit) ∙ ap (λ b. (b + 1) % 2) was in
           ne_eqb _ 1 (let e = ap (λ w. bit_at w bit) flipped in omega arith)
       | inr clear ↦ ap (λ w. is_bit_set w bit) (with_bit-off_clear word bit clear) ∙ clear
     ]
@@ -102,7 +102,7 @@ with_bit-same word bit false =
 pub with_bit-other : (word bit : ℕ) (on : Bool) (other : ℕ) → other ≢ bit → is_bit_set (with_bit word bit on) other ≡ is_bit_set word other
 with_bit-other word bit true other apart =
     let same : bit_at (bit_or word (2 ^ bit)) other ≡ bit_at word other =
-        bit_at_or word (2 ^ bit) other ∙ ap (λ b. max (bit_at word other) b) (bit_at-pow_other bit other apart) ∙ (omega arith) in
+    bit_at_or word (2 ^ bit) other ∙ ap (λ b. max (bit_at word other) b) (bit_at-pow_other bit other apart) ∙ (omega arith) in
     ap (λ b. b == 1) (ap (λ w. bit_at w other) (with_bit-on word bit) ∙ same)
 with_bit-other word bit false other apart =
     elim (cases_Bool (is_bit_set word bit)) [
@@ -114,7 +114,7 @@ with_bit-other word bit false other apart =
           let flipped : with_bit word bit false ≡ bit_xor word (2 ^ bit) = omega arith in
           let low = bit_at-lt word other in
           let same : bit_at (bit_xor word (2 ^ bit)) other ≡ bit_at word other =
-              bit_at_xor word (2 ^ bit) other ∙ ap (λ b. (bit_at word other + b) % 2) (bit_at-pow_other bit other apart) ∙ (omega arith) in
+          bit_at_xor word (2 ^ bit) other ∙ ap (λ b. (bit_at word other + b) % 2) (bit_at-pow_other bit other apart) ∙ (omega arith) in
           ap (λ b. b == 1) (ap (λ w. bit_at w other) flipped ∙ same)
       | inr clear ↦ ap (λ w. is_bit_set w other) (with_bit-off_clear word bit clear)
     ]

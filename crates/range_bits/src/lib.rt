@@ -14,6 +14,7 @@
 //! The map has room for its 16 ranges in itself, and no call takes memory.
 #![tactic(auto)]
 
+mod laws;
 #[cfg(test)]
 mod tests;
 
@@ -22,6 +23,7 @@ ghost use Rattle.rule_model.specs.PortRange.{PortRange, IsPortRange, is_bit_set,
 ghost use Rattle.range_bits.specs.LiveRanges.{no_ranges, range_at, bit_of, free_bit, with_ranges, with_bit, word_for};
 ghost use Rattle.range_bits.specs.FieldMap.{IsFieldMap, live_count};
 
+pub use laws::{kept_ranges_have_one_bit, new_ranges_get_one_bit};
 use rule_model::Ports;
 use std::marker::Model;
 use thiserror::Error;
@@ -90,8 +92,10 @@ impl BitMap {
         ensures least { IfOk result (λ bit. (lower : ℕ) → lower < bit → IsSome (range_at self.old lower)) }
         ensures live { IfOk result (λ bit. range_at self.new bit ≡ Some range) }
         ensures others { IfOk result (λ bit. (other : ℕ) → other ≢ bit → range_at self.new other ≡ range_at self.old other) }
+        ensures more { IfOk result (λ _. live_count self.new ≡ live_count self.old + 1) }
         ensures full { IsErr result ↔ (live_count self.old ≡ FIELD_BITS) }
         ensures unchanged { OnErr result (self.new ≡ self.old) }
+        ensures map { IsFieldMap self.new }
     {
         right_range(range);
         match self.free_bit() {
@@ -110,6 +114,7 @@ impl BitMap {
         ensures free { range_at self.new bit ≡ None }
         ensures others { (other : ℕ) → other ≢ bit → range_at self.new other ≡ range_at self.old other }
         ensures fewer { live_count self.new + 1 ≡ live_count self.old }
+        ensures map { IsFieldMap self.new }
     {
         self.ranges[bit as usize] = None;
     }
@@ -140,17 +145,15 @@ impl BitMap {
     /// the port, and each other bit is as in `old`.
     pub fn word_for(&self, port: u16, old: u16) -> u16
         ensures word { result ≡ word_for self.now port old }
-        ensures live {
-            (bit : ℕ) (range : PortRange) → range_at self.now bit ≡ Some range →
-            IsTrue (is_bit_set result bit) ↔ IsTrue (range_holds range port)
-        }
+        ensures live { (bit : ℕ) (range : PortRange) → range_at self.now bit ≡ Some range →
+            IsTrue (is_bit_set result bit) ↔ IsTrue (range_holds range port) }
         ensures others { (bit : ℕ) → range_at self.now bit ≡ None → is_bit_set result bit ≡ is_bit_set old bit }
     {
         let ranges = &self.ranges;
         let mut word = old;
-        for bit in 0..FIELD_BITS {
-            if let Some(range) = ranges[bit as usize] {
-                word = with_bit(word, bit, range.holds(port));
+        for live in 0..FIELD_BITS {
+            if let Some(range) = ranges[live as usize] {
+                word = with_bit(word, live, range.holds(port));
             }
         }
         word
@@ -162,9 +165,9 @@ impl BitMap {
         ensures map { IsFieldMap self.now }
     {
         let ranges = &self.ranges;
-        for bit in 0..FIELD_BITS {
-            if ranges[bit as usize].is_none() {
-                return Some(bit);
+        for least in 0..FIELD_BITS {
+            if ranges[least as usize].is_none() {
+                return Some(least);
             }
         }
         None

@@ -3,5 +3,5 @@ use Rattle.range_bits.specs.LiveRanges.{range_at}
 use Rattle.range_bits.proofs.BitMap.free_bit.Given as goal
 
 -- no bit so far is free
-abbrev pub invariant-loop-bit : goal.invariant-loop-bit
-invariant-loop-bit l = (k : ℕ) → k < l.bit → is_none (range_at l.ranges k) ≡ false
+abbrev pub invariant-loop-least : goal.invariant-loop-least
+invariant-loop-least l = (k : ℕ) → k < l.least → is_none (range_at l.ranges k) ≡ false
