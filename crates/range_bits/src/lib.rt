@@ -6,7 +6,7 @@
 //!
 //! A `BitMap` holds the live ranges of one field, by their bits. A new range gets the least free bit, and a bit that is
 //! released is free for the next one. `word_for` makes a table's word at a port: each live bit by its range, and the
-//! other bits as they were, since a packet may still be tested by a bit that has just been released.
+//! other bits as they were. No entry tests a free bit, so what it says costs no write.
 //!
 //!     0: 1-1023    1: 80-443    2: free    ..
 //!     the word at port 443 is 0b11, and 0b01 at port 444, with its other bits as before
@@ -91,7 +91,8 @@ impl BitMap {
         ensures free { IfOk result (λ bit. range_at self.old bit ≡ None) }
         ensures least { IfOk result (λ bit. (lower : ℕ) → lower < bit → IsSome (range_at self.old lower)) }
         ensures live { IfOk result (λ bit. range_at self.new bit ≡ Some range) }
-        ensures others { IfOk result (λ bit. (other : ℕ) → other ≢ bit → range_at self.new other ≡ range_at self.old other) }
+        ensures others { IfOk result (λ bit. (other : ℕ) → other ≢ bit →
+            range_at self.new other ≡ range_at self.old other) }
         ensures more { IfOk result (λ _. live_count self.new ≡ live_count self.old + 1) }
         ensures full { IsErr result ↔ (live_count self.old ≡ FIELD_BITS) }
         ensures unchanged { OnErr result (self.new ≡ self.old) }
