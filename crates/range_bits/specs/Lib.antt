@@ -1,0 +1,2 @@
+pub mod FieldMap
+pub mod LiveRanges
