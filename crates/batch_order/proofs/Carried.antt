@@ -1,17 +1,57 @@
 -- Carrying out a commit: the writes that are left, and the new rules put in at its end.
-use Rattle.std.proofs.Common.{◌≡◌, ℕ, ◌+◌, fold, List, [], ◌∷◌, length, slice_get, Option, Some, None, IfSome, refl, sym, ap, subst, arith}
+use Rattle.std.proofs.Common.{◌≡◌, ℕ, ◌+◌, ◌-◌, ◌<◌, fold, List, [], ◌∷◌, ◌++◌, length, take, drop, slice_get, replicate, Option, Some, None, IfSome, refl, sym, ap, ap₂, subst, ◌∙◌, arith, length-drop, length-set, get_or, add-one, zero, suc}
+use Rattle.std.specs.Prelude.{option_map}
 use Rattle.std.specs.List.{AllByRecursion}
+use Rattle.std.proofs.lemmas.List.{set-append_left, length-map, length-replicate}
+use Rattle.std.proofs.lemmas.Option.{slice_get-get_or}
+use Rattle.std.proofs.Math.Seq.{drop-cons}
+use Rattle.std.proofs.lemmas.List.Sums.{fold-append}
+use Rattle.std.proofs.lemmas.List.{take_all}
 use Rattle.slot_pool.specs.Arrangement.{Slots}
-use Rattle.batch_order.specs.Managed.{IsRoute}
+use Rattle.rule_model.specs.declared.Rule.{Rule}
+use Rattle.rule_model.specs.RuleSet.{IsRuleSet}
+use Rattle.rule_model.specs.Routes.{IsIpv4Route}
+use Rattle.rule_model.specs.declared.Field.TheVariants.{Src, Dst}
+use Rattle.ternary_word.specs.declared.Entry.{Entry}
 use Rattle.rule_store.specs.declared.Mode.{Mode}
 use Rattle.rule_store.specs.Store.{StoredRules}
 use Rattle.rule_store.specs.Batch.{with_rule}
+use Rattle.rule_store.proofs.Sums.{take-read}
 use Rattle.tcam_device.specs.declared.Write.{Write}
+use Rattle.tcam_device.specs.declared.Write.TheVariants.{Slot, Table}
+use Rattle.tcam_device.specs.State.{State, IsInUse, apply, state_after, on_device}
+use Rattle.commit_writes.specs.Bits.{no_bits}
+use Rattle.commit_writes.specs.Planned.{contents, plain_state, held_entry}
+use Rattle.commit_writes.proofs.Adds.{set_with_new}
+use Rattle.batch_order.proofs.News.{all_with_rules}
+use Rattle.batch_order.specs.declared.Step.TheVariants.{Wrote, Finished}
 use Rattle.batch_order.specs.declared.manager.Held.{Held}
 use Rattle.batch_order.specs.Entries.{Entries}
-use Rattle.batch_order.specs.Kept.{IsManaged}
-use Rattle.batch_order.specs.Managed.{HeldCommit, next_of}
-use Rattle.batch_order.proofs.News.{all_with_rules, length-with_rules}
+use Rattle.batch_order.specs.Kept.{IsManaged, IsArranged, held_of, state_of}
+use Rattle.batch_order.specs.Managed.{Managed, HeldCommit, StepsOn, IsOn, fresh, next_of}
+
+-- the view of a manager
+abbrev pub view_of : Mode → StoredRules → Entries → Slots → Option Held → Managed
+view_of mode rules kept slots held = record {
+  slots = length slots;
+  mode = mode;
+  rules = rules.rules;
+  bits = no_bits;
+  state = state_of kept.entries slots held;
+  held = elim held [ None ↦ None | Some one ↦ Some (held_of rules.rules one) ];
+}
+
+-- what stands in empty slots
+contents_none : (entries : List (Option Entry)) (count : ℕ) → contents entries (replicate count None) ≡ replicate count None
+contents_none entries zero = refl
+contents_none entries (suc count) = ap (λ (rest : List (Option Entry)). None ∷ rest) (contents_none entries count)
+
+-- a new manager
+pub fresh_view : (slots : ℕ) (mode : Mode) (rules : StoredRules) (kept : Entries) (arrangement : Slots) → rules.rules ≡ [] → arrangement ≡ replicate slots None
+    → view_of mode rules kept arrangement None ≡ fresh slots mode
+fresh_view slots mode rules kept arrangement none blank =
+    ap₂ (λ (r : List Rule) (s : Slots). record { slots = length s; mode = mode; rules = r; bits = no_bits; state = plain_state (contents kept.entries s); held = None }) none blank
+    ∙ ap₂ (λ (n : ℕ) (e : List (Option Entry)). record { slots = n; mode = mode; rules = []; bits = no_bits; state = plain_state e; held = None }) (length-replicate slots None) (contents_none kept.entries slots)
 
 -- with no write left, none is left to make
 pub none_left : (held : Option HeldCommit) → next_of held ≡ None → IfSome held (λ held. held.writes ≡ [])
@@ -24,16 +64,118 @@ none_left (Some held) next = go held.writes next
 
 -- with the new rules put in, no commit is under way
 pub managed_after : (mode : Mode) (rules rules' : StoredRules) (kept : Entries) (slots : Slots) (held : Held) → IsManaged mode rules kept slots (Some held)
-    → rules'.rules ≡ fold with_rule rules.rules held.added.items → IsManaged mode rules' kept slots None
+    → rules'.rules ≡ fold with_rule rules.rules held.added.items → IsManaged mode rules' kept held.arrangement None
 managed_after mode rules rules' kept slots held managed is = record {
   cover = managed.cover;
-  routes = subst (AllByRecursion IsRoute) (sym is) (all_with_rules IsRoute rules.rules held.added.items managed.routes managed.carried.routes);
-  settled = managed.settled;
-  number = (
-      let was : length kept.live ≡ length rules.rules + length held.added.items = managed.number in
-      let more : length (fold with_rule rules.rules held.added.items) ≡ length rules.rules + length held.added.items = length-with_rules rules.rules held.added.items in
-      let now : length rules'.rules ≡ length (fold with_rule rules.rules held.added.items) = ap length is in
-      omega arith
-      );
-  carried = tt;
+  routes = subst (AllByRecursion IsIpv4Route) (sym is) (all_with_rules IsIpv4Route rules.rules held.added.items managed.routes managed.carried.routes);
+  is_set = subst IsRuleSet (sym is) (set_with_new rules.rules held.added.items managed.is_set managed.carried.new);
+  carried = subst (λ (set : List Rule). IsArranged set kept held.arrangement) (sym is) managed.carried.after;
 }
+
+-- nothing is left to drop where all was made
+all_made : (writes : List Write) (made : ℕ) → drop made writes ≡ [] → take made writes ≡ writes
+all_made writes made none = take_all made writes (let left : length (drop made writes) ≡ 0 = ap length none in let size : length (drop made writes) ≡ length writes - made = length-drop made writes in omega arith)
+
+-- the state stays where the last write was made, and is that of the entries as they are arranged then
+pub finish_steps : (mode : Mode) (rules rules' : StoredRules) (kept : Entries) (slots : Slots) (held : Held) → IsManaged mode rules kept slots (Some held)
+    → drop held.made held.writes.items ≡ [] → rules'.rules ≡ fold with_rule rules.rules held.added.items
+    → StepsOn (view_of mode rules kept slots (Some held)) (held_of rules.rules held) (drop held.made held.writes.items) (Finished held.counts) (view_of mode rules' kept held.arrangement None)
+finish_steps mode rules rules' kept slots held managed none is =
+    let carried = managed.carried in
+    let size : length held.arrangement ≡ length slots = carried.after.settled.size ∙ sym carried.old.settled.size in
+    let state : plain_state (contents kept.entries held.arrangement) ≡ state_of kept.entries slots (Some held) =
+    sym carried.leads ∙ ap (state_after (plain_state (contents kept.entries slots))) (sym (all_made held.writes.items held.made none)) in
+    subst (λ (left : List Write). StepsOn (view_of mode rules kept slots (Some held)) (held_of rules.rules held) left (Finished held.counts) (view_of mode rules' kept held.arrangement None)) (sym none)
+    (refl, ap₂ (λ (n : ℕ) (rest : List Rule × State). record { slots = n; mode = mode; rules = rest.0; bits = no_bits; state = rest.1; held = None }) size (ap₂ (λ (r : List Rule) (s : State). (r, s)) is state))
+
+-- a write of a plan that is read
+read_at : (writes : List Write) (place : ℕ) (write : Write) → place < length writes → write ≡ get_or writes place write → slice_get writes place ≡ Some write
+read_at writes place write inside read = slice_get-get_or writes place write inside ∙ ap (λ (w : Write). Some w) (sym read)
+
+drop-read : (writes : List Write) (place : ℕ) (write : Write) → place < length writes → write ≡ get_or writes place write → drop place writes ≡ write ∷ drop (place + 1) writes
+drop-read writes place write inside read =
+    drop-cons writes place write inside ∙ ap₂ (λ (w : Write) (n : ℕ). w ∷ drop n writes) (sym read) (sym (add-one place))
+
+-- with one write more made, the commit can be carried out still
+pub managed_made : (mode : Mode) (rules : StoredRules) (kept : Entries) (slots : Slots) (held : Held) → IsManaged mode rules kept slots (Some held) → held.made < length held.writes.items
+    → IsManaged mode rules kept slots (Some (record held { made = held.made + 1 }))
+managed_made mode rules kept slots held managed less =
+    let carried = managed.carried in
+    record {
+      cover = managed.cover;
+      routes = managed.routes;
+      is_set = managed.is_set;
+      carried = record {
+        before = carried.before;
+        old = carried.old;
+        after = carried.after;
+        leads = carried.leads;
+        made = omega arith;
+        in_use = carried.in_use;
+        routes = carried.routes;
+        new = carried.new;
+        room = carried.room;
+      };
+    }
+
+-- a write is left to make
+pub some_left : (writes : List Write) (made : ℕ) → 0 < length (drop made writes) → made < length writes
+some_left writes made left = (let size : length (drop made writes) ≡ length writes - made = length-drop made writes in omega arith)
+
+-- the first of the writes that are left was made
+pub advance_steps : (mode : Mode) (rules : StoredRules) (kept : Entries) (slots : Slots) (held : Held) (write : Write)
+    → held.made < length held.writes.items → write ≡ get_or held.writes.items held.made write
+    → StepsOn (view_of mode rules kept slots (Some held)) (held_of rules.rules held) (drop held.made held.writes.items) (Wrote write) (view_of mode rules kept slots (Some (record held { made = held.made + 1 })))
+advance_steps mode rules kept slots held write inside read =
+    let state : state_of kept.entries slots (Some (record held { made = held.made + 1 })) ≡ apply (state_of kept.entries slots (Some held)) write =
+    ap (state_after (plain_state (contents kept.entries slots))) (take-read held.writes.items held.made write (read_at held.writes.items held.made write inside read))
+    ∙ fold-append apply (plain_state (contents kept.entries slots)) (take held.made held.writes.items) (write ∷ []) in
+    subst (λ (w : List Write). StepsOn (view_of mode rules kept slots (Some held)) (held_of rules.rules held) w (Wrote write) (view_of mode rules kept slots (Some (record held { made = held.made + 1 })))) (sym (drop-read held.writes.items held.made write inside read))
+    (refl, ap (λ (s : State). record { slots = length slots; mode = mode; rules = rules.rules; bits = no_bits; state = s; held = Some (held_of rules.rules (record held { made = held.made + 1 })) }) state)
+
+-- as many slots as are in use
+pub state_size : (kept : Entries) (slots : Slots) (held : Option Held) → length (state_of kept.entries slots held).slots ≡ length slots
+state_size kept slots None = length-map slots (held_entry kept.entries)
+state_size kept slots (Some held) = go (plain_state (contents kept.entries slots)) (take held.made held.writes.items) ∙ length-map slots (held_entry kept.entries)
+  where
+    one : (state : State) (write : Write) → length (apply state write).slots ≡ length state.slots
+    one state (Slot at entry) = length-set state.slots at entry
+    one state (Table Src port word) = refl
+    one state (Table Dst port word) = refl
+
+    go : (state : State) (writes : List Write) → length (state_after state writes).slots ≡ length state.slots
+    go state [] = refl
+    go state (write ∷ writes) = go (apply state write) writes ∙ one state write
+
+-- a write to a slot in use is the same on a device with more slots
+on_device-apply : (device_slots : ℕ) (state : State) (write : Write) → IsInUse (length state.slots) write → on_device device_slots (apply state write) ≡ apply (on_device device_slots state) write
+on_device-apply device_slots state (Slot at entry) inside =
+    ap₂ (λ (slots : List (Option Entry)) (n : ℕ). record state { slots = slots ++ replicate (device_slots - n) None }) refl (length-set state.slots at entry)
+    ∙ ap (λ (slots : List (Option Entry)). record state { slots = slots }) (sym (set-append_left state.slots (replicate (device_slots - length state.slots) None) at entry inside))
+on_device-apply device_slots state (Table Src port word) inside = refl
+on_device-apply device_slots state (Table Dst port word) inside = refl
+
+-- the device stays the manager's where nothing was written
+pub on_same : (device_slots device_slots' : ℕ) (journal journal' : Option (List Write)) (old new : Managed) → device_slots' ≡ device_slots → journal' ≡ journal → new.state ≡ old.state
+    → IsOn device_slots journal old → IsOn device_slots' journal' new
+on_same device_slots device_slots' journal journal' old new size told state on =
+    subst (λ (n : ℕ). IsOn n journal' new) (sym size) (subst (λ (j : Option (List Write)). IsOn device_slots j new) (sym told) (go journal on))
+  where
+    go : (j : Option (List Write)) → IsOn device_slots j old → IsOn device_slots j new
+    go None was = tt
+    go (Some writes) was = ap (on_device device_slots) state ∙ was
+
+-- and where a write of a slot in use was
+pub on_written : (device_slots device_slots' : ℕ) (journal journal' : Option (List Write)) (old new : Managed) (write : Write) → device_slots' ≡ device_slots
+    → journal' ≡ option_map (λ writes. writes ++ write ∷ []) journal → new.state ≡ apply old.state write → length old.state.slots ≡ old.slots → IsInUse old.slots write
+    → IsOn device_slots journal old → IsOn device_slots' journal' new
+on_written device_slots device_slots' journal journal' old new write size told state slots inside on =
+    subst (λ (n : ℕ). IsOn n journal' new) (sym size) (subst (λ (j : Option (List Write)). IsOn device_slots j new) (sym told) (go journal on))
+  where
+    go : (j : Option (List Write)) → IsOn device_slots j old → IsOn device_slots (option_map (λ writes. writes ++ write ∷ []) j) new
+    go None was = tt
+    go (Some writes) was =
+        ap (on_device device_slots) state
+        ∙ (on_device-apply device_slots old.state write (subst (λ (n : ℕ). IsInUse n write) (sym slots) inside)
+        ∙ (ap (λ (s : State). apply s write) was
+        ∙ sym (fold-append apply _ writes (write ∷ []))))

@@ -1,7 +1,7 @@
 -- Spare ids: those that aren't live, each once.
-use Rattle.std.proofs.Common.{◌≡◌, ◌≢◌, ℕ, ◌+◌, ◌<◌, ◌≤◌, Bool, true, false, List, [], ◌∷◌, ◌++◌, length, Option, IsTrue, IsFalse, Contains, ◌⊎◌, map, filter, not, arith, inl, inr, refl, sym, ◌∙◌, subst, ap, slice_set}
+use Rattle.std.proofs.Common.{◌≡◌, ℕ, ◌+◌, ◌<◌, ◌≤◌, true, false, List, [], ◌∷◌, ◌++◌, length, Option, IsFalse, Contains, map, not, arith, inl, inr, refl, sym, ◌∙◌, subst, ap}
 use Rattle.std.specs.Prelude.{◌==◌, ◌||◌, nat_eq}
-use Rattle.std.specs.List.{list_any, AllByRecursion, IsDistinct}
+use Rattle.std.specs.List.{AllByRecursion, IsDistinct}
 use Rattle.std.proofs.lemmas.Bool.{false_from_ne_true, eqb-true, eq-eqb}
 use Rattle.std.proofs.lemmas.Bool.Decides.{eqb_tells}
 use Rattle.std.proofs.lemmas.List.{length-append}
@@ -9,11 +9,10 @@ use Rattle.std.proofs.lemmas.List.Folds.{list_any-append}
 use Rattle.ternary_word.specs.declared.Entry.{Entry}
 use Rattle.overlap_index.specs.declared.LivePiece.{LivePiece}
 use Rattle.slot_order.proofs.Inside.{all_append}
-use Rattle.slot_order.proofs.Rules.{contains_head, contains_tail, contains_cases, contains_none}
+use Rattle.slot_order.proofs.Rules.{contains_head, contains_tail}
 use Rattle.overlap_index.specs.Live.{AreApart, is_live, without_id}
-use Rattle.overlap_index.proofs.Listed.{any_is, any_from, map_in, in_filter}
+use Rattle.overlap_index.proofs.Listed.{any_is, any_from, in_filter}
 use Rattle.overlap_index.proofs.Live.{all_apart, apart_more, apart_filter, apart_none}
-use Rattle.overlap_index.proofs.Above.{live_is}
 use Rattle.batch_order.specs.Entries.{AreKept, AreAll}
 
 -- the front of a list of which all members pass
@@ -61,7 +60,7 @@ kept_more slots live entries entries' spare one kept same =
     go (id ∷ ids) other absent = (absent_still live one id other.0 absent.0, go ids other.1 absent.1)
 
 -- without an id it isn't live
-gone : (live : List LivePiece) (id : ℕ) → is_live (without_id live id) id ≡ false
+pub gone : (live : List LivePiece) (id : ℕ) → is_live (without_id live id) id ≡ false
 gone live id = false_from_ne_true (is_live (without_id live id) id) (λ now.
     let w = any_is (λ x. x.id == id) (without_id live id) now in
     let kept = in_filter (λ x. not (x.id == id)) live w.0 w.1 in

@@ -1,5 +1,5 @@
 -- The moves of a placement stay within the arrangement.
-use Rattle.std.proofs.Common.{◌≡◌, ℕ, ◌<◌, List, [], ◌∷◌, length, map}
+use Rattle.std.proofs.Common.{ℕ, List, [], ◌∷◌, length, map}
 use Rattle.std.specs.List.{AllByRecursion}
 use Rattle.slot_order.specs.Order.{Ordered}
 use Rattle.slot_order.proofs.End.{IsWhole}

@@ -4,7 +4,7 @@ use Rattle.std.specs.List.{AllByRecursion}
 use Rattle.std.proofs.lemmas.Bool.{lt-ltb, le-ltb, ltb-false}
 use Rattle.std.specs.Prelude.{nat_lt, option_map}
 use Rattle.rule_model.specs.declared.Rule.{Rule}
-use Rattle.batch_order.specs.Managed.{IsRoute}
+use Rattle.rule_model.specs.Routes.{IsIpv4Route}
 use Rattle.rule_store.specs.declared.Command.{Command}
 use Rattle.rule_store.specs.declared.BatchFault.{BatchFault}
 use Rattle.rule_store.specs.declared.Mode.TheVariants.{Cover}
@@ -26,7 +26,7 @@ sound_by None room none = refl
 sound_by (Some fault) room none = absurd (cc)
 
 -- more entries are needed than there are free slots
-pub verdict_short : (slots : ℕ) (rules : List Rule) (batch : List Command) (free : ℕ) → batch_fault rules batch ≡ None → AllByRecursion IsRoute rules
+pub verdict_short : (slots : ℕ) (rules : List Rule) (batch : List Command) (free : ℕ) → batch_fault rules batch ≡ None → AllByRecursion IsIpv4Route rules
     → free + length rules ≡ slots → free < entries_added Cover rules batch → verdict slots Cover rules batch ≡ OutOfSlots (entries_added Cover rules batch) free
 verdict_short slots rules batch free sound routes count short =
     let used : entries_of Cover rules ≡ length rules = routes_entries rules routes in
@@ -37,7 +37,7 @@ verdict_short slots rules batch free sound routes count short =
     ∙ ap (OutOfSlots (entries_added Cover rules batch)) left
 
 -- or they fit
-pub verdict_fits : (slots : ℕ) (rules : List Rule) (batch : List Command) (free : ℕ) → batch_fault rules batch ≡ None → AllByRecursion IsRoute rules
+pub verdict_fits : (slots : ℕ) (rules : List Rule) (batch : List Command) (free : ℕ) → batch_fault rules batch ≡ None → AllByRecursion IsIpv4Route rules
     → free + length rules ≡ slots → entries_added Cover rules batch ≤ free → verdict slots Cover rules batch ≡ Accepted
 verdict_fits slots rules batch free sound routes count fits =
     let used : entries_of Cover rules ≡ length rules = routes_entries rules routes in
@@ -46,7 +46,7 @@ verdict_fits slots rules batch free sound routes count fits =
     ∙ ap (λ (b : Bool). elim b [ true ↦ OutOfSlots (entries_added Cover rules batch) (slots - entries_of Cover rules) | false ↦ Accepted ]) over
 
 -- what is accepted has a free slot for each new entry
-pub accepted_room : (slots : ℕ) (rules : List Rule) (batch : List Command) → batch_fault rules batch ≡ None → AllByRecursion IsRoute rules
+pub accepted_room : (slots : ℕ) (rules : List Rule) (batch : List Command) → batch_fault rules batch ≡ None → AllByRecursion IsIpv4Route rules
     → verdict slots Cover rules batch ≡ Accepted → length rules + entries_added Cover rules batch ≤ slots
 accepted_room slots rules batch sound routes accepted =
     let used : entries_of Cover rules ≡ length rules = routes_entries rules routes in
@@ -65,9 +65,9 @@ idle_held f (Some held) none = absurd (cc)
 -- with no commit under way the slots that aren't free are as many as the rules
 idle_count : (mode : Mode) (rules : StoredRules) (kept : Entries) (slots : Slots) → IsManaged mode rules kept slots None → free_slots slots + length rules.rules ≡ length slots
 idle_count mode rules kept slots managed =
-    let number : length kept.live ≡ length rules.rules + 0 = managed.number in
-    let count : free_slots slots + length kept.live ≡ kept.slots = managed.settled.count in
-    let size : length slots ≡ kept.slots = managed.settled.size in
+    let number : length kept.live ≡ length rules.rules = managed.carried.number in
+    let count : free_slots slots + length kept.live ≡ kept.slots = managed.carried.settled.count in
+    let size : length slots ≡ kept.slots = managed.carried.settled.size in
     omega arith
 
 -- the answer of an idle manager whose free slots are too few

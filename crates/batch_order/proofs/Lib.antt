@@ -2,6 +2,9 @@ pub mod Ids
 pub mod News
 pub mod Inside
 pub mod Settled
+pub mod Puts
+pub mod Since
+pub mod Entered
 pub mod Carried
 pub mod Judged
 pub mod Taken

@@ -1,13 +1,12 @@
 -- Entries that stand once and in order, before and after one of them is placed.
-use Rattle.std.proofs.Common.{◌≡◌, ◌≢◌, ℕ, ◌+◌, ◌<◌, ◌≤◌, Bool, true, false, not, IsTrue, IsFalse, Option, Some, None, List, [], ◌∷◌, ◌++◌, length, map, filter, take, drop, Contains, ◌⊎◌, inl, inr, refl, sym, ap, ap₂, subst, ◌∙◌, arith, ◌-◌}
+use Rattle.std.proofs.Common.{◌≡◌, ◌≢◌, ℕ, ◌+◌, ◌<◌, ◌≤◌, Bool, true, false, not, List, [], ◌∷◌, ◌++◌, length, map, take, drop, Contains, ◌⊎◌, inl, inr, refl, sym, ap, ap₂, subst, ◌∙◌, arith, ◌-◌}
 use Rattle.std.specs.Prelude.{◌==◌, ◌||◌, nat_eq}
-use Rattle.std.specs.List.{list_any, AllByRecursion, IsDistinct}
-use Rattle.std.proofs.lemmas.Bool.{false_from_ne_true, eqb-true, eq-eqb, and_from, lt-ltb}
+use Rattle.std.specs.List.{IsDistinct}
+use Rattle.std.proofs.lemmas.Bool.{false_from_ne_true, eq-eqb, and_from, lt-ltb}
 use Rattle.std.proofs.lemmas.Bool.Decides.{eqb_tells}
 use Rattle.std.proofs.lemmas.List.{length-append, length-map, append-nil, append_assoc, take-append-drop}
 use Rattle.std.proofs.lemmas.List.Elements.{filter-append}
 use Rattle.std.proofs.lemmas.List.Folds.{list_any-append}
-use Rattle.slot_order.specs.Order.{slot}
 use Rattle.slot_order.proofs.Rules.{contains_head, contains_tail, contains_cases, contains_none}
 use Rattle.slot_pool.specs.Arrangement.{Slots}
 use Rattle.overlap_index.specs.declared.LivePiece.{LivePiece}

@@ -1,10 +1,11 @@
 -- Taking a batch: what its plan needs of a manager without a commit under way, and what the manager is with the plan held.
-use Rattle.std.proofs.Common.{◌≡◌, ℕ, ◌+◌, ◌-◌, ◌<◌, ◌≤◌, fold, List, [], ◌∷◌, ◌++◌, length, map, take, drop, Option, Some, None, IfSome, refl, sym, ap, ap₂, subst, ◌∙◌, arith}
+use Rattle.std.proofs.Common.{◌≡◌, ℕ, ◌+◌, ◌-◌, ◌≤◌, fold, List, [], ◌++◌, length, map, take, drop, Some, None, max, refl, sym, ap, ap₂, subst, ◌∙◌, arith}
 use Rattle.std.specs.List.{AllByRecursion}
 use Rattle.std.proofs.lemmas.List.{length-append, length-map, take_at, drop_at}
 use Rattle.slot_pool.specs.Arrangement.{Slots}
 use Rattle.rule_model.specs.declared.Rule.{Rule}
-use Rattle.batch_order.specs.Managed.{IsRoute}
+use Rattle.rule_model.specs.RuleSet.{IsRuleSet}
+use Rattle.rule_model.specs.Routes.{IsIpv4Route}
 use Rattle.rule_store.specs.declared.Mode.{Mode}
 use Rattle.rule_store.specs.declared.Mode.TheVariants.{Cover}
 use Rattle.rule_store.specs.declared.Command.{Command}
@@ -16,19 +17,34 @@ use Rattle.overlap_index.specs.Live.{AreApart, is_above}
 use Rattle.move_planner.specs.Placement.{IsInOrder}
 use Rattle.move_planner.specs.Insertion.{IsLive, StandOnce, free_slots}
 use Rattle.tcam_device.specs.declared.Write.{Write}
-use Rattle.tcam_device.specs.State.{IsInUse}
+use Rattle.tcam_device.specs.State.{State, IsInUse, Shows, state_after, on_device}
+use Rattle.tcam_device.specs.Insertion.{insertions, IsUncrossed}
+use Rattle.commit_writes.specs.declared.Done.{Done}
+use Rattle.commit_writes.specs.Bits.{no_bits, bits_with, bits_left}
+use Rattle.commit_writes.specs.Shape.{set_pieces}
+use Rattle.commit_writes.specs.Commit.{IsSegment, AreCounts}
+use Rattle.commit_writes.specs.Planned.{Planned, IsPlannedCommit, IsRouteSegment, AreNumbersOf, AreArranged, AreEntriesOf, ranked_of, planned_writes, live_after, slots_after, contents, plain_state}
+use Rattle.commit_writes.proofs.Adds.{new_additions, new_apart, new_absent, added_routes, set_with_additions}
+use Rattle.commit_writes.proofs.Routes.{inserted_routes}
+use Rattle.commit_writes.proofs.Ordered.{planned_state}
+use Rattle.commit_writes.proofs.NewEntries.{planned_entries}
+use Rattle.commit_writes.proofs.WholeCommit.{wider_segment}
 use Rattle.batch_order.specs.declared.manager.Held.{Held}
+use Rattle.batch_order.specs.declared.plan.Plan.{Plan}
 use Rattle.batch_order.specs.declared.Ready.{Ready}
-use Rattle.batch_order.specs.Entries.{Entries, AddsIds, AreLast}
-use Rattle.batch_order.specs.Planning.{AreNew, HasPieces, IsSettled, IsPlannable}
-use Rattle.batch_order.specs.Kept.{IsManaged, IsHeld, held_of}
-use Rattle.batch_order.specs.Managed.{Managed, Holds, OnlyAddsRoutes, ready_of}
-use Rattle.batch_order.proofs.News.{new_additions, new_apart, new_absent, added_routes, added_count, additions_entries, set_with_additions, all_with_rules, length-with_rules, routes_encodable}
+use Rattle.batch_order.specs.Entries.{Entries, AddsIds, AreLast, KeepEntries}
+use Rattle.batch_order.specs.Planning.{AreNew, HasPieces, IsSettled, IsPlannable, ArePlannedSince, route_piece}
+use Rattle.batch_order.specs.Kept.{IsManaged, IsArranged, held_of}
+use Rattle.batch_order.specs.Managed.{Holds, OnlyAddsRoutes, ready_of}
+use Rattle.batch_order.proofs.News.{additions_entries, all_with_rules, length-with_rules, routes_encodable}
 use Rattle.batch_order.proofs.Judged.{accepted_room}
+use Rattle.batch_order.proofs.Puts.{AllLive}
+use Rattle.batch_order.proofs.Entered.{contents_kept, entries_of_kept}
+use Rattle.batch_order.proofs.Carried.{view_of}
 
 -- the rules that are added have an entry each
 pub sorted_pieces : (batch : List Command) → OnlyAddsRoutes batch → HasPieces (fold with_rule [] (additions batch))
-sorted_pieces batch adds = routes_encodable (fold with_rule [] (additions batch)) (all_with_rules IsRoute [] (additions batch) tt (added_routes batch adds))
+sorted_pieces batch adds = routes_encodable (fold with_rule [] (additions batch)) (all_with_rules IsIpv4Route [] (additions batch) tt (added_routes batch adds))
 
 -- and distinct priorities
 pub sorted_apart : (rules : List Rule) (batch : List Command) → OnlyAddsRoutes batch → batch_fault rules batch ≡ None → AreNew [] (additions batch)
@@ -42,8 +58,8 @@ sorted_room mode rules kept slots batch managed adds sound accepted =
     let room : length rules.rules + entries_added Cover rules.rules batch ≤ length slots = accepted_room (length slots) rules.rules batch sound managed.routes in_cover in
     let each : entries_added Cover rules.rules batch ≡ length (additions batch) = additions_entries rules.rules batch adds (new_absent rules.rules (additions batch) (new_additions rules.rules batch adds sound)) in
     let sorted : length (fold with_rule [] (additions batch)) ≡ 0 + length (additions batch) = length-with_rules [] (additions batch) in
-    let number : length kept.live ≡ length rules.rules + 0 = managed.number in
-    let size : length slots ≡ kept.slots = managed.settled.size in
+    let number : length kept.live ≡ length rules.rules = managed.carried.number in
+    let size : length slots ≡ kept.slots = managed.carried.settled.size in
     omega arith
 
 -- what was planned from no writes on
@@ -79,53 +95,195 @@ settled_same old new slots settled live size = record {
   count = (let same : length new.live ≡ length old.live = ap length live in let was : free_slots slots + length old.live ≡ old.slots = settled.count in omega arith);
 }
 
--- a manager whose batch wasn't taken after all
-pub managed_same : (mode : Mode) (rules rules' : StoredRules) (old new : Entries) (slots : Slots) → IsManaged mode rules old slots None → rules'.rules ≡ rules.rules
-    → new.live ≡ old.live → new.slots ≡ old.slots → IsManaged mode rules' new slots None
-managed_same mode rules rules' old new slots managed same live size = record {
-  cover = managed.cover;
-  routes = subst (AllByRecursion IsRoute) (sym same) managed.routes;
-  settled = settled_same old new slots managed.settled live size;
-  number = (let a : length new.live ≡ length old.live = ap length live in let b : length rules'.rules ≡ length rules.rules = ap length same in let was : length old.live ≡ length rules.rules + 0 = managed.number in omega arith);
-  carried = tt;
+-- and with the same entries too they are those of the same rules
+pub arranged_same : (rules : List Rule) (old new : Entries) (slots : Slots) → IsArranged rules old slots → new.live ≡ old.live → new.slots ≡ old.slots → KeepEntries old.live old.entries new.entries → IsArranged rules new slots
+arranged_same rules old new slots arranged live size kept = record {
+  settled = settled_same old new slots arranged.settled live size;
+  number = ap length live ∙ arranged.number;
+  entries_are = subst (λ (l : List LivePiece). AreEntriesOf (set_pieces Cover no_bits rules) l new.entries) (sym live) (entries_of_kept (set_pieces Cover no_bits rules) old.live old.entries new.entries kept arranged.entries_are);
 }
 
--- a manager that holds the plan of a batch
-pub managed_held : (mode : Mode) (rules rules' : StoredRules) (old new : Entries) (slots slots' : Slots) (ids : List ℕ) (batch : List Command) (held : Held) → IsManaged mode rules old slots None
-    → OnlyAddsRoutes batch → batch_fault rules.rules batch ≡ None → rules'.rules ≡ rules.rules → length (additions batch) ≤ rules'.spare
-    → IsPlannable new slots' held.writes.items → AddsIds old new ids → length ids ≡ length (fold with_rule [] (additions batch))
-    → held.made ≡ 0 → held.added.items ≡ additions batch → IsManaged mode rules' new slots' (Some held)
-managed_held mode rules rules' old new slots slots' ids batch held managed adds sound same room planned adds_ids number made added = record {
+-- a manager whose batch wasn't taken after all
+pub managed_same : (mode : Mode) (rules rules' : StoredRules) (old new : Entries) (slots : Slots) → IsManaged mode rules old slots None → rules'.rules ≡ rules.rules
+    → new.live ≡ old.live → new.slots ≡ old.slots → KeepEntries old.live old.entries new.entries → IsManaged mode rules' new slots None
+managed_same mode rules rules' old new slots managed same live size kept = record {
   cover = managed.cover;
-  routes = subst (AllByRecursion IsRoute) (sym same) managed.routes;
-  settled = planned.settled;
+  routes = subst (AllByRecursion IsIpv4Route) (sym same) managed.routes;
+  is_set = subst IsRuleSet (sym same) managed.is_set;
+  carried = subst (λ (set : List Rule). IsArranged set new slots) (sym same) (arranged_same rules.rules old new slots managed.carried live size kept);
+}
+
+-- what stands is live
+settled_live : (kept : Entries) (slots : Slots) → IsSettled kept slots → AllLive kept.live slots
+settled_live kept slots settled = record { at = settled.standing.within }
+
+-- and it looks the same
+pub view_same : (mode : Mode) (rules rules' : StoredRules) (old new : Entries) (slots : Slots) → IsManaged mode rules old slots None → rules'.rules ≡ rules.rules
+    → KeepEntries old.live old.entries new.entries → view_of mode rules' new slots None ≡ view_of mode rules old slots None
+view_same mode rules rules' old new slots managed same kept =
+    ap₂ (λ (r : List Rule) (e : State). record { slots = length slots; mode = mode; rules = r; bits = no_bits; state = e; held = None }) same
+    (ap plain_state (contents_kept old.live old.entries new.entries slots kept (settled_live old slots managed.carried.settled)))
+
+-- a settled manager is arranged as plans need it
+pub are_arranged : (kept : Entries) (slots : Slots) → IsSettled kept slots → AreArranged kept.live slots
+are_arranged kept slots settled = record {
+  few = subst (λ (n : ℕ). n ≤ 4096) (sym settled.size) settled.few;
+  apart = subst (λ (n : ℕ). AreApart n kept.live) (sym settled.size) settled.apart;
+  standing = settled.standing;
+  order = settled.order;
+}
+
+-- A plan of a batch: the insertions of its routes, after which all is settled.
+pub record IsPlanOf (mode : Mode) (rules : StoredRules) (old new : Entries) (slots slots' : Slots) (batch : List Command) (writes : List Write) (counts : Done) : Type 0 where
+  pub managed : IsManaged mode rules old slots None
+  pub adds : OnlyAddsRoutes batch
+  pub sound : batch_fault rules.rules batch ≡ None
+  pub settled : IsSettled new slots'
+  pub size : new.slots ≡ old.slots
+  pub in_use : AllByRecursion (IsInUse (length slots)) writes
+  pub kept : KeepEntries old.live old.entries new.entries
+  pub planned : List Planned
+  pub commit : IsPlannedCommit rules.rules batch old.live slots new.entries planned
+  pub live_is : new.live ≡ live_after old.live planned
+  pub slots_are : slots' ≡ slots_after slots planned
+  pub number : length new.live ≡ length (fold with_rule rules.rules (additions batch))
+  pub writes_are : writes ≡ planned_writes new.entries planned
+  pub numbers : AreNumbersOf new.entries planned counts
+
+pub plan_made : (mode : Mode) (rules : StoredRules) (old new : Entries) (slots slots' : Slots) (batch : List Command) (plan plan' : Plan) (counts : Done)
+    → IsManaged mode rules old slots None → OnlyAddsRoutes batch → batch_fault rules.rules batch ≡ None → new.slots ≡ old.slots → IsPlannable new slots' plan'.writes.items
+    → ArePlannedSince old new slots slots' plan plan' (map route_piece (fold with_rule [] (additions batch)))
+    → plan.writes.items ≡ [] → plan.most ≡ 0 → plan.span ≡ 0
+    → counts.writes ≡ length plan'.writes.items → counts.words ≡ 0 → counts.most ≡ plan'.most → counts.span ≡ plan'.span
+    → IsPlanOf mode rules old new slots slots' batch plan'.writes.items counts
+plan_made mode rules old new slots slots' batch plan plan' counts managed adds sound size plannable since no_writes no_most no_span writes words most span = record {
+  managed = managed;
+  adds = adds;
+  sound = sound;
+  settled = plannable.settled;
+  size = size;
+  in_use = subst (λ (n : ℕ). AllByRecursion (IsInUse n) plan'.writes.items) (size ∙ sym settled.size) plannable.in_use;
+  kept = since.kept;
+  planned = since.planned;
+  commit = record {
+    is_set = managed.is_set;
+    routes = managed.routes;
+    adds = adds;
+    sound = sound;
+    arranged = are_arranged old slots settled;
+    entries_are = entries_of_kept (set_pieces Cover no_bits rules.rules) old.live old.entries new.entries since.kept managed.carried.entries_are;
+    inserted = since.pieces_are ∙ sym (inserted_routes rules.rules batch adds (new_absent rules.rules (additions batch) (new_additions rules.rules batch adds sound)));
+    have_entries = since.have_entries;
+    are_planned = since.are_planned;
+  };
+  live_is = since.live_is;
+  slots_are = since.slots_are;
   number = (
-      let was : length old.live ≡ length rules.rules + 0 = managed.number in
-      let total : length new.live ≡ length old.live + length adds_ids.made = ap length adds_ids.live ∙ length-append old.live adds_ids.made in
-      let some : length adds_ids.made ≡ length ids = sym (length-map adds_ids.made (λ (one : LivePiece). one.id)) ∙ ap length adds_ids.ids_are in
+      let was : length old.live ≡ length rules.rules = managed.carried.number in
+      let total : length new.live ≡ length old.live + length (map (λ (insertion : Planned). insertion.one) since.planned) = ap length since.live_is ∙ length-append old.live (map (λ (insertion : Planned). insertion.one) since.planned) in
+      let some : length (map (λ (insertion : Planned). insertion.one) since.planned) ≡ length since.planned = length-map since.planned (λ (insertion : Planned). insertion.one) in
+      let pieces : length since.planned ≡ length (fold with_rule [] (additions batch)) = sym (length-map since.planned ranked_of) ∙ (ap length since.pieces_are ∙ length-map (fold with_rule [] (additions batch)) route_piece) in
       let sorted : length (fold with_rule [] (additions batch)) ≡ 0 + length (additions batch) = length-with_rules [] (additions batch) in
-      let kept : length rules'.rules ≡ length rules.rules = ap length same in
-      let new_ones : length held.added.items ≡ length (additions batch) = ap length added in
+      let all : length (fold with_rule rules.rules (additions batch)) ≡ length rules.rules + length (additions batch) = length-with_rules rules.rules (additions batch) in
       omega arith
       );
+  writes_are = are;
+  numbers = record {
+    writes = writes ∙ ap length are;
+    words = words;
+    most = most ∙ (since.most ∙ ap (λ (m : ℕ). fold max m (map (λ (insertion : Planned). length insertion.moves) since.planned)) no_most);
+    span = span ∙ (since.span ∙ ap (λ (m : ℕ). fold max m (map (λ (insertion : Planned). insertion.span) since.planned)) no_span);
+  };
+}
+  where
+    settled : IsSettled old slots
+    settled = managed.carried.settled
+
+    are : plan'.writes.items ≡ planned_writes new.entries since.planned
+    are = since.writes ∙ ap (λ (w : List Write). w ++ planned_writes new.entries since.planned) no_writes
+
+-- a manager that holds the plan of a batch
+pub managed_held : (mode : Mode) (rules rules' : StoredRules) (old new : Entries) (slots : Slots) (batch : List Command) (held : Held)
+    → IsPlanOf mode rules old new slots held.arrangement batch held.writes.items held.counts → rules'.rules ≡ rules.rules → length (additions batch) ≤ rules'.spare
+    → held.made ≡ 0 → held.added.items ≡ additions batch → IsManaged mode rules' new slots (Some held)
+managed_held mode rules rules' old new slots batch held plan same room made added = record {
+  cover = plan.managed.cover;
+  routes = subst (AllByRecursion IsIpv4Route) (sym same) plan.managed.routes;
+  is_set = subst IsRuleSet (sym same) plan.managed.is_set;
   carried = record {
+    before = old.live;
+    old = subst (λ (set : List Rule). IsArranged set (record new { live = old.live }) slots) (sym same)
+        (arranged_same rules.rules old (record new { live = old.live }) slots plan.managed.carried refl plan.size plan.kept);
+    after = record {
+      settled = plan.settled;
+      number = plan.number ∙ ap length (sym sets);
+      entries_are = subst (λ (set : List Rule). AreEntriesOf (set_pieces Cover no_bits set) new.live new.entries) (set_with_additions rules.rules batch plan.adds ∙ sym sets)
+          (subst (λ (l : List LivePiece). AreEntriesOf (set_pieces Cover no_bits (set_after rules.rules batch)) l new.entries) (sym plan.live_is)
+          (planned_entries rules.rules batch old.live slots new.entries plan.planned plan.commit));
+    };
+    leads = ap (state_after (plain_state (contents new.entries slots))) plan.writes_are
+        ∙ (planned_state rules.rules batch old.live slots new.entries plan.planned plan.commit
+        ∙ ap (λ (s : Slots). plain_state (contents new.entries s)) (sym plan.slots_are));
     made = omega arith;
-    in_use = subst (λ (n : ℕ). AllByRecursion (IsInUse n) held.writes.items) (sym planned.settled.size) planned.in_use;
-    routes = subst (AllByRecursion IsRoute) (sym added) (added_routes batch adds);
-    new = subst (λ (set : List Rule). AreNew set held.added.items) (sym same) (subst (AreNew rules.rules) (sym added) (new_additions rules.rules batch adds sound));
+    in_use = plan.in_use;
+    routes = subst (AllByRecursion IsIpv4Route) (sym added) (added_routes batch plan.adds);
+    new = subst (λ (set : List Rule). AreNew set held.added.items) (sym same) (subst (AreNew rules.rules) (sym added) (new_additions rules.rules batch plan.adds plan.sound));
     room = (let new_ones : length held.added.items ≡ length (additions batch) = ap length added in omega arith);
   };
 }
+  where
+    sets : fold with_rule rules'.rules held.added.items ≡ fold with_rule rules.rules (additions batch)
+    sets = ap₂ (λ (r a : List Rule). fold with_rule r a) same added
+
+-- on a device with so many slots or more its writes are the batch's segment
+route_segment : (mode : Mode) (rules : StoredRules) (old new : Entries) (slots slots' : Slots) (batch : List Command) (writes : List Write) (counts : Done)
+    → IsPlanOf mode rules old new slots slots' batch writes counts → (device_slots : ℕ) → length slots ≤ device_slots
+    → IsRouteSegment rules.rules batch (on_device device_slots (plain_state (contents old.entries slots))) writes counts
+route_segment mode rules old new slots slots' batch writes counts plan device_slots wide =
+    subst (λ (w : List Write). IsRouteSegment rules.rules batch (on_device device_slots (plain_state (contents old.entries slots))) w counts) (sym plan.writes_are)
+    (subst (λ (e : _). IsRouteSegment rules.rules batch (on_device device_slots (plain_state e)) (planned_writes new.entries plan.planned) counts)
+    (contents_kept old.live old.entries new.entries slots plan.kept (settled_live old slots plan.managed.carried.settled))
+    (wider_segment rules.rules batch old.live slots new.entries plan.planned counts device_slots wide plan.commit plan.numbers))
+
+-- without a commit under way the device answers as the rules do
+pub idle_answers : (mode : Mode) (rules : StoredRules) (kept : Entries) (slots : Slots) → IsManaged mode rules kept slots None
+    → (device_slots : ℕ) → length slots ≤ device_slots → Shows (on_device device_slots (plain_state (contents kept.entries slots))) rules.rules
+idle_answers mode rules kept slots managed device_slots wide =
+    (wider_segment rules.rules [] kept.live slots kept.entries [] (record { writes = 0; words = 0; most = 0; span = 0 }) device_slots wide record {
+      is_set = managed.is_set;
+      routes = managed.routes;
+      adds = tt;
+      sound = refl;
+      arranged = are_arranged kept slots managed.carried.settled;
+      entries_are = managed.carried.entries_are;
+      inserted = refl;
+      have_entries = tt;
+      are_planned = tt;
+    } record { writes = refl; words = refl; most = refl; span = refl }).segment.hitless.on_the_way.before
 
 -- the view of such a manager
-pub holds_plan : (old : Managed) (batch : List Command) (ready : Ready) (rules' : List Rule) (slots' : ℕ) (held : Held) → OnlyAddsRoutes batch → rules' ≡ old.rules → slots' ≡ old.slots
-    → held.made ≡ 0 → held.added.items ≡ additions batch → ready ≡ ready_of held.counts → held.counts.writes ≡ length held.writes.items → AllByRecursion (IsInUse slots') held.writes.items
-    → Holds old batch ready (record { slots = slots'; mode = old.mode; rules = rules'; held = Some (held_of rules' held) })
-holds_plan old batch ready rules' slots' held adds same size made added counts number in_use = record {
-  held = held_of rules' held;
-  new_is = ap₂ (λ (s : ℕ) (r : List Rule). record { slots = s; mode = old.mode; rules = r; held = Some (held_of rules' held) }) size same;
-  rules = ap₂ (λ (r a : List Rule). fold with_rule r a) same added ∙ sym (set_with_additions old.rules batch adds);
+pub holds_plan : (mode : Mode) (rules rules' : StoredRules) (old new : Entries) (slots : Slots) (batch : List Command) (held : Held) (ready : Ready)
+    → IsPlanOf mode rules old new slots held.arrangement batch held.writes.items held.counts → rules'.rules ≡ rules.rules
+    → held.made ≡ 0 → held.added.items ≡ additions batch → ready ≡ ready_of held.counts
+    → Holds (view_of mode rules old slots None) batch ready (view_of mode rules' new slots (Some held))
+holds_plan mode rules rules' old new slots batch held ready plan same made added counts = record {
+  held = held_of rules'.rules held;
+  new_is = ap₂ (λ (r : List Rule) (s : State). record { slots = length slots; mode = mode; rules = r; bits = no_bits; state = s; held = Some (held_of rules'.rules held) }) same
+      (ap (λ (n : ℕ). state_after (plain_state (contents new.entries slots)) (take n held.writes.items)) made
+      ∙ ap plain_state (contents_kept old.live old.entries new.entries slots plan.kept (settled_live old slots plan.managed.carried.settled)));
+  rules = ap₂ (λ (r a : List Rule). fold with_rule r a) same added ∙ sym (set_with_additions rules.rules batch plan.adds);
+  bits = subst (λ (m : Mode). no_bits ≡ bits_left (set_after rules.rules batch) (bits_with m rules.rules batch no_bits)) (sym plan.managed.cover) refl;
   counts = counts;
-  number = number ∙ ap (λ (n : ℕ). length (drop n held.writes.items)) (sym made);
-  in_use = subst (λ (n : ℕ). AllByRecursion (IsInUse old.slots) (drop n held.writes.items)) (sym made) (subst (λ (n : ℕ). AllByRecursion (IsInUse n) held.writes.items) size in_use);
+  in_use = subst (AllByRecursion (IsInUse (length slots))) (sym all) plan.in_use;
+  segment = λ device_slots wide.
+      subst (λ (m : Mode). IsSegment m no_bits rules.rules batch (on_device device_slots (plain_state (contents old.entries slots))) (drop held.made held.writes.items)) (sym plan.managed.cover)
+      (subst (λ (w : List Write). IsSegment Cover no_bits rules.rules batch (on_device device_slots (plain_state (contents old.entries slots))) w) (sym all) (made_by device_slots wide).segment);
+  numbers = λ device_slots wide. subst (λ (w : List Write). AreCounts (on_device device_slots (plain_state (contents old.entries slots))) w held.counts) (sym all) (made_by device_slots wide).numbers;
+  uncrossed = λ device_slots wide routes adds. subst (λ (w : List Write). IsUncrossed 33 (insertions (on_device device_slots (plain_state (contents old.entries slots))) w)) (sym all) (made_by device_slots wide).uncrossed;
 }
+  where
+    all : drop held.made held.writes.items ≡ held.writes.items
+    all = ap (λ (n : ℕ). drop n held.writes.items) made
+
+    made_by : (device_slots : ℕ) → length slots ≤ device_slots → IsRouteSegment rules.rules batch (on_device device_slots (plain_state (contents old.entries slots))) held.writes.items held.counts
+    made_by device_slots wide = route_segment mode rules old new slots held.arrangement batch held.writes.items held.counts plan device_slots wide

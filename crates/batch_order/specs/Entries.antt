@@ -1,9 +1,10 @@
 -- The entries that are live, each under an id.
-use Rattle.std.specs.Prelude.{◌≡◌, ℕ, ◌+◌, ◌<◌, ◌≤◌, IsTrue, IsFalse, Option, Some, None, List, ◌++◌, ◌-◌, length, map, drop, nat_eq}
+use Rattle.std.specs.Prelude.{◌≡◌, ℕ, ◌+◌, ◌<◌, ◌≤◌, IsTrue, IsFalse, Option, List, ◌++◌, ◌-◌, length, map, drop, nat_eq}
 use Rattle.std.specs.List.{AllByRecursion, IsDistinct}
 use Rattle.ternary_word.specs.declared.Entry.{Entry}
 use Rattle.overlap_index.specs.declared.LivePiece.{LivePiece}
 use Rattle.overlap_index.specs.Live.{AreApart, is_live}
+use Rattle.commit_writes.specs.Planned.{entry_at}
 
 -- the live ids with their pieces, the number that ids are below, and the entry of each id
 pub record Entries : Type 0 where
@@ -37,3 +38,7 @@ pub record AddsIds (old new : Entries) (ids : List ℕ) : Type 0 where
 -- these are the ids that became live last
 abbrev pub AreLast : List LivePiece → List ℕ → Type 0
 AreLast live ids = (length ids ≤ length live) × (map (λ one. one.id) (drop (length live - length ids) live) ≡ ids)
+
+-- each of these live ids has the entry that it had before
+abbrev pub KeepEntries : List LivePiece → List (Option Entry) → List (Option Entry) → Type 0
+KeepEntries live before now = (id : ℕ) → IsTrue (is_live live id) → entry_at now id ≡ entry_at before id

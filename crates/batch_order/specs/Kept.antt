@@ -1,14 +1,20 @@
 -- What holds of a manager between its calls.
-use Rattle.std.specs.Prelude.{◌≡◌, ℕ, ◌+◌, ◌≤◌, Option, Some, None, IfSome, List, length, drop, fold}
+use Rattle.std.specs.Prelude.{◌≡◌, ◌≤◌, Option, Some, None, List, length, take, drop, fold}
 use Rattle.std.specs.List.{AllByRecursion}
 use Rattle.slot_pool.specs.Arrangement.{Slots}
 use Rattle.rule_model.specs.declared.Rule.{Rule}
-use Rattle.batch_order.specs.Managed.{IsRoute}
+use Rattle.rule_model.specs.RuleSet.{IsRuleSet}
+use Rattle.rule_model.specs.Routes.{IsIpv4Route}
+use Rattle.ternary_word.specs.declared.Entry.{Entry}
 use Rattle.rule_store.specs.declared.Mode.{Mode}
 use Rattle.rule_store.specs.declared.Mode.TheVariants.{Cover}
 use Rattle.rule_store.specs.Batch.{with_rule}
 use Rattle.rule_store.specs.Store.{StoredRules}
-use Rattle.tcam_device.specs.State.{IsInUse}
+use Rattle.overlap_index.specs.declared.LivePiece.{LivePiece}
+use Rattle.tcam_device.specs.State.{State, IsInUse, state_after}
+use Rattle.commit_writes.specs.Bits.{no_bits}
+use Rattle.commit_writes.specs.Shape.{set_pieces}
+use Rattle.commit_writes.specs.Planned.{AreEntriesOf, contents, plain_state}
 use Rattle.batch_order.specs.declared.manager.Held.{Held}
 use Rattle.batch_order.specs.Entries.{Entries}
 use Rattle.batch_order.specs.Planning.{AreNew, IsSettled}
@@ -17,25 +23,47 @@ use Rattle.batch_order.specs.Managed.{HeldCommit}
 -- the commit under way, as callers see it
 abbrev pub held_of : List Rule → Held → HeldCommit
 held_of rules held =
-    record { writes = drop held.made held.writes.items; counts = held.counts; rules = fold with_rule rules held.added.items }
+    record {
+      writes = drop held.made held.writes.items;
+      counts = held.counts;
+      rules = fold with_rule rules held.added.items;
+      bits = no_bits;
+    }
 
--- how many rules a commit under way adds
-abbrev pub added_number : Option Held → ℕ
-added_number None = 0
-added_number (Some held) = length held.added.items
+-- what the slots in use hold: the entries as they are arranged, after the writes of a commit under way that were made
+abbrev pub state_of : List (Option Entry) → Slots → Option Held → State
+state_of entries slots None = plain_state (contents entries slots)
+state_of entries slots (Some held) =
+    state_after (plain_state (contents entries slots)) (take held.made held.writes.items)
 
--- a commit under way can be carried out: its writes are within the slots in use, and its rules are new and have room
-pub record IsHeld (slots : ℕ) (rules : StoredRules) (held : Held) : Type 0 where
+-- the routes of a set have an entry each, and these stand in order
+pub record IsArranged (rules : List Rule) (kept : Entries) (slots : Slots) : Type 0 where
+  pub settled : IsSettled kept slots
+  pub number : length kept.live ≡ length rules
+  pub entries_are : AreEntriesOf (set_pieces Cover no_bits rules) kept.live kept.entries
+
+-- A commit under way can be carried out: the set's entries stand in order before its writes, and the new set's after them.
+pub record IsHeld (rules : StoredRules) (kept : Entries) (slots : Slots) (held : Held) : Type 0 where
+  -- the ids that are live without the commit
+  pub before : List LivePiece
+  pub old : IsArranged rules.rules (record kept { live = before }) slots
+  pub after : IsArranged (fold with_rule rules.rules held.added.items) kept held.arrangement
+  pub leads : state_after (plain_state (contents kept.entries slots)) held.writes.items
+      ≡ plain_state (contents kept.entries held.arrangement)
   pub made : held.made ≤ length held.writes.items
-  pub in_use : AllByRecursion (IsInUse slots) held.writes.items
-  pub routes : AllByRecursion IsRoute held.added.items
+  pub in_use : AllByRecursion (IsInUse (length slots)) held.writes.items
+  pub routes : AllByRecursion IsIpv4Route held.added.items
   pub new : AreNew rules.rules held.added.items
   pub room : length held.added.items ≤ rules.spare
 
--- the set's routes have an entry each, and so have those of the commit under way
+-- the set's entries stand in order, and with a commit under way it can be carried out
+abbrev pub IsCarried : StoredRules → Entries → Slots → Option Held → Type 0
+IsCarried rules kept slots None = IsArranged rules.rules kept slots
+IsCarried rules kept slots (Some held) = IsHeld rules kept slots held
+
+-- a set of routes whose entries stand in order
 pub record IsManaged (mode : Mode) (rules : StoredRules) (kept : Entries) (slots : Slots) (held : Option Held) : Type 0 where
   pub cover : mode ≡ Cover
-  pub routes : AllByRecursion IsRoute rules.rules
-  pub settled : IsSettled kept slots
-  pub number : length kept.live ≡ length rules.rules + added_number held
-  pub carried : IfSome held (IsHeld (length slots) rules)
+  pub routes : AllByRecursion IsIpv4Route rules.rules
+  pub is_set : IsRuleSet rules.rules
+  pub carried : IsCarried rules kept slots held

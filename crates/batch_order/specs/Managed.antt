@@ -1,36 +1,51 @@
 -- What a manager keeps, and how it judges a batch.
-use Rattle.std.specs.Prelude.{◌≡◌, ℕ, ◌≤◌, ◌⊎◌, Bool, true, false, Result, Ok, Err, IsOk, Option, Some, None, List, [], ◌∷◌, length, slice_get}
+use Rattle.std.specs.Prelude.{◌≡◌, ℕ, ◌≤◌, ◌⊎◌, Result, Err, IsOk, Option, Some, None, IfSome, List, [], ◌∷◌, length, slice_get}
 use Rattle.std.specs.List.{AllByRecursion}
 use Rattle.rule_model.specs.declared.Rule.{Rule}
-use Rattle.rule_model.specs.Rule.{route_rule}
+use Rattle.rule_model.specs.Routes.{IsIpv4Route}
 use Rattle.rule_store.specs.declared.Mode.{Mode}
 use Rattle.rule_store.specs.declared.Command.{Command}
-use Rattle.rule_store.specs.declared.Command.TheVariants.{Add, Set, Del}
 use Rattle.rule_store.specs.declared.BatchFault.{BatchFault}
 use Rattle.rule_store.specs.declared.BatchFault.TheVariants.{Twice, Taken, Absent}
 use Rattle.rule_store.specs.Batch.{set_after}
 use Rattle.rule_store.specs.Verdict.{Verdict, Accepted, Unsound, OutOfBits, OutOfSlots, verdict}
 use Rattle.tcam_device.specs.declared.Write.{Write}
-use Rattle.tcam_device.specs.State.{IsInUse}
+use Rattle.tcam_device.specs.State.{State, IsInUse, blank, apply, replay, on_device}
+use Rattle.tcam_device.specs.Insertion.{insertions, IsUncrossed}
+use Rattle.commit_writes.specs.declared.Done.{Done}
+use Rattle.commit_writes.specs.Bits.{FieldBits, no_bits, bits_with, bits_left}
+use Rattle.commit_writes.specs.Commit.{IsSegment, AreCounts}
+use Rattle.commit_writes.specs.Planned.{AddsRoute}
 use Rattle.batch_order.specs.declared.Refusal.{Refusal}
 use Rattle.batch_order.specs.declared.Refusal.TheVariants as refusal
 use Rattle.batch_order.specs.declared.Step.{Step}
 use Rattle.batch_order.specs.declared.Step.TheVariants.{Wrote, Finished, Idle}
-use Rattle.batch_order.specs.declared.Done.{Done}
 use Rattle.batch_order.specs.declared.Ready.{Ready}
 
--- a commit under way: the writes still to make, its numbers, and the set that it leads to
+-- a commit under way: the writes still to make, its numbers, and the set and the live ranges that it leads to
 pub record HeldCommit : Type 0 where
   pub writes : List Write
   pub counts : Done
   pub rules : List Rule
+  pub bits : FieldBits
 
--- a manager: the slots in use, the encoding of port ranges, the rules of the set, and the commit under way
+-- a manager: the slots in use, the encoding of port ranges, the rules of the set and their live ranges, what the slots in
+-- use and the tables of its device hold, and the commit under way
 pub record Managed : Type 0 where
   pub slots : ℕ
   pub mode : Mode
   pub rules : List Rule
+  pub bits : FieldBits
+  pub state : State
   pub held : Option HeldCommit
+
+-- a manager of a blank device, without rules
+abbrev pub fresh : ℕ → Mode → Managed
+fresh slots mode = record { slots = slots; mode = mode; rules = []; bits = no_bits; state = blank slots; held = None }
+
+-- the device's state is the manager's, where it is told
+abbrev pub IsOn : ℕ → Option (List Write) → Managed → Type 0
+IsOn device_slots journal manager = IfSome journal (λ writes. on_device device_slots manager.state ≡ replay device_slots writes)
 
 -- the fault of a batch as a refusal
 abbrev pub refusal_of : BatchFault → Refusal
@@ -55,14 +70,25 @@ abbrev pub ready_of : Done → Ready
 ready_of counts =
     record { writes = counts.writes; words = counts.words; most = counts.most; span = counts.span }
 
--- a batch is taken: its writes are held, each within the slots in use, and it leads to the set after it
+-- the batch adds IPv4 routes and does nothing else
+abbrev pub OnlyAddsRoutes : List Command → Type 0
+OnlyAddsRoutes batch = AllByRecursion AddsRoute batch
+
+-- a batch is taken: its writes are held, and they are its segment on a device with so many slots or more
 pub record Holds (old : Managed) (batch : List Command) (ready : Ready) (new : Managed) : Type 0 where
   pub held : HeldCommit
   pub new_is : new ≡ record old { held = Some held }
   pub rules : held.rules ≡ set_after old.rules batch
+  pub bits : held.bits ≡ bits_left (set_after old.rules batch) (bits_with old.mode old.rules batch old.bits)
   pub counts : ready ≡ ready_of held.counts
-  pub number : held.counts.writes ≡ length held.writes
   pub in_use : AllByRecursion (IsInUse old.slots) held.writes
+  -- hitless after every write, of the commit's shape, and within the bounds on insertions
+  pub segment : (device_slots : ℕ) → old.slots ≤ device_slots
+      → IsSegment old.mode old.bits old.rules batch (on_device device_slots old.state) held.writes
+  pub numbers : (device_slots : ℕ) → old.slots ≤ device_slots → AreCounts (on_device device_slots old.state) held.writes held.counts
+  -- of routes no insertion crosses others, and none takes more than 33 writes
+  pub uncrossed : (device_slots : ℕ) → old.slots ≤ device_slots → AllByRecursion IsIpv4Route old.rules → OnlyAddsRoutes batch
+      → IsUncrossed 33 (insertions (on_device device_slots old.state) held.writes)
 
 -- the next write to make, if a commit is under way and has one left
 abbrev pub next_of : Option HeldCommit → Option Write
@@ -77,25 +103,12 @@ writes_of Idle = []
 
 -- with writes left the next one was made, and with none left the rules are the new set
 abbrev pub StepsOn : Managed → HeldCommit → List Write → Step → Managed → Type 0
-StepsOn old held [] step new = (step ≡ Finished held.counts) × (new ≡ record old { rules = held.rules; held = None })
+StepsOn old held [] step new =
+    (step ≡ Finished held.counts) × (new ≡ record old { rules = held.rules; bits = held.bits; held = None })
 StepsOn old held (write ∷ writes) step new =
-    (step ≡ Wrote write) × (new ≡ record old { held = Some (record held { writes = writes }) })
+    (step ≡ Wrote write) × (new ≡ record old { state = apply old.state write; held = Some (record held { writes = writes }) })
 
 -- what a step does: it is idle where no commit is under way, and then nothing changes
 abbrev pub Steps : Managed → Option HeldCommit → Step → Managed → Type 0
 Steps old None step new = (step ≡ Idle) × (new ≡ old)
 Steps old (Some held) step new = StepsOn old held held.writes step new
-
--- a route: a rule on the destination address alone
-pub record IsRoute (rule : Rule) : Type 0 where
-  pub route : rule ≡ route_rule rule.priority rule.dst rule.result
-
--- a change that adds a route
-abbrev pub AddsRoute : Command → Type 0
-AddsRoute (Add rule) = IsRoute rule
-AddsRoute (Set priority answer) = ⊥
-AddsRoute (Del priority) = ⊥
-
--- the batch adds routes and does nothing else
-abbrev pub OnlyAddsRoutes : List Command → Type 0
-OnlyAddsRoutes batch = AllByRecursion AddsRoute batch

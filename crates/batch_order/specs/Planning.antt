@@ -1,23 +1,23 @@
 -- What a plan needs and keeps: entries that stand once and in order, and writes within the slots in use.
-use Rattle.std.specs.Prelude.{◌≡◌, ℕ, ◌+◌, ◌<◌, ◌≤◌, IsTrue, IsFalse, Option, Some, None, List, [], ◌∷◌, length, take, drop, fold, slice_index_or}
+use Rattle.std.specs.Prelude.{◌≡◌, ℕ, ◌+◌, ◌<◌, ◌≤◌, IsTrue, IsFalse, Some, List, [], ◌∷◌, ◌++◌, length, take, drop, fold, map, max}
 use Rattle.std.specs.List.{AllByRecursion}
 use Rattle.slot_pool.specs.Arrangement.{Slots}
 use Rattle.rule_model.specs.declared.Rule.{Rule}
 use Rattle.rule_model.specs.RuleSet.{has_priority}
 use Rattle.rule_model.specs.Piece.{whole_piece}
 use Rattle.rule_store.specs.Batch.{with_rule}
-use Rattle.ternary_word.specs.declared.Entry.{Entry}
-use Rattle.ternary_word.specs.Entry.{IsEncodable}
+use Rattle.ternary_word.specs.Entry.{IsEncodable, RankedPiece, entry_for}
 use Rattle.overlap_index.specs.declared.LivePiece.{LivePiece}
 use Rattle.overlap_index.specs.Live.{AreApart, is_live, is_above}
 use Rattle.move_planner.specs.declared.Move.{Move}
 use Rattle.move_planner.specs.declared.Move.TheVariants.{Put, Erase}
-use Rattle.move_planner.specs.Placement.{IsInOrder}
+use Rattle.move_planner.specs.Placement.{IsPlacement, IsInOrder, after_moves, span_of}
 use Rattle.move_planner.specs.Insertion.{IsLive, IsOther, StandOnce, free_slots}
 use Rattle.tcam_device.specs.declared.Write.{Write}
-use Rattle.tcam_device.specs.declared.Write.TheVariants.{Slot}
 use Rattle.tcam_device.specs.State.{IsInUse}
-use Rattle.batch_order.specs.Entries.{Entries}
+use Rattle.commit_writes.specs.Planned.{Planned, ArePlanned, ranked_of, live_after, slots_after, planned_writes, write_for, entry_at}
+use Rattle.batch_order.specs.declared.plan.Plan.{Plan}
+use Rattle.batch_order.specs.Entries.{Entries, KeepEntries}
 
 -- rules whose priorities neither a set nor an earlier one of them has
 abbrev pub AreNew : List Rule → List Rule → Type 0
@@ -32,11 +32,6 @@ HasPieces rules = AllByRecursion (λ rule. IsEncodable (whole_piece rule)) rules
 abbrev pub IsInside : ℕ → Move → Type 0
 IsInside slots (Put slot id) = slot < slots
 IsInside slots (Erase slot) = slot < slots
-
--- the device write that a move is, by the entries of the ids
-abbrev pub write_for : List (Option Entry) → Move → Write
-write_for entries (Put slot id) = Slot slot (slice_index_or entries id None)
-write_for entries (Erase slot) = Slot slot None
 
 -- each live id stands in one slot, in order, and the other slots are free
 pub record IsSettled (kept : Entries) (slots : Slots) : Type 0 where
@@ -62,6 +57,39 @@ pub record IsLastLive (kept : Entries) (slots : Slots) (id : ℕ) : Type 0 where
   pub order : IsInOrder (is_above kept.live) slots
   pub count : free_slots slots + length kept.live ≡ kept.slots + 1
   pub room : length kept.live ≤ kept.slots
+
+-- a move that puts an id puts a live one
+abbrev pub PutsLive : List LivePiece → Move → Type 0
+PutsLive live (Put slot id) = IsTrue (is_live live id)
+PutsLive live (Erase slot) = Unit {0}
+
+-- what a route inserts: its piece with its priority and its result
+abbrev pub route_piece : Rule → RankedPiece
+route_piece rule = record { piece = whole_piece rule; rank = rule.priority; result = rule.result }
+
+-- the insertion of a live id was planned: its moves are those of its placement, and their writes stand behind the others
+pub record IsInserted (kept : Entries) (slots slots' : Slots) (id : ℕ) (plan plan' : Plan) : Type 0 where
+  pub moves : List Move
+  pub placement : IsPlacement (is_above kept.live) id slots moves
+  pub slots_are : slots' ≡ after_moves slots moves
+  pub writes : plan'.writes.items ≡ plan.writes.items ++ map (write_for kept.entries) moves
+  pub most : plan'.most ≡ max plan.most (length moves)
+  pub span : plan'.span ≡ max plan.span (span_of (is_above kept.live) slots id)
+
+-- insertions of some pieces were planned, one after the other, under ids that weren't live before
+pub record ArePlannedSince (old new : Entries) (slots slots' : Slots) (plan plan' : Plan) (pieces : List RankedPiece) : Type 0 where
+  pub planned : List Planned
+  pub are_planned : ArePlanned old.live slots planned
+  pub pieces_are : map ranked_of planned ≡ pieces
+  pub live_is : new.live ≡ live_after old.live planned
+  pub slots_are : slots' ≡ slots_after slots planned
+  pub have_entries : AllByRecursion (λ insertion. entry_at new.entries insertion.one.id ≡ Some (entry_for (ranked_of insertion))) planned
+  pub kept : KeepEntries old.live old.entries new.entries
+  -- their writes mean the same under any later entries, since they put live ids alone
+  pub puts : AllByRecursion (λ insertion. AllByRecursion (PutsLive new.live) insertion.moves) planned
+  pub writes : plan'.writes.items ≡ plan.writes.items ++ planned_writes new.entries planned
+  pub most : plan'.most ≡ fold max plan.most (map (λ insertion. length insertion.moves) planned)
+  pub span : plan'.span ≡ fold max plan.span (map (λ insertion. insertion.span) planned)
 
 -- the first of some new rules are in, and the others have room
 pub record IsInserting (before added : List Rule) (place : ℕ) (rules : List Rule) (spare : ℕ) : Type 0 where

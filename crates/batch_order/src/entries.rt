@@ -4,6 +4,7 @@ ghost use Rattle.std.specs.Prelude.{◌≡◌, ◌<◌, ◌≤◌, ◌+◌, ◌�
 ghost use Rattle.ternary_word.specs.Entry as words;
 ghost use Rattle.ternary_word.specs.Entry.{IsEncodable};
 ghost use Rattle.overlap_index.specs.Live.{AreApart, is_live, without_id};
+ghost use Rattle.commit_writes.specs.Planned.{entry_at};
 ghost use Rattle.batch_order.specs.Entries.{AreAll};
 
 use overlap_index::Index;
@@ -75,6 +76,7 @@ impl LiveEntries {
         ensures absent { IfOk result (λ id. IsFalse (is_live self.old.live id)) }
         ensures live { IfOk result (λ id. self.new.live ≡ self.old.live ++ record { id = id; piece = piece.now; rank = tag } ∷ []) }
         ensures entries { IfOk result (λ id. self.new.entries ≡ slice_set self.old.entries id (Some (words.entry_of piece.now tag answer))) }
+        ensures entry { IfOk result (λ id. entry_at self.new.entries id ≡ Some (words.entry_of piece.now tag answer)) }
         ensures slots { self.new.slots ≡ self.old.slots }
         ensures refused { OnErr result (self.new ≡ self.old) }
     {

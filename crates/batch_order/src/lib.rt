@@ -23,6 +23,7 @@ mod manager;
 mod plan;
 mod planning;
 
+pub use commit_writes::Done;
 pub use manager::Manager;
 pub use rule_model::Field;
 use rule_model::Rank;
@@ -61,15 +62,6 @@ pub enum Refusal {
 /// of its longest insertion, and the greatest crossing span of one.
 #[derive(Clone, Copy, Debug, PartialEq, Eq)]
 pub struct Ready {
-    pub writes: u64,
-    pub words: u32,
-    pub most: u32,
-    pub span: u32,
-}
-
-/// The same numbers of a commit that was made.
-#[derive(Clone, Copy, Debug, PartialEq, Eq)]
-pub struct Done {
     pub writes: u64,
     pub words: u32,
     pub most: u32,

@@ -2,11 +2,11 @@
 
 ghost use Rattle.std.specs.Prelude.{◌≡◌, ◌+◌, ◌-◌, ◌++◌, ◌∷◌, [], ◌≤◌, ◌<◌, ◌↔◌, ℕ, List, Option, Some, None, Err, IfSome, IsSome, IfOk, IfErr, OnOk, OnErr, length, option_map, fold};
 ghost use Rattle.tcam_device.specs.Cause.{HasCause};
-ghost use Rattle.tcam_device.specs.State.{IsInUse};
+ghost use Rattle.tcam_device.specs.State.{IsInUse, Shows, on_device};
 ghost use Rattle.rule_store.specs.Verdict.{entries_of, verdict, Accepted};
 ghost use Rattle.rule_store.specs.Batch.{batch_fault, with_rule};
 ghost use Rattle.batch_order.specs.Planning.{AreNew};
-ghost use Rattle.batch_order.specs.Managed.{Judges, Answers, Holds, Steps, next_of, OnlyAddsRoutes, writes_of};
+ghost use Rattle.batch_order.specs.Managed.{Judges, Answers, Holds, Steps, next_of, OnlyAddsRoutes, IsOn, fresh, writes_of};
 
 use crate::entries::LiveEntries;
 use crate::plan::{Plan, ready};
@@ -19,13 +19,15 @@ use std::alloc::{AllocError, Global};
 use std::marker::Model;
 use tcam_device::{Device, DeviceFault, Write};
 
-/// A commit under way: its writes and how many of them were made, its numbers, and the rules that it adds.
+/// A commit under way: its writes and how many of them were made, its numbers, the rules that it adds, and where the
+/// entries stand once its writes are made.
 #[derive(Drop)]
 pub(crate) struct Held {
     pub(crate) writes: Vec<Write>,
     pub(crate) made: usize,
     pub(crate) counts: Done,
     pub(crate) added: Vec<Rule>,
+    pub(crate) arrangement: Arrangement,
 }
 
 /// The manager of one device: its rules, where their entries stand, and the commit under way, if there is one.
@@ -35,7 +37,7 @@ pub struct Manager {
     mode: Mode,
     rules: Store,
     live: LiveEntries,
-    /// Where the entries stand once the writes that are held are made.
+    /// Where the entries of the set stand, before the writes of a commit under way.
     arrangement: Arrangement,
     held: Option<Held>,
 }
@@ -43,7 +45,8 @@ pub struct Manager {
 impl Model for Manager {
     ghost use Rattle.std.specs.Prelude.{length, option_map};
     ghost use Rattle.batch_order.specs.Managed.{Managed};
-    ghost use Rattle.batch_order.specs.Kept.{IsManaged, held_of};
+    ghost use Rattle.commit_writes.specs.Bits.{no_bits};
+    ghost use Rattle.batch_order.specs.Kept.{IsManaged, held_of, state_of};
 
     ghost Value = { Managed };
 
@@ -51,6 +54,8 @@ impl Model for Manager {
       slots = length m.arrangement;
       mode = m.mode;
       rules = m.rules.rules;
+      bits = no_bits;
+      state = state_of m.live.entries m.arrangement m.held;
       held = option_map (held_of m.rules.rules) m.held;
     } };
 
@@ -63,7 +68,7 @@ impl Manager {
         requires least { 1 ≤ slots }
         requires most { slots ≤ 4096 }
         requires cover { mode ≡ Mode.Cover }
-        ensures { IfOk result (λ manager. manager ≡ record { slots = slots; mode = mode; rules = []; held = None }) }
+        ensures { IfOk result (λ manager. manager ≡ fresh slots mode) }
     {
         Ok(Manager {
             alloc,
@@ -75,9 +80,12 @@ impl Manager {
         })
     }
 
-    /// The rules of the set; while a commit is under way, those of the old set.
+    /// The rules of the set; while a commit is under way, those of the old set. With none under way a device that
+    /// holds what the manager's writes left answers as they do.
     pub fn rules(&self) -> &Store
-        ensures { result.now.rules ≡ self.now.rules }
+        ensures rules { result.now.rules ≡ self.now.rules }
+        ensures answers { self.now.held ≡ None → (device_slots : ℕ) → self.now.slots ≤ device_slots
+            → Shows (on_device device_slots self.now.state) self.now.rules }
     {
         &self.rules
     }
@@ -112,6 +120,7 @@ impl Manager {
         ensures journal { D.journal device.new ≡ D.journal device.old }
         ensures slot_count { D.slot_count device.new ≡ D.slot_count device.old }
         ensures faults { D.faults device.new ≡ D.faults device.old }
+        ensures stays_on { IsOn (D.slot_count device.old) (D.journal device.old) self.old → IsOn (D.slot_count device.new) (D.journal device.new) self.new }
     {
         if let Some(left) = self.left() {
             return Err(Refusal::Busy { left });
@@ -188,12 +197,12 @@ impl Manager {
             most: _,
             span: _,
         } = plan;
-        self.arrangement = arrangement;
         self.held = Some(Held {
             writes,
             made: 0,
             counts,
             added,
+            arrangement,
         });
         Ok(ready(&counts))
     }
@@ -210,6 +219,7 @@ impl Manager {
         ensures spare_err { OnErr result (D.spare device.new ≡ D.spare device.old) }
         ensures slot_count { D.slot_count device.new ≡ D.slot_count device.old }
         ensures cause { HasCause (D.faults device.old) (D.faults device.new) result }
+        ensures stays_on { IsOn (D.slot_count device.old) (D.journal device.old) self.old → IsOn (D.slot_count device.new) (D.journal device.new) self.new }
     {
         match self.next_write() {
             None => Ok(self.finish()),
@@ -224,6 +234,7 @@ impl Manager {
     fn next_write(&self) -> Option<Write>
         ensures next { result ≡ next_of self.now.held }
         ensures in_use { IfSome result (IsInUse self.now.slots) }
+        ensures size { length self.now.state.slots ≡ self.now.slots }
     {
         match &self.held {
             None => None,
@@ -258,8 +269,10 @@ impl Manager {
                     made: _,
                     counts,
                     added,
+                    arrangement,
                 } = held;
                 insert_all(&mut self.rules, added.as_slice());
+                self.arrangement = arrangement;
                 Step::Finished(counts)
             }
         }

@@ -20,7 +20,9 @@ pub(crate) struct Plan {
 impl Plan {
     /// A plan of no writes.
     pub(crate) fn new(alloc: Global) -> Plan
-        ensures { result.writes.items ≡ [] }
+        ensures writes { result.writes.items ≡ [] }
+        ensures most { result.most ≡ 0 }
+        ensures span { result.span ≡ 0 }
     {
         Plan {
             writes: Vec::new(alloc),
@@ -33,6 +35,8 @@ impl Plan {
     pub(crate) fn push(&mut self, slot: u32, entry: Option<Entry>) -> Result<(), AllocError>
         ensures ok { OnOk result (self.new.writes.items ≡ self.old.writes.items ++ Write.Slot slot entry ∷ []) }
         ensures err { OnErr result (self.new.writes.items ≡ self.old.writes.items) }
+        ensures most { self.new.most ≡ self.old.most }
+        ensures span { self.new.span ≡ self.old.span }
     {
         self.writes.push(Write::Slot(slot, entry))?;
         Ok(())

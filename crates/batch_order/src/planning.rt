@@ -5,8 +5,9 @@ ghost use Rattle.std.specs.List.{AllByRecursion};
 ghost use Rattle.rule_store.specs.Batch.{additions as added_by, with_rule};
 ghost use Rattle.overlap_index.specs.Live.{is_live};
 ghost use Rattle.tcam_device.specs.State.{IsInUse};
-ghost use Rattle.batch_order.specs.Entries.{AddsIds, AreLast};
-ghost use Rattle.batch_order.specs.Planning.{AreNew, HasPieces, IsPlannable, IsLastLive, IsInside};
+ghost use Rattle.commit_writes.specs.Planned.{write_for};
+ghost use Rattle.batch_order.specs.Entries.{AddsIds, AreLast, KeepEntries};
+ghost use Rattle.batch_order.specs.Planning.{AreNew, HasPieces, IsPlannable, IsLastLive, IsInside, IsInserted, ArePlannedSince, route_piece};
 
 use crate::entries::LiveEntries;
 use crate::plan::Plan;
@@ -53,8 +54,8 @@ pub(crate) fn falling(alloc: Global, rules: &[Rule]) -> Result<Store, AllocError
     Ok(sorted)
 }
 
-/// Plans an insertion for each rule, and answers the ids of their entries. On want of memory the live entries are as
-/// they were.
+/// Plans an insertion for each rule, in their order, and answers the ids of their entries. On want of memory the live
+/// entries are as they were.
 pub(crate) fn plan_additions(
     alloc: Global,
     added: &Store,
@@ -66,9 +67,11 @@ pub(crate) fn plan_additions(
     requires pieces { HasPieces added.now.rules }
     requires plannable { IsPlannable live.old arrangement.old plan.old.writes.items }
     ensures plannable { OnOk result (IsPlannable live.new arrangement.new plan.new.writes.items) }
+    ensures planned { OnOk result (ArePlannedSince live.old live.new arrangement.old arrangement.new plan.old plan.new (map route_piece added.now.rules)) }
     ensures adds { IfOk result (λ ids. AddsIds live.old live.new ids.items) }
     ensures number { IfOk result (λ ids. length ids.items ≡ length added.now.rules) }
     ensures refused { OnErr result (live.new.live ≡ live.old.live) }
+    ensures kept { KeepEntries live.old.live live.old.entries live.new.entries }
     ensures slots { live.new.slots ≡ live.old.slots }
 {
     let mut ids = Vec::with_capacity(alloc, added.len() as usize)?;
@@ -88,6 +91,7 @@ pub(crate) fn plan_additions(
 pub(crate) fn forget_all(live: &mut LiveEntries, mut ids: Vec<u32>)
     requires { AreLast live.old.live ids.items }
     ensures live { live.new.live ≡ take (length live.old.live - length ids.items) live.old.live }
+    ensures kept { KeepEntries live.new.live live.old.entries live.new.entries }
     ensures slots { live.new.slots ≡ live.old.slots }
 {
     while let Some(id) = ids.pop() {
@@ -107,8 +111,10 @@ fn plan_rule(
     requires pieces { HasPieces (rule.now ∷ []) }
     requires plannable { IsPlannable live.old arrangement.old plan.old.writes.items }
     ensures plannable { OnOk result (IsPlannable live.new arrangement.new plan.new.writes.items) }
+    ensures planned { OnOk result (ArePlannedSince live.old live.new arrangement.old arrangement.new plan.old plan.new (route_piece rule.now ∷ [])) }
     ensures adds { IfOk result (λ id. AddsIds live.old live.new (id ∷ [])) }
     ensures refused { OnErr result (live.new.live ≡ live.old.live) }
+    ensures kept { KeepEntries live.old.live live.old.entries live.new.entries }
     ensures slots { live.new.slots ≡ live.old.slots }
 {
     let id = live.add(&Piece::whole(rule), rule.priority, rule.result)?;
@@ -132,6 +138,7 @@ fn plan_moves(
     requires new { IsLastLive live.now arrangement.old id }
     requires in_use { AllByRecursion (IsInUse live.now.slots) plan.old.writes.items }
     ensures plannable { OnOk result (IsPlannable live.now arrangement.new plan.new.writes.items) }
+    ensures inserted { OnOk result (IsInserted live.now arrangement.old arrangement.new id plan.old plan.new) }
 {
     let mut moves = Moves::new(alloc);
     let insert = plan_insert(alloc, arrangement, live.index(), id, &mut moves)?;
@@ -144,7 +151,10 @@ fn plan_moves(
 fn push_all(live: &LiveEntries, moves: &Moves, plan: &mut Plan) -> Result<(), AllocError>
     requires inside { AllByRecursion (IsInside live.now.slots) moves.now }
     requires in_use { AllByRecursion (IsInUse live.now.slots) plan.old.writes.items }
-    ensures { OnOk result (AllByRecursion (IsInUse live.now.slots) plan.new.writes.items) }
+    ensures in_use { OnOk result (AllByRecursion (IsInUse live.now.slots) plan.new.writes.items) }
+    ensures writes { OnOk result (plan.new.writes.items ≡ plan.old.writes.items ++ map (write_for live.now.entries) moves.now) }
+    ensures most { OnOk result (plan.new.most ≡ plan.old.most) }
+    ensures span { OnOk result (plan.new.span ≡ plan.old.span) }
 {
     for place in 0..moves.len() {
         match moves.at(place) {

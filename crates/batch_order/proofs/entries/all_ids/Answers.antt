@@ -1,6 +1,4 @@
-use Rattle.std.proofs.Common.{rules, ◌≡◌, ◌≤◌, ◌+◌, [], ◌∷◌, ◌++◌}
-use Rattle.std.specs.Prelude.{vec_capacity}
-use Rattle.batch_order.specs.Entries.{AreAll}
+use Rattle.std.proofs.Common.{rules, ◌≡◌, [], ◌∷◌, ◌++◌}
 use Rattle.batch_order.proofs.Ids.{all_none, all_more}
 use Rattle.batch_order.proofs.entries.all_ids.Goals as goal
 

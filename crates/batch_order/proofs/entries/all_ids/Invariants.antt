@@ -1,4 +1,4 @@
-use Rattle.std.proofs.Common.{◌≡◌, ◌≤◌}
+use Rattle.std.proofs.Common.{◌≤◌}
 use Rattle.std.specs.Prelude.{vec_capacity}
 use Rattle.batch_order.specs.Entries.{AreAll}
 use Rattle.batch_order.proofs.entries.all_ids.Given as goal

@@ -1,5 +1,4 @@
-use Rattle.std.proofs.Common.{◌≡◌, ◌≤◌, None, replicate}
-use Rattle.std.specs.Prelude.{vec_capacity}
+use Rattle.std.proofs.Common.{◌≡◌, None, replicate}
 use Rattle.batch_order.proofs.entries.no_entries.Given as goal
 
 abbrev pub invariant-loop : goal.invariant-loop

@@ -1,4 +1,4 @@
-use Rattle.std.proofs.Common.{rules, ◌≡◌, ◌∙◌, ◌+◌, ◌++◌, [], ◌∷◌, take, ap, sym, slice_get, Some}
+use Rattle.std.proofs.Common.{rules, ◌≡◌, ◌∙◌, ◌+◌, ◌++◌, [], ◌∷◌, take, ap, slice_get, Some}
 use Rattle.rule_store.specs.Batch.{additions}
 use Rattle.rule_store.proofs.Sound.{additions-append}
 use Rattle.rule_store.proofs.Sums.{take-read}

@@ -1,5 +1,4 @@
-use Rattle.std.proofs.Common.{◌≡◌, ◌≤◌, [], length, take, drop, fold}
-use Rattle.rule_store.specs.Batch.{with_rule}
+use Rattle.std.proofs.Common.{[]}
 use Rattle.batch_order.specs.Planning.{IsInserting}
 use Rattle.batch_order.proofs.planning.falling.Given as goal
 

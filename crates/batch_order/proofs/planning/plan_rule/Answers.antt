@@ -1,8 +1,10 @@
-use Rattle.std.proofs.Common.{rules, ◌≡◌, ◌∙◌, ◌++◌, List, [], ◌∷◌, ℕ, subst, sym, ap, true}
-use Rattle.std.specs.List.{AllByRecursion}
-use Rattle.tcam_device.specs.State.{IsInUse}
+use Rattle.std.proofs.Common.{◌≡◌, ◌∙◌, ◌++◌, [], ◌∷◌, refl, subst, ap, true}
 use Rattle.overlap_index.specs.declared.LivePiece.{LivePiece}
 use Rattle.overlap_index.specs.Live.{is_live, without_id}
+use Rattle.rule_model.specs.declared.Piece.{Piece}
+use Rattle.batch_order.specs.Planning.{ArePlannedSince}
+use Rattle.batch_order.proofs.Since.{planned_one}
+use Rattle.batch_order.proofs.Entered.{kept_set}
 use Rattle.batch_order.proofs.Settled.{last_live, live_new, without_last}
 use Rattle.batch_order.proofs.planning.plan_rule.Goals as goal
 
@@ -24,3 +26,11 @@ pub returns-in-Err-clause-refused : goal.returns-in-Err-clause-refused
 returns-in-Err-clause-refused c =
     let one : LivePiece = record { id = c.in_ok-id.id; piece = c.whole.result; rank = c.args.rule.now.priority } in
     c.forget.ensures.live ∙ (ap (λ l. without_id l c.in_ok-id.id) c.in_ok-id.ensures.live ∙ without_last c.args.live.now.live one c.in_ok-id.ensures.absent)
+
+pub returns-in-Ok-clause-planned : goal.returns-in-Ok-clause-planned
+returns-in-Ok-clause-planned c =
+    let one : LivePiece = record { id = c.in_ok-id.id; piece = c.whole.result; rank = c.args.rule.now.priority } in
+    let kept = kept_set c.args.live.now.live c.args.live.now.entries c.args.live.now.entries c.in_ok-id.id _ c.in_ok-id.ensures.absent (λ id now. refl) in
+    subst (λ (p : Piece). ArePlannedSince c.args.live.now c.add.new.self c.args.arrangement.now c.plan_moves.new.arrangement c.args.plan.now c.plan_moves.new.plan (record { piece = p; rank = c.args.rule.now.priority; result = c.args.rule.now.result } ∷ [])) c.whole.ensures
+    (planned_one c.args.live.now c.add.new.self c.args.arrangement.now c.plan_moves.new.arrangement one c.args.rule.now.result c.args.plan.now c.plan_moves.new.plan c.in_ok-id.ensures.absent c.in_ok-id.ensures.live
+    c.in_ok-id.ensures.entry (rw c.in_ok-id.ensures.entries kept) c.requires.plannable.settled.standing c.in-Ok.ensures.inserted)

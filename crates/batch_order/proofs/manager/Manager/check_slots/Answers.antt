@@ -1,4 +1,4 @@
-use Rattle.std.proofs.Common.{rules, ◌≡◌, ◌<◌, ◌≤◌, None, arith}
+use Rattle.std.proofs.Common.{◌≡◌, ◌<◌, ◌≤◌, None, arith}
 use Rattle.std.specs.Prelude.{option_map}
 use Rattle.rule_store.specs.Batch.{batch_fault}
 use Rattle.rule_store.specs.Verdict.{entries_added}

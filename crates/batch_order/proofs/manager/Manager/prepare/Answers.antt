@@ -1,9 +1,9 @@
-use Rattle.std.proofs.Common.{rules, ◌≡◌, ◌∙◌, List, length, ℕ, Option, Some, None, Err, refl, sym, ap, subst}
+use Rattle.std.proofs.Common.{◌≡◌, List, length, ℕ, Option, Some, None, Err, refl, sym, subst}
 use Rattle.std.specs.Prelude.{option_map}
 use Rattle.rule_store.specs.declared.Command.{Command}
 use Rattle.rule_store.specs.declared.BatchFault.{BatchFault}
 use Rattle.rule_store.specs.Batch.{batch_fault}
-use Rattle.rule_store.specs.Verdict.{verdict, verdict_by, room_verdict}
+use Rattle.rule_store.specs.Verdict.{verdict_by, room_verdict}
 use Rattle.batch_order.specs.Managed.{Managed, HeldCommit, Judges, Answers, refusal_of}
 use Rattle.batch_order.proofs.manager.Manager.prepare.Goals as goal
 

@@ -1,0 +1,20 @@
+use Rattle.std.proofs.Common.{◌≡◌, ◌≤◌, ℕ, Option, Some, None, length, subst}
+use Rattle.tcam_device.specs.State.{Shows, on_device}
+use Rattle.batch_order.specs.declared.manager.Held.{Held}
+use Rattle.batch_order.specs.Kept.{IsManaged}
+use Rattle.batch_order.specs.Managed.{Managed}
+use Rattle.batch_order.proofs.Carried.{view_of}
+use Rattle.batch_order.proofs.Taken.{idle_answers}
+use Rattle.batch_order.proofs.manager.Manager.rules.Goals as goal
+
+pub returns-clause-answers : goal.returns-clause-answers
+returns-clause-answers c =
+    let i = c.self.inside in
+    let view : view_of i.mode i.rules i.live i.arrangement i.held ≡ c.args.self.now = c.self.view_is in
+    subst (λ (m : Managed). m.held ≡ None → (device_slots : ℕ) → m.slots ≤ device_slots → Shows (on_device device_slots m.state) m.rules) view (go i.held c.self.invariant)
+  where
+    go : (h : Option Held) → IsManaged c.self.inside.mode c.self.inside.rules c.self.inside.live c.self.inside.arrangement h
+        → (view_of c.self.inside.mode c.self.inside.rules c.self.inside.live c.self.inside.arrangement h).held ≡ None → (device_slots : ℕ) → length c.self.inside.arrangement ≤ device_slots
+        → Shows (on_device device_slots (view_of c.self.inside.mode c.self.inside.rules c.self.inside.live c.self.inside.arrangement h).state) c.self.inside.rules.rules
+    go None managed none device_slots wide = idle_answers c.self.inside.mode c.self.inside.rules c.self.inside.live c.self.inside.arrangement managed device_slots wide
+    go (Some held) managed none device_slots wide = absurd (cc)
