@@ -1,5 +1,5 @@
 -- Taking a batch: what its plan needs of a manager without a commit under way, and what the manager is with the plan held.
-use Rattle.std.proofs.Common.{◌≡◌, ℕ, ◌+◌, ◌-◌, ◌≤◌, fold, List, [], ◌++◌, length, map, take, drop, Some, None, max, refl, sym, ap, ap₂, subst, ◌∙◌, arith}
+use Rattle.std.proofs.Common.{◌≡◌, ℕ, ◌+◌, ◌-◌, ◌*◌, ◌^◌, ◌≤◌, fold, List, [], ◌++◌, length, map, take, drop, Some, None, max, refl, sym, ap, ap₂, subst, ◌∙◌, arith}
 use Rattle.std.specs.List.{AllByRecursion}
 use Rattle.std.proofs.lemmas.List.{length-append, length-map, take_at, drop_at}
 use Rattle.slot_pool.specs.Arrangement.{Slots}
@@ -27,6 +27,7 @@ use Rattle.commit_writes.specs.Planned.{Planned, IsPlannedCommit, IsRouteSegment
 use Rattle.commit_writes.proofs.Adds.{new_additions, new_apart, new_absent, added_routes, set_with_additions}
 use Rattle.commit_writes.proofs.Routes.{inserted_routes}
 use Rattle.commit_writes.proofs.Ordered.{planned_state}
+use Rattle.commit_writes.proofs.Segment.{planned_few}
 use Rattle.commit_writes.proofs.NewEntries.{planned_entries}
 use Rattle.commit_writes.proofs.WholeCommit.{wider_segment}
 use Rattle.batch_order.specs.declared.manager.Held.{Held}
@@ -261,6 +262,19 @@ idle_answers mode rules kept slots managed device_slots wide =
       are_planned = tt;
     } record { writes = refl; words = refl; most = refl; span = refl }).segment.hitless.on_the_way.before
 
+-- its writes are few, since each insertion's are
+few_planned : (mode : Mode) (rules : StoredRules) (old new : Entries) (slots slots' : Slots) (batch : List Command) (writes : List Write) (counts : Done)
+    → IsPlanOf mode rules old new slots slots' batch writes counts → length writes ≤ 2 ^ 40
+few_planned mode rules old new slots slots' batch writes counts plan =
+    let made : length writes ≡ length (planned_writes new.entries plan.planned) = ap length plan.writes_are in
+    let each : length (planned_writes new.entries plan.planned) ≤ 33 * length plan.planned = planned_few rules.rules batch old.live slots new.entries plan.planned plan.commit in
+    let ones : length (map (λ (insertion : Planned). insertion.one) plan.planned) ≡ length plan.planned = length-map plan.planned (λ (insertion : Planned). insertion.one) in
+    let live : length new.live ≡ length old.live + length (map (λ (insertion : Planned). insertion.one) plan.planned) =
+    ap length plan.live_is ∙ length-append old.live (map (λ (insertion : Planned). insertion.one) plan.planned) in
+    let count : free_slots slots' + length new.live ≡ new.slots = plan.settled.count in
+    let most : new.slots ≤ 4096 = plan.settled.few in
+    omega arith
+
 -- the view of such a manager
 pub holds_plan : (mode : Mode) (rules rules' : StoredRules) (old new : Entries) (slots : Slots) (batch : List Command) (held : Held) (ready : Ready)
     → IsPlanOf mode rules old new slots held.arrangement batch held.writes.items held.counts → rules'.rules ≡ rules.rules
@@ -275,6 +289,7 @@ holds_plan mode rules rules' old new slots batch held ready plan same made added
   bits = subst (λ (m : Mode). no_bits ≡ bits_left (set_after rules.rules batch) (bits_with m rules.rules batch no_bits)) (sym plan.managed.cover) refl;
   counts = counts;
   in_use = subst (AllByRecursion (IsInUse (length slots))) (sym all) plan.in_use;
+  few = subst (λ (w : List Write). length w ≤ 2 ^ 40) (sym all) (few_planned mode rules old new slots held.arrangement batch held.writes.items held.counts plan);
   segment = λ device_slots wide.
       subst (λ (m : Mode). IsSegment m no_bits rules.rules batch (on_device device_slots (plain_state (contents old.entries slots))) (drop held.made held.writes.items)) (sym plan.managed.cover)
       (subst (λ (w : List Write). IsSegment Cover no_bits rules.rules batch (on_device device_slots (plain_state (contents old.entries slots))) w) (sym all) (made_by device_slots wide).segment);

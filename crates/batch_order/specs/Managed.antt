@@ -1,5 +1,5 @@
 -- What a manager keeps, and how it judges a batch.
-use Rattle.std.specs.Prelude.{◌≡◌, ℕ, ◌≤◌, ◌⊎◌, Result, Err, IsOk, Option, Some, None, IfSome, List, [], ◌∷◌, length, slice_get}
+use Rattle.std.specs.Prelude.{◌≡◌, ℕ, ◌≤◌, ◌^◌, ◌⊎◌, Result, Err, IsOk, Option, Some, None, IfSome, List, [], ◌∷◌, length, slice_get}
 use Rattle.std.specs.List.{AllByRecursion}
 use Rattle.rule_model.specs.declared.Rule.{Rule}
 use Rattle.rule_model.specs.Routes.{IsIpv4Route}
@@ -82,6 +82,7 @@ pub record Holds (old : Managed) (batch : List Command) (ready : Ready) (new : M
   pub bits : held.bits ≡ bits_left (set_after old.rules batch) (bits_with old.mode old.rules batch old.bits)
   pub counts : ready ≡ ready_of held.counts
   pub in_use : AllByRecursion (IsInUse old.slots) held.writes
+  pub few : length held.writes ≤ 2 ^ 40
   -- hitless after every write, of the commit's shape, and within the bounds on insertions
   pub segment : (device_slots : ℕ) → old.slots ≤ device_slots
       → IsSegment old.mode old.bits old.rules batch (on_device device_slots old.state) held.writes

@@ -1,8 +1,9 @@
 -- Planned insertions are a segment of the device's writes.
-use Rattle.std.proofs.Common.{◌≡◌, ℕ, List, [], ◌∷◌, ◌++◌, Contains, length, map, fold, max, inl, inr, refl, sym, ◌∙◌, subst, ap, ap₂, append-nil}
+use Rattle.std.proofs.Common.{◌≡◌, ℕ, ◌+◌, ◌*◌, ◌≤◌, arith, List, [], ◌∷◌, ◌++◌, Contains, length-append, length, map, fold, max, inl, inr, refl, sym, ◌∙◌, subst, ap, ap₂, append-nil}
 use Rattle.std.specs.List.{AllZip}
 use Rattle.std.specs.Prelude.{flat_map}
 use Rattle.std.proofs.lemmas.List.Elements.{Contains-append_left, Contains-append_right, Contains-append_cases}
+use Rattle.std.proofs.lemmas.List.{length-map}
 use Rattle.slot_order.proofs.Rules.{contains_head, contains_tail}
 use Rattle.slot_pool.specs.Arrangement.{Slots}
 use Rattle.rule_model.specs.declared.Rule.{Rule}
@@ -21,7 +22,7 @@ use Rattle.commit_writes.specs.declared.Done.{Done}
 use Rattle.commit_writes.specs.Bits.{no_bits}
 use Rattle.commit_writes.specs.Shape.{HasCommitShape, Rewrites, Erases}
 use Rattle.commit_writes.specs.Commit.{AreCounts}
-use Rattle.commit_writes.specs.Planned.{Entries, Planned, contents, plain_state, planned_writes, live_after, ranked_of, IsPlannedCommit, IsRouteSegment, AreNumbersOf}
+use Rattle.commit_writes.specs.Planned.{Entries, Planned, contents, plain_state, planned_writes, live_after, ranked_of, write_for, IsPlannedCommit, IsRouteSegment, AreNumbersOf}
 use Rattle.commit_writes.proofs.NoBits.{bit_writes-none}
 use Rattle.commit_writes.proofs.Routes.{new_rules, new_rules-member, rewritten_none, erased_none}
 use Rattle.commit_writes.proofs.Mirror.{entry_by}
@@ -141,3 +142,28 @@ segment_of_hitless rules batch live slots entries planned counts commit numbers 
   numbers = planned_counts rules batch live slots entries planned counts commit numbers;
   uncrossed = planned_uncrossed rules batch live slots entries planned commit;
 }
+
+-- uncrossed insertions make few writes
+few_made : (piece : ℕ → RankedPiece) (all : List LivePiece) (entries : Entries) (planned : List Planned) (made : List Insertion) (m : ℕ) → AllZip (IsAsPlanned piece all) planned made
+    → IsUncrossed m made → length (planned_writes entries planned) ≤ m * length planned
+few_made piece all entries [] [] m are few = omega arith
+few_made piece all entries [] (n ∷ made) m are few = absurd are
+few_made piece all entries (p ∷ planned) [] m are few = absurd are
+few_made piece all entries (p ∷ planned) (n ∷ made) m are few =
+    let own : length n.writes ≤ m = few.0.1 in
+    let size : length n.writes ≡ length p.moves = are.0.size in
+    let mapped : length (map (write_for entries) p.moves) ≡ length p.moves = length-map p.moves (write_for entries) in
+    let joined : length (map (write_for entries) p.moves ++ planned_writes entries planned) ≡ length (map (write_for entries) p.moves) + length (planned_writes entries planned) =
+    length-append (map (write_for entries) p.moves) (planned_writes entries planned) in
+    let rest : length (planned_writes entries planned) ≤ m * length planned = few_made piece all entries planned made m are.1 few.1 in
+    let count : length (p ∷ planned) ≡ length planned + 1 = omega arith in
+    grind arith
+
+-- at most 33 writes an insertion
+pub planned_few : (rules : List Rule) (batch : List Command) (live : List LivePiece) (slots : Slots) (entries : Entries) (planned : List Planned)
+    → IsPlannedCommit rules batch live slots entries planned → length (planned_writes entries planned) ≤ 33 * length planned
+planned_few rules batch live slots entries planned commit =
+    few_made (commit_piece live entries planned) (live_after live planned) entries planned
+    (made_by entries (commit_piece live entries planned) (plain_state (contents entries slots)) planned) 33
+    (commit_done rules batch live slots entries planned commit).as_planned
+    (subst (IsUncrossed 33) (commit_makes rules batch live slots entries planned commit) (planned_uncrossed rules batch live slots entries planned commit))
