@@ -218,6 +218,7 @@ impl Manager {
         ensures journal_err { OnErr result (D.journal device.new ≡ D.journal device.old) }
         ensures spare_err { OnErr result (D.spare device.new ≡ D.spare device.old) }
         ensures slot_count { D.slot_count device.new ≡ D.slot_count device.old }
+        ensures due { OnErr result (IsSome (next_of self.old.held)) }
         ensures cause { HasCause (D.faults device.old) (D.faults device.new) result }
         ensures stays_on { IsOn (D.slot_count device.old) (D.journal device.old) self.old → IsOn (D.slot_count device.new) (D.journal device.new) self.new }
     {

@@ -1,2 +1,9 @@
 pub mod Lines
 pub mod Refusals
+pub mod Wider
+pub mod Effects
+pub mod Routes
+pub mod Runs
+pub mod Acts
+pub mod Making
+pub mod Exits

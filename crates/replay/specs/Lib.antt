@@ -1,2 +1,5 @@
 pub mod Text
+pub mod Run
+pub mod Script
+pub mod Carried
 pub mod Running

@@ -1,13 +1,20 @@
--- Where a run stands, and what an act does to it.
-use Rattle.std.specs.Prelude.{◌≡◌, ℕ, ◌+◌, ◌≤◌, Bool, true, Option, None, Some, List, [], ◌∷◌, ◌++◌, length}
+-- What a run keeps, and where it stands by that.
+use Rattle.std.specs.Prelude.{◌≡◌, ℕ, ◌*◌, ◌^◌, ◌≤◌, ◌++◌, ◌∷◌, Bool, false, Option, None, Some, List, [], length, option_map}
+use Rattle.std.specs.List.{AllByRecursion}
+use Rattle.rule_model.specs.Routes.{IsIpv4Route}
+use Rattle.rule_store.specs.declared.Mode.{Mode}
 use Rattle.rule_store.specs.declared.Command.{Command as Change}
-use Rattle.rule_store.specs.Batch.{set_after}
-use Rattle.rule_store.specs.Verdict.{Verdict, Accepted, Unsound, OutOfBits, OutOfSlots, verdict}
-use Rattle.rule_model.specs.declared.Rule.{Rule}
-use Rattle.batch_order.specs.Managed.{Managed, HeldCommit, AddsRoute}
-use Rattle.replay.specs.declared.Family.{Family}
+use Rattle.rule_store.specs.Verdict.{Verdict, verdict}
+use Rattle.tcam_device.specs.declared.Write.{Write}
+use Rattle.tcam_device.specs.State.{Shows, state_after, on_device}
+use Rattle.commit_writes.specs.declared.Done.{Done}
+use Rattle.batch_order.specs.declared.Ready.{Ready}
+use Rattle.batch_order.specs.Managed.{Managed, HeldCommit, Holds, OnlyAddsRoutes, fresh}
 use Rattle.replay.specs.declared.Act.{Act}
-use Rattle.replay.specs.declared.Act.TheVariants.{Command, Packet, Commit}
+use Rattle.replay.specs.declared.Family.{Family}
+use Rattle.replay.specs.declared.Family.TheVariants.{Route}
+use Rattle.replay.specs.Run.{Setting, Progress}
+use Rattle.replay.specs.Carried.{IsAt, Carries, CutsAtLine, CutsAtWrite}
 
 -- the manager, how rules are named, the pending batch, and what the report counts
 pub record Running : Type 0 where
@@ -18,66 +25,99 @@ pub record Running : Type 0 where
   pub writes : ℕ
   pub refused : Bool
 
--- an act of a script of routes: of the changes it only adds
-abbrev pub IsRouteAct : Act → Type 0
-IsRouteAct (Command change) = AddsRoute change
-IsRouteAct (Packet key) = Unit {0}
-IsRouteAct Commit = Unit {0}
+-- what the words of a command line asked for
+abbrev pub setting_of : Running → Setting
+setting_of run = record { slots = run.manager.slots; mode = run.manager.mode; family = run.family }
 
--- a change finds the pending batch full
-abbrev pub FindsFull : Act → ℕ → Type 0
-FindsFull (Command change) pending = pending ≡ 4096
-FindsFull (Packet key) pending = ⊥
-FindsFull Commit pending = ⊥
+-- where the run stands, over a device of so many slots
+abbrev pub progress_of : ℕ → Running → Progress
+progress_of device_slots run =
+    record {
+      rules = run.manager.rules;
+      batch = run.pending;
+      bits = run.manager.bits;
+      state = on_device device_slots run.manager.state;
+      commits = run.commits;
+      writes = run.writes;
+      refused = run.refused;
+    }
 
--- a commit that was accepted: the set is the one after the batch, and no change is pending
-pub record Accepts (old new : Running) : Type 0 where
-  pub manager : new.manager ≡ record old.manager { rules = set_after old.manager.rules old.pending }
-  pub pending : new.pending ≡ []
-  pub commits : new.commits ≡ old.commits + 1
-  pub refused : new.refused ≡ old.refused
+-- a run before its first act
+abbrev pub begun : ℕ → Mode → Family → Running
+begun slots mode family =
+    record { manager = fresh slots mode; family = family; pending = []; commits = 0; writes = 0; refused = false }
 
--- a commit that was refused: the set is as it was, and its batch is dropped
-pub record Refuses (old new : Running) : Type 0 where
-  pub new_is : new ≡ record old { pending = []; commits = old.commits + 1; refused = true }
+-- while no commit is under way the slots show the rules, whatever more slots the device has
+abbrev pub ShowsRules : Managed → Type 0
+ShowsRules manager =
+    manager.held ≡ None → (device_slots : ℕ) → manager.slots ≤ device_slots → Shows (on_device device_slots manager.state) manager.rules
 
--- what a commit does by the verdict on its batch, by the rule lists alone
-abbrev pub Commits : Verdict → Running → Running → Type 0
-Commits Accepted old new = Accepts old new
-Commits (Unsound fault) old new = Refuses old new
-Commits (OutOfBits field needed free) old new = Refuses old new
-Commits (OutOfSlots needed free) old new = Refuses old new
+-- A run between two calls: its rules are routes and so are the additions that are pending, and each commit made few writes.
+pub record IsRun (run : Running) : Type 0 where
+  pub adds : OnlyAddsRoutes run.pending
+  pub routes : AllByRecursion IsIpv4Route run.manager.rules
+  pub route : run.family ≡ Route
+  pub size : length run.manager.state.slots ≡ run.manager.slots
+  pub few : run.writes ≤ run.commits * 2 ^ 40
+  pub shows : ShowsRules run.manager
 
--- what an act does that is carried out
-abbrev pub Carries : Act → Running → Running → Type 0
-Carries (Command change) old new = new ≡ record old { pending = old.pending ++ change ∷ [] }
-Carries (Packet key) old new = new ≡ old
-Carries Commit old new = Commits (verdict old.manager.slots old.manager.mode old.manager.rules old.pending) old new
+-- the verdict on the pending batch
+abbrev pub verdict_of : Running → Verdict
+verdict_of run = verdict run.manager.slots run.manager.mode run.manager.rules run.pending
 
--- the rules that a commit under way leads to
-abbrev pub rules_held : Managed → Option HeldCommit → List Rule
-rules_held manager None = manager.rules
-rules_held manager (Some held) = held.rules
+-- the commit under way is that of the pending batch
+abbrev pub HoldsPending : Running → Type 0
+HoldsPending run = (ready : Ready) × Holds (record run.manager { held = None }) run.pending ready run.manager
 
--- a commit under way was finished, and no change is pending
-pub record Finishes (old new : Running) : Type 0 where
-  pub manager : new.manager ≡ record old.manager { rules = rules_held old.manager old.manager.held; held = None }
-  pub pending : new.pending ≡ []
-  pub commits : new.commits ≡ old.commits + 1
-  pub refused : new.refused ≡ old.refused
+-- an act is carried out, where the device is where the run stands
+abbrev pub CarriesRun : ℕ → Running → Act → Running → Option (List Write) → Option (List Write) → Option (List ℕ) → Option (List ℕ) → Type 0
+CarriesRun device_slots old act new journal_old journal_new taken_old taken_new =
+    IsAt device_slots journal_old (progress_of device_slots old)
+    → Carries (setting_of old) (progress_of device_slots old) act (progress_of device_slots new) journal_old journal_new taken_old taken_new
 
--- writes of a commit under way are being made: some are left, and the device has room for them
-pub record IsMaking (begun now : Managed) (spare : ℕ) : Type 0 where
+-- it is cut at a line, likewise
+abbrev pub CutsRunAtLine : ℕ → Running → Act → Option (List Write) → Option (List Write) → Option (List ℕ) → Option (List ℕ) → Type 0
+CutsRunAtLine device_slots old act journal_old journal_new taken_old taken_new =
+    IsAt device_slots journal_old (progress_of device_slots old)
+    → CutsAtLine (setting_of old) (progress_of device_slots old) act journal_old journal_new taken_old taken_new
+
+-- it is cut at a write, likewise
+abbrev pub CutsRunAtWrite : ℕ → Running → Act → Option (List Write) → Option (List Write) → Option (List ℕ) → Option (List ℕ) → Type 0
+CutsRunAtWrite device_slots old act journal_old journal_new taken_old taken_new =
+    IsAt device_slots journal_old (progress_of device_slots old)
+    → CutsAtWrite (setting_of old) (progress_of device_slots old) act journal_old journal_new taken_old taken_new
+
+-- writes of a commit under way are being made: so many are made, and the device has room for those left
+pub record IsMaking (begun now : Managed) (journal_begun journal_now : Option (List Write)) (spare : ℕ) : Type 0 where
   pub held : HeldCommit
-  pub now_is : now ≡ record begun { held = Some held }
-  pub rules : held.rules ≡ rules_held begun begun.held
-  pub room : length held.writes ≤ spare
+  pub made : List Write
+  pub left : List Write
+  pub held_is : begun.held ≡ Some held
+  pub whole : held.writes ≡ made ++ left
+  pub now_is : now ≡ record begun { state = state_after begun.state made; held = Some (record held { writes = left }) }
+  pub journal : journal_now ≡ option_map (λ writes. writes ++ made) journal_begun
+  pub room : length left ≤ spare
+
+-- all of them are made
+pub record MakesAll (begun : Managed) (done : Done) (now : Managed) (journal_begun journal_now : Option (List Write)) : Type 0 where
+  pub held : HeldCommit
+  pub held_is : begun.held ≡ Some held
+  pub done_is : done ≡ held.counts
+  pub now_is : now ≡ record begun { state = state_after begun.state held.writes; rules = held.rules; bits = held.bits; held = None }
+  pub journal : journal_now ≡ option_map (λ writes. writes ++ held.writes) journal_begun
+
+-- some of them are made, and the next one isn't
+pub record MakesSome (begun now : Managed) (journal_begun journal_now : Option (List Write)) : Type 0 where
+  pub held : HeldCommit
+  pub made : List Write
+  pub due : Write
+  pub left : List Write
+  pub held_is : begun.held ≡ Some held
+  pub whole : held.writes ≡ made ++ due ∷ left
+  pub now_is : now ≡ record begun { state = state_after begun.state made; held = Some (record held { writes = due ∷ left }) }
+  pub journal : journal_now ≡ option_map (λ writes. writes ++ made) journal_begun
 
 -- how many writes are left
 abbrev pub left_number : Option HeldCommit → ℕ
 left_number None = 0
 left_number (Some held) = length held.writes
-
--- no change
-abbrev pub no_changes : List Change
-no_changes = []

@@ -1,9 +1,10 @@
 //! The lines of a report. A line stands in fixed room, so that none takes memory.
-ghost use Rattle.std.specs.Prelude.{◌≡◌, ◌≢◌, ℕ, ◌+◌, ◌<◌, ◌≤◌, [], ◌∷◌, ◌++◌, codes, decimal, length, take, OnOk, OnErr};
+ghost use Rattle.std.specs.Prelude.{◌≡◌, ◌≢◌, ℕ, ◌+◌, ◌<◌, ◌≤◌, [], ◌∷◌, ◌++◌, codes, decimal, length, IsSome, OnOk, OnErr};
 ghost use Rattle.std.specs.Io.KnownBytes.{Appends};
 ghost use Rattle.script_lines.specs.Cause.{HasCause};
 ghost use Rattle.rule_store.specs.Verdict.{Accepted};
 ghost use Rattle.replay.specs.Text.{with_words, dotted, answer_words, result_name, rule_name, reason_words, field_text, verdict_told, packet_line, accepted_line, refused_line, fault_line, end_line};
+ghost use Rattle.replay.specs.Carried.{AppendsPart};
 ghost use Rattle.replay.specs.declared.Family.TheVariants as family_is;
 
 use crate::Family;
@@ -195,7 +196,8 @@ impl ReportLine {
     fn write<K: Sink>(self, sink: &mut K) -> Result<(), Failed>
         requires { length self < 256 }
         ensures whole { OnOk result (Appends (K.taken sink.old) (K.taken sink.new) (self ++ 10 ∷ [])) }
-        ensures part { OnErr result ((n : ℕ) × (n ≤ length (self ++ 10 ∷ [])) × Appends (K.taken sink.old) (K.taken sink.new) (take n (self ++ 10 ∷ []))) }
+        ensures part { OnErr result (AppendsPart (K.taken sink.old) (K.taken sink.new) (self ++ 10 ∷ [])) }
+        ensures told { IsSome (K.taken sink.old) → IsSome (K.taken sink.new) }
         ensures cause { HasCause (K.faults sink.old) (K.faults sink.new) result }
     {
         let line = self.text("\n");
@@ -264,7 +266,8 @@ pub fn write_packet<K: Sink>(
     found: Option<(Rank, u32)>,
 ) -> Result<(), Failed>
     ensures whole { OnOk result (Appends (K.taken sink.old) (K.taken sink.new) (packet_line family found)) }
-    ensures part { OnErr result ((n : ℕ) × (n ≤ length (packet_line family found)) × Appends (K.taken sink.old) (K.taken sink.new) (take n (packet_line family found))) }
+    ensures part { OnErr result (AppendsPart (K.taken sink.old) (K.taken sink.new) (packet_line family found)) }
+    ensures told { IsSome (K.taken sink.old) → IsSome (K.taken sink.new) }
     ensures cause { HasCause (K.faults sink.old) (K.faults sink.new) result }
 {
     ReportLine::new("packet").answer(family, found).write(sink)
@@ -274,7 +277,8 @@ pub fn write_packet<K: Sink>(
 /// Where the sink fails, a part of the line was taken, perhaps none or all of it.
 pub fn write_accepted<K: Sink>(sink: &mut K, commit: u32, done: &Done) -> Result<(), Failed>
     ensures whole { OnOk result (Appends (K.taken sink.old) (K.taken sink.new) (accepted_line commit done.now)) }
-    ensures part { OnErr result ((n : ℕ) × (n ≤ length (accepted_line commit done.now)) × Appends (K.taken sink.old) (K.taken sink.new) (take n (accepted_line commit done.now))) }
+    ensures part { OnErr result (AppendsPart (K.taken sink.old) (K.taken sink.new) (accepted_line commit done.now)) }
+    ensures told { IsSome (K.taken sink.old) → IsSome (K.taken sink.new) }
     ensures cause { HasCause (K.faults sink.old) (K.faults sink.new) result }
 {
     accepted(commit, done).write(sink)
@@ -291,7 +295,8 @@ pub fn write_refused<K: Sink>(
 ) -> Result<(), Failed>
     requires judged { verdict_told refusal.now ≢ Accepted }
     ensures whole { OnOk result (Appends (K.taken sink.old) (K.taken sink.new) (refused_line family commit (verdict_told refusal.now))) }
-    ensures part { OnErr result ((n : ℕ) × (n ≤ length (refused_line family commit (verdict_told refusal.now))) × Appends (K.taken sink.old) (K.taken sink.new) (take n (refused_line family commit (verdict_told refusal.now)))) }
+    ensures part { OnErr result (AppendsPart (K.taken sink.old) (K.taken sink.new) (refused_line family commit (verdict_told refusal.now))) }
+    ensures told { IsSome (K.taken sink.old) → IsSome (K.taken sink.new) }
     ensures cause { HasCause (K.faults sink.old) (K.faults sink.new) result }
 {
     refused(commit, family, refusal).write(sink)
@@ -302,7 +307,8 @@ pub fn write_refused<K: Sink>(
 pub fn write_fault<K: Sink>(sink: &mut K, line: u32, fault: &str) -> Result<(), Failed>
     requires short { length fault.now ≤ 32 }
     ensures whole { OnOk result (Appends (K.taken sink.old) (K.taken sink.new) (fault_line line fault.now)) }
-    ensures part { OnErr result ((n : ℕ) × (n ≤ length (fault_line line fault.now)) × Appends (K.taken sink.old) (K.taken sink.new) (take n (fault_line line fault.now))) }
+    ensures part { OnErr result (AppendsPart (K.taken sink.old) (K.taken sink.new) (fault_line line fault.now)) }
+    ensures told { IsSome (K.taken sink.old) → IsSome (K.taken sink.new) }
     ensures cause { HasCause (K.faults sink.old) (K.faults sink.new) result }
 {
     ReportLine::new("line")
@@ -315,7 +321,8 @@ pub fn write_fault<K: Sink>(sink: &mut K, line: u32, fault: &str) -> Result<(), 
 /// taken, perhaps none or all of it.
 pub fn write_end<K: Sink>(sink: &mut K, totals: &Totals) -> Result<(), Failed>
     ensures whole { OnOk result (Appends (K.taken sink.old) (K.taken sink.new) (end_line totals.now.rules totals.now.entries totals.now.writes totals.now.pending)) }
-    ensures part { OnErr result ((n : ℕ) × (n ≤ length (end_line totals.now.rules totals.now.entries totals.now.writes totals.now.pending)) × Appends (K.taken sink.old) (K.taken sink.new) (take n (end_line totals.now.rules totals.now.entries totals.now.writes totals.now.pending))) }
+    ensures part { OnErr result (AppendsPart (K.taken sink.old) (K.taken sink.new) (end_line totals.now.rules totals.now.entries totals.now.writes totals.now.pending)) }
+    ensures told { IsSome (K.taken sink.old) → IsSome (K.taken sink.new) }
     ensures cause { HasCause (K.faults sink.old) (K.faults sink.new) result }
 {
     end(totals).write(sink)
@@ -325,7 +332,8 @@ pub fn write_end<K: Sink>(sink: &mut K, totals: &Totals) -> Result<(), Failed>
 /// taken, perhaps none or all of it.
 pub fn write_text<K: Sink>(sink: &mut K, text: &str) -> Result<(), Failed>
     ensures whole { OnOk result (Appends (K.taken sink.old) (K.taken sink.new) text.now) }
-    ensures part { OnErr result ((n : ℕ) × (n ≤ length text.now) × Appends (K.taken sink.old) (K.taken sink.new) (take n text.now)) }
+    ensures part { OnErr result (AppendsPart (K.taken sink.old) (K.taken sink.new) text.now) }
+    ensures told { IsSome (K.taken sink.old) → IsSome (K.taken sink.new) }
     ensures cause { HasCause (K.faults sink.old) (K.faults sink.new) result }
 {
     write_all(sink, text.as_bytes())

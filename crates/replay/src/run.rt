@@ -1,22 +1,26 @@
 //! A run of acts over one device.
 
-ghost use Rattle.std.specs.Prelude.{◌≡◌, ◌≢◌, ◌+◌, ◌<◌, ◌≤◌, ◌^◌, ◌↔◌, ◌++◌, ◌∷◌, [], Ok, Err, None, IsOk, IsSome, IfOk, IfErr, IfSome, OnOk, OnErr, ◌⊎◌, ◌-◌, length, false};
-ghost use Rattle.script_lines.specs.Cause.{Rose};
+ghost use Rattle.std.specs.Prelude.{◌≡◌, ◌≢◌, ◌+◌, ◌<◌, ◌≤◌, ◌^◌, ◌↔◌, ◌++◌, ◌∷◌, [], ℕ, Ok, Err, None, IsSome, IfOk, IfErr, IfSome, OnOk, OnErr, ◌⊎◌, length, true};
+ghost use Rattle.std.specs.Io.KnownBytes.{Appends};
+ghost use Rattle.script_lines.specs.Cause.{Rose, HasCause};
 ghost use Rattle.tcam_device.specs.Cause as devices;
 ghost use Rattle.rule_store.specs.Verdict.{Accepted};
-ghost use Rattle.batch_order.specs.Managed.{AddsRoute};
-ghost use Rattle.replay.specs.Text.{verdict_told};
-ghost use Rattle.replay.specs.Running.{Running, IsRouteAct, FindsFull, Carries, Refuses, Finishes, rules_held, no_changes};
+ghost use Rattle.commit_writes.specs.Planned.{AddsRoute};
+ghost use Rattle.replay.specs.Text.{verdict_told, refused_line};
+ghost use Rattle.replay.specs.Run.{IsRouteAct, ending};
+ghost use Rattle.replay.specs.Script.{limit_fault};
+ghost use Rattle.replay.specs.Carried.{IsAt, Carries, CutsAtLine, CutsAtWrite, Wants, AppendsPart};
+ghost use Rattle.replay.specs.Running.{Running, HoldsPending, CarriesRun, CutsRunAtLine, CutsRunAtWrite, MakesAll, MakesSome, begun, progress_of, setting_of, verdict_of};
 
 use crate::report::{Totals, write_accepted, write_end, write_packet, write_refused};
 use crate::{Act, Family, RunFault};
 use batch_order::{Done, Manager, Mode, Refusal, Step};
-use rule_model::Key;
+use rule_model::{Key, key_fields};
 use rule_store::{Batch, Command, PushFault};
 use script_lines::{Failed, Sink};
 use std::alloc::{AllocError, Global};
 use std::marker::Model;
-use tcam_device::Device;
+use tcam_device::{Device, DeviceFault};
 
 /// A run of acts: its manager, the pending batch, and what the report counts.
 #[derive(Drop)]
@@ -30,25 +34,24 @@ pub struct Run {
 }
 
 impl Model for Run {
-    ghost use Rattle.replay.specs.Running.{Running};
-    ghost use Rattle.batch_order.specs.Managed.{OnlyAddsRoutes};
+    ghost use Rattle.replay.specs.Running.{Running, IsRun};
 
     ghost Value = { Running };
 
     ghost view = { λ r. record { manager = r.manager; family = r.family; pending = r.pending; commits = r.commits; writes = r.writes; refused = r.refused } };
 
-    ghost invariant = { λ r. OnlyAddsRoutes r.pending };
+    ghost invariant = { λ r. IsRun (record { manager = r.manager; family = r.family; pending = r.pending; commits = r.commits; writes = r.writes; refused = r.refused }) };
 }
 
 impl Run {
-    /// A run over a blank device with so many slots in use, 1 to 4,096. The mode is `Cover` and the family
-    /// `Route` until the others come.
+    /// A run before its first act, over a blank device with so many slots in use, 1 to 4,096: no rules, and no change
+    /// pending. The mode is `Cover` and the family `Route` until the others come. It fails only for want of memory.
     pub fn new(alloc: Global, slots: u32, mode: Mode, family: Family) -> Result<Run, AllocError>
         requires least { 1 ≤ slots }
         requires most { slots ≤ 4096 }
         requires cover { mode ≡ Mode.Cover }
         requires route { family ≡ Family.Route }
-        ensures { IfOk result (λ run. run ≡ record { manager = record { slots = slots; mode = mode; rules = []; held = None }; family = family; pending = no_changes; commits = 0; writes = 0; refused = false }) }
+        ensures { IfOk result (λ run. run ≡ begun slots mode family) }
     {
         Ok(Run {
             family,
@@ -60,9 +63,24 @@ impl Run {
         })
     }
 
-    /// Carries out an act: a change joins the pending batch, a packet is looked up in the device, a commit is
-    /// judged and carried out or refused. Each line is handed to the sink as soon as it is known. No call may
-    /// follow one that answered `Sink` or `Device`.
+    /// Carries out an act of a script of routes, over a device with at least as many slots as the run uses. The
+    /// device is where the run stands: it was blank before the first act, and nobody else has written it since. The
+    /// run has made fewer than 4,194,304 commits.
+    ///
+    /// A change joins the pending batch. With 4,096 changes pending the answer is `BatchFull`, and nothing has
+    /// changed. A packet is looked up in the device, which answers as the set does, and its line is written.
+    ///
+    /// A commit is judged by the set, the batch and the slots alone. A refused one writes nothing to the device: its
+    /// line is written, with the first reason, and the set stays. An accepted one makes its writes one at a time, and
+    /// none of them leaves a state in which a packet gets another answer than the old set's or the new one's; then the
+    /// set is the one after the batch, and its line is written, with its numbers. Either is counted, and drops the
+    /// batch.
+    ///
+    /// `Memory` comes at a change, or at a commit that would be accepted. Nothing was done then, and the run is as
+    /// before. `Sink` comes only where the sink's count of failures rose: all that comes before the line was done, and
+    /// a part of the line was taken, perhaps none or all of it. `Device` comes only where the device's count of
+    /// failures rose: the writes of the commit before the failed one were made, and its line wasn't written. No call
+    /// may follow one that answered `Sink` or `Device`.
     pub fn apply<K: Sink, D: Device>(
         &mut self,
         act: &Act,
@@ -72,15 +90,26 @@ impl Run {
         requires slots { self.old.manager.slots ≤ D.slot_count device.old }
         requires act { IsRouteAct act.now }
         requires idle { self.old.manager.held ≡ None }
-        requires commits { self.old.commits < 2 ^ 32 - 1 }
-        ensures carried { OnOk result (Carries act.now self.old self.new) }
-        ensures full { (result ≡ Err RunFault.BatchFull) ↔ FindsFull act.now (length self.old.pending) }
-        ensures unchanged { (result ≡ Err RunFault.BatchFull) → self.new ≡ self.old }
-        ensures unchanged_memory { (result ≡ Err RunFault.Memory) → self.new ≡ self.old }
+        requires commits { self.old.commits < 2 ^ 22 }
+        ensures carries { OnOk result (IsAt (D.slot_count device.old) (D.journal device.old) (progress_of (D.slot_count device.old) self.old)
+            → Carries (setting_of self.old) (progress_of (D.slot_count device.old) self.old) act.now (progress_of (D.slot_count device.old) self.new)
+            (D.journal device.old) (D.journal device.new) (K.taken sink.old) (K.taken sink.new)) }
+        ensures at_line { (result ≡ Err RunFault.Sink) → IsAt (D.slot_count device.old) (D.journal device.old) (progress_of (D.slot_count device.old) self.old)
+            → CutsAtLine (setting_of self.old) (progress_of (D.slot_count device.old) self.old) act.now
+            (D.journal device.old) (D.journal device.new) (K.taken sink.old) (K.taken sink.new) }
+        ensures at_write { (result ≡ Err RunFault.Device) → IsAt (D.slot_count device.old) (D.journal device.old) (progress_of (D.slot_count device.old) self.old)
+            → CutsAtWrite (setting_of self.old) (progress_of (D.slot_count device.old) self.old) act.now
+            (D.journal device.old) (D.journal device.new) (K.taken sink.old) (K.taken sink.new) }
+        ensures memory { (result ≡ Err RunFault.Memory) → Wants (setting_of self.old) (progress_of (D.slot_count device.old) self.old) act.now
+            (D.journal device.old) (D.journal device.new) (K.taken sink.old) (K.taken sink.new) }
+        ensures full { (result ≡ Err RunFault.BatchFull) ↔ IsSome (limit_fault act.now (length self.old.pending)) }
+        ensures untouched { (result ≡ Err RunFault.BatchFull) → (D.journal device.new ≡ D.journal device.old) × (K.taken sink.new ≡ K.taken sink.old) }
+        ensures unchanged { (result ≡ Err RunFault.BatchFull) ⊎ (result ≡ Err RunFault.Memory) → self.new ≡ self.old }
         ensures idle { (result ≢ Err RunFault.Device) → self.new.manager.held ≡ None }
-        ensures slots { self.new.manager.slots ≡ self.old.manager.slots }
+        ensures setting { setting_of self.new ≡ setting_of self.old }
         ensures commits { self.new.commits ≤ self.old.commits + 1 }
         ensures slot_count { D.slot_count device.new ≡ D.slot_count device.old }
+        ensures told { (IsSome (D.journal device.old) → IsSome (D.journal device.new)) × (IsSome (D.journal device.new) → IsSome (D.journal device.old)) × (IsSome (K.taken sink.old) → IsSome (K.taken sink.new)) }
         ensures sink_later { K.faults sink.old ≤ K.faults sink.new }
         ensures sink_cause { (result ≡ Err RunFault.Sink) → Rose (K.faults sink.old) (K.faults sink.new) }
         ensures device_later { D.faults device.old ≤ D.faults device.new }
@@ -97,10 +126,9 @@ impl Run {
     fn push(&mut self, command: Command) -> Result<(), RunFault>
         requires { AddsRoute command }
         ensures pushed { OnOk result (self.new ≡ record self.old { pending = self.old.pending ++ command ∷ [] }) }
-        ensures full { (result ≡ Err RunFault.BatchFull) ↔ (length self.old.pending ≡ 4096) }
+        ensures full { (result ≡ Err RunFault.BatchFull) ↔ IsSome (limit_fault (Act.Command command) (length self.old.pending)) }
         ensures unchanged { OnErr result (self.new ≡ self.old) }
-        ensures kind { (result ≢ Err RunFault.Sink) }
-        ensures kind_device { (result ≢ Err RunFault.Device) }
+        ensures kind { (result ≢ Err RunFault.Sink) × (result ≢ Err RunFault.Device) }
     {
         match self.pending.push(command) {
             Ok(()) => Ok(()),
@@ -116,9 +144,15 @@ impl Run {
         sink: &mut K,
         device: &D,
     ) -> Result<(), RunFault>
-        ensures later { K.faults sink.old ≤ K.faults sink.new }
-        ensures cause { IfErr result (λ fault. (fault ≡ RunFault.Sink) × Rose (K.faults sink.old) (K.faults sink.new)) }
+        requires slots { self.now.manager.slots ≤ D.slot_count device.now }
+        requires idle { self.now.manager.held ≡ None }
+        ensures carries { OnOk result (CarriesRun (D.slot_count device.now) self.now (Act.Packet key.now) self.now (D.journal device.now) (D.journal device.now) (K.taken sink.old) (K.taken sink.new)) }
+        ensures at_line { OnErr result (CutsRunAtLine (D.slot_count device.now) self.now (Act.Packet key.now) (D.journal device.now) (D.journal device.now) (K.taken sink.old) (K.taken sink.new)) }
+        ensures kind { IfErr result (λ fault. fault ≡ RunFault.Sink) }
+        ensures told { IsSome (K.taken sink.old) → IsSome (K.taken sink.new) }
+        ensures cause { HasCause (K.faults sink.old) (K.faults sink.new) result }
     {
+        key_fields(key);
         match write_packet(sink, self.family, device.look(key)) {
             Ok(()) => Ok(()),
             Err(Failed) => Err(RunFault::Sink),
@@ -129,14 +163,19 @@ impl Run {
     fn commit<K: Sink, D: Device>(&mut self, sink: &mut K, device: &mut D) -> Result<(), RunFault>
         requires slots { self.old.manager.slots ≤ D.slot_count device.old }
         requires idle { self.old.manager.held ≡ None }
-        requires commits { self.old.commits < 2 ^ 32 - 1 }
-        ensures carried { OnOk result (Carries Act.Commit self.old self.new) }
+        requires commits { self.old.commits < 2 ^ 22 }
+        ensures carries { OnOk result (CarriesRun (D.slot_count device.old) self.old Act.Commit self.new (D.journal device.old) (D.journal device.new) (K.taken sink.old) (K.taken sink.new)) }
+        ensures at_line { (result ≡ Err RunFault.Sink) → CutsRunAtLine (D.slot_count device.old) self.old Act.Commit (D.journal device.old) (D.journal device.new) (K.taken sink.old) (K.taken sink.new) }
+        ensures at_write { (result ≡ Err RunFault.Device) → CutsRunAtWrite (D.slot_count device.old) self.old Act.Commit (D.journal device.old) (D.journal device.new) (K.taken sink.old) (K.taken sink.new) }
+        ensures accepted { (result ≡ Err RunFault.Memory) → verdict_of self.old ≡ Accepted }
+        ensures unchanged { (result ≡ Err RunFault.Memory) → self.new ≡ self.old }
+        ensures untouched { (result ≡ Err RunFault.Memory) → (D.journal device.new ≡ D.journal device.old) × (K.taken sink.new ≡ K.taken sink.old) }
         ensures not_full { result ≢ Err RunFault.BatchFull }
-        ensures unchanged_memory { (result ≡ Err RunFault.Memory) → self.new ≡ self.old }
         ensures idle { (result ≢ Err RunFault.Device) → self.new.manager.held ≡ None }
-        ensures slots { self.new.manager.slots ≡ self.old.manager.slots }
+        ensures setting { setting_of self.new ≡ setting_of self.old }
         ensures commits { self.new.commits ≤ self.old.commits + 1 }
         ensures slot_count { D.slot_count device.new ≡ D.slot_count device.old }
+        ensures told { (IsSome (D.journal device.old) → IsSome (D.journal device.new)) × (IsSome (D.journal device.new) → IsSome (D.journal device.old)) × (IsSome (K.taken sink.old) → IsSome (K.taken sink.new)) }
         ensures sink_later { K.faults sink.old ≤ K.faults sink.new }
         ensures sink_cause { (result ≡ Err RunFault.Sink) → Rose (K.faults sink.old) (K.faults sink.new) }
         ensures device_later { D.faults device.old ≤ D.faults device.new }
@@ -149,16 +188,27 @@ impl Run {
         }
     }
 
-    // Counts a commit that is refused, drops its batch, and writes its line.
-    fn refuse<K: Sink>(&mut self, refusal: &Refusal, sink: &mut K) -> Result<(), RunFault>
-        requires judged { verdict_told refusal.now ≢ Accepted }
-        requires commits { self.old.commits < 2 ^ 32 - 1 }
-        ensures refused { Refuses self.old self.new }
-        ensures later { K.faults sink.old ≤ K.faults sink.new }
-        ensures cause { IfErr result (λ fault. (fault ≡ RunFault.Sink) × Rose (K.faults sink.old) (K.faults sink.new)) }
+    // Counts a commit, and drops its batch.
+    fn count_commit(&mut self)
+        requires { self.old.commits < 2 ^ 22 }
+        ensures { self.new ≡ record self.old { pending = []; commits = self.old.commits + 1 } }
     {
         self.pending.clear();
         self.commits += 1;
+    }
+
+    // Counts a commit that is refused, drops its batch, and writes its line.
+    fn refuse<K: Sink>(&mut self, refusal: &Refusal, sink: &mut K) -> Result<(), RunFault>
+        requires judged { verdict_told refusal.now ≢ Accepted }
+        requires commits { self.old.commits < 2 ^ 22 }
+        ensures refused { self.new ≡ record self.old { pending = []; commits = self.old.commits + 1; refused = true } }
+        ensures whole { OnOk result (Appends (K.taken sink.old) (K.taken sink.new) (refused_line self.old.family (self.old.commits + 1) (verdict_told refusal.now))) }
+        ensures part { OnErr result (AppendsPart (K.taken sink.old) (K.taken sink.new) (refused_line self.old.family (self.old.commits + 1) (verdict_told refusal.now))) }
+        ensures kind { IfErr result (λ fault. fault ≡ RunFault.Sink) }
+        ensures told { IsSome (K.taken sink.old) → IsSome (K.taken sink.new) }
+        ensures cause { HasCause (K.faults sink.old) (K.faults sink.new) result }
+    {
+        self.count_commit();
         self.refused = true;
         match write_refused(sink, self.commits, self.family, refusal) {
             Ok(()) => Ok(()),
@@ -173,33 +223,45 @@ impl Run {
         device: &mut D,
     ) -> Result<(), RunFault>
         requires slots { self.old.manager.slots ≤ D.slot_count device.old }
-        requires held { IsSome self.old.manager.held }
+        requires holds { HoldsPending self.old }
         requires room { IfSome self.old.manager.held (λ held. length held.writes ≤ D.spare device.old) }
-        requires commits { self.old.commits < 2 ^ 32 - 1 }
-        ensures finished { (result ≢ Err RunFault.Device) → Finishes self.old self.new }
-        ensures slots { self.new.manager.slots ≡ self.old.manager.slots }
+        requires accepted { verdict_of self.old ≡ Accepted }
+        requires commits { self.old.commits < 2 ^ 22 }
+        ensures carries { OnOk result (CarriesRun (D.slot_count device.old) self.old Act.Commit self.new (D.journal device.old) (D.journal device.new) (K.taken sink.old) (K.taken sink.new)) }
+        ensures at_line { (result ≡ Err RunFault.Sink) → CutsRunAtLine (D.slot_count device.old) self.old Act.Commit (D.journal device.old) (D.journal device.new) (K.taken sink.old) (K.taken sink.new) }
+        ensures at_write { (result ≡ Err RunFault.Device) → CutsRunAtWrite (D.slot_count device.old) self.old Act.Commit (D.journal device.old) (D.journal device.new) (K.taken sink.old) (K.taken sink.new) }
+        ensures kind { (result ≢ Err RunFault.Memory) × (result ≢ Err RunFault.BatchFull) }
+        ensures idle { (result ≢ Err RunFault.Device) → self.new.manager.held ≡ None }
+        ensures setting { setting_of self.new ≡ setting_of self.old }
         ensures commits { self.new.commits ≤ self.old.commits + 1 }
         ensures slot_count { D.slot_count device.new ≡ D.slot_count device.old }
+        ensures told { (IsSome (D.journal device.old) → IsSome (D.journal device.new)) × (IsSome (D.journal device.new) → IsSome (D.journal device.old)) × (IsSome (K.taken sink.old) → IsSome (K.taken sink.new)) }
         ensures sink_later { K.faults sink.old ≤ K.faults sink.new }
+        ensures sink_cause { (result ≡ Err RunFault.Sink) → Rose (K.faults sink.old) (K.faults sink.new) }
         ensures device_later { D.faults device.old ≤ D.faults device.new }
-        ensures cause { IfErr result (λ fault. ((fault ≡ RunFault.Sink) × Rose (K.faults sink.old) (K.faults sink.new)) ⊎ ((fault ≡ RunFault.Device) × devices.Rose (D.faults device.old) (D.faults device.new))) }
+        ensures device_cause { (result ≡ Err RunFault.Device) → devices.Rose (D.faults device.old) (D.faults device.new) }
     {
-        let done = match make_writes(&mut self.manager, &mut self.writes, device) {
+        let done = match make_writes(&mut self.manager, device) {
             Ok(done) => done,
-            Err(fault) => return Err(fault),
+            Err(DeviceFault) => return Err(RunFault::Device),
         };
-        self.pending.clear();
-        self.commits += 1;
+        self.count_commit();
+        self.writes += done.writes;
         match write_accepted(sink, self.commits, &done) {
             Ok(()) => Ok(()),
             Err(Failed) => Err(RunFault::Sink),
         }
     }
 
-    /// Writes the last line of a run that came to its end, and answers whether a commit was refused.
+    /// Writes the last line of a run that came to its end: the rules of the set, their entries, the writes of its
+    /// accepted commits, and the changes that are pending. Answers whether a commit was refused. Where the sink fails,
+    /// a part of the line was taken, perhaps none or all of it. The run stays as it was.
     pub fn finish<K: Sink>(&mut self, sink: &mut K) -> Result<bool, Failed>
         ensures refused { IfOk result (λ refused. refused ≡ self.old.refused) }
         ensures unchanged { self.new ≡ self.old }
+        ensures whole { OnOk result ((device_slots : ℕ) → Appends (K.taken sink.old) (K.taken sink.new) (ending (setting_of self.old) (progress_of device_slots self.old))) }
+        ensures part { OnErr result ((device_slots : ℕ) → AppendsPart (K.taken sink.old) (K.taken sink.new) (ending (setting_of self.old) (progress_of device_slots self.old))) }
+        ensures told { IsSome (K.taken sink.old) → IsSome (K.taken sink.new) }
         ensures later { K.faults sink.old ≤ K.faults sink.new }
         ensures cause { OnErr result (Rose (K.faults sink.old) (K.faults sink.new)) }
     {
@@ -216,27 +278,22 @@ impl Run {
     }
 }
 
-// Makes the writes of the commit under way, one at a time, and counts them.
-fn make_writes<D: Device>(
-    manager: &mut Manager,
-    writes: &mut u64,
-    device: &mut D,
-) -> Result<Done, RunFault>
+// Makes the writes of the commit under way, one at a time.
+fn make_writes<D: Device>(manager: &mut Manager, device: &mut D) -> Result<Done, DeviceFault>
     requires slots { manager.old.slots ≤ D.slot_count device.old }
     requires held { IsSome manager.old.held }
     requires room { IfSome manager.old.held (λ held. length held.writes ≤ D.spare device.old) }
-    ensures finished { OnOk result (manager.new ≡ record manager.old { rules = rules_held manager.old manager.old.held; held = None }) }
-    ensures slots { manager.new.slots ≡ manager.old.slots }
+    ensures made { IfOk result (λ done. MakesAll manager.old done manager.new (D.journal device.old) (D.journal device.new)) }
+    ensures cut { OnErr result (MakesSome manager.old manager.new (D.journal device.old) (D.journal device.new)) }
     ensures slot_count { D.slot_count device.new ≡ D.slot_count device.old }
-    ensures later { D.faults device.old ≤ D.faults device.new }
-    ensures cause { IfErr result (λ fault. (fault ≡ RunFault.Device) × devices.Rose (D.faults device.old) (D.faults device.new)) }
+    ensures cause { devices.HasCause (D.faults device.old) (D.faults device.new) result }
 {
-    loop {
+    'making: loop {
         match manager.step(device) {
-            Ok(Step::Wrote(_)) => *writes = writes.saturating_add(1),
+            Ok(Step::Wrote(_)) => {}
             Ok(Step::Finished(done)) => return Ok(done),
             Ok(Step::Idle) => unreachable!(),
-            Err(_) => return Err(RunFault::Device),
+            Err(fault) => return Err(fault),
         }
     }
 }

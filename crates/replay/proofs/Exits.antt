@@ -1,0 +1,216 @@
+-- How each call of a run ends, by the values that the code has.
+use Rattle.std.proofs.Common.{◌≡◌, ◌≢◌, ℕ, ◌+◌, ◌≤◌, List, [], ◌∷◌, ◌++◌, Option, Some, None, Result, Ok, Err, OnOk, OnErr, option_map, length, take, sym, ap, ◌∙◌, subst}
+use Rattle.std.specs.Io.KnownBytes.{Appends}
+use Rattle.rule_store.specs.declared.Command.{Command as Change}
+use Rattle.rule_store.specs.Verdict.{Accepted, entries_of}
+use Rattle.script_lines.specs.declared.Failed.{Failed}
+use Rattle.tcam_device.specs.declared.Write.{Write}
+use Rattle.commit_writes.specs.declared.Done.{Done}
+use Rattle.batch_order.specs.declared.Ready.{Ready}
+use Rattle.batch_order.specs.declared.Refusal.{Refusal}
+use Rattle.batch_order.specs.declared.Refusal.TheVariants as refusal
+use Rattle.batch_order.specs.Managed.{Managed, HeldCommit, Holds, Judges, Answers}
+use Rattle.replay.specs.declared.Act.{Act}
+use Rattle.replay.specs.declared.Act.TheVariants.{Command, Commit}
+use Rattle.replay.specs.declared.RunFault.{RunFault}
+use Rattle.replay.specs.declared.RunFault.TheVariants as fault
+use Rattle.replay.specs.Run.{Setting, Progress, ending}
+use Rattle.replay.specs.Text.{verdict_told, accepted_line, refused_line, end_line}
+use Rattle.replay.specs.Carried.{IsAt, CutsAtLine, CutsAtWrite, AppendsPart}
+use Rattle.replay.specs.Running.{Running, IsRun, HoldsPending, CarriesRun, CutsRunAtLine, CutsRunAtWrite, MakesAll, MakesSome, setting_of, progress_of, verdict_of}
+use Rattle.replay.proofs.Refusals.{told-verdict, told-refused}
+use Rattle.replay.proofs.Effects.{part-of}
+use Rattle.replay.proofs.Runs.{run_after, held-run, made-run, after-run}
+use Rattle.replay.proofs.Acts.{run_refused, push-carries, refuse-carries, refuse-cuts, commit-carries, commit-cuts, commit-stops}
+
+-- a text that was handed over in part
+pub part-written : (result : Result (Unit {0}) Failed) (old new : Option (List ℕ)) (bytes line : List ℕ) → bytes ≡ line
+    → OnErr result ((n : ℕ) × (n ≤ length bytes) × Appends old new (take n bytes)) → OnErr result (AppendsPart old new line)
+part-written (Ok done) old new bytes line same part = tt
+part-written (Err fault) old new bytes line same part = subst (AppendsPart old new) same (part-of old new bytes part.0 part.2)
+
+-- and the same of a line that is another one
+pub part-same : (result : Result (Unit {0}) Failed) (old new : Option (List ℕ)) (bytes line : List ℕ) → bytes ≡ line
+    → OnErr result (AppendsPart old new bytes) → OnErr result (AppendsPart old new line)
+part-same (Ok done) old new bytes line same part = tt
+part-same (Err fault) old new bytes line same part = subst (AppendsPart old new) same part
+
+-- a change that joined the batch, or not
+pub pushes : (result : Result (Unit {0}) RunFault) (slots : ℕ) (run new : Running) (act : Act) (change : Change) (journal : Option (List Write)) (taken : Option (List ℕ))
+    → act ≡ Command change → OnOk result (new ≡ record run { pending = run.pending ++ change ∷ [] }) → OnOk result (CarriesRun slots run act new journal journal taken taken)
+pushes (Err fault) slots run new act change journal taken is pushed = tt
+pushes (Ok done) slots run new act change journal taken is pushed =
+    subst (λ one. CarriesRun slots run one new journal journal taken taken) (sym is)
+    (subst (λ after. CarriesRun slots run (Command change) after journal journal taken taken) (sym pushed) (push-carries slots run change journal taken))
+
+-- the commit that is held is that of the batch
+held-one : (run : Running) (ready : Ready) (held : HeldCommit) (holds : Holds (record run.manager { held = None }) run.pending ready run.manager)
+    → run.manager.held ≡ Some held → held ≡ holds.held
+held-one run ready held holds is =
+    let other : run.manager.held ≡ Some holds.held = ap (λ (manager : Managed). manager.held) holds.new_is in
+    let both : Some held ≡ Some holds.held = sym is ∙ other in cc
+
+-- a run whose commit was cut
+pub cut-run : (run : Running) (now : Managed) (journal_old journal_new : Option (List Write)) → IsRun run → MakesSome run.manager now journal_old journal_new → IsRun (record run { manager = now })
+cut-run run now journal_old journal_new is some =
+    subst (λ (manager : Managed). IsRun (record run { manager = manager })) (sym some.now_is) (held-run run some.made (record some.held { writes = some.due ∷ some.left }) is)
+
+pub cut-stops : (slots : ℕ) (inside run : Running) (now : Managed) (journal_old journal_new : Option (List Write)) (taken : Option (List ℕ)) → inside ≡ run → IsRun inside
+    → HoldsPending run → run.manager.slots ≤ slots → verdict_of run ≡ Accepted → MakesSome inside.manager now journal_old journal_new
+    → CutsRunAtWrite slots run Commit journal_old journal_new taken taken
+cut-stops slots inside run now journal_old journal_new taken same is pending within accepted some =
+    let one = held-one run pending.0 some.held pending.1 (ap (λ (r : Running). r.manager.held) (sym same) ∙ some.held_is) in
+    commit-stops run pending.0 (subst IsRun same is) pending.1 slots within accepted some.made some.left some.due journal_old journal_new taken
+    (ap (λ (held : HeldCommit). held.writes) (sym one) ∙ some.whole) some.journal
+
+-- the manager once the writes of its commit are made
+made-manager : (inside run : Running) (done : Done) (now : Managed) (journal_old journal_new : Option (List Write)) → inside ≡ run → (holds : HoldsPending run)
+    → MakesAll inside.manager done now journal_old journal_new → (record inside { manager = now } ≡ record run { manager = (run_after run holds.1.held).manager }) × (done ≡ holds.1.held.counts)
+made-manager inside run done now journal_old journal_new same holds all =
+    let one = held-one run holds.0 all.held holds.1 (ap (λ (r : Running). r.manager.held) (sym same) ∙ all.held_is) in (
+      ap (λ (manager : Managed). record inside { manager = manager }) all.now_is
+          ∙ ap (λ held. record inside { manager = (run_after inside held).manager }) one
+          ∙ ap (λ (r : Running). record r { manager = (run_after r holds.1.held).manager }) same,
+      all.done_is ∙ ap (λ (held : HeldCommit). held.counts) one,
+    )
+
+pub made-run_held : (inside run : Running) (done : Done) (now : Managed) (journal_old journal_new : Option (List Write)) → inside ≡ run → IsRun inside
+    → HoldsPending run → MakesAll inside.manager done now journal_old journal_new → IsRun (record inside { manager = now })
+made-run_held inside run done now journal_old journal_new same is holds all =
+    let is_run = subst IsRun same is in
+    subst IsRun (sym (made-manager inside run done now journal_old journal_new same holds all).0)
+    (made-run run holds.0 is_run holds.1 run.pending run.commits run.writes is_run.adds is_run.few)
+
+-- the run after a commit whose writes are made and counted
+pub after-writes : (inside run counted : Running) (done : Done) (now : Managed) (journal_old journal_new : Option (List Write)) → inside ≡ run
+    → (holds : HoldsPending run) → MakesAll inside.manager done now journal_old journal_new
+    → counted ≡ record inside { manager = now; pending = []; commits = inside.commits + 1 }
+    → ◌≡◌ {A = Running} (record counted { writes = counted.writes + done.writes }) (run_after run holds.1.held)
+after-writes inside run counted done now journal_old journal_new same holds all closed =
+    let made = made-manager inside run done now journal_old journal_new same holds all in
+    ap (λ (r : Running). record r { writes = r.writes + done.writes })
+    (closed ∙ ap (λ (r : Running). record r { pending = []; commits = r.commits + 1 }) made.0)
+    ∙ ap (λ (counts : Done). record (run_after run holds.1.held) { writes = run.writes + counts.writes }) made.1
+
+pub after-writes_run : (inside run counted : Running) (done : Done) (now : Managed) (journal_old journal_new : Option (List Write)) → inside ≡ run → IsRun inside
+    → HoldsPending run → MakesAll inside.manager done now journal_old journal_new → counted ≡ record inside { manager = now; pending = []; commits = inside.commits + 1 }
+    → IsRun (record counted { writes = counted.writes + done.writes })
+after-writes_run inside run counted done now journal_old journal_new same is holds all closed =
+    subst IsRun (sym (after-writes inside run counted done now journal_old journal_new same holds all closed)) (after-run run holds.0 (subst IsRun same is) holds.1)
+
+all-journal : (run : Running) (ready : Ready) (done : Done) (now : Managed) (journal_old journal_new : Option (List Write))
+    (holds : Holds (record run.manager { held = None }) run.pending ready run.manager) → MakesAll run.manager done now journal_old journal_new
+    → (journal_new ≡ option_map (λ writes. writes ++ holds.held.writes) journal_old) × (done ≡ holds.held.counts)
+all-journal run ready done now journal_old journal_new holds all =
+    let one = held-one run ready all.held holds all.held_is in (
+      all.journal ∙ ap (λ (held : HeldCommit). option_map (λ writes. writes ++ held.writes) journal_old) one,
+      all.done_is ∙ ap (λ (held : HeldCommit). held.counts) one,
+    )
+
+-- its line is written
+pub all-carries : (slots : ℕ) (inside run counted : Running) (done : Done) (now : Managed) (journal_old journal_new : Option (List Write)) (old taken : Option (List ℕ))
+    → inside ≡ run → IsRun inside → HoldsPending run → run.manager.slots ≤ slots → verdict_of run ≡ Accepted → MakesAll inside.manager done now journal_old journal_new
+    → counted ≡ record inside { manager = now; pending = []; commits = inside.commits + 1 } → Appends old taken (accepted_line counted.commits done)
+    → CarriesRun slots run Commit (record counted { writes = counted.writes + done.writes }) journal_old journal_new old taken
+all-carries slots inside run counted done now journal_old journal_new old taken same is holds within accepted all closed grown =
+    let all_run : MakesAll run.manager done now journal_old journal_new = subst (λ (r : Running). MakesAll r.manager done now journal_old journal_new) same all in
+    let facts = all-journal run holds.0 done now journal_old journal_new holds.1 all_run in
+    let number : counted.commits ≡ run.commits + 1 = ap (λ (r : Running). r.commits) closed ∙ ap (λ (r : Running). r.commits + 1) same in
+    commit-carries run holds.0 (subst IsRun same is) holds.1 slots within accepted
+    (record counted { writes = counted.writes + done.writes }) journal_old journal_new old taken
+    (after-writes inside run counted done now journal_old journal_new same holds all closed) facts.0
+    (subst (λ (counts : Done). Appends old taken (accepted_line (run.commits + 1) counts)) facts.1
+    (subst (λ n. Appends old taken (accepted_line n done)) number grown))
+
+-- or a part of it
+pub all-cuts : (slots : ℕ) (inside run counted : Running) (done : Done) (now : Managed) (journal_old journal_new : Option (List Write)) (old taken : Option (List ℕ))
+    → inside ≡ run → IsRun inside → HoldsPending run → run.manager.slots ≤ slots → verdict_of run ≡ Accepted → MakesAll inside.manager done now journal_old journal_new
+    → counted ≡ record inside { manager = now; pending = []; commits = inside.commits + 1 } → AppendsPart old taken (accepted_line counted.commits done)
+    → CutsRunAtLine slots run Commit journal_old journal_new old taken
+all-cuts slots inside run counted done now journal_old journal_new old taken same is holds within accepted all closed part =
+    let all_run : MakesAll run.manager done now journal_old journal_new = subst (λ (r : Running). MakesAll r.manager done now journal_old journal_new) same all in
+    let facts = all-journal run holds.0 done now journal_old journal_new holds.1 all_run in
+    let number : counted.commits ≡ run.commits + 1 = ap (λ (r : Running). r.commits) closed ∙ ap (λ (r : Running). r.commits + 1) same in
+    commit-cuts run holds.0 (subst IsRun same is) holds.1 slots within accepted journal_old journal_new old taken facts.0
+    (subst (λ (counts : Done). AppendsPart old taken (accepted_line (run.commits + 1) counts)) facts.1
+    (subst (λ n. AppendsPart old taken (accepted_line n done)) number part))
+
+-- a run stands where it stood while a commit is held
+planned-progress : (slots : ℕ) (run : Running) (ready : Ready) (new : Managed) → Holds run.manager run.pending ready new → progress_of slots (record run { manager = new }) ≡ progress_of slots run
+planned-progress slots run ready new holds = ap (λ (manager : Managed). progress_of slots (record run { manager = manager })) holds.new_is
+
+planned-setting : (run : Running) (ready : Ready) (new : Managed) → Holds run.manager run.pending ready new → setting_of (record run { manager = new }) ≡ setting_of run
+planned-setting run ready new holds = ap (λ (manager : Managed). setting_of (record run { manager = manager })) holds.new_is
+
+pub planned-line : (slots slots_now : ℕ) (inside run : Running) (ready : Ready) (new : Managed) (journal_old journal_now journal_new : Option (List Write)) (old taken : Option (List ℕ))
+    → slots_now ≡ slots → journal_now ≡ journal_old → inside ≡ run → Holds inside.manager inside.pending ready new
+    → CutsRunAtLine slots_now (record inside { manager = new }) Commit journal_now journal_new old taken → CutsRunAtLine slots run Commit journal_old journal_new old taken
+planned-line slots slots_now inside run ready new journal_old journal_now journal_new old taken count journal same holds cuts =
+    subst (λ (r : Running). CutsRunAtLine slots r Commit journal_old journal_new old taken) same
+    (subst (λ before. CutsRunAtLine slots inside Commit before journal_new old taken) journal
+    (subst (λ n. CutsRunAtLine n inside Commit journal_now journal_new old taken) count
+    (subst (λ (progress : Progress). IsAt slots_now journal_now progress → CutsAtLine (setting_of inside) progress Commit journal_now journal_new old taken) (planned-progress slots_now inside ready new holds)
+    (subst (λ (setting : Setting). IsAt slots_now journal_now (progress_of slots_now (record inside { manager = new }))
+    → CutsAtLine setting (progress_of slots_now (record inside { manager = new })) Commit journal_now journal_new old taken) (planned-setting inside ready new holds) cuts))))
+
+pub planned-write : (slots slots_now : ℕ) (inside run : Running) (ready : Ready) (new : Managed) (journal_old journal_now journal_new : Option (List Write)) (old taken : Option (List ℕ))
+    → slots_now ≡ slots → journal_now ≡ journal_old → inside ≡ run → Holds inside.manager inside.pending ready new
+    → CutsRunAtWrite slots_now (record inside { manager = new }) Commit journal_now journal_new old taken → CutsRunAtWrite slots run Commit journal_old journal_new old taken
+planned-write slots slots_now inside run ready new journal_old journal_now journal_new old taken count journal same holds cuts =
+    subst (λ (r : Running). CutsRunAtWrite slots r Commit journal_old journal_new old taken) same
+    (subst (λ before. CutsRunAtWrite slots inside Commit before journal_new old taken) journal
+    (subst (λ n. CutsRunAtWrite n inside Commit journal_now journal_new old taken) count
+    (subst (λ (progress : Progress). IsAt slots_now journal_now progress → CutsAtWrite (setting_of inside) progress Commit journal_now journal_new old taken) (planned-progress slots_now inside ready new holds)
+    (subst (λ (setting : Setting). IsAt slots_now journal_now (progress_of slots_now (record inside { manager = new }))
+    → CutsAtWrite setting (progress_of slots_now (record inside { manager = new })) Commit journal_now journal_new old taken) (planned-setting inside ready new holds) cuts))))
+
+answers : (inside run : Running) (reason : Refusal) → inside ≡ run → run.manager.held ≡ None → Judges inside.manager inside.manager.held inside.pending (Err reason)
+    → Answers (verdict_of run) (Err reason)
+answers inside run reason same idle judges =
+    subst (λ held. Judges run.manager held run.pending (Err reason)) idle
+    (subst (λ (r : Running). Judges r.manager r.manager.held r.pending (Err reason)) same judges)
+
+-- the refusal of an idle manager tells the verdict
+judged-told : (inside run : Running) (reason : Refusal) → inside ≡ run → run.manager.held ≡ None → Judges inside.manager inside.manager.held inside.pending (Err reason)
+    → reason ≢ refusal.Memory → verdict_of run ≡ verdict_told reason
+judged-told inside run reason same idle judges other = sym (told-verdict (verdict_of run) reason (answers inside run reason same idle judges) other)
+
+judged-against : (inside run : Running) (reason : Refusal) → inside ≡ run → run.manager.held ≡ None → Judges inside.manager inside.manager.held inside.pending (Err reason)
+    → reason ≢ refusal.Memory → verdict_told reason ≢ Accepted
+judged-against inside run reason same idle judges other = told-refused (verdict_of run) reason (answers inside run reason same idle judges) other
+
+-- a refused commit, with its line
+pub refused-carries : (result : Result (Unit {0}) RunFault) (slots : ℕ) (inside run new : Running) (reason : Refusal) (manager : Managed)
+    (journal_old journal_new : Option (List Write)) (old taken : Option (List ℕ)) → inside ≡ run → run.manager.held ≡ None
+    → Judges inside.manager inside.manager.held inside.pending (Err reason) → reason ≢ refusal.Memory → manager ≡ inside.manager → journal_new ≡ journal_old
+    → new ≡ run_refused (record inside { manager = manager })
+    → OnOk result (Appends old taken (refused_line inside.family (inside.commits + 1) (verdict_told reason)))
+    → OnOk result (CarriesRun slots run Commit new journal_old journal_new old taken)
+refused-carries (Err fault) slots inside run new reason manager journal_old journal_new old taken same idle judges other kept journal is grown = tt
+refused-carries (Ok done) slots inside run new reason manager journal_old journal_new old taken same idle judges other kept journal is grown =
+    let whole : record inside { manager = manager } ≡ run = ap (λ (m : Managed). record inside { manager = m }) kept ∙ same in
+    refuse-carries slots run new (verdict_told reason) journal_old journal_new old taken (judged-told inside run reason same idle judges other)
+    (judged-against inside run reason same idle judges other) (is ∙ ap run_refused whole) journal
+    (subst (λ (r : Running). Appends old taken (refused_line r.family (r.commits + 1) (verdict_told reason))) same grown)
+
+-- or a part of it
+pub refused-cuts : (result : Result (Unit {0}) RunFault) (slots : ℕ) (inside run : Running) (reason : Refusal)
+    (journal_old journal_new : Option (List Write)) (old taken : Option (List ℕ)) → inside ≡ run → run.manager.held ≡ None
+    → Judges inside.manager inside.manager.held inside.pending (Err reason) → reason ≢ refusal.Memory → journal_new ≡ journal_old
+    → OnErr result (AppendsPart old taken (refused_line inside.family (inside.commits + 1) (verdict_told reason)))
+    → result ≡ Err fault.Sink → CutsRunAtLine slots run Commit journal_old journal_new old taken
+refused-cuts (Ok done) slots inside run reason journal_old journal_new old taken same idle judges other journal part failed = absurd (cc)
+refused-cuts (Err why) slots inside run reason journal_old journal_new old taken same idle judges other journal part failed =
+    refuse-cuts slots run (verdict_told reason) journal_old journal_new old taken (judged-told inside run reason same idle judges other)
+    (judged-against inside run reason same idle judges other) journal
+    (subst (λ (r : Running). AppendsPart old taken (refused_line r.family (r.commits + 1) (verdict_told reason))) same part)
+
+-- the numbers of a run's last line
+pub ending-same : (slots : ℕ) (inside run : Running) (rules entries pending : ℕ) → inside ≡ run → rules ≡ length inside.manager.rules
+    → entries ≡ entries_of inside.manager.mode inside.manager.rules → pending ≡ length inside.pending
+    → end_line rules entries inside.writes pending ≡ ending (setting_of run) (progress_of slots run)
+ending-same slots inside run rules entries pending same first second third =
+    ap (λ n. end_line n entries inside.writes pending) first
+    ∙ ap (λ n. end_line (length inside.manager.rules) n inside.writes pending) second
+    ∙ ap (λ n. end_line (length inside.manager.rules) (entries_of inside.manager.mode inside.manager.rules) inside.writes n) third
+    ∙ ap (λ (r : Running). ending (setting_of r) (progress_of slots r)) same

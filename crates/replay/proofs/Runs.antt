@@ -1,0 +1,123 @@
+-- What a run is between two calls, and after an accepted commit.
+use Rattle.std.proofs.Common.{◌≡◌, ℕ, ◌+◌, ◌*◌, ◌^◌, ◌≤◌, List, [], ◌∷◌, ◌++◌, Some, None, refl, sym, ap, ◌∙◌, subst, arith}
+use Rattle.std.specs.List.{AllByRecursion}
+use Rattle.rule_model.specs.declared.Rule.{Rule}
+use Rattle.rule_model.specs.Routes.{IsIpv4Route}
+use Rattle.rule_store.specs.Batch.{set_after}
+use Rattle.rule_store.specs.declared.Mode.{Mode}
+use Rattle.rule_store.specs.declared.Command.{Command as Change}
+use Rattle.tcam_device.specs.declared.Write.{Write}
+use Rattle.tcam_device.specs.State.{State, Shows, state_after, on_device}
+use Rattle.tcam_device.specs.Insertion.{Insertion, IsUncrossed}
+use Rattle.commit_writes.specs.Bits.{FieldBits, bits_with, bits_left}
+use Rattle.batch_order.specs.declared.Ready.{Ready}
+use Rattle.batch_order.specs.Managed.{HeldCommit, Holds, OnlyAddsRoutes}
+use Rattle.replay.specs.declared.Family.TheVariants.{Route}
+use Rattle.replay.specs.Run.{Progress, Effect, Prints, Commits, OfFamily, writes_of, after_segment}
+use Rattle.replay.specs.Text.{accepted_line}
+use Rattle.replay.specs.Running.{Running, IsRun, setting_of, progress_of, begun}
+use Rattle.replay.proofs.Wider.{size-after, on_device-after, blank-shows}
+use Rattle.replay.proofs.Routes.{routes-after}
+use Rattle.std.proofs.lemmas.List.{length-replicate}
+
+-- a run before its first act
+pub begun-run : (slots : ℕ) (mode : Mode) → IsRun (begun slots mode Route)
+begun-run slots mode = record {
+  adds = tt;
+  routes = tt;
+  route = refl;
+  size = length-replicate slots None;
+  few = omega arith;
+  shows = λ idle device_slots within. blank-shows device_slots slots;
+}
+
+-- while a commit is under way, after some of its writes
+pub held-run : (run : Running) (made : List Write) (held : HeldCommit) → IsRun run
+    → IsRun (record run { manager = record run.manager { state = state_after run.manager.state made; held = Some held } })
+held-run run made held is = record {
+  adds = is.adds;
+  routes = is.routes;
+  route = is.route;
+  size = size-after run.manager.state made ∙ is.size;
+  few = is.few;
+  shows = λ idle. absurd (let none : Some held ≡ None = idle in cc);
+}
+
+-- the run after its commit
+abbrev pub run_after : Running → HeldCommit → Running
+run_after run held =
+    record run {
+      manager = record run.manager { state = state_after run.manager.state held.writes; rules = held.rules; bits = held.bits; held = None };
+      pending = [];
+      commits = run.commits + 1;
+      writes = run.writes + held.counts.writes;
+    }
+
+wider : (made : List Insertion) → IsUncrossed 33 made → IsUncrossed 67 made
+wider [] all = tt
+wider (one ∷ made) all = let few = all.0.1 in ((all.0.0, omega arith), wider made all.1)
+
+module _ (run : Running) (ready : Ready) (is : IsRun run) (holds : Holds (record run.manager { held = None }) run.pending ready run.manager) where
+  after-state : (slots : ℕ) → on_device slots (state_after run.manager.state holds.held.writes) ≡ state_after (on_device slots run.manager.state) holds.held.writes
+  after-state slots = on_device-after slots run.manager.slots run.manager.state holds.held.writes is.size holds.in_use
+
+  -- the run once the writes are made
+  pub made-run : (pending : List Change) (commits writes : ℕ) → OnlyAddsRoutes pending → writes ≤ commits * 2 ^ 40
+      → IsRun (record (run_after run holds.held) { pending = pending; commits = commits; writes = writes })
+  made-run pending commits writes adds few = record {
+    adds = adds;
+    routes = subst (AllByRecursion IsIpv4Route) (sym holds.rules) (routes-after run.manager.rules run.pending is.adds is.routes);
+    route = is.route;
+    size = size-after run.manager.state holds.held.writes ∙ is.size;
+    few = few;
+    shows = λ idle slots within.
+        subst (λ rules. Shows (on_device slots (state_after run.manager.state holds.held.writes)) rules) (sym holds.rules)
+        (subst (λ state. Shows state (set_after run.manager.rules run.pending)) (sym (after-state slots)) (holds.segment slots within).hitless.after);
+  }
+
+  pub after-run : IsRun (run_after run holds.held)
+  after-run =
+      let few = is.few in
+      let more = holds.few in
+      let same = (holds.numbers run.manager.slots (omega arith)).writes in
+      made-run [] (run.commits + 1) (run.writes + holds.held.counts.writes) tt (omega arith)
+
+  after-progress : (slots : ℕ) → run.manager.slots ≤ slots
+      → progress_of slots (run_after run holds.held) ≡ after_segment (setting_of run) (progress_of slots run) holds.held.writes
+  after-progress slots within =
+      let at : List Rule → FieldBits → State → ℕ → Progress = λ rules bits state writes. record {
+        rules = rules;
+        batch = [];
+        bits = bits;
+        state = state;
+        commits = run.commits + 1;
+        writes = writes;
+        refused = run.refused;
+      } in
+      let state : State = on_device slots (state_after run.manager.state holds.held.writes) in
+      let writes : ℕ = run.writes + holds.held.counts.writes in
+      let left : FieldBits = bits_left (set_after run.manager.rules run.pending) (bits_with run.manager.mode run.manager.rules run.pending run.manager.bits) in
+      ap (λ rules. at rules holds.held.bits state writes) holds.rules
+      ∙ ap (λ bits. at (set_after run.manager.rules run.pending) bits state writes) holds.bits
+      ∙ ap (λ after. at (set_after run.manager.rules run.pending) left after writes) (after-state slots)
+      ∙ ap (λ count. at (set_after run.manager.rules run.pending) left (state_after (on_device slots run.manager.state) holds.held.writes) (run.writes + count)) (holds.numbers slots within).writes
+
+  of-family : (slots : ℕ) → run.manager.slots ≤ slots → OfFamily run.family (on_device slots run.manager.state) holds.held.writes
+  of-family slots within =
+      let least = holds.uncrossed slots within is.routes is.adds in
+      subst (λ family. OfFamily family (on_device slots run.manager.state) holds.held.writes) (sym is.route) (wider _ least, least)
+
+  -- the commit, as what it writes and prints
+  pub commits-with : (slots : ℕ) → run.manager.slots ≤ slots → (effects : List Effect)
+      → effects ≡ writes_of holds.held.writes ++ Prints (accepted_line (run.commits + 1) holds.held.counts) ∷ []
+      → Commits (setting_of run) (progress_of slots run) effects (progress_of slots (run_after run holds.held))
+  commits-with slots within effects same = record {
+    made = holds.held.writes;
+    counts = holds.held.counts;
+    segment = holds.segment slots within;
+    of_family = of-family slots within;
+    in_use = holds.in_use;
+    numbers = holds.numbers slots within;
+    effects_are = same;
+    after = after-progress slots within;
+  }

@@ -1,0 +1,12 @@
+-- The words of the answer stand behind the first word.
+use Rattle.std.proofs.Common.{◌≡◌, [], ◌∷◌, ◌++◌, codes}
+use Rattle.replay.specs.Text.{packet_line, answer_words}
+use Rattle.replay.proofs.Lines.{with_words-line}
+use Rattle.replay.proofs.Exits.{part-same}
+use Rattle.replay.proofs.report.write_packet.Goals as goal
+
+pub returns-clause-part : goal.returns-clause-part
+returns-clause-part g c =
+    let same : c.answer.result ++ 10 ∷ [] ≡ packet_line c.args.family c.args.found =
+    rw (c.answer.ensures.text, c.new.ensures) (with_words-line (codes "packet") (answer_words c.args.family c.args.found)) in
+    part-same c.write.result _ _ (c.answer.result ++ 10 ∷ []) (packet_line c.args.family c.args.found) same c.write.ensures.part

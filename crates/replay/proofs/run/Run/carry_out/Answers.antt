@@ -1,0 +1,114 @@
+-- The writes are those of the batch's commit, and a part of them where the device fails.
+use Rattle.std.proofs.Common.{◌≡◌, Ok, Err, sym, ◌∙◌}
+use Rattle.replay.specs.Running.{Running}
+use Rattle.replay.specs.declared.RunFault.TheVariants as fault
+use Rattle.replay.proofs.Exits.{cut-run, cut-stops, made-run_held, after-writes_run, all-carries, all-cuts}
+use Rattle.replay.proofs.run.Run.carry_out.Goals as goal
+use Rattle.replay.proofs.run.Run.carry_out.Goals.{in-Ok-write_accepted, in-Err-write_accepted}
+
+pub invariant_of-self : goal.invariant_of-self
+invariant_of-self g c =
+    let run : Running = record {
+      manager = c.self.inside.manager;
+      family = c.self.inside.family;
+      pending = c.self.inside.pending;
+      commits = c.self.inside.commits;
+      writes = c.self.inside.writes;
+      refused = c.self.inside.refused;
+    } in
+    cut-run run c.make_writes.new.manager _ _ c.self.invariant c.in-Err.ensures.cut
+
+pub returns-in-Err-clause-at_write : goal.returns-in-Err-clause-at_write
+returns-in-Err-clause-at_write g c =
+    let run : Running = record {
+      manager = c.self.inside.manager;
+      family = c.self.inside.family;
+      pending = c.self.inside.pending;
+      commits = c.self.inside.commits;
+      writes = c.self.inside.writes;
+      refused = c.self.inside.refused;
+    } in
+    λ same. cut-stops _ run c.args.self.now c.make_writes.new.manager _ _ _ c.self.view_is c.self.invariant c.requires.holds c.requires.slots c.requires.accepted c.in-Err.ensures.cut
+
+pub invariant_of-self-2 : goal.invariant_of-self-2
+invariant_of-self-2 g c =
+    let run : Running = record {
+      manager = c.self.inside.manager;
+      family = c.self.inside.family;
+      pending = c.self.inside.pending;
+      commits = c.self.inside.commits;
+      writes = c.self.inside.writes;
+      refused = c.self.inside.refused;
+    } in
+    made-run_held run c.args.self.now c.in-Ok.done c.make_writes.new.manager _ _ c.self.view_is c.self.invariant c.requires.holds c.in-Ok.ensures.made
+
+pub invariant_of-self-3 : goal.invariant_of-self-3
+invariant_of-self-3 g c =
+    let run : Running = record {
+      manager = c.self.inside.manager;
+      family = c.self.inside.family;
+      pending = c.self.inside.pending;
+      commits = c.self.inside.commits;
+      writes = c.self.inside.writes;
+      refused = c.self.inside.refused;
+    } in
+    let counted : Running = record {
+      manager = c.self-2.inside.manager;
+      family = c.self-2.inside.family;
+      pending = c.self-2.inside.pending;
+      commits = c.self-2.inside.commits;
+      writes = c.self-2.inside.writes;
+      refused = c.self-2.inside.refused;
+    } in
+    after-writes_run run c.args.self.now counted c.in-Ok.done c.make_writes.new.manager _ _ c.self.view_is c.self.invariant c.requires.holds c.in-Ok.ensures.made
+    (c.self-2.view_is ∙ c.count_commit.ensures)
+
+pub returns-clause-carries : goal.returns-clause-carries
+returns-clause-carries g c =
+    let run : Running = record {
+      manager = c.self.inside.manager;
+      family = c.self.inside.family;
+      pending = c.self.inside.pending;
+      commits = c.self.inside.commits;
+      writes = c.self.inside.writes;
+      refused = c.self.inside.refused;
+    } in
+    let counted : Running = record {
+      manager = c.self-2.inside.manager;
+      family = c.self-2.inside.family;
+      pending = c.self-2.inside.pending;
+      commits = c.self-2.inside.commits;
+      writes = c.self-2.inside.writes;
+      refused = c.self-2.inside.refused;
+    } in
+    elim c.match-write_accepted.branch [
+      | in-Ok-write_accepted w ↦ rw w.result-is
+          (all-carries _ run c.args.self.now counted c.in-Ok.done c.make_writes.new.manager _ _ _ _ c.self.view_is c.self.invariant c.requires.holds c.requires.slots
+          c.requires.accepted c.in-Ok.ensures.made (c.self-2.view_is ∙ c.count_commit.ensures) w.in-Ok-write_accepted.ensures.whole)
+      | in-Err-write_accepted w ↦ rw w.result-is tt
+    ]
+
+pub returns-clause-at_line : goal.returns-clause-at_line
+returns-clause-at_line g c =
+    let run : Running = record {
+      manager = c.self.inside.manager;
+      family = c.self.inside.family;
+      pending = c.self.inside.pending;
+      commits = c.self.inside.commits;
+      writes = c.self.inside.writes;
+      refused = c.self.inside.refused;
+    } in
+    let counted : Running = record {
+      manager = c.self-2.inside.manager;
+      family = c.self-2.inside.family;
+      pending = c.self-2.inside.pending;
+      commits = c.self-2.inside.commits;
+      writes = c.self-2.inside.writes;
+      refused = c.self-2.inside.refused;
+    } in
+    elim c.match-write_accepted.branch [
+      | in-Ok-write_accepted w ↦ λ failed. absurd (let bad : Ok tt ≡ Err fault.Sink = sym w.result-is ∙ failed in cc)
+      | in-Err-write_accepted w ↦ λ failed.
+          all-cuts _ run c.args.self.now counted c.in-Ok.done c.make_writes.new.manager _ _ _ _ c.self.view_is c.self.invariant c.requires.holds c.requires.slots
+          c.requires.accepted c.in-Ok.ensures.made (c.self-2.view_is ∙ c.count_commit.ensures) w.in-Err-write_accepted.ensures.part
+    ]

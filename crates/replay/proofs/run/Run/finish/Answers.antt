@@ -1,0 +1,26 @@
+-- The numbers are those of the run.
+use Rattle.std.proofs.Common.{length, ap, subst, ◌∙◌}
+use Rattle.replay.specs.Carried.{AppendsPart}
+use Rattle.replay.specs.Running.{Running}
+use Rattle.replay.proofs.Exits.{ending-same}
+use Rattle.replay.proofs.run.Run.finish.Goals as goal
+use Rattle.replay.proofs.run.Run.finish.Goals.{in-Ok, in-Err}
+
+pub returns-clause-part : goal.returns-clause-part
+returns-clause-part g c =
+    let run : Running = record {
+      manager = c.self.inside.manager;
+      family = c.self.inside.family;
+      pending = c.self.inside.pending;
+      commits = c.self.inside.commits;
+      writes = c.self.inside.writes;
+      refused = c.self.inside.refused;
+    } in
+    elim c.match-write_end.branch [
+      | in-Ok w ↦ rw w.result-is tt
+      | in-Err w ↦ rw w.result-is
+          (λ slots. subst (AppendsPart (g.K.Sink.taken c.args.sink.now) (g.K.Sink.taken c.write_end.new.sink))
+          (ending-same slots run c.args.self.now c.len.result c.entries.result c.len-2.result c.self.view_is
+          (c.len.ensures.count ∙ ap (λ rules. length rules) c.rules.ensures.rules) c.entries.ensures c.len-2.ensures.count)
+          w.in-Err.ensures.part)
+    ]

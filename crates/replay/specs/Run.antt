@@ -1,0 +1,157 @@
+-- Runs: what the acts of a script do to the device and to the report, one after the other.
+use Rattle.std.specs.Prelude.{◌≡◌, ℕ, ◌+◌, Bool, true, false, List, [], ◌∷◌, ◌++◌, length, map}
+use Rattle.std.specs.List.{AllByRecursion}
+use Rattle.rule_model.specs.declared.Rule.{Rule}
+use Rattle.rule_model.specs.RuleSet.{answer}
+use Rattle.rule_store.specs.declared.Mode.{Mode}
+use Rattle.rule_store.specs.declared.Command.{Command as Change}
+use Rattle.rule_store.specs.Batch.{set_after}
+use Rattle.rule_store.specs.Verdict.{Verdict, Accepted, Unsound, OutOfBits, OutOfSlots, verdict, entries_of}
+use Rattle.tcam_device.specs.declared.Write.{Write}
+use Rattle.tcam_device.specs.State.{State, blank, IsInUse, state_after}
+use Rattle.tcam_device.specs.Insertion.{insertions, IsUncrossed}
+use Rattle.commit_writes.specs.declared.Done.{Done}
+use Rattle.commit_writes.specs.Bits.{FieldBits, no_bits, bits_with, bits_left}
+use Rattle.commit_writes.specs.Commit.{AreCounts, IsSegment}
+use Rattle.commit_writes.specs.Planned.{AddsRoute}
+use Rattle.replay.specs.declared.Family.{Family}
+use Rattle.replay.specs.declared.Family.TheVariants.{Route, Acl}
+use Rattle.replay.specs.declared.Act.{Act}
+use Rattle.replay.specs.declared.Act.TheVariants.{Command, Packet, Commit}
+use Rattle.replay.specs.Text.{packet_line, accepted_line, refused_line, end_line}
+
+-- what the words of a command line ask for: the slots in use, the encoding of ranges, and the family
+pub record Setting : Type 0 where
+  pub slots : ℕ
+  pub mode : Mode
+  pub family : Family
+
+-- What a run does to the outside: it writes the device, or it prints a line.
+pub data Effect : Type 0 where
+  Writes : (write : Write) → Effect
+  Prints : (line : List ℕ) → Effect
+
+-- the journal of some effects
+abbrev pub written : List Effect → List Write
+written [] = []
+written (Writes write ∷ effects) = write ∷ written effects
+written (Prints line ∷ effects) = written effects
+
+-- the report of some effects
+abbrev pub printed : List Effect → List ℕ
+printed [] = []
+printed (Writes write ∷ effects) = printed effects
+printed (Prints line ∷ effects) = line ++ printed effects
+
+-- where a run stands: set, pending batch, live ranges, device, commits, writes, and whether a commit was refused
+pub record Progress : Type 0 where
+  pub rules : List Rule
+  pub batch : List Change
+  pub bits : FieldBits
+  pub state : State
+  pub commits : ℕ
+  pub writes : ℕ
+  pub refused : Bool
+
+-- before the first act, over a blank device of so many slots
+abbrev pub start : ℕ → Progress
+start slots =
+    record {
+      rules = [];
+      batch = [];
+      bits = no_bits;
+      state = blank slots;
+      commits = 0;
+      writes = 0;
+      refused = false;
+    }
+
+-- the writes of a commit, one after the other
+abbrev pub writes_of : List Write → List Effect
+writes_of made = map Writes made
+
+-- where a run stands after an accepted commit
+abbrev pub after_segment : Setting → Progress → List Write → Progress
+after_segment setting old made =
+    record old {
+      rules = set_after old.rules old.batch;
+      batch = [];
+      bits = bits_left (set_after old.rules old.batch) (bits_with setting.mode old.rules old.batch old.bits);
+      state = state_after old.state made;
+      commits = old.commits + 1;
+      writes = old.writes + length made;
+    }
+
+-- where a run stands after a refused commit
+abbrev pub after_refusal : Progress → Progress
+after_refusal old = record old { batch = []; commits = old.commits + 1; refused = true }
+
+-- Of routes no insertion crosses others, and none takes more than 67 writes, nor more than 33 where moves overwrite.
+abbrev pub OfFamily : Family → State → List Write → Type 0
+OfFamily Route state made = IsUncrossed 67 (insertions state made) × IsUncrossed 33 (insertions state made)
+OfFamily Acl state made = Unit {0}
+
+-- An accepted commit makes a segment, each write of it with its lines, and prints its numbers.
+pub record Commits (setting : Setting) (old : Progress) (effects : List Effect) (new : Progress) : Type 0 where
+  pub made : List Write
+  pub counts : Done
+  pub segment : IsSegment setting.mode old.bits old.rules old.batch old.state made
+  pub of_family : OfFamily setting.family old.state made
+  pub in_use : AllByRecursion (IsInUse setting.slots) made
+  pub numbers : AreCounts old.state made counts
+  pub effects_are : effects ≡ writes_of made ++ Prints (accepted_line (old.commits + 1) counts) ∷ []
+  pub after : new ≡ after_segment setting old made
+
+-- A refused one writes nothing, and says why.
+abbrev pub Refuses : Setting → Progress → Verdict → List Effect → Progress → Type 0
+Refuses setting old reason effects new =
+    (effects ≡ Prints (refused_line setting.family (old.commits + 1) reason) ∷ []) × (new ≡ after_refusal old)
+
+-- what a commit does by its verdict
+abbrev pub Judged : Setting → Progress → Verdict → List Effect → Progress → Type 0
+Judged setting old Accepted effects new = Commits setting old effects new
+Judged setting old (Unsound fault) effects new = Refuses setting old (Unsound fault) effects new
+Judged setting old (OutOfBits field needed free) effects new = Refuses setting old (OutOfBits field needed free) effects new
+Judged setting old (OutOfSlots needed free) effects new = Refuses setting old (OutOfSlots needed free) effects new
+
+-- From where the run stands, an act has these effects, and the run stands there.
+abbrev pub Step : Setting → Progress → Act → List Effect → Progress → Type 0
+Step setting old (Command change) effects new = (effects ≡ []) × (new ≡ record old { batch = old.batch ++ change ∷ [] })
+Step setting old (Packet key) effects new =
+    (effects ≡ Prints (packet_line setting.family (answer old.rules key)) ∷ []) × (new ≡ old)
+Step setting old Commit effects new =
+    Judged setting old (verdict setting.slots setting.mode old.rules old.batch) effects new
+
+-- An act that is cut before an effect that is due: these are its effects before that.
+pub record IsCutStep (setting : Setting) (before : Progress) (act : Act) (effects : List Effect) (due : Effect) : Type 0 where
+  pub back : List Effect
+  pub after : Progress
+  pub step : Step setting before act (effects ++ due ∷ back) after
+
+-- an act that takes memory: a change, or a commit that is accepted
+abbrev pub TakesMemory : Setting → Progress → Act → Type 0
+TakesMemory setting before (Command change) = Unit {0}
+TakesMemory setting before (Packet key) = ⊥
+TakesMemory setting before Commit = verdict setting.slots setting.mode before.rules before.batch ≡ Accepted
+
+-- the acts one after the other
+abbrev pub Run : Setting → Progress → List Act → List Effect → Progress → Type 0
+Run setting old [] effects new = (effects ≡ []) × (new ≡ old)
+Run setting old (act ∷ acts) effects new =
+    (front : List Effect) × (mid : Progress) × (back : List Effect) × Step setting old act front mid
+    × Run setting mid acts back new × (effects ≡ front ++ back)
+
+-- all that a run does over a device of so many slots by its acts, before its last line
+abbrev pub Runs : Setting → ℕ → List Act → List Effect → Progress → Type 0
+Runs setting device_slots acts effects last = Run setting (start device_slots) acts effects last
+
+-- the last line of a run that came to the end of its acts
+abbrev pub ending : Setting → Progress → List ℕ
+ending setting progress =
+    end_line (length progress.rules) (entries_of setting.mode progress.rules) progress.writes (length progress.batch)
+
+-- an act of a script of routes that only adds: the changes that a run takes until others come
+abbrev pub IsRouteAct : Act → Type 0
+IsRouteAct (Command change) = AddsRoute change
+IsRouteAct (Packet key) = Unit {0}
+IsRouteAct Commit = Unit {0}
