@@ -1,6 +1,5 @@
 pub mod Lines
 pub mod Refusals
-pub mod Wider
 pub mod Effects
 pub mod Routes
 pub mod Runs

@@ -1,5 +1,5 @@
 -- What a run is between two calls, and after an accepted commit.
-use Rattle.std.proofs.Common.{◌≡◌, ℕ, ◌+◌, ◌*◌, ◌^◌, ◌≤◌, List, [], ◌∷◌, ◌++◌, Some, None, refl, sym, ap, ◌∙◌, subst, arith}
+use Rattle.std.proofs.Common.{◌≡◌, ℕ, ◌+◌, ◌-◌, ◌*◌, ◌^◌, ◌≤◌, length, List, [], ◌∷◌, ◌++◌, Some, None, refl, sym, ap, ◌∙◌, subst, arith}
 use Rattle.std.specs.List.{AllByRecursion}
 use Rattle.rule_model.specs.declared.Rule.{Rule}
 use Rattle.rule_model.specs.Routes.{IsIpv4Route}
@@ -7,7 +7,7 @@ use Rattle.rule_store.specs.Batch.{set_after}
 use Rattle.rule_store.specs.declared.Mode.{Mode}
 use Rattle.rule_store.specs.declared.Command.{Command as Change}
 use Rattle.tcam_device.specs.declared.Write.{Write}
-use Rattle.tcam_device.specs.State.{State, Shows, state_after, on_device}
+use Rattle.tcam_device.specs.State.{State, Shows, IsInUse, blank, state_after, on_device}
 use Rattle.tcam_device.specs.Insertion.{Insertion, IsUncrossed}
 use Rattle.commit_writes.specs.Bits.{FieldBits, bits_with, bits_left}
 use Rattle.batch_order.specs.declared.Ready.{Ready}
@@ -16,7 +16,7 @@ use Rattle.replay.specs.declared.Family.TheVariants.{Route}
 use Rattle.replay.specs.Run.{Progress, Effect, Prints, Commits, OfFamily, writes_of, after_segment}
 use Rattle.replay.specs.Text.{accepted_line}
 use Rattle.replay.specs.Running.{Running, IsRun, setting_of, progress_of, begun}
-use Rattle.replay.proofs.Wider.{size-after, on_device-after, blank-shows}
+use Rattle.tcam_device.proofs.Wider.{slots-after, state_after-on_device, Shows-padded, blank_shows}
 use Rattle.replay.proofs.Routes.{routes-after}
 use Rattle.std.proofs.lemmas.List.{length-replicate}
 
@@ -28,7 +28,7 @@ begun-run slots mode = record {
   route = refl;
   size = length-replicate slots None;
   few = omega arith;
-  shows = λ idle device_slots within. blank-shows device_slots slots;
+  shows = λ idle device_slots within. Shows-padded (device_slots - length (blank slots).slots) (blank slots) [] (blank_shows slots);
 }
 
 -- while a commit is under way, after some of its writes
@@ -38,7 +38,7 @@ held-run run made held is = record {
   adds = is.adds;
   routes = is.routes;
   route = is.route;
-  size = size-after run.manager.state made ∙ is.size;
+  size = slots-after run.manager.state made ∙ is.size;
   few = is.few;
   shows = λ idle. absurd (let none : Some held ≡ None = idle in cc);
 }
@@ -59,7 +59,9 @@ wider (one ∷ made) all = let few = all.0.1 in ((all.0.0, omega arith), wider m
 
 module _ (run : Running) (ready : Ready) (is : IsRun run) (holds : Holds (record run.manager { held = None }) run.pending ready run.manager) where
   after-state : (slots : ℕ) → on_device slots (state_after run.manager.state holds.held.writes) ≡ state_after (on_device slots run.manager.state) holds.held.writes
-  after-state slots = on_device-after slots run.manager.slots run.manager.state holds.held.writes is.size holds.in_use
+  after-state slots =
+      sym (state_after-on_device slots run.manager.state holds.held.writes
+      (subst (λ size. AllByRecursion (IsInUse size) holds.held.writes) (sym is.size) holds.in_use))
 
   -- the run once the writes are made
   pub made-run : (pending : List Change) (commits writes : ℕ) → OnlyAddsRoutes pending → writes ≤ commits * 2 ^ 40
@@ -68,7 +70,7 @@ module _ (run : Running) (ready : Ready) (is : IsRun run) (holds : Holds (record
     adds = adds;
     routes = subst (AllByRecursion IsIpv4Route) (sym holds.rules) (routes-after run.manager.rules run.pending is.adds is.routes);
     route = is.route;
-    size = size-after run.manager.state holds.held.writes ∙ is.size;
+    size = slots-after run.manager.state holds.held.writes ∙ is.size;
     few = few;
     shows = λ idle slots within.
         subst (λ rules. Shows (on_device slots (state_after run.manager.state holds.held.writes)) rules) (sym holds.rules)

@@ -103,7 +103,7 @@ impl Run {
         ensures memory { (result ≡ Err RunFault.Memory) → Wants (setting_of self.old) (progress_of (D.slot_count device.old) self.old) act.now
             (D.journal device.old) (D.journal device.new) (K.taken sink.old) (K.taken sink.new) }
         ensures full { (result ≡ Err RunFault.BatchFull) ↔ IsSome (limit_fault act.now (length self.old.pending)) }
-        ensures untouched { (result ≡ Err RunFault.BatchFull) → (D.journal device.new ≡ D.journal device.old) × (K.taken sink.new ≡ K.taken sink.old) }
+        ensures untouched { (result ≡ Err RunFault.BatchFull) ⊎ (result ≡ Err RunFault.Memory) → (D.journal device.new ≡ D.journal device.old) × (K.taken sink.new ≡ K.taken sink.old) }
         ensures unchanged { (result ≡ Err RunFault.BatchFull) ⊎ (result ≡ Err RunFault.Memory) → self.new ≡ self.old }
         ensures idle { (result ≢ Err RunFault.Device) → self.new.manager.held ≡ None }
         ensures setting { setting_of self.new ≡ setting_of self.old }

@@ -28,7 +28,7 @@ impl Model for Lines {
 }
 
 impl Lines {
-    ghost use Rattle.std.specs.Prelude.{◌≡◌, ◌≢◌, ◌<◌, ◌≤◌, ◌-◌, ℕ, List, [], Some, IfOk, IfSome, IsErrOf, drop, replicate};
+    ghost use Rattle.std.specs.Prelude.{◌≡◌, ◌≢◌, ◌<◌, ◌≤◌, ◌+◌, ◌-◌, ℕ, List, [], Some, IfOk, IfSome, IsErrOf, drop, replicate};
     ghost use Rattle.std.specs.Io.KnownBytes.{Consumes};
     ghost use Rattle.script_lines.specs.Cause.{Rose};
     ghost use Rattle.script_lines.specs.Reader.{Hands, Follows, Again, MayRead, Stays};
@@ -62,6 +62,7 @@ impl Lines {
         ensures len { IfOk result (λ found. IfSome found (λ line. line.len ≤ 512)) }
         ensures padded { IfOk result (λ found. IfSome found (λ line. drop line.len line.bytes ≡ replicate (512 - line.len) 0)) }
         ensures falls { IfOk result (λ found. IfSome found (λ _. (self.old.before < self.new.before) × (self.new.before ≤ 16777216))) }
+        ensures counts { IfOk result (λ found. IfSome found (λ line. self.old.before + line.len ≤ self.new.before)) }
         ensures takes { (bytes : List ℕ) × Consumes (S.left source.old) (S.left source.new) bytes }
         ensures faults { S.faults source.old ≤ S.faults source.new }
         ensures cause { IsErrOf result LineFault.Read → Rose (S.faults source.old) (S.faults source.new) }

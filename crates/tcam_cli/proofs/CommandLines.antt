@@ -2,7 +2,8 @@
 use Rattle.std.proofs.Common.{◌≡◌, [], ◌∷◌, refl}
 use Rattle.std.specs.Prelude.{codes}
 use Rattle.clap.proofs.OnLiterals.{clap_on_literals}
-use Rattle.tcam_cli.specs.CommandLine.{NoJob, Tells, Reads, help_text, job_of, route_command, slots_option, tcam_command, version_text}
+use Rattle.tcam_cli.specs.CommandLine.{help_text, job_of, route_command, route_setting, slots_option, tcam_command, version_text}
+use Rattle.tcam_cli.specs.Headline.{NoJob, Tells, Reads}
 
 unknown : job_of (codes "tcam" ∷ codes "frob" ∷ []) ≡ NoJob
 unfolding clap_on_literals tcam_command route_command slots_option
@@ -20,11 +21,11 @@ too-many-slots : job_of (codes "tcam" ∷ codes "route" ∷ codes "--slots" ∷ 
 unfolding clap_on_literals tcam_command route_command slots_option
 too-many-slots = refl
 
-routes : job_of (codes "tcam" ∷ codes "route" ∷ []) ≡ Reads 4096
+routes : job_of (codes "tcam" ∷ codes "route" ∷ []) ≡ Reads (route_setting 4096)
 unfolding clap_on_literals tcam_command route_command slots_option
 routes = refl
 
-some-slots : job_of (codes "tcam" ∷ codes "route" ∷ codes "--slots" ∷ codes "8" ∷ []) ≡ Reads 8
+some-slots : job_of (codes "tcam" ∷ codes "route" ∷ codes "--slots" ∷ codes "8" ∷ []) ≡ Reads (route_setting 8)
 unfolding clap_on_literals tcam_command route_command slots_option
 some-slots = refl
 

@@ -3,3 +3,14 @@ mod CommandLines
 mod Slots
 mod TakenSlots
 mod Words
+mod WholeLines
+mod OneMore
+mod Decided
+mod Endings
+mod Exits
+mod WholeRun
+mod TopCall
+mod ActLines
+mod Limits
+mod Closings
+mod Begun

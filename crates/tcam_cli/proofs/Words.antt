@@ -13,10 +13,11 @@ use Rattle.clap.specs.Matches.{first_value}
 use Rattle.clap.specs.declared.error.kind.ErrorKind.{ErrorKind}
 use Rattle.clap.specs.declared.parser.matches.ArgMatches.{ArgMatches}
 use Rattle.clap.proofs.OnLiterals.{clap_on_literals}
-use Rattle.tcam_cli.specs.declared.command_line.Job.{Job}
-use Rattle.tcam_cli.specs.declared.command_line.Job.TheVariants.{Route}
+use Rattle.tcam_cli.specs.declared.command_line.Asked.{Asked}
+use Rattle.tcam_cli.specs.declared.command_line.Asked.TheVariants.{Route}
 use Rattle.tcam_cli.specs.declared.command_line.WordsFault.{WordsFault}
-use Rattle.tcam_cli.specs.CommandLine.{Asked, asked_by, job_by_faults, job_of, job_of_fault, job_of_subcommand, tested_job, number_of, Reads, NoJob, route_command, slots_option, tcam_command, text_of}
+use Rattle.tcam_cli.specs.CommandLine.{asked_by, job_by_faults, job_of, job_of_fault, job_of_subcommand, tested_job, number_of, route_setting, route_command, slots_option, tcam_command, text_of}
+use Rattle.tcam_cli.specs.Headline.{Job, Reads, NoJob}
 use Rattle.std.specs.Str.{bytes_eq}
 use Rattle.clap.specs.ValueTests.{is_unsigned_in}
 use Rattle.tcam_cli.proofs.TakenSlots.{slots_taken}
@@ -41,8 +42,8 @@ tested words none None are = refl
 tested words none (Some (name, rows)) are = go (is_unsigned_in 1 4096 (text_of (codes "slots") rows)) (slots_taken words name rows none are)
   where
     go : (b : Bool) → b ≡ true
-        → cond (bytes_eq name (codes "route")) (Reads (number_of (codes "slots") rows)) NoJob
-        ≡ cond (bytes_eq name (codes "route")) (cond b (Reads (number_of (codes "slots") rows)) NoJob) NoJob
+        → cond (bytes_eq name (codes "route")) (Reads (route_setting (number_of (codes "slots") rows))) NoJob
+        ≡ cond (bytes_eq name (codes "route")) (cond b (Reads (route_setting (number_of (codes "slots") rows))) NoJob) NoJob
     go b e = rw e refl
 
 pub taken : (a : App) (words : List Text) (m : ArgMatches) → a ≡ tcam_command → fault_of a words ≡ [] → subcommand_rows_of m ≡ subcommand_of a words
@@ -57,11 +58,11 @@ refused a words k is among =
     fault_job (fault_of tcam_command words) (subcommand_of tcam_command words) k (tcam-clear words) (subst (λ (x : App). IsAmong k (fault_of x words)) is among)
 
 -- an answer that names a job
-pub then_asked : (r : Result Job WordsFault) (x y : Asked) → y ≡ x → IfOk r (λ job. x ≡ asked_by job) → IfOk r (λ job. y ≡ asked_by job)
+pub then_asked : (r : Result Asked WordsFault) (x y : Job) → y ≡ x → IfOk r (λ job. x ≡ asked_by job) → IfOk r (λ job. y ≡ asked_by job)
 then_asked (Ok job) x y is h = is ∙ h
 then_asked (Err e) x y is h = tt
 
-pub no_route : (r : Result Job WordsFault) → IfOk r (λ job. (n : ℕ) → job ≡ Route n → ⊥) → IfOk r (λ job. (n : ℕ) → job ≡ Route n → (1 ≤ n) × (n ≤ 4096))
+pub no_route : (r : Result Asked WordsFault) → IfOk r (λ job. (n : ℕ) → job ≡ Route n → ⊥) → IfOk r (λ job. (n : ℕ) → job ≡ Route n → (1 ≤ n) × (n ≤ 4096))
 no_route (Ok job) h = λ n e. absurd (h n e)
 no_route (Err e) h = tt
 

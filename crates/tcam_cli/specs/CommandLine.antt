@@ -11,15 +11,16 @@ use Rattle.clap.specs.declared.error.kind.ErrorKind.{ErrorKind}
 use Rattle.clap.specs.declared.error.kind.ErrorKind.TheVariants as kind
 use Rattle.clap.specs.declared.builder.action.ArgAction.TheVariants.{Set}
 use Rattle.clap.specs.declared.builder.value_parser.ValueParser.TheVariants.{Unsigned}
-use Rattle.tcam_cli.specs.declared.command_line.Job.{Job}
-use Rattle.tcam_cli.specs.declared.command_line.Job.TheVariants.{Route, Help, Version}
+use Rattle.rule_store.specs.declared.Mode.TheVariants.{Cover}
+use Rattle.replay.specs.declared.Family.TheVariants as Family
+use Rattle.replay.specs.Run.{Setting}
+use Rattle.tcam_cli.specs.declared.command_line.Asked.{Asked}
+use Rattle.tcam_cli.specs.declared.command_line.Asked.TheVariants as asked
+use Rattle.tcam_cli.specs.Headline.{Job, NoJob, Tells, Reads}
 
--- what a command line asks for: nothing, a text of the program's own, or to read a script of
--- routes with so many slots in use
-pub data Asked : Type 0 where
-  NoJob : Asked
-  Tells : List ℕ → Asked
-  Reads : ℕ → Asked
+-- a script of routes over so many slots in use
+abbrev pub route_setting : ℕ → Setting
+route_setting slots = record { slots = slots; mode = Cover; family = Family.Route }
 
 -- --slots, a number from 1 to 4096, by default 4096
 unfoldable pub slots_option : Rule
@@ -55,25 +56,25 @@ abbrev pub number_of : Text → List Row → ℕ
 number_of id rows = number_in (text_of id rows)
 
 -- what a subcommand and its arguments ask for: a script of routes over so many slots
-abbrev pub job_of_rows : Text → List Row → Asked
+abbrev pub job_of_rows : Text → List Row → Job
 job_of_rows name rows =
-    if bytes_eq name (codes "route") then Reads (number_of (codes "slots") rows) else NoJob
+    if bytes_eq name (codes "route") then Reads (route_setting (number_of (codes "slots") rows)) else NoJob
 
 -- what a subcommand asks for, if there is one
-abbrev pub job_of_subcommand : Option (Text × List Row) → Asked
+abbrev pub job_of_subcommand : Option (Text × List Row) → Job
 job_of_subcommand None = NoJob
 job_of_subcommand (Some (name, rows)) = job_of_rows name rows
 
 -- the same for rows that may not be clap's, whose text of --slots is tested again; where clap takes
 -- the words the test passes, and the two are one
-abbrev pub job_of_slots : Text → Asked
-job_of_slots text = if is_unsigned_in 1 4096 text then Reads (number_in text) else NoJob
+abbrev pub job_of_slots : Text → Job
+job_of_slots text = if is_unsigned_in 1 4096 text then Reads (route_setting (number_in text)) else NoJob
 
-abbrev pub tested_job_of_rows : Text → List Row → Asked
+abbrev pub tested_job_of_rows : Text → List Row → Job
 tested_job_of_rows name rows =
     if bytes_eq name (codes "route") then job_of_slots (text_of (codes "slots") rows) else NoJob
 
-abbrev pub tested_job : Option (Text × List Row) → Asked
+abbrev pub tested_job : Option (Text × List Row) → Job
 tested_job None = NoJob
 tested_job (Some (name, rows)) = tested_job_of_rows name rows
 
@@ -97,23 +98,23 @@ unfoldable pub version_text : List ℕ
 version_text = codes "tcam 0.1.0" ++ 10 ∷ []
 
 -- what words ask for that clap doesn't take, by the kind of error that it answers
-abbrev pub job_of_fault : ErrorKind → Asked
+abbrev pub job_of_fault : ErrorKind → Job
 job_of_fault kind.DisplayHelp = Tells help_text
 job_of_fault kind.DisplayVersion = Tells version_text
 job_of_fault k = NoJob
 
 -- the same by the kinds that it may answer, and what the subcommand does where there is none
-abbrev pub job_by_faults : Kinds → Option (Text × List Row) → Asked
+abbrev pub job_by_faults : Kinds → Option (Text × List Row) → Job
 job_by_faults [] subcommand = job_of_subcommand subcommand
 job_by_faults (k ∷ []) subcommand = job_of_fault k
 job_by_faults (k ∷ l ∷ ks) subcommand = NoJob
 
 -- what words ask for, the program's name first
-abbrev pub job_of : List Text → Asked
+abbrev pub job_of : List Text → Job
 job_of words = job_by_faults (fault_of tcam_command words) (subcommand_of tcam_command words)
 
 -- what an answer says that words ask for
-abbrev pub asked_by : Job → Asked
-asked_by (Route slots) = Reads slots
-asked_by Help = Tells help_text
-asked_by Version = Tells version_text
+abbrev pub asked_by : Asked → Job
+asked_by (asked.Route slots) = Reads (route_setting slots)
+asked_by asked.Help = Tells help_text
+asked_by asked.Version = Tells version_text

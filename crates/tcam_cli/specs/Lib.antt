@@ -1,1 +1,5 @@
+pub mod Readings
+pub mod Headline
 pub mod CommandLine
+pub mod Turns
+pub mod ExitCodes

@@ -3,8 +3,9 @@
 ghost use Rattle.std.specs.Prelude.{◌≡◌, ◌≤◌, codes, Err, IfOk, IsErrOf, IfSome, IsNone, false, map, string_bytes};
 ghost use Rattle.clap.specs.Words.{app_of, rule_of, rows_of, found_of, subcommand_rows_of, kind_of};
 ghost use Rattle.clap.specs.declared.builder.command.Command.TheViews.{out-Command};
-ghost use Rattle.tcam_cli.specs.CommandLine.{NoJob, Reads, asked_by, job_of, job_of_fault, job_of_slots, tested_job};
+ghost use Rattle.tcam_cli.specs.CommandLine.{asked_by, job_of, job_of_fault, job_of_slots, route_setting, tested_job};
 ghost use Rattle.tcam_cli.specs.CommandLine.{route_command as route_app, slots_option, tcam_command as tcam_app, text_of};
+ghost use Rattle.tcam_cli.specs.Headline.{NoJob, Reads};
 
 use clap::error::ErrorKind;
 use clap::{Arg, ArgAction, ArgMatches, Command, Error};
@@ -30,7 +31,7 @@ pub const VERSION: &str = "tcam 0.1.0\n";
 
 /// What a command line asks for.
 #[derive(Clone, Copy, Debug, PartialEq, Eq)]
-pub enum Job {
+pub enum Asked {
     /// A route script from the source, with so many slots in use, 1 to 4,096.
     Route { slots: u32 },
     /// The help text.
@@ -84,10 +85,10 @@ fn tcam_command<'a>(alloc: Global) -> Result<Command<'a>, AllocError>
 /// What the words ask for, the program's name first.
 ///
 /// Usage: they are no command line. Memory: there was no room to read them in.
-pub fn read_words(alloc: Global, words: &[String]) -> Result<Job, WordsFault>
+pub fn read_words(alloc: Global, words: &[String]) -> Result<Asked, WordsFault>
     ensures asked { IfOk result (λ job. job_of (map string_bytes words.now) ≡ asked_by job) }
     ensures usage { IsErrOf result WordsFault.Usage → job_of (map string_bytes words.now) ≡ NoJob }
-    ensures slots { IfOk result (λ job. (n : _) → job ≡ Job.Route n → (1 ≤ n) × (n ≤ 4096)) }
+    ensures slots { IfOk result (λ job. (n : _) → job ≡ Asked.Route n → (1 ≤ n) × (n ≤ 4096)) }
 {
     let command = match tcam_command(alloc) {
         Ok(command) => command,
@@ -100,10 +101,10 @@ pub fn read_words(alloc: Global, words: &[String]) -> Result<Job, WordsFault>
 }
 
 /// The job of words that were taken.
-fn job_of_matches(matches: &ArgMatches) -> Result<Job, WordsFault>
+fn job_of_matches(matches: &ArgMatches) -> Result<Asked, WordsFault>
     ensures asked { IfOk result (λ job. tested_job (subcommand_rows_of matches.now) ≡ asked_by job) }
     ensures usage { IsErrOf result WordsFault.Usage → tested_job (subcommand_rows_of matches.now) ≡ NoJob }
-    ensures slots { IfOk result (λ job. (n : _) → job ≡ Job.Route n → (1 ≤ n) × (n ≤ 4096)) }
+    ensures slots { IfOk result (λ job. (n : _) → job ≡ Asked.Route n → (1 ≤ n) × (n ≤ 4096)) }
 {
     match matches.subcommand() {
         Some((name, route)) if name == "route" => job_of_route(route),
@@ -112,20 +113,20 @@ fn job_of_matches(matches: &ArgMatches) -> Result<Job, WordsFault>
 }
 
 /// The job of the arguments of `route`.
-fn job_of_route(route: &ArgMatches) -> Result<Job, WordsFault>
+fn job_of_route(route: &ArgMatches) -> Result<Asked, WordsFault>
     ensures asked { IfOk result (λ job. job_of_slots (text_of (codes "slots") (rows_of (found_of route.now))) ≡ asked_by job) }
     ensures usage { IsErrOf result WordsFault.Usage → job_of_slots (text_of (codes "slots") (rows_of (found_of route.now))) ≡ NoJob }
-    ensures slots { IfOk result (λ job. (n : _) → job ≡ Job.Route n → (1 ≤ n) × (n ≤ 4096)) }
+    ensures slots { IfOk result (λ job. (n : _) → job ≡ Asked.Route n → (1 ≤ n) × (n ≤ 4096)) }
 {
     match slots_of(route.get_str("slots").unwrap_or("")) {
-        Some(slots) => Ok(Job::Route { slots }),
+        Some(slots) => Ok(Asked::Route { slots }),
         None => Err(WordsFault::Usage),
     }
 }
 
 /// A number of slots from its text.
 fn slots_of(text: &str) -> Option<u32>
-    ensures some { IfSome result (λ n. job_of_slots text.now ≡ Reads n) }
+    ensures some { IfSome result (λ n. job_of_slots text.now ≡ Reads (route_setting n)) }
     ensures range { IfSome result (λ n. (1 ≤ n) × (n ≤ 4096)) }
     ensures none { IsNone result → job_of_slots text.now ≡ NoJob }
 {
@@ -136,15 +137,15 @@ fn slots_of(text: &str) -> Option<u32>
 }
 
 /// The job of words that weren't: help, the version, or none.
-fn job_of_error(error: &Error) -> Result<Job, WordsFault>
+fn job_of_error(error: &Error) -> Result<Asked, WordsFault>
     ensures asked { IfOk result (λ job. job_of_fault (kind_of error.now) ≡ asked_by job) }
     ensures usage { IsErrOf result WordsFault.Usage → job_of_fault (kind_of error.now) ≡ NoJob }
     ensures memory { kind_of error.now ≡ ErrorKind.OutOfMemory → result ≡ Err WordsFault.Memory }
-    ensures slots { IfOk result (λ job. (n : _) → job ≡ Job.Route n → ⊥) }
+    ensures slots { IfOk result (λ job. (n : _) → job ≡ Asked.Route n → ⊥) }
 {
     match error.kind() {
-        ErrorKind::DisplayHelp => Ok(Job::Help),
-        ErrorKind::DisplayVersion => Ok(Job::Version),
+        ErrorKind::DisplayHelp => Ok(Asked::Help),
+        ErrorKind::DisplayVersion => Ok(Asked::Version),
         ErrorKind::OutOfMemory => Err(WordsFault::Memory),
         _ => Err(WordsFault::Usage),
     }

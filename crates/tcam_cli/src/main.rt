@@ -4,6 +4,9 @@
 //! Everything but the few lines of `main` is [`top::run`], over any source, sink and device.
 #![tactic(auto)]
 
+ghost use Rattle.std.specs.Prelude.{◌≡◌};
+ghost use Rattle.tcam_cli.specs.ExitCodes.{exit_code};
+
 mod command_line;
 #[cfg(test)]
 mod tests;
@@ -40,7 +43,9 @@ pub enum Status {
 
 impl Status {
     /// The exit code of the process.
-    pub fn code(self) -> u8 {
+    pub fn code(self) -> u8
+        ensures { result ≡ exit_code self }
+    {
         match self {
             Status::Done => 0,
             Status::Refused => 1,

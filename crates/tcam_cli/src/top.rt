@@ -1,17 +1,26 @@
 //! The top call: a command line, a source, a sink and a device.
 
-ghost use Rattle.std.specs.Prelude.{◌≡◌, ◌≢◌, ◌⊎◌, ◌+◌, ◌<◌, ◌≤◌, ◌^◌, Some, None, IfNone, IfSome, IfOk, IfErr, length, map, string_bytes};
+ghost use Rattle.std.specs.Prelude.{◌≡◌, ◌≢◌, ◌*◌, ◌+◌, ◌<◌, ◌≤◌, ◌++◌, ℕ, List, Option, [], Ok, Err, Some, None, IsSome, IfNone, IfSome, IfOk, IfErr, length, map, string_bytes};
+ghost use Rattle.std.specs.Io.KnownBytes.{Consumes};
 ghost use Rattle.script_lines.specs.Cause.{Rose};
+ghost use Rattle.script_lines.specs.Lines.{numbered};
 ghost use Rattle.tcam_device.specs.Cause as devices;
-ghost use Rattle.replay.specs.Running.{IsRouteAct};
-ghost use Rattle.tcam_cli.specs.CommandLine.{NoJob, job_of};
+ghost use Rattle.line_words.specs.Texts.{word_fault_text};
+ghost use Rattle.replay.specs.Run.{IsRouteAct, start, ending};
+ghost use Rattle.replay.specs.Running.{progress_of, setting_of};
+ghost use Rattle.replay.specs.Script.{Whole};
+ghost use Rattle.replay.specs.Text.{fault_line};
+ghost use Rattle.tcam_cli.specs.CommandLine.{job_of, route_setting};
+ghost use Rattle.tcam_cli.specs.Headline.{IsCarriedOut, HasCauses, Reads, status_of};
+ghost use Rattle.tcam_cli.specs.Readings.{reading, route_act};
+ghost use Rattle.tcam_cli.specs.Turns.{SoFar, Ends, Closes, IsIpv4Command};
 
 use crate::Status;
-use crate::command_line::{HELP, Job, VERSION, WordsFault, read_words};
+use crate::command_line::{Asked, HELP, VERSION, WordsFault, read_words};
 use line_words::WordFault;
 use replay::{Act, Family, Mode, Run, RunFault, write_fault, write_text};
 use route_reader::{RouteCommand, read_route};
-use rule_model::route_rule;
+use rule_model::{route_rule, rule_conditions};
 use rule_store::Command;
 use script_lines::{Failed, Line, LineFault, Lines, Sink, Source};
 use std::alloc::Global;
@@ -30,16 +39,20 @@ pub fn run<S: Source, K: Sink, D: Device>(
     device: &mut D,
 ) -> Status
     requires slots { 4096 ≤ D.slot_count device.old }
-    ensures usage { result ≡ Status.Usage → job_of (map (λ w. string_bytes w) words.now) ≡ NoJob }
-    ensures no_job { job_of (map (λ w. string_bytes w) words.now) ≡ NoJob → (result ≡ Status.Usage) ⊎ ((result ≡ Status.WriteFault) ⊎ (result ≡ Status.Memory)) }
-    ensures read { result ≡ Status.ReadFault → Rose (S.faults source.old) (S.faults source.new) }
-    ensures write { result ≡ Status.WriteFault → Rose (K.faults sink.old) (K.faults sink.new) }
-    ensures device { result ≡ Status.DeviceFault → devices.Rose (D.faults device.old) (D.faults device.new) }
+    requires blank { IfSome (D.journal device.old) (λ writes. writes ≡ []) }
+    ensures carried_out { IsCarriedOut (job_of (map (λ w. string_bytes w) words.now)) (D.slot_count device.old) result
+        (S.left source.old) (S.left source.new) (K.taken sink.old) (K.taken sink.new) (D.journal device.new) }
+    ensures told { (IsSome (S.left source.old) → IsSome (S.left source.new)) × (IsSome (K.taken sink.old) → IsSome (K.taken sink.new))
+        × (IsSome (D.journal device.old) → IsSome (D.journal device.new)) }
+    ensures slot_count { D.slot_count device.new ≡ D.slot_count device.old }
+    ensures causes { HasCauses (job_of (map (λ w. string_bytes w) words.now)) (S.left source.old) result
+        (S.faults source.old) (S.faults source.new) (K.faults sink.old) (K.faults sink.new)
+        (D.faults device.old) (D.faults device.new) }
 {
     match read_words(alloc, words) {
-        Ok(Job::Route { slots }) => run_route(alloc, slots, source, sink, device),
-        Ok(Job::Help) => tell(sink, HELP, Status::Done),
-        Ok(Job::Version) => tell(sink, VERSION, Status::Done),
+        Ok(Asked::Route { slots }) => run_route(alloc, slots, source, sink, device),
+        Ok(Asked::Help) => tell(sink, HELP, Status::Done),
+        Ok(Asked::Version) => tell(sink, VERSION, Status::Done),
         Err(WordsFault::Usage) => tell(sink, "usage\n", Status::Usage),
         Err(WordsFault::Memory) => Status::Memory,
     }
@@ -56,10 +69,15 @@ fn run_route<S: Source, K: Sink, D: Device>(
     requires least { 1 ≤ slots }
     requires most { slots ≤ 4096 }
     requires device { 4096 ≤ D.slot_count device.old }
-    ensures no_usage { result ≢ Status.Usage }
-    ensures read { result ≡ Status.ReadFault → Rose (S.faults source.old) (S.faults source.new) }
-    ensures write { result ≡ Status.WriteFault → Rose (K.faults sink.old) (K.faults sink.new) }
-    ensures device { result ≡ Status.DeviceFault → devices.Rose (D.faults device.old) (D.faults device.new) }
+    requires blank { IfSome (D.journal device.old) (λ writes. writes ≡ []) }
+    ensures carried_out { IsCarriedOut (Reads (route_setting slots)) (D.slot_count device.old) result
+        (S.left source.old) (S.left source.new) (K.taken sink.old) (K.taken sink.new) (D.journal device.new) }
+    ensures told { (IsSome (S.left source.old) → IsSome (S.left source.new)) × (IsSome (K.taken sink.old) → IsSome (K.taken sink.new))
+        × (IsSome (D.journal device.old) → IsSome (D.journal device.new)) }
+    ensures slot_count { D.slot_count device.new ≡ D.slot_count device.old }
+    ensures causes { HasCauses (Reads (route_setting slots)) (S.left source.old) result
+        (S.faults source.old) (S.faults source.new) (K.faults sink.old) (K.faults sink.new)
+        (D.faults device.old) (D.faults device.new) }
 {
     match Run::new(alloc, slots, Mode::Cover, Family::Route) {
         Ok(mut run) => run_script(&mut run, source, sink, device),
@@ -76,14 +94,19 @@ fn run_script<S: Source, K: Sink, D: Device>(
 ) -> Status
     requires slots { run.old.manager.slots ≤ D.slot_count device.old }
     requires idle { run.old.manager.held ≡ None }
-    requires commits { run.old.commits ≡ 0 }
-    ensures no_usage { result ≢ Status.Usage }
-    ensures read { result ≡ Status.ReadFault → Rose (S.faults source.old) (S.faults source.new) }
-    ensures write { result ≡ Status.WriteFault → Rose (K.faults sink.old) (K.faults sink.new) }
-    ensures device { result ≡ Status.DeviceFault → devices.Rose (D.faults device.old) (D.faults device.new) }
+    requires begun { progress_of (D.slot_count device.old) run.old ≡ start (D.slot_count device.old) }
+    requires blank { IfSome (D.journal device.old) (λ writes. writes ≡ []) }
+    ensures carried_out { IsCarriedOut (Reads (setting_of run.old)) (D.slot_count device.old) result
+        (S.left source.old) (S.left source.new) (K.taken sink.old) (K.taken sink.new) (D.journal device.new) }
+    ensures told { (IsSome (S.left source.old) → IsSome (S.left source.new)) × (IsSome (K.taken sink.old) → IsSome (K.taken sink.new))
+        × (IsSome (D.journal device.old) → IsSome (D.journal device.new)) }
+    ensures slot_count { D.slot_count device.new ≡ D.slot_count device.old }
+    ensures causes { HasCauses (Reads (setting_of run.old)) (S.left source.old) result
+        (S.faults source.old) (S.faults source.new) (K.faults sink.old) (K.faults sink.new)
+        (D.faults device.old) (D.faults device.new) }
 {
     let mut lines = Lines::new();
-    loop {
+    'acts: loop {
         match turn(&mut lines, run, source, sink, device) {
             Some(status) => return status,
             None => {}
@@ -91,7 +114,8 @@ fn run_script<S: Source, K: Sink, D: Device>(
     }
 }
 
-/// Carries out the next line. None: the run goes on.
+/// Carries out the next line. None: the run goes on. A line with an act takes 5 bytes, so that no script has more
+/// commits than a run counts.
 fn turn<S: Source, K: Sink, D: Device>(
     lines: &mut Lines,
     run: &mut Run,
@@ -101,14 +125,26 @@ fn turn<S: Source, K: Sink, D: Device>(
 ) -> Option<Status>
     requires slots { run.old.manager.slots ≤ D.slot_count device.old }
     requires idle { run.old.manager.held ≡ None }
-    requires commits { run.old.commits ≤ lines.old.before }
+    requires commits { 5 * run.old.commits ≤ lines.old.before }
     requires within { lines.old.before ≤ 16777216 }
     ensures falls { IfNone result (lines.old.before < lines.new.before) }
     ensures within { IfNone result (lines.new.before ≤ 16777216) }
-    ensures commits { IfNone result (run.new.commits ≤ lines.new.before) }
+    ensures commits { IfNone result (5 * run.new.commits ≤ lines.new.before) }
     ensures idle { IfNone result (run.new.manager.held ≡ None) }
-    ensures slots { run.new.manager.slots ≡ run.old.manager.slots }
+    ensures setting { setting_of run.new ≡ setting_of run.old }
     ensures slot_count { D.slot_count device.new ≡ D.slot_count device.old }
+    ensures goes { IfNone result ((bytes begun now : List ℕ) (start : Option (List ℕ)) → S.left source.old ≡ Some begun → S.left source.new ≡ Some now
+        → SoFar (setting_of run.old) (D.slot_count device.old) bytes lines.old begun (progress_of (D.slot_count device.old) run.old)
+        (D.journal device.old) start (K.taken sink.old)
+        → SoFar (setting_of run.old) (D.slot_count device.old) bytes lines.new now (progress_of (D.slot_count device.old) run.new)
+        (D.journal device.new) start (K.taken sink.new)) }
+    ensures ends { IfSome result (λ status. (bytes taken begun now : List ℕ) (start : Option (List ℕ)) → S.left source.old ≡ Some begun → S.left source.new ≡ Some now
+        → bytes ≡ taken ++ now
+        → SoFar (setting_of run.old) (D.slot_count device.old) bytes lines.old begun (progress_of (D.slot_count device.old) run.old)
+        (D.journal device.old) start (K.taken sink.old)
+        → Ends (setting_of run.old) (D.slot_count device.old) bytes taken now status (D.journal device.new) start (K.taken sink.new)) }
+    ensures takes { (bytes : List ℕ) × Consumes (S.left source.old) (S.left source.new) bytes }
+    ensures told { (IsSome (D.journal device.old) → IsSome (D.journal device.new)) × (IsSome (K.taken sink.old) → IsSome (K.taken sink.new)) }
     ensures reads { S.faults source.old ≤ S.faults source.new }
     ensures writes { K.faults sink.old ≤ K.faults sink.new }
     ensures makes { D.faults device.old ≤ D.faults device.new }
@@ -142,7 +178,10 @@ fn turn<S: Source, K: Sink, D: Device>(
 /// What a line of a route script does, or the text of its fault.
 fn read_act(line: &Line) -> Result<Option<Act>, &'static str>
     requires { line.now.len ≤ 512 }
-    ensures kind { IfOk result (λ found. IfSome found IsRouteAct) }
+    ensures ok { IfOk result (λ found. reading (numbered line.now).text ≡ Ok found) }
+    ensures err { IfErr result (λ text. reading (numbered line.now).text ≡ Err text.now) }
+    ensures act { IfOk result (λ found. IfSome found IsRouteAct) }
+    ensures long { IfOk result (λ found. IfSome found (λ _. 5 ≤ line.now.len)) }
     ensures short { IfErr result (λ text. length text.now ≤ 32) }
 {
     match read_route(line) {
@@ -152,14 +191,18 @@ fn read_act(line: &Line) -> Result<Option<Act>, &'static str>
     }
 }
 
-/// The act that a command of a route script is.
+/// The act that a command of a route script is. The prefix of an addition is one of IPv4.
 fn act_of(command: &RouteCommand) -> Act
-    ensures { IsRouteAct result }
+    requires { IsIpv4Command command.now }
+    ensures act { result ≡ route_act command.now }
+    ensures route { IsRouteAct result }
 {
     match command {
-        RouteCommand::Add(prefix, answer) => Act::Command(Command::Add(route_rule(
-            *prefix, *answer,
-        ))),
+        RouteCommand::Add(prefix, answer) => {
+            let rule = route_rule(*prefix, *answer);
+            rule_conditions(&rule);
+            Act::Command(Command::Add(rule))
+        }
         RouteCommand::Packet(key) => Act::Packet(*key),
         RouteCommand::Commit => Act::Commit,
     }
@@ -167,7 +210,8 @@ fn act_of(command: &RouteCommand) -> Act
 
 /// The text of a word's fault.
 fn fault_text(fault: &WordFault) -> &'static str
-    ensures { length result.now ≤ 32 }
+    ensures text { result.now ≡ word_fault_text fault.now }
+    ensures short { length result.now ≤ 32 }
 {
     fault.text()
 }
@@ -175,8 +219,12 @@ fn fault_text(fault: &WordFault) -> &'static str
 /// Writes the end line of a script that was read to its end.
 fn finish<K: Sink>(run: &mut Run, sink: &mut K) -> Status
     ensures run { run.new ≡ run.old }
+    ensures closes { (device_slots : ℕ) → Closes (ending (setting_of run.old) (progress_of device_slots run.old)) (status_of (progress_of device_slots run.old) Whole)
+        result (K.taken sink.old) (K.taken sink.new) }
+    ensures kind { (result ≢ Status.Usage) × (result ≢ Status.ReadFault) × (result ≢ Status.DeviceFault) }
+    ensures told { IsSome (K.taken sink.old) → IsSome (K.taken sink.new) }
     ensures later { K.faults sink.old ≤ K.faults sink.new }
-    ensures kind { (result ≡ Status.Done) ⊎ ((result ≡ Status.Refused) ⊎ ((result ≡ Status.WriteFault) × Rose (K.faults sink.old) (K.faults sink.new))) }
+    ensures cause { result ≡ Status.WriteFault → Rose (K.faults sink.old) (K.faults sink.new) }
 {
     match run.finish(sink) {
         Ok(false) => Status::Done,
@@ -188,8 +236,9 @@ fn finish<K: Sink>(run: &mut Run, sink: &mut K) -> Status
 /// Writes the line that names the fault of a script's line.
 fn fault<K: Sink>(line: u32, text: &str, sink: &mut K) -> Status
     requires { length text.now ≤ 32 }
+    ensures closes { Closes (fault_line line text.now) Status.Script result (K.taken sink.old) (K.taken sink.new) }
     ensures later { K.faults sink.old ≤ K.faults sink.new }
-    ensures kind { (result ≡ Status.Script) ⊎ ((result ≡ Status.WriteFault) × Rose (K.faults sink.old) (K.faults sink.new)) }
+    ensures cause { result ≡ Status.WriteFault → Rose (K.faults sink.old) (K.faults sink.new) }
 {
     match write_fault(sink, line, text) {
         Ok(()) => Status::Script,
@@ -197,10 +246,12 @@ fn fault<K: Sink>(line: u32, text: &str, sink: &mut K) -> Status
     }
 }
 
-/// Writes a text, and answers the status that follows.
+/// Writes a text, and answers the status that follows, which is no failure of the sink.
 fn tell<K: Sink>(sink: &mut K, text: &str, last: Status) -> Status
+    requires { last ≢ Status.WriteFault }
+    ensures closes { Closes text.now last result (K.taken sink.old) (K.taken sink.new) }
     ensures later { K.faults sink.old ≤ K.faults sink.new }
-    ensures kind { (result ≡ last) ⊎ ((result ≡ Status.WriteFault) × Rose (K.faults sink.old) (K.faults sink.new)) }
+    ensures cause { result ≡ Status.WriteFault → Rose (K.faults sink.old) (K.faults sink.new) }
 {
     match write_text(sink, text) {
         Ok(()) => last,

@@ -23,5 +23,6 @@ short (Frame Version) = lit≤ tt
 short (Frame HeaderLength) = lit≤ tt
 short (Frame Short) = lit≤ tt
 
-pub returns : goal.returns
-returns c = rw c.text.ensures (short c.args.fault.now)
+pub returns-clause-short : goal.returns-clause-short
+returns-clause-short c = rw c.text.ensures (short c.args.fault.now)
+

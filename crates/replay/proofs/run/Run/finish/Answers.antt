@@ -1,5 +1,5 @@
 -- The numbers are those of the run.
-use Rattle.std.proofs.Common.{length, ap, subst, ◌∙◌}
+use Rattle.std.proofs.Common.{◌≡◌, length, subst}
 use Rattle.replay.specs.Carried.{AppendsPart}
 use Rattle.replay.specs.Running.{Running}
 use Rattle.replay.proofs.Exits.{ending-same}
@@ -16,11 +16,12 @@ returns-clause-part g c =
       writes = c.self.inside.writes;
       refused = c.self.inside.refused;
     } in
+    let rules : c.len.result ≡ length c.self.inside.manager.rules = cc in
     elim c.match-write_end.branch [
       | in-Ok w ↦ rw w.result-is tt
       | in-Err w ↦ rw w.result-is
           (λ slots. subst (AppendsPart (g.K.Sink.taken c.args.sink.now) (g.K.Sink.taken c.write_end.new.sink))
-          (ending-same slots run c.args.self.now c.len.result c.entries.result c.len-2.result c.self.view_is
-          (c.len.ensures.count ∙ ap (λ rules. length rules) c.rules.ensures.rules) c.entries.ensures c.len-2.ensures.count)
+          (ending-same slots run c.args.self.now c.len.result c.entries.result c.len-2.result c.self.view_is rules
+          c.entries.ensures c.len-2.ensures.count)
           w.in-Err.ensures.part)
     ]

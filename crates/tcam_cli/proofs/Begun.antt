@@ -1,0 +1,22 @@
+-- A run over a blank device stands at the start.
+use Rattle.std.proofs.Common.{◌≡◌, ℕ, ◌+◌, ◌-◌, ◌≤◌, ◌++◌, None, Option, List, length, replicate, refl, ap, ◌∙◌, arith}
+use Rattle.std.proofs.lemmas.List.{length-replicate, replicate-append-replicate}
+use Rattle.ternary_word.specs.declared.Entry.{Entry}
+use Rattle.rule_store.specs.declared.Mode.TheVariants.{Cover}
+use Rattle.tcam_device.specs.State.{State, blank, blank_table}
+use Rattle.replay.specs.declared.Family.TheVariants.{Route}
+use Rattle.replay.specs.Run.{Progress, start}
+use Rattle.replay.specs.Running.{begun, progress_of}
+
+-- the slots that aren't in use are blank too
+blank-more : (slots device_slots : ℕ) → slots ≤ device_slots → replicate {A = Option Entry} slots None ++ replicate (device_slots - length (replicate {A = Option Entry} slots None)) None ≡ replicate device_slots None
+blank-more slots device_slots within =
+    let blanks : List (Option Entry) = replicate slots None in
+    let all : slots + (device_slots - slots) ≡ device_slots = omega arith in
+    ap (λ n. blanks ++ replicate (device_slots - n) None) (length-replicate slots None)
+    ∙ replicate-append-replicate slots (device_slots - slots) None ∙ ap (λ n. replicate n None) all
+
+pub begins : (slots device_slots : ℕ) → slots ≤ device_slots → progress_of device_slots (begun slots Cover Route) ≡ start device_slots
+begins slots device_slots within =
+    let f : List (Option Entry) → Progress = λ s. record (start device_slots) { state = record (blank device_slots) { slots = s } } in
+    ap f (blank-more slots device_slots within)

@@ -1,0 +1,353 @@
+-- One line more, and the ends of a run.
+use Rattle.std.proofs.Common.{◌≡◌, ◌⊎◌, inl, inr, ℕ, ◌+◌, Bool, true, false, Option, Some, None, IfSome, IsSome, Result, Ok, Err, List, [], ◌∷◌, ◌++◌, length, refl, ap, sym, ◌∙◌, subst, append_assoc, append-nil}
+use Rattle.std.specs.Io.KnownBytes.{Appends}
+use Rattle.std.proofs.lemmas.List.{append_cancel_right}
+use Rattle.std.proofs.KnownBytes.{Appends-trans}
+use Rattle.script_lines.specs.declared.LineFault.{LineFault}
+use Rattle.script_lines.specs.Lines.{limits, NumberedLine, ScriptLines, LinesEnd, EndOfInput, Faulty, ends_at, onto_lines, lines_from, lines_of}
+use Rattle.tcam_device.specs.declared.Write.{Write}
+use Rattle.replay.specs.declared.Act.{Act}
+use Rattle.replay.specs.Script.{Script, ScriptEnd, Whole, FaultAt, Reading, NumberedAct, stops_at, onto_acts, byte_end, acts_from, script_of, pending_after, limit_fault}
+use Rattle.replay.specs.Run.{Setting, Effect, Prints, written, printed, Progress, Runs}
+use Rattle.tcam_cli.specs.declared.Status.{Status}
+use Rattle.tcam_cli.specs.declared.Status.TheVariants.{Done, Refused, ReadFault, WriteFault, DeviceFault, Memory}
+use Rattle.tcam_cli.specs.Headline.{acts_of, whole_lines, script_so_far, last_line, status_of, IsOutcome, IsComplete}
+use Rattle.tcam_cli.specs.Readings.{reading}
+use Rattle.script_lines.specs.Reader.{Held, HandsWhole, HandsLast, KeepsAll}
+use Rattle.replay.specs.Carried.{Carries, CutsAtLine, CutsAtWrite, Wants}
+use Rattle.tcam_cli.specs.Turns.{onto_all, acts_next, IsGoing, IsAllRead, IsRead, acts_only, SoFar, Ends, Closes}
+use Rattle.script_lines.proofs.FirstLines.{lines-whole, lines-pending, lines-last}
+use Rattle.tcam_cli.proofs.WholeLines.{whole-line, whole-none}
+use Rattle.tcam_cli.proofs.OneMore.{run-more, does-journal, does-report, step-pending, written-append, printed-append}
+
+-- ---- what a line does to the script
+
+abbrev read_as : Reading → ℕ → ℕ → List NumberedLine → LinesEnd → Result (Option Act) (List ℕ) → Script
+read_as reading p number lines last r =
+    elim r [
+      | Err text ↦ stops_at number text
+      | Ok found ↦ elim found [
+        | None ↦ acts_from reading p lines last
+        | Some act ↦ elim (limit_fault act p) [
+          | Some text ↦ stops_at number text
+          | None ↦ onto_acts number act (acts_from reading (pending_after act p) lines last)
+        ]
+      ]
+    ]
+
+abbrev limited : ℕ → Script → Option (List ℕ) → Script
+limited number rest found = elim found [ Some text ↦ stops_at number text | None ↦ rest ]
+
+pub line-none : (reading : Reading) (p : ℕ) (line : NumberedLine) (rest : ScriptLines) → reading line.text ≡ Ok None
+    → acts_from reading p (line ∷ rest.lines) rest.last ≡ acts_next reading p rest
+line-none reading p line rest e = ap (read_as reading p line.number rest.lines rest.last) e
+
+pub line-fault : (reading : Reading) (p : ℕ) (line : NumberedLine) (rest : ScriptLines) (text : List ℕ) → reading line.text ≡ Err text
+    → acts_from reading p (line ∷ rest.lines) rest.last ≡ stops_at line.number text
+line-fault reading p line rest text e = ap (read_as reading p line.number rest.lines rest.last) e
+
+pub line-full : (reading : Reading) (p : ℕ) (line : NumberedLine) (rest : ScriptLines) (act : Act) (text : List ℕ) → reading line.text ≡ Ok (Some act) → limit_fault act p ≡ Some text
+    → acts_from reading p (line ∷ rest.lines) rest.last ≡ stops_at line.number text
+line-full reading p line rest act text e l =
+    ap (read_as reading p line.number rest.lines rest.last) e
+    ∙ ap (limited line.number (onto_acts line.number act (acts_next reading (pending_after act p) rest))) l
+
+pub line-act : (reading : Reading) (p : ℕ) (line : NumberedLine) (rest : ScriptLines) (act : Act) → reading line.text ≡ Ok (Some act) → limit_fault act p ≡ None
+    → acts_from reading p (line ∷ rest.lines) rest.last ≡ onto_acts line.number act (acts_next reading (pending_after act p) rest)
+line-act reading p line rest act e l =
+    ap (read_as reading p line.number rest.lines rest.last) e
+    ∙ ap (limited line.number (onto_acts line.number act (acts_next reading (pending_after act p) rest))) l
+
+-- ---- one line more
+
+abbrev HandsOne : Held → List ℕ → NumberedLine → Held → List ℕ → Type 0
+HandsOne old left line new after = HandsWhole old left line new after ⊎ HandsLast old left line new after
+
+whole-at : (old : Held) (left : List ℕ) (line : NumberedLine) (new : Held) (after rest : List ℕ) → HandsWhole old left line new after
+    → lines_from limits old.before old.number [] (line.text ++ 10 ∷ rest) ≡ onto_lines line (lines_from limits new.before new.number [] rest)
+whole-at old left line new after rest h =
+    lines-whole old.before old.number line.text rest h.one_line h.room
+    ∙ ap (λ n. onto_lines (record { number = n; text = line.text }) (lines_from limits (old.before + length line.text + 1) (old.number + 1) [] rest)) (sym h.number)
+    ∙ ap (λ b. onto_lines line (lines_from limits b (old.number + 1) [] rest)) (sym h.before_new)
+    ∙ ap (λ n. onto_lines line (lines_from limits new.before n [] rest)) (sym h.number_new)
+
+last-at : (old : Held) (left : List ℕ) (line : NumberedLine) (new : Held) (after : List ℕ) → HandsLast old left line new after
+    → lines_from limits old.before old.number [] line.text ≡ onto_lines line (ends_at EndOfInput)
+last-at old left line new after h =
+    lines-last old.before old.number line.text h.one_line h.some
+    ∙ ap (λ n. onto_lines (record { number = n; text = line.text }) (ends_at EndOfInput)) (sym h.number)
+
+shift : (done text rest : List ℕ) → (done ++ (text ++ 10 ∷ [])) ++ rest ≡ done ++ (text ++ 10 ∷ rest)
+shift done text rest = append_assoc done (text ++ 10 ∷ []) rest ∙ ap (λ x. done ++ x) (append_assoc text (10 ∷ []) rest)
+
+pub onto-nil : (acts : List NumberedAct) (last : ScriptEnd) → onto_all acts (record { acts = []; last = last }) ≡ record { acts = acts; last = last }
+onto-nil acts last = let f : List NumberedAct → Script = λ a. record { acts = a; last = last } in ap f (append-nil acts)
+
+pub next-line : (reading : Reading) (bytes : List ℕ) (old : Held) (left : List ℕ) (line : NumberedLine) (new : Held) (after : List ℕ) (acts acts2 : List NumberedAct) (p p2 : ℕ)
+    → IsGoing reading bytes old left acts p → HandsOne old left line new after
+    → ((rest : ScriptLines) → onto_all acts (acts_from reading p (line ∷ rest.lines) rest.last) ≡ onto_all acts2 (acts_next reading p2 rest))
+    → IsRead new.over reading bytes new after acts2 p2
+next-line reading bytes old left line new after acts acts2 p p2 going (inl h) effect =
+    let is : IsGoing reading bytes new after acts2 p2 = record {
+      done = going.done ++ (line.text ++ 10 ∷ []);
+      parts = going.parts ∙ ap (λ x. going.done ++ x) h.bytes ∙ sym (shift going.done line.text (new.pending ++ after));
+      script = λ rest.
+          ap (script_of reading) (shift going.done line.text rest) ∙ going.script (line.text ++ 10 ∷ rest)
+          ∙ ap (λ l. onto_all acts (acts_next reading p l)) (whole-at old left line new after rest h) ∙ effect (lines_from limits new.before new.number [] rest);
+      last = λ rest.
+          ap (λ b. (lines_of b).last) (shift going.done line.text rest) ∙ going.last (line.text ++ 10 ∷ rest)
+          ∙ ap (λ l. l.last) (whole-at old left line new after rest h);
+      whole = λ rest.
+          ap whole_lines (shift going.done line.text rest) ∙ going.whole (line.text ++ 10 ∷ rest)
+          ∙ ap (λ x. going.done ++ x) (whole-line old.before line.text rest h.one_line) ∙ sym (shift going.done line.text (whole_lines rest));
+    } in
+    subst (λ o. IsRead o reading bytes new after acts2 p2) (sym h.going) is
+next-line reading bytes old left line new after acts acts2 p p2 going (inr h) effect =
+    let is : IsAllRead reading bytes after acts2 = (
+      ap (script_of reading) (going.parts ∙ ap (λ x. going.done ++ x) h.bytes) ∙ going.script line.text
+      ∙ ap (λ l. onto_all acts (acts_next reading p l)) (last-at old left line new after h) ∙ effect (ends_at EndOfInput) ∙ onto-nil acts2 Whole,
+      h.none,
+    ) in
+    subst (λ o. IsRead o reading bytes new after acts2 p2) (sym h.ended) is
+
+pub line-here : (reading : Reading) (bytes : List ℕ) (old : Held) (left : List ℕ) (line : NumberedLine) (new : Held) (after : List ℕ) (acts : List NumberedAct) (p : ℕ)
+    → IsGoing reading bytes old left acts p → HandsOne old left line new after
+    → (rest : ScriptLines) × (script_of reading bytes ≡ onto_all acts (acts_from reading p (line ∷ rest.lines) rest.last))
+line-here reading bytes old left line new after acts p going (inl h) =
+    (lines_from limits new.before new.number [] (new.pending ++ after),
+    ap (script_of reading) (going.parts ∙ ap (λ x. going.done ++ x) h.bytes) ∙ going.script (line.text ++ 10 ∷ (new.pending ++ after))
+    ∙ ap (λ l. onto_all acts (acts_next reading p l)) (whole-at old left line new after (new.pending ++ after) h))
+line-here reading bytes old left line new after acts p going (inr h) =
+    (ends_at EndOfInput,
+    ap (script_of reading) (going.parts ∙ ap (λ x. going.done ++ x) h.bytes) ∙ going.script line.text
+    ∙ ap (λ l. onto_all acts (acts_next reading p l)) (last-at old left line new after h))
+
+-- the fault of a byte
+pub bytes-fault : (reading : Reading) (bytes : List ℕ) (old : Held) (left : List ℕ) (acts : List NumberedAct) (p : ℕ) (fault : LineFault)
+    → IsGoing reading bytes old left acts p → lines_from limits old.before old.number [] (old.pending ++ left) ≡ ends_at (Faulty fault)
+    → script_of reading bytes ≡ record { acts = acts; last = byte_end (Faulty fault) }
+bytes-fault reading bytes old left acts p fault going e =
+    ap (script_of reading) going.parts ∙ going.script (old.pending ++ left) ∙ ap (λ l. onto_all acts (acts_next reading p l)) e
+    ∙ onto-nil acts (byte_end (Faulty fault))
+
+-- the end of the input
+pub bytes-end : (reading : Reading) (bytes : List ℕ) (old : Held) (left : List ℕ) (acts : List NumberedAct) (p : ℕ)
+    → IsGoing reading bytes old left acts p → old.pending ++ left ≡ [] → script_of reading bytes ≡ record { acts = acts; last = Whole }
+bytes-end reading bytes old left acts p going e =
+    ap (script_of reading) (going.parts ∙ ap (λ x. going.done ++ x) e) ∙ going.script [] ∙ onto-nil acts Whole
+
+-- a failed read: what was taken is the whole lines and a part of one
+pub so-far : (reading : Reading) (bytes taken : List ℕ) (old : Held) (left : List ℕ) (new : Held) (after : List ℕ) (acts : List NumberedAct) (p : ℕ)
+    → IsGoing reading bytes old left acts p → KeepsAll old left new after → bytes ≡ taken ++ after
+    → script_so_far reading taken ≡ record { acts = acts; last = Whole }
+so-far reading bytes taken old left new after acts p going kept parts =
+    let is : taken ≡ going.done ++ new.pending =
+    append_cancel_right taken (going.done ++ new.pending) after
+    (sym parts ∙ going.parts ∙ ap (λ x. going.done ++ x) kept.bytes ∙ sym (append_assoc going.done new.pending after)) in
+    let whole : whole_lines taken ≡ going.done ++ [] =
+    ap whole_lines is ∙ going.whole new.pending ∙ ap (λ x. going.done ++ x) (whole-none old.before new.pending kept.one_line) in
+    let last : (lines_of taken).last ≡ (lines_of (going.done ++ [])).last =
+    ap (λ b. (lines_of b).last) is ∙ going.last new.pending ∙ lines-pending old.before old.number new.pending kept.one_line ∙ sym (going.last []) in
+    ap (λ b. acts_from reading 0 (lines_of b).lines (lines_of taken).last) whole
+    ∙ ap (λ l. acts_from reading 0 (lines_of (going.done ++ [])).lines l) last
+    ∙ going.script [] ∙ onto-nil acts Whole
+
+-- ---- the ends
+
+-- to the end of the acts, by where the script ends
+outcome-complete : (setting : Setting) (slots : ℕ) (script came : Script) (last : Progress) (end : ScriptEnd) (status : Status) (effects : List Effect) → status ≡ status_of last end
+    → IsComplete setting slots script status effects → IsOutcome setting slots script came status effects []
+outcome-complete setting slots script came last Whole status effects e whole = by last.refused status e whole
+  where
+    by : (refused : Bool) (status : Status) → status ≡ (elim refused [ true ↦ Refused | false ↦ Done ]) → IsComplete setting slots script status effects → IsOutcome setting slots script came status effects []
+    by true status e whole =
+        let P : Status → Type 0 = λ s. IsComplete setting slots script s effects in
+        let Q : Status → Type 0 = λ s. IsOutcome setting slots script came s effects [] in
+        subst Q (sym e) (subst P e whole, refl)
+    by false status e whole =
+        let P : Status → Type 0 = λ s. IsComplete setting slots script s effects in
+        let Q : Status → Type 0 = λ s. IsOutcome setting slots script came s effects [] in
+        subst Q (sym e) (subst P e whole, refl)
+outcome-complete setting slots script came last (FaultAt line text) status effects e whole =
+    let P : Status → Type 0 = λ s. IsComplete setting slots script s effects in
+    let Q : Status → Type 0 = λ s. IsOutcome setting slots script came s effects [] in
+    subst Q (sym e) (subst P e whole, refl)
+
+journal-same : (journal : Option (List Write)) (a b : List Write) → a ≡ b → IfSome journal (λ writes. writes ≡ a) → IfSome journal (λ writes. writes ≡ b)
+journal-same None a b e h = tt
+journal-same (Some writes) a b e h = h ∙ e
+
+written-line : (effects : List Effect) (line : List ℕ) → written effects ≡ written (effects ++ Prints line ∷ [])
+written-line effects line = sym (append-nil (written effects)) ∙ sym (written-append effects (Prints line ∷ []))
+
+printed-line : (effects : List Effect) (line : List ℕ) → printed effects ++ line ≡ printed (effects ++ Prints line ∷ []) ++ []
+printed-line effects line =
+    ap (λ l. printed effects ++ l) (sym (append-nil line)) ∙ sym (printed-append effects (Prints line ∷ []))
+    ∙ sym (append-nil (printed (effects ++ Prints line ∷ [])))
+
+-- the last line
+pub ends-closed : (setting : Setting) (slots : ℕ) (bytes taken now : List ℕ) (acts : List NumberedAct) (end : ScriptEnd) (effects : List Effect) (last : Progress) (result : Status)
+    (journal : Option (List Write)) (start before after : Option (List ℕ))
+    → script_of reading bytes ≡ record { acts = acts; last = end }
+    → Runs setting slots (acts_only acts) effects last → IfSome journal (λ writes. writes ≡ written effects) → (IsSome journal → Appends start before (printed effects))
+    → Closes (last_line setting last end) (status_of last end) result before after → ((result ≡ Done) ⊎ (result ≡ Refused) → now ≡ [])
+    → Ends setting slots bytes taken now result journal start after
+ends-closed setting slots bytes taken now acts end effects last result journal start before after is run told report (inl (e, line)) all =
+    let S = script_of reading bytes in
+    let P : Script → Type 0 = λ s. Runs setting slots (acts_of s) effects last in
+    let f : Script → Status = λ s. status_of last s.last in
+    let g : Script → List Effect = λ s. effects ++ Prints (last_line setting last s.last) ∷ [] in
+    let more : List Effect = effects ++ Prints (last_line setting last end) ∷ [] in
+    let whole : IsComplete setting slots S result more = record {
+      body = effects;
+      last = last;
+      run = subst P (sym is) run;
+      status_is = e ∙ sym (ap f is);
+      effects_are = sym (ap g is);
+    } in
+    record {
+      effects = more;
+      partial = [];
+      outcome = outcome-complete setting slots S (script_so_far reading taken) last end result more e whole;
+      journal_is = journal-same journal _ _ (written-line effects (last_line setting last end)) told;
+      report = λ some. subst (Appends start after) (printed-line effects (last_line setting last end))
+          (Appends-trans start before after (printed effects) (last_line setting last end) (report some) line);
+      all = all;
+    }
+ends-closed setting slots bytes taken now acts end effects last result journal start before after is run told report (inr (e, (partial, rest, part, line))) all =
+    let S = script_of reading bytes in
+    let P : Script → Type 0 = λ s. Runs setting slots (acts_of s) effects last in
+    let g : Script → Effect = λ s. Prints (last_line setting last s.last) in
+    let Q : Status → Type 0 = λ s. IsOutcome setting slots S (script_so_far reading taken) s effects partial in
+    record {
+      effects = effects;
+      partial = partial;
+      outcome = subst Q (sym e) (record {
+        line = last_line setting last end;
+        rest = rest;
+        due = inr (record { last = last; run = subst P (sym is) run; due_is = sym (ap g is) });
+        part = part;
+      });
+      journal_is = told;
+      report = λ some. Appends-trans start before after (printed effects) partial (report some) line;
+      all = all;
+    }
+
+-- a failed read
+pub ends-read : (setting : Setting) (slots : ℕ) (bytes taken now : List ℕ) (acts : List NumberedAct) (effects : List Effect) (last : Progress)
+    (journal : Option (List Write)) (start before : Option (List ℕ))
+    → script_so_far reading taken ≡ record { acts = acts; last = Whole }
+    → Runs setting slots (acts_only acts) effects last → IfSome journal (λ writes. writes ≡ written effects) → (IsSome journal → Appends start before (printed effects))
+    → Ends setting slots bytes taken now ReadFault journal start before
+ends-read setting slots bytes taken now acts effects last journal start before is run told report =
+    let P : Script → Type 0 = λ s. Runs setting slots (acts_of s) effects last in
+    record {
+      effects = effects;
+      partial = [];
+      outcome = (record { sound = ap (λ s. s.last) is; last = last; run = subst P (sym is) run }, refl);
+      journal_is = told;
+      report = λ some. subst (Appends start before) (sym (append-nil (printed effects))) (report some);
+      all = λ e. elim e [ inl d ↦ absurd (cc) | inr r ↦ absurd (cc) ];
+    }
+
+-- ---- one act more
+
+acts-more : (acts : List NumberedAct) (number : ℕ) (act : Act) (rest : Script) → acts_of (onto_all acts (onto_acts number act rest)) ≡ acts_only acts ++ act ∷ acts_of rest
+acts-more [] number act rest = refl
+acts-more (first ∷ acts) number act rest = ap (λ l. first.act ∷ l) (acts-more acts number act rest)
+
+onto-more : (acts : List NumberedAct) (number : ℕ) (act : Act) (rest : Script) → onto_all acts (onto_acts number act rest) ≡ onto_all (acts ++ record { line = number; act = act } ∷ []) rest
+onto-more acts number act rest =
+    let f : List NumberedAct → Script = λ a. record { acts = a; last = rest.last } in
+    ap f (sym (append_assoc acts (record { line = number; act = act } ∷ []) rest.acts))
+
+only-more : (acts : List NumberedAct) (number : ℕ) (act : Act) → acts_only acts ++ act ∷ [] ≡ acts_only (acts ++ record { line = number; act = act } ∷ [])
+only-more [] number act = refl
+only-more (first ∷ acts) number act = ap (λ l. first.act ∷ l) (only-more acts number act)
+
+pub goes-act : (setting : Setting) (slots : ℕ) (bytes left : List ℕ) (old : Held) (line : NumberedLine) (new : Held) (after : List ℕ) (act : Act) (acts : List NumberedAct)
+    (effects : List Effect) (last next : Progress) (journal_old journal_new : Option (List Write)) (start before later : Option (List ℕ))
+    → IsGoing reading bytes old left acts (length last.batch)
+    → HandsOne old left line new after
+    → Runs setting slots (acts_only acts) effects last → IfSome journal_old (λ writes. writes ≡ written effects) → (IsSome journal_old → Appends start before (printed effects))
+    → reading line.text ≡ Ok (Some act) → limit_fault act (length last.batch) ≡ None
+    → Carries setting last act next journal_old journal_new before later
+    → SoFar setting slots bytes new after next journal_new start later
+goes-act setting slots bytes left old line new after act acts effects last next journal_old journal_new start before later going hands run told report is room made =
+    let p = length last.batch in
+    let acts2 : List NumberedAct = acts ++ record { line = line.number; act = act } ∷ [] in
+    let P : List Act → Type 0 = λ a. Runs setting slots a (effects ++ made.effects) next in
+    let e : pending_after act p ≡ length next.batch = sym (step-pending setting last act made.effects next made.step) in
+    record {
+      acts = acts2;
+      effects = effects ++ made.effects;
+      run = subst P (only-more acts line.number act) (run-more setting slots (acts_only acts) effects last act made.effects next run made.step);
+      journal_is = does-journal effects made.effects [] journal_old journal_new before later made.does told;
+      report = λ some. subst (Appends start later) (append-nil (printed (effects ++ made.effects))) (does-report effects made.effects [] journal_old journal_new start before later made.does report some);
+      read = next-line reading bytes old left line new after acts acts2 p (length next.batch) going hands (λ rest.
+          ap (onto_all acts) (line-act reading p line rest act is room)
+          ∙ onto-more acts line.number act (acts_next reading (pending_after act p) rest)
+          ∙ ap (λ n. onto_all acts2 (acts_next reading n rest)) e);
+    }
+
+-- the acts of the script around this one
+pub act-here : (reading : Reading) (bytes : List ℕ) (old : Held) (left : List ℕ) (line : NumberedLine) (new : Held) (after : List ℕ) (act : Act) (acts : List NumberedAct) (p : ℕ)
+    → IsGoing reading bytes old left acts p → HandsOne old left line new after → reading line.text ≡ Ok (Some act) → limit_fault act p ≡ None
+    → (later : List Act) × (acts_of (script_of reading bytes) ≡ acts_only acts ++ act ∷ later)
+act-here reading bytes old left line new after act acts p going hands is room =
+    let (rest, e) = line-here reading bytes old left line new after acts p going hands in
+    let next = acts_next reading (pending_after act p) rest in
+    (acts_of next, ap acts_of (e ∙ ap (onto_all acts) (line-act reading p line rest act is room)) ∙ acts-more acts line.number act next)
+
+pub ends-line : (setting : Setting) (slots : ℕ) (bytes taken now : List ℕ) (act : Act) (acts : List NumberedAct) (later : List Act) (effects : List Effect) (last : Progress)
+    (journal_old journal_new : Option (List Write)) (start before after : Option (List ℕ))
+    → acts_of (script_of reading bytes) ≡ acts_only acts ++ act ∷ later
+    → Runs setting slots (acts_only acts) effects last → IfSome journal_old (λ writes. writes ≡ written effects) → (IsSome journal_old → Appends start before (printed effects))
+    → CutsAtLine setting last act journal_old journal_new before after
+    → Ends setting slots bytes taken now WriteFault journal_new start after
+ends-line setting slots bytes taken now act acts later effects last journal_old journal_new start before after is run told report cut = record {
+  effects = effects ++ cut.front;
+  partial = cut.partial;
+  outcome = record {
+    line = cut.partial ++ cut.rest;
+    rest = cut.rest;
+    due = inl (record { done = acts_only acts; act = act; later = later; acts = is; body = effects; before = last; run = run; front = cut.front; cut = cut.cut; effects_are = refl });
+    part = refl;
+  };
+  journal_is = does-journal effects cut.front cut.partial journal_old journal_new before after cut.does told;
+  report = does-report effects cut.front cut.partial journal_old journal_new start before after cut.does report;
+  all = λ e. elim e [ inl d ↦ absurd (cc) | inr r ↦ absurd (cc) ];
+}
+
+pub ends-device : (setting : Setting) (slots : ℕ) (bytes taken now : List ℕ) (act : Act) (acts : List NumberedAct) (later : List Act) (effects : List Effect) (last : Progress)
+    (journal_old journal_new : Option (List Write)) (start before after : Option (List ℕ))
+    → acts_of (script_of reading bytes) ≡ acts_only acts ++ act ∷ later
+    → Runs setting slots (acts_only acts) effects last → IfSome journal_old (λ writes. writes ≡ written effects) → (IsSome journal_old → Appends start before (printed effects))
+    → CutsAtWrite setting last act journal_old journal_new before after
+    → Ends setting slots bytes taken now DeviceFault journal_new start after
+ends-device setting slots bytes taken now act acts later effects last journal_old journal_new start before after is run told report cut = record {
+  effects = effects ++ cut.front;
+  partial = [];
+  outcome = (record {
+    write = cut.write;
+    due = inl (record { done = acts_only acts; act = act; later = later; acts = is; body = effects; before = last; run = run; front = cut.front; cut = cut.cut; effects_are = refl });
+  }, refl);
+  journal_is = does-journal effects cut.front [] journal_old journal_new before after cut.does told;
+  report = does-report effects cut.front [] journal_old journal_new start before after cut.does report;
+  all = λ e. elim e [ inl d ↦ absurd (cc) | inr r ↦ absurd (cc) ];
+}
+
+pub ends-memory : (setting : Setting) (slots : ℕ) (bytes taken now : List ℕ) (act : Act) (acts : List NumberedAct) (later : List Act) (effects : List Effect) (last : Progress)
+    (journal_old journal_new : Option (List Write)) (start before after : Option (List ℕ))
+    → acts_of (script_of reading bytes) ≡ acts_only acts ++ act ∷ later
+    → Runs setting slots (acts_only acts) effects last → IfSome journal_old (λ writes. writes ≡ written effects) → (IsSome journal_old → Appends start before (printed effects))
+    → Wants setting last act journal_old journal_new before after
+    → Ends setting slots bytes taken now Memory journal_new start after
+ends-memory setting slots bytes taken now act acts later effects last journal_old journal_new start before after is run told report wants = record {
+  effects = effects;
+  partial = [];
+  outcome = (inr (record { done = acts_only acts; act = act; later = later; acts = is; before = last; run = run; needs = wants.needs }), refl);
+  journal_is = journal-same journal_new _ _ (ap written (append-nil effects)) (does-journal effects [] [] journal_old journal_new before after wants.does told);
+  report = λ some. subst (λ e. Appends start after (printed e ++ [])) (append-nil effects) (does-report effects [] [] journal_old journal_new start before after wants.does report some);
+  all = λ e. elim e [ inl d ↦ absurd (cc) | inr r ↦ absurd (cc) ];
+}

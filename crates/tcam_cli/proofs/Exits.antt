@@ -1,0 +1,145 @@
+-- What a turn comes to, by what its callees answer.
+use Rattle.std.proofs.Common.{◌≡◌, ◌≢◌, ◌⊎◌, inl, inr, ℕ, ◌++◌, Option, Some, None, Result, Ok, Err, List, [], length, refl, ap, sym, ◌∙◌}
+use Rattle.script_lines.specs.declared.Line.{Line}
+use Rattle.script_lines.specs.declared.LineFault.{LineFault}
+use Rattle.script_lines.specs.declared.LineFault.TheVariants as fault
+use Rattle.script_lines.specs.Lines.{NumberedLine, Faulty, ends_at, numbered}
+use Rattle.tcam_device.specs.declared.Write.{Write}
+use Rattle.replay.specs.declared.Act.{Act}
+use Rattle.replay.specs.Script.{Whole, FaultAt, Reading, NumberedAct, byte_end, limit_fault}
+use Rattle.replay.specs.Text.{fault_line}
+use Rattle.replay.specs.Run.{Setting, Progress, ending}
+use Rattle.tcam_cli.specs.declared.Status.{Status}
+use Rattle.tcam_cli.specs.declared.Status.TheVariants.{Done, Refused, Script as ScriptFault, ReadFault, WriteFault, DeviceFault, Memory}
+use Rattle.tcam_cli.specs.Headline.{status_of}
+use Rattle.tcam_cli.specs.Readings.{reading}
+use Rattle.script_lines.specs.declared.Over.{Over}
+use Rattle.script_lines.specs.declared.Over.TheVariants as over
+use Rattle.script_lines.specs.Reader.{Held, lines_held, HandsWhole, HandsLast, Hands, Again}
+use Rattle.replay.specs.Carried.{IsAt, Carries, CutsAtLine, CutsAtWrite, Wants}
+use Rattle.tcam_cli.specs.Turns.{onto_all, IsGoing, IsAllRead, IsRead, SoFar, Ends, Closes}
+use Rattle.tcam_cli.proofs.OneMore.{run-at}
+use Rattle.tcam_cli.proofs.Endings.{line-none, line-fault, line-full, next-line, line-here, bytes-fault, bytes-end, so-far, onto-nil, ends-closed, ends-read, goes-act, act-here, ends-line, ends-device, ends-memory}
+
+abbrev pub HandsOne : Held → List ℕ → NumberedLine → Held → List ℕ → Type 0
+HandsOne old left line new after = HandsWhole old left line new after ⊎ HandsLast old left line new after
+
+abbrev not-end : Result (Option Line) LineFault → Type 0
+not-end r = r ≢ Ok None
+
+-- where something else than the end came, the lines went on
+still-going : (o : Over) (reading : Reading) (bytes : List ℕ) (old : Held) (left : List ℕ) (acts : List NumberedAct) (p : ℕ) (r : Result (Option Line) LineFault)
+    → r ≢ Ok None → Again o r → IsRead o reading bytes old left acts p → (o ≡ over.Going) × IsGoing reading bytes old left acts p
+still-going over.Going reads bytes old left acts p r other again read = (refl, read)
+still-going over.Ended reads bytes old left acts p r other again read = absurd (other again)
+still-going (over.Stopped stopped) reads bytes old left acts p r other again read = absurd read
+
+closes-script : (line : List ℕ) (result : Status) (before after : Option (List ℕ)) (now : List ℕ) → Closes line ScriptFault result before after → (result ≡ Done) ⊎ (result ≡ Refused) → now ≡ []
+closes-script line result before after now (inl c) (inl d) = let e : ScriptFault ≡ Done = sym c.0 ∙ d in absurd (cc)
+closes-script line result before after now (inl c) (inr d) = let e : ScriptFault ≡ Refused = sym c.0 ∙ d in absurd (cc)
+closes-script line result before after now (inr c) (inl d) = let e : WriteFault ≡ Done = sym c.0 ∙ d in absurd (cc)
+closes-script line result before after now (inr c) (inr d) = let e : WriteFault ≡ Refused = sym c.0 ∙ d in absurd (cc)
+
+module _ (setting : Setting) (slots : ℕ) (bytes : List ℕ) (old : Held) (left : List ℕ) (last : Progress) (journal : Option (List Write)) (start before : Option (List ℕ)) (s : SoFar setting slots bytes old left last journal start before) where
+  -- a fault of a byte
+  pub exit-bytes : (taken now : List ℕ) (after : Option (List ℕ)) (result : Status) (found : LineFault) (number : ℕ) (text : List ℕ) → byte_end (Faulty found) ≡ FaultAt number text
+      → Again old.over (Err found) → (old.over ≡ over.Going → lines_held old left ≡ ends_at (Faulty found)) → Closes (fault_line number text) ScriptFault result before after
+      → Ends setting slots bytes taken now result journal start after
+  exit-bytes taken now after result found number text end again hands closes =
+      let p = length last.batch in
+      let other : not-end (Err found) = λ e. cc in
+      let (going, is) = still-going old.over reading bytes old left s.acts p (Err found) other again s.read in
+      let whole = bytes-fault reading bytes old left s.acts p found is (hands going) in
+      ends-closed setting slots bytes taken now s.acts (FaultAt number text) s.effects last result journal start before after
+      (whole ∙ ap (λ e. record { acts = s.acts; last = e }) end) s.run s.journal_is s.report closes (closes-script (fault_line number text) result before after now closes)
+
+  -- the end of the input
+  pub exit-end : (new : Held) (taken now : List ℕ) (after : Option (List ℕ)) (result : Status)
+      → (old.over ≡ over.Going → Hands old left (Ok None) new now) → (old.over ≢ over.Going → left ≡ now) → Closes (ending setting last) (status_of last Whole) result before after
+      → Ends setting slots bytes taken now result journal start after
+  exit-end new taken now after result hands rests closes =
+      let p = length last.batch in
+      let whole = all-read old.over reading s.acts p s.read hands rests in
+      ends-closed setting slots bytes taken now s.acts Whole s.effects last result journal start before after whole.0 s.run s.journal_is s.report closes (λ _. whole.1)
+    where
+      all-read : (o : Over) (reading : Reading) (acts : List NumberedAct) (p : ℕ) → IsRead o reading bytes old left acts p
+          → (o ≡ over.Going → Hands old left (Ok None) new now) → (o ≢ over.Going → left ≡ now) → IsAllRead reading bytes now acts
+      all-read over.Going reading acts p read hands rests = let h = hands refl in (bytes-end reading bytes old left acts p read h.0, h.1)
+      all-read over.Ended reading acts p read hands rests =
+          let other : over.Ended ≢ over.Going = λ e. cc in
+          (read.0, sym (rests other) ∙ read.1)
+      all-read (over.Stopped stopped) reading acts p read hands rests = absurd read
+
+  -- a failed read
+  pub exit-read : (new : Held) (taken now : List ℕ) → Again old.over (Err fault.Read) → (old.over ≡ over.Going → Hands old left (Err fault.Read) new now) → bytes ≡ taken ++ now
+      → Ends setting slots bytes taken now ReadFault journal start before
+  exit-read new taken now again hands parts =
+      let p = length last.batch in
+      let other : not-end (Err fault.Read) = λ e. cc in
+      let (going, is) = still-going old.over reading bytes old left s.acts p (Err fault.Read) other again s.read in
+      ends-read setting slots bytes taken now s.acts s.effects last journal start before (so-far reading bytes taken old left new now s.acts p is (hands going).0 parts) s.run s.journal_is s.report
+
+  -- a line came
+  module _ (line : Line) (new : Held) (now : List ℕ) (again : Again old.over (Ok (Some line))) (hands : old.over ≡ over.Going → HandsOne old left (numbered line) new now) where
+    going : (old.over ≡ over.Going) × IsGoing reading bytes old left s.acts (length last.batch)
+    going =
+        let other : not-end (Ok (Some line)) = λ e. cc in
+        still-going old.over reading bytes old left s.acts (length last.batch) (Ok (Some line)) other again s.read
+
+    -- it is skipped
+    pub goes-none : reading (numbered line).text ≡ Ok None → SoFar setting slots bytes new now last journal start before
+    goes-none is =
+        let p = length last.batch in
+        record {
+          acts = s.acts;
+          effects = s.effects;
+          run = s.run;
+          journal_is = s.journal_is;
+          report = s.report;
+          read = next-line reading bytes old left (numbered line) new now s.acts s.acts p p going.1 (hands going.0) (λ rest. ap (onto_all s.acts) (line-none reading p (numbered line) rest is));
+        }
+
+    -- it has no sense
+    pub exit-word : (taken : List ℕ) (after : Option (List ℕ)) (result : Status) (text : List ℕ) → reading (numbered line).text ≡ Err text → Closes (fault_line line.number text) ScriptFault result before after
+        → Ends setting slots bytes taken now result journal start after
+    exit-word taken after result text is closes =
+        let p = length last.batch in
+        let (rest, e) = line-here reading bytes old left (numbered line) new now s.acts p going.1 (hands going.0) in
+        ends-closed setting slots bytes taken now s.acts (FaultAt line.number text) s.effects last result journal start before after
+        (e ∙ ap (onto_all s.acts) (line-fault reading p (numbered line) rest text is) ∙ onto-nil s.acts (FaultAt line.number text)) s.run s.journal_is s.report closes
+        (closes-script (fault_line line.number text) result before after now closes)
+
+    -- there is no room for its act
+    pub exit-full : (taken : List ℕ) (after : Option (List ℕ)) (result : Status) (act : Act) (text : List ℕ) → reading (numbered line).text ≡ Ok (Some act)
+        → limit_fault act (length last.batch) ≡ Some text → Closes (fault_line line.number text) ScriptFault result before after
+        → Ends setting slots bytes taken now result journal start after
+    exit-full taken after result act text is full closes =
+        let p = length last.batch in
+        let (rest, e) = line-here reading bytes old left (numbered line) new now s.acts p going.1 (hands going.0) in
+        ends-closed setting slots bytes taken now s.acts (FaultAt line.number text) s.effects last result journal start before after
+        (e ∙ ap (onto_all s.acts) (line-full reading p (numbered line) rest act text is full) ∙ onto-nil s.acts (FaultAt line.number text)) s.run s.journal_is s.report closes
+        (closes-script (fault_line line.number text) result before after now closes)
+
+    -- its act is carried out, or cut
+    module _ (act : Act) (is : reading (numbered line).text ≡ Ok (Some act)) (room : limit_fault act (length last.batch) ≡ None) (journal_new : Option (List Write)) (after : Option (List ℕ)) where
+      pub goes-on : (next : Progress) → (IsAt slots journal last → Carries setting last act next journal journal_new before after) → SoFar setting slots bytes new now next journal_new start after
+      goes-on next carries =
+          goes-act setting slots bytes left old (numbered line) new now act s.acts s.effects last next journal journal_new start before after going.1 (hands going.0) s.run s.journal_is s.report is room
+          (carries (run-at setting slots _ s.effects last journal s.run s.journal_is))
+
+      pub exit-line : (taken : List ℕ) → (IsAt slots journal last → CutsAtLine setting last act journal journal_new before after) → Ends setting slots bytes taken now WriteFault journal_new start after
+      exit-line taken cuts =
+          let (later, e) = act-here reading bytes old left (numbered line) new now act s.acts _ going.1 (hands going.0) is room in
+          ends-line setting slots bytes taken now act s.acts later s.effects last journal journal_new start before after e s.run s.journal_is s.report
+          (cuts (run-at setting slots _ s.effects last journal s.run s.journal_is))
+
+      pub exit-device : (taken : List ℕ) → (IsAt slots journal last → CutsAtWrite setting last act journal journal_new before after) → Ends setting slots bytes taken now DeviceFault journal_new start after
+      exit-device taken cuts =
+          let (later, e) = act-here reading bytes old left (numbered line) new now act s.acts _ going.1 (hands going.0) is room in
+          ends-device setting slots bytes taken now act s.acts later s.effects last journal journal_new start before after e s.run s.journal_is s.report
+          (cuts (run-at setting slots _ s.effects last journal s.run s.journal_is))
+
+      pub exit-memory : (taken : List ℕ) → Wants setting last act journal journal_new before after → Ends setting slots bytes taken now Memory journal_new start after
+      exit-memory taken wants =
+          let (later, e) = act-here reading bytes old left (numbered line) new now act s.acts _ going.1 (hands going.0) is room in
+          ends-memory setting slots bytes taken now act s.acts later s.effects last journal journal_new start before after e s.run s.journal_is s.report wants

@@ -1,0 +1,106 @@
+-- One act more.
+use Rattle.std.proofs.Common.{rules, ◌≡◌, ℕ, ◌+◌, Option, Some, None, IfSome, IsSome, option_map, List, [], ◌∷◌, ◌++◌, length, refl, ap, sym, ◌∙◌, subst, append_assoc, append-nil, length-append}
+use Rattle.std.specs.Io.KnownBytes.{Appends}
+use Rattle.std.proofs.KnownBytes.{Appends-trans}
+use Rattle.rule_store.specs.Verdict.{Verdict, Accepted, Unsound, OutOfBits, OutOfSlots, verdict}
+use Rattle.tcam_device.specs.declared.Write.{Write}
+use Rattle.tcam_device.specs.State.{State, apply, state_after, replay}
+use Rattle.replay.specs.declared.Act.{Act}
+use Rattle.replay.specs.declared.Act.TheVariants.{Command, Packet, Commit}
+use Rattle.replay.specs.Script.{pending_after}
+use Rattle.replay.specs.Run.{Setting, Effect, Writes, Prints, written, printed, Progress, start, writes_of, Judged, Step, Run, Runs}
+use Rattle.replay.specs.Carried.{IsAt, Does}
+
+pub written-append : (a b : List Effect) → written (a ++ b) ≡ written a ++ written b
+written-append [] b = refl
+written-append (Writes write ∷ a) b = ap (λ w. write ∷ w) (written-append a b)
+written-append (Prints line ∷ a) b = written-append a b
+
+pub printed-append : (a b : List Effect) → printed (a ++ b) ≡ printed a ++ printed b
+printed-append [] b = refl
+printed-append (Writes write ∷ a) b = printed-append a b
+printed-append (Prints line ∷ a) b = ap (λ p. line ++ p) (printed-append a b) ∙ sym (append_assoc line (printed a) (printed b))
+
+written-writes : (made : List Write) → written (writes_of made) ≡ made
+written-writes [] = refl
+written-writes (write ∷ made) = ap (λ w. write ∷ w) (written-writes made)
+
+fold-append : (state : State) (a b : List Write) → state_after state (a ++ b) ≡ state_after (state_after state a) b
+fold-append state [] b = refl
+fold-append state (w ∷ a) b = fold-append (apply state w) a b
+
+judged-state : (setting : Setting) (old : Progress) (v : Verdict) (effects : List Effect) (new : Progress) → Judged setting old v effects new → new.state ≡ state_after old.state (written effects)
+judged-state setting old Accepted effects new step =
+    ap (λ p. p.state) step.after
+    ∙ ap (state_after old.state) (sym (written-writes step.made) ∙ sym (append-nil _) ∙ sym (written-append (writes_of step.made) _) ∙ sym (ap written step.effects_are))
+judged-state setting old (Unsound fault) effects new step = ap (λ p. p.state) step.1 ∙ ap (state_after old.state) (sym (ap written step.0))
+judged-state setting old (OutOfBits field needed free) effects new step = ap (λ p. p.state) step.1 ∙ ap (state_after old.state) (sym (ap written step.0))
+judged-state setting old (OutOfSlots needed free) effects new step = ap (λ p. p.state) step.1 ∙ ap (state_after old.state) (sym (ap written step.0))
+
+pub step-state : (setting : Setting) (old : Progress) (act : Act) (effects : List Effect) (new : Progress) → Step setting old act effects new → new.state ≡ state_after old.state (written effects)
+step-state setting old (Command change) effects new step = ap (λ p. p.state) step.1 ∙ ap (state_after old.state) (sym (ap written step.0))
+step-state setting old (Packet key) effects new step = ap (λ p. p.state) step.1 ∙ ap (state_after old.state) (sym (ap written step.0))
+step-state setting old Commit effects new step = judged-state setting old (verdict setting.slots setting.mode old.rules old.batch) effects new step
+
+-- the state of a run is what its writes leave
+run-state-from : (setting : Setting) (old : Progress) (acts : List Act) (effects : List Effect) (new : Progress) → Run setting old acts effects new → new.state ≡ state_after old.state (written effects)
+run-state-from setting old [] effects new run = ap (λ p. p.state) run.1 ∙ ap (state_after old.state) (sym (ap written run.0))
+run-state-from setting old (act ∷ acts) effects new (front, mid, back, step, rest, whole) =
+    run-state-from setting mid acts back new rest
+    ∙ ap (λ s. state_after s (written back)) (step-state setting old act front mid step)
+    ∙ sym (fold-append old.state (written front) (written back))
+    ∙ ap (state_after old.state) (sym (written-append front back) ∙ sym (ap written whole))
+
+pub run-state : (setting : Setting) (slots : ℕ) (acts : List Act) (effects : List Effect) (last : Progress) → Runs setting slots acts effects last → last.state ≡ replay slots (written effects)
+run-state setting slots acts effects last run = run-state-from setting (start slots) acts effects last run
+
+-- so the device is where the run stands
+pub run-at : (setting : Setting) (slots : ℕ) (acts : List Act) (effects : List Effect) (last : Progress) (journal : Option (List Write)) → Runs setting slots acts effects last
+    → IfSome journal (λ writes. writes ≡ written effects) → IsAt slots journal last
+run-at setting slots acts effects last None run told = tt
+run-at setting slots acts effects last (Some writes) run told = run-state setting slots acts effects last run ∙ ap (replay slots) (sym told)
+
+-- one act more
+run-more-from : (setting : Setting) (old : Progress) (acts : List Act) (effects : List Effect) (mid : Progress) (act : Act) (front : List Effect) (new : Progress)
+    → Run setting old acts effects mid → Step setting mid act front new → Run setting old (acts ++ act ∷ []) (effects ++ front) new
+run-more-from setting old [] effects mid act front new run step =
+    let P : Progress → Type 0 = λ p. Step setting p act front new in
+    (front, new, [], subst P run.1 step, (refl, refl), ap (λ e. e ++ front) run.0 ∙ sym (append-nil front))
+run-more-from setting old (first ∷ acts) effects mid act front new (e, p, back, s, rest, whole) step =
+    (e, p, back ++ front, s, run-more-from setting p acts back mid act front new rest step, ap (λ x. x ++ front) whole ∙ append_assoc e back front)
+
+pub run-more : (setting : Setting) (slots : ℕ) (acts : List Act) (effects : List Effect) (mid : Progress) (act : Act) (front : List Effect) (new : Progress)
+    → Runs setting slots acts effects mid → Step setting mid act front new → Runs setting slots (acts ++ act ∷ []) (effects ++ front) new
+run-more setting slots acts effects mid act front new run step = run-more-from setting (start slots) acts effects mid act front new run step
+
+-- what is pending after an act
+judged-batch : (setting : Setting) (old : Progress) (v : Verdict) (effects : List Effect) (new : Progress) → Judged setting old v effects new → length new.batch ≡ 0
+judged-batch setting old Accepted effects new step = ap (λ p. length p.batch) step.after
+judged-batch setting old (Unsound fault) effects new step = ap (λ p. length p.batch) step.1
+judged-batch setting old (OutOfBits field needed free) effects new step = ap (λ p. length p.batch) step.1
+judged-batch setting old (OutOfSlots needed free) effects new step = ap (λ p. length p.batch) step.1
+
+pub step-pending : (setting : Setting) (old : Progress) (act : Act) (effects : List Effect) (new : Progress) → Step setting old act effects new → length new.batch ≡ pending_after act (length old.batch)
+step-pending setting old (Command change) effects new step = ap (λ p. length p.batch) step.1 ∙ length-append old.batch (change ∷ [])
+step-pending setting old (Packet key) effects new step = ap (λ p. length p.batch) step.1
+step-pending setting old Commit effects new step = judged-batch setting old (verdict setting.slots setting.mode old.rules old.batch) effects new step
+
+-- journal and report after more effects
+pub does-journal : (effects more : List Effect) (partial : List ℕ) (journal_old journal_new : Option (List Write)) (taken_old taken_new : Option (List ℕ))
+    → Does more partial journal_old journal_new taken_old taken_new → IfSome journal_old (λ writes. writes ≡ written effects) → IfSome journal_new (λ writes. writes ≡ written (effects ++ more))
+does-journal effects more partial None journal_new taken_old taken_new does was = rw does.journal tt
+does-journal effects more partial (Some writes) journal_new taken_old taken_new does was =
+    rw does.journal (ap (λ w. w ++ written more) was ∙ sym (written-append effects more))
+
+pub told-back : (journal_old journal_new : Option (List Write)) (added : List Write) → journal_new ≡ option_map (λ writes. writes ++ added) journal_old → IsSome journal_new → IsSome journal_old
+told-back None journal_new added e some = rw e at some
+told-back (Some writes) journal_new added e some = search rules
+
+pub does-report : (effects more : List Effect) (partial : List ℕ) (journal_old journal_new : Option (List Write)) (start taken_old taken_new : Option (List ℕ))
+    → Does more partial journal_old journal_new taken_old taken_new → (IsSome journal_old → Appends start taken_old (printed effects))
+    → IsSome journal_new → Appends start taken_new (printed (effects ++ more) ++ partial)
+does-report effects more partial journal_old journal_new start taken_old taken_new does was some =
+    let told = told-back journal_old journal_new (written more) does.journal some in
+    let same : printed effects ++ (printed more ++ partial) ≡ printed (effects ++ more) ++ partial =
+    sym (append_assoc (printed effects) (printed more) partial) ∙ ap (λ p. p ++ partial) (sym (printed-append effects more)) in
+    subst (Appends start taken_new) same (Appends-trans start taken_old taken_new (printed effects) (printed more ++ partial) (was told) (does.report told))

@@ -1,0 +1,120 @@
+-- A script from its start to the end of the run.
+use Rattle.std.proofs.Common.{◌≡◌, ◌≢◌, ℕ, ◌-◌, ◌≤◌, Option, Some, None, IfSome, IsSome, List, [], ◌++◌, length, take, refl, ap, sym, ◌∙◌, subst, arith, length-append}
+use Rattle.std.specs.Io.KnownBytes.{Consumes}
+use Rattle.std.proofs.KnownBytes.{Appends-nil}
+use Rattle.std.proofs.lemmas.List.{take-append-le}
+use Rattle.std.proofs.Math.Seq.{take-length}
+use Rattle.script_lines.specs.Cause.{Rose}
+use Rattle.tcam_device.specs.declared.Write.{Write}
+use Rattle.replay.specs.Script.{script_of}
+use Rattle.replay.specs.Run.{Setting, Progress, start}
+use Rattle.tcam_cli.specs.declared.Status.{Status}
+use Rattle.tcam_cli.specs.declared.Status.TheVariants.{Done, Refused, Script as ScriptFault, ReadFault, WriteFault, DeviceFault, Memory, Usage}
+use Rattle.tcam_cli.specs.Headline.{IsOutcome, IsCarriedOut, IsDecided, MayEnd, Reads, MatchesOutcome, script_so_far, decided}
+use Rattle.tcam_cli.specs.Readings.{reading}
+use Rattle.tcam_cli.proofs.Decided.{complete-decided}
+use Rattle.script_lines.specs.declared.Over.TheVariants as over
+use Rattle.script_lines.specs.Reader.{Held}
+use Rattle.tcam_cli.specs.Turns.{IsGoing, SoFar, Ends}
+
+abbrev pub fresh : Held
+fresh = record { pending = []; before = 0; number = 1; over = over.Going }
+
+abbrev pub TakesSome : Option (List ℕ) → Option (List ℕ) → Type 0
+TakesSome old new = (bytes : List ℕ) × Consumes old new bytes
+
+-- nothing is read, and nothing done
+pub starts : (setting : Setting) (slots : ℕ) (bytes : List ℕ) (held : Held) (left : List ℕ) (progress : Progress) (journal : Option (List Write)) (taken : Option (List ℕ))
+    → held ≡ fresh → Some bytes ≡ Some left → progress ≡ start slots → IfSome journal (λ writes. writes ≡ []) → SoFar setting slots bytes held left progress journal taken taken
+starts setting slots bytes held left progress journal taken new all begun blank =
+    let same : bytes ≡ left = cc in
+    let read : IsGoing reading bytes fresh left [] 0 = record {
+      done = [];
+      parts = same;
+      script = λ rest. refl;
+      last = λ rest. refl;
+      whole = λ rest. refl;
+    } in
+    let at : SoFar setting slots bytes fresh left (start slots) journal taken taken = record {
+      acts = [];
+      effects = [];
+      run = (refl, refl);
+      journal_is = blank;
+      report = λ some. Appends-nil taken;
+      read = read;
+    } in
+    let whole : SoFar setting slots bytes fresh left progress journal taken taken =
+    subst (λ p. SoFar setting slots bytes fresh left p journal taken taken) (sym begun) at in
+    subst (λ h. SoFar setting slots bytes h left progress journal taken taken) (sym new) whole
+
+-- what was told stays told
+pub told-forward : (a b : Option (List ℕ)) (left : List ℕ) → TakesSome a b → a ≡ Some left → (mid : List ℕ) × (b ≡ Some mid)
+told-forward None b left takes e = let bad : None ≡ Some left = e in absurd (cc)
+told-forward (Some x) None left takes e = absurd takes.1
+told-forward (Some x) (Some y) left takes e = (y, refl)
+
+pub told-source : (a b : Option (List ℕ)) → TakesSome a b → IsSome a → IsSome b
+told-source None b takes some = absurd (cc)
+told-source (Some x) None takes some = absurd takes.1
+told-source (Some x) (Some y) takes some = refl
+
+pub rose-later : (old mid new : ℕ) → old ≤ mid → Rose mid new → Rose old new
+rose-later old mid new le rose = omega (arith, rose)
+
+taken-of : (old taken new : List ℕ) → old ≡ taken ++ new → taken ≡ take (length old - length new) old
+taken-of old taken new e =
+    let long = simp length-append at (ap length e) in
+    let n : length old - length new ≡ length taken = omega (arith, long) in
+    let le : length taken ≤ length taken = omega arith in
+    sym (ap (λ k. take k old) n ∙ ap (take (length taken)) e ∙ take-append-le (length taken) taken new le ∙ take-length taken)
+
+-- how a run over a told script ends
+abbrev pub EndsTold : Setting → ℕ → Status → Option (List ℕ) → Option (List ℕ) → Option (List Write) → Option (List ℕ) → Option (List ℕ) → Type 0
+EndsTold setting slots status left_old left_new journal taken_old taken_new =
+    (left taken now : List ℕ) → left_old ≡ Some left → left_new ≡ Some now → left ≡ taken ++ now → Ends setting slots left taken now status journal taken_old taken_new
+
+matches : (setting : Setting) (slots : ℕ) (status : Status) (old taken new : List ℕ) (journal : Option (List Write)) (taken_old taken_new : Option (List ℕ)) → old ≡ taken ++ new
+    → Ends setting slots old taken new status journal taken_old taken_new
+    → IfSome journal (λ writes. MatchesOutcome setting slots (script_of reading old) (script_so_far reading (take (length old - length new) old)) status writes taken_old taken_new)
+matches setting slots status old taken new None taken_old taken_new parts ends = tt
+matches setting slots status old taken new (Some writes) taken_old taken_new parts ends =
+    let P : List ℕ → Type 0 = λ t. IsOutcome setting slots (script_of reading old) (script_so_far reading t) status ends.effects ends.partial in
+    record {
+      effects = ends.effects;
+      partial = ends.partial;
+      outcome = subst P (taken-of old taken new parts) ends.outcome;
+      journal_is = ends.journal_is;
+      report_is = ends.report refl;
+    }
+
+pub carried : (setting : Setting) (slots : ℕ) (status : Status) (left_old left_new : Option (List ℕ)) (journal : Option (List Write)) (taken_old taken_new : Option (List ℕ)) → TakesSome left_old left_new
+    → EndsTold setting slots status left_old left_new journal taken_old taken_new
+    → IsCarriedOut (Reads setting) slots status left_old left_new taken_old taken_new journal
+carried setting slots status None left_new journal taken_old taken_new takes ends = tt
+carried setting slots status (Some old) None journal taken_old taken_new takes ends = tt
+carried setting slots status (Some old) (Some new) journal taken_old taken_new takes ends =
+    let is = ends old takes.0 new refl refl takes.1 in
+    (record { taken = takes.0; parts = takes.1; all = is.all }, matches setting slots status old takes.0 new journal taken_old taken_new takes.1 is)
+
+decided-by : (setting : Setting) (slots : ℕ) (status : Status) (left_old left_new : Option (List ℕ)) (journal : Option (List Write)) (taken_old taken_new : Option (List ℕ)) → TakesSome left_old left_new
+    → EndsTold setting slots status left_old left_new journal taken_old taken_new
+    → ((left taken now : List ℕ) → (e : Ends setting slots left taken now status journal taken_old taken_new) → status ≡ decided setting (script_of reading left))
+    → IsDecided status (Reads setting) left_old
+decided-by setting slots status None left_new journal taken_old taken_new takes ends so = tt
+decided-by setting slots status (Some old) None journal taken_old taken_new takes ends so = absurd takes.1
+decided-by setting slots status (Some old) (Some new) journal taken_old taken_new takes ends so =
+    sym (so old takes.0 new (ends old takes.0 new refl refl takes.1))
+
+pub may-end : (setting : Setting) (slots : ℕ) (status : Status) (left_old left_new : Option (List ℕ)) (journal : Option (List Write)) (taken_old taken_new : Option (List ℕ)) → TakesSome left_old left_new
+    → status ≢ Usage → EndsTold setting slots status left_old left_new journal taken_old taken_new → MayEnd status (Reads setting) left_old
+may-end setting slots Done left_old left_new journal taken_old taken_new takes other ends =
+    decided-by setting slots Done left_old left_new journal taken_old taken_new takes ends (λ left taken now e. complete-decided setting slots _ Done e.effects e.outcome.0)
+may-end setting slots Refused left_old left_new journal taken_old taken_new takes other ends =
+    decided-by setting slots Refused left_old left_new journal taken_old taken_new takes ends (λ left taken now e. complete-decided setting slots _ Refused e.effects e.outcome.0)
+may-end setting slots ScriptFault left_old left_new journal taken_old taken_new takes other ends =
+    (tt, decided-by setting slots ScriptFault left_old left_new journal taken_old taken_new takes ends (λ left taken now e. complete-decided setting slots _ ScriptFault e.effects e.outcome.0))
+may-end setting slots ReadFault left_old left_new journal taken_old taken_new takes other ends = tt
+may-end setting slots WriteFault left_old left_new journal taken_old taken_new takes other ends = tt
+may-end setting slots DeviceFault left_old left_new journal taken_old taken_new takes other ends = tt
+may-end setting slots Memory left_old left_new journal taken_old taken_new takes other ends = tt
+may-end setting slots Usage left_old left_new journal taken_old taken_new takes other ends = absurd (other refl)

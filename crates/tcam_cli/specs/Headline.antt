@@ -1,0 +1,231 @@
+-- What the top call promises: for every script the commits are accepted or refused as the rule lists alone say; after
+-- every device write each packet gets the old or the new rule set's answer, and after a commit's last write the new
+-- one; a refused commit writes nothing; and an insertion takes at most 1 + 2 m (1 + c) writes.
+use Rattle.std.specs.Prelude.{◌≡◌, ℕ, ◌-◌, ◌==◌, true, false, Bool, Option, Some, option_map, IfSome, List, [], ◌∷◌, ◌++◌, length, take, map, ◌⊎◌}
+use Rattle.std.specs.Io.KnownBytes.{Appends}
+use Rattle.script_lines.specs.Cause.{Rose}
+use Rattle.script_lines.specs.Lines.{line_feed, lines_of}
+use Rattle.rule_model.specs.declared.Rule.{Rule}
+use Rattle.rule_store.specs.declared.Command.{Command as Change}
+use Rattle.rule_store.specs.Batch.{set_after}
+use Rattle.rule_store.specs.Verdict.{Accepted, verdict}
+use Rattle.tcam_device.specs.declared.Write.{Write}
+use Rattle.replay.specs.declared.Act.{Act}
+use Rattle.replay.specs.declared.Act.TheVariants.{Command, Packet, Commit}
+use Rattle.replay.specs.Script.{Script, ScriptEnd, Whole, FaultAt, Reading, acts_from, script_of}
+use Rattle.replay.specs.Text.{fault_line, usage_line}
+use Rattle.replay.specs.Run.{Setting, Effect, Writes, Prints, written, printed, Progress, IsCutStep, TakesMemory, Runs, ending}
+use Rattle.tcam_cli.specs.declared.Status.{Status}
+use Rattle.tcam_cli.specs.declared.Status.TheVariants.{Done, Refused, Script as ScriptFault, ReadFault, WriteFault, DeviceFault, Memory, Usage}
+use Rattle.tcam_cli.specs.Readings.{reading}
+
+-- what words ask for: nothing, a text of the product about itself, or a script from the source
+pub data Job : Type 0 where
+  NoJob : Job
+  Tells : (text : List ℕ) → Job
+  Reads : (setting : Setting) → Job
+
+-- the acts of a script without the numbers of their lines
+abbrev pub acts_of : Script → List Act
+acts_of script = map (λ numbered. numbered.act) script.acts
+
+-- The last line that a script's end gives: the end line, or the line that names the fault.
+abbrev pub last_line : Setting → Progress → ScriptEnd → List ℕ
+last_line setting progress Whole = ending setting progress
+last_line setting progress (FaultAt line text) = fault_line line text
+
+-- the status of a script that was carried out to its end
+abbrev pub status_of : Progress → ScriptEnd → Status
+status_of progress Whole = elim progress.refused [ true ↦ Refused | false ↦ Done ]
+status_of progress (FaultAt line text) = ScriptFault
+
+-- The whole script was carried out: these are its effects, and this is the status.
+pub record IsComplete (setting : Setting) (device_slots : ℕ) (script : Script) (status : Status) (effects : List Effect) : Type 0 where
+  pub body : List Effect
+  pub last : Progress
+  pub run : Runs setting device_slots (acts_of script) body last
+  pub status_is : status ≡ status_of last script.last
+  pub effects_are : effects ≡ body ++ Prints (last_line setting last script.last) ∷ []
+
+-- The script was carried out up to an effect that is due next: in the middle of an act,
+pub record IsAtAct (setting : Setting) (device_slots : ℕ) (script : Script) (effects : List Effect) (due : Effect) : Type 0 where
+  pub done : List Act
+  pub act : Act
+  pub later : List Act
+  pub acts : acts_of script ≡ done ++ act ∷ later
+  pub body : List Effect
+  pub before : Progress
+  pub run : Runs setting device_slots done body before
+  pub front : List Effect
+  pub cut : IsCutStep setting before act front due
+  pub effects_are : effects ≡ body ++ front
+
+-- or at the last line
+pub record IsAtEnd (setting : Setting) (device_slots : ℕ) (script : Script) (effects : List Effect) (due : Effect) : Type 0 where
+  pub last : Progress
+  pub run : Runs setting device_slots (acts_of script) effects last
+  pub due_is : due ≡ Prints (last_line setting last script.last)
+
+-- either of the two
+abbrev pub IsDue : Setting → ℕ → Script → List Effect → Effect → Type 0
+IsDue setting device_slots script effects due =
+    IsAtAct setting device_slots script effects due ⊎ IsAtEnd setting device_slots script effects due
+
+-- A line could not be written: the effects before it, and the part of it that the sink took.
+pub record IsCutAtLine (setting : Setting) (device_slots : ℕ) (script : Script) (effects : List Effect) (partial : List ℕ) : Type 0 where
+  pub line : List ℕ
+  pub rest : List ℕ
+  pub due : IsDue setting device_slots script effects (Prints line)
+  pub part : line ≡ partial ++ rest
+
+-- A device write failed: the effects before it.
+pub record IsCutAtWrite (setting : Setting) (device_slots : ℕ) (script : Script) (effects : List Effect) : Type 0 where
+  pub write : Write
+  pub due : IsDue setting device_slots script effects (Writes write)
+
+-- Memory was wanting at an act: the effects of those before it.
+pub record IsOutOfMemoryAtAct (setting : Setting) (device_slots : ℕ) (script : Script) (effects : List Effect) : Type 0 where
+  pub done : List Act
+  pub act : Act
+  pub later : List Act
+  pub acts : acts_of script ≡ done ++ act ∷ later
+  pub before : Progress
+  pub run : Runs setting device_slots done effects before
+  pub needs : TakesMemory setting before act
+
+-- or before the first
+abbrev pub IsOutOfMemory : Setting → ℕ → Script → List Effect → Type 0
+IsOutOfMemory setting device_slots script effects = (effects ≡ []) ⊎ IsOutOfMemoryAtAct setting device_slots script effects
+
+-- a read failed: the effects of the whole lines taken before; no line and no byte that was taken is at fault
+pub record IsCutAtRead (setting : Setting) (device_slots : ℕ) (came : Script) (effects : List Effect) : Type 0 where
+  pub sound : came.last ≡ Whole
+  pub last : Progress
+  pub run : Runs setting device_slots (acts_of came) effects last
+
+-- the bytes up to the last line feed, with it
+abbrev pub whole_lines_from : List ℕ → List ℕ → List ℕ
+whole_lines_from line [] = []
+whole_lines_from line (byte ∷ bytes) =
+    elim (byte == line_feed) [
+      | true ↦ line ++ byte ∷ whole_lines_from [] bytes
+      | false ↦ whole_lines_from (line ++ byte ∷ []) bytes
+    ]
+
+-- the lines of some bytes that a line feed ends
+abbrev pub whole_lines : List ℕ → List ℕ
+whole_lines bytes = whole_lines_from [] bytes
+
+-- what some first bytes of a script are so far: the acts of their whole lines, and a fault where they have one
+abbrev pub script_so_far : Reading → List ℕ → Script
+script_so_far reading bytes = acts_from reading 0 (lines_of (whole_lines bytes)).lines (lines_of bytes).last
+
+-- what a run did by its status: its effects and part of a further line; came is what the bytes taken are of the script
+abbrev pub IsOutcome : Setting → ℕ → Script → Script → Status → List Effect → List ℕ → Type 0
+IsOutcome setting device_slots script came Done effects partial = IsComplete setting device_slots script Done effects × (partial ≡ [])
+IsOutcome setting device_slots script came Refused effects partial = IsComplete setting device_slots script Refused effects × (partial ≡ [])
+IsOutcome setting device_slots script came ScriptFault effects partial = IsComplete setting device_slots script ScriptFault effects × (partial ≡ [])
+IsOutcome setting device_slots script came ReadFault effects partial = IsCutAtRead setting device_slots came effects × (partial ≡ [])
+IsOutcome setting device_slots script came WriteFault effects partial = IsCutAtLine setting device_slots script effects partial
+IsOutcome setting device_slots script came DeviceFault effects partial = IsCutAtWrite setting device_slots script effects × (partial ≡ [])
+IsOutcome setting device_slots script came Memory effects partial = IsOutOfMemory setting device_slots script effects × (partial ≡ [])
+IsOutcome setting device_slots script came Usage effects partial = ⊥
+
+-- one text was printed, or a part of it where the sink failed, or nothing for want of memory
+abbrev pub IsTold : List ℕ → Status → Status → List ℕ → Type 0
+IsTold text last status report =
+    ((status ≡ last) × (report ≡ text))
+    ⊎ (((status ≡ WriteFault) × ((rest : List ℕ) × (text ≡ report ++ rest)))
+    ⊎ ((status ≡ Memory) × (report ≡ [])))
+
+-- The journal, where it is told, and the report, where it is told too, are those of an outcome.
+pub record MatchesOutcome (setting : Setting) (device_slots : ℕ) (script came : Script) (status : Status) (journal : List Write) (taken_old taken_new : Option (List ℕ)) : Type 0 where
+  pub effects : List Effect
+  pub partial : List ℕ
+  pub outcome : IsOutcome setting device_slots script came status effects partial
+  pub journal_is : journal ≡ written effects
+  pub report_is : Appends taken_old taken_new (printed effects ++ partial)
+
+-- what was taken of the source is the beginning of what was left, and all of it at the end of the input
+pub record TakesFrom (status : Status) (old new : List ℕ) : Type 0 where
+  pub taken : List ℕ
+  pub parts : old ≡ taken ++ new
+  pub all : (status ≡ Done) ⊎ (status ≡ Refused) → new ≡ []
+
+-- A job that touches neither source nor device, and prints one text.
+abbrev pub IsToldAlone : List ℕ → Status → Status → Option (List ℕ) → Option (List ℕ) → Option (List ℕ) → Option (List ℕ) → Option (List Write) → Type 0
+IsToldAlone text last status left_old left_new taken_old taken_new journal =
+    (left_new ≡ left_old) × IfSome journal (λ writes. writes ≡ [])
+    × IfSome taken_old (λ before. IfSome taken_new (λ after. (report : List ℕ) × (after ≡ before ++ report) × IsTold text last status report))
+
+-- the promise of a job, by what source, sink and a device that was blank tell, each part where what it rests on is told
+abbrev pub IsCarriedOut : Job → ℕ → Status → Option (List ℕ) → Option (List ℕ) → Option (List ℕ) → Option (List ℕ) → Option (List Write) → Type 0
+IsCarriedOut NoJob device_slots status left_old left_new taken_old taken_new journal =
+    IsToldAlone usage_line Usage status left_old left_new taken_old taken_new journal
+IsCarriedOut (Tells text) device_slots status left_old left_new taken_old taken_new journal =
+    IsToldAlone text Done status left_old left_new taken_old taken_new journal
+IsCarriedOut (Reads setting) device_slots status left_old left_new taken_old taken_new journal =
+    IfSome left_old (λ old. IfSome left_new (λ new.
+    TakesFrom status old new
+    × IfSome journal (λ writes.
+    MatchesOutcome setting device_slots (script_of reading old)
+    (script_so_far reading (take (length old - length new) old)) status writes taken_old taken_new)))
+
+-- whether a commit of the acts is refused, by the rule lists alone: the set before them and the batch that is pending
+abbrev pub any_refused : Setting → List Rule → List Change → List Act → Bool
+any_refused setting rules batch [] = false
+any_refused setting rules batch (Command change ∷ acts) = any_refused setting rules (batch ++ change ∷ []) acts
+any_refused setting rules batch (Packet key ∷ acts) = any_refused setting rules batch acts
+any_refused setting rules batch (Commit ∷ acts) =
+    elim (verdict setting.slots setting.mode rules batch) [
+      | Accepted ↦ any_refused setting (set_after rules batch) [] acts
+      | _ ↦ true
+    ]
+
+-- the status of a script that is carried out to its end, by the rule lists alone
+abbrev pub decided : Setting → Script → Status
+decided setting script =
+    elim script.last [
+      | Whole ↦ elim (any_refused setting [] [] (acts_of script)) [ true ↦ Refused | false ↦ Done ]
+      | FaultAt line text ↦ ScriptFault
+    ]
+
+-- the status that words and script alone decide, where the script is told
+abbrev pub decision : Job → Option (List ℕ) → Option Status
+decision NoJob left = Some Usage
+decision (Tells text) left = Some Done
+decision (Reads setting) left = option_map (λ bytes. decided setting (script_of reading bytes)) left
+
+-- words and script alone decide this status, where the script is told
+abbrev pub IsDecided : Status → Job → Option (List ℕ) → Type 0
+IsDecided status job left = IfSome (decision job left) (λ is. is ≡ status)
+
+-- a job that reads the source
+abbrev pub ReadsSource : Job → Type 0
+ReadsSource NoJob = ⊥
+ReadsSource (Tells text) = ⊥
+ReadsSource (Reads setting) = Unit {0}
+
+-- a job that writes the device
+abbrev pub WritesDevice : Job → Type 0
+WritesDevice NoJob = ⊥
+WritesDevice (Tells text) = ⊥
+WritesDevice (Reads setting) = Unit {0}
+
+-- how a job may end: by a fault of what it uses, for want of memory, or as its words and its script decide
+abbrev pub MayEnd : Status → Job → Option (List ℕ) → Type 0
+MayEnd Memory job left = Unit {0}
+MayEnd WriteFault job left = Unit {0}
+MayEnd ReadFault job left = ReadsSource job
+MayEnd DeviceFault job left = WritesDevice job
+MayEnd Usage job left = job ≡ NoJob
+MayEnd Done job left = IsDecided Done job left
+MayEnd Refused job left = IsDecided Refused job left
+MayEnd ScriptFault job left = ReadsSource job × IsDecided ScriptFault job left
+
+-- a fault of the outside only where its count rose; else want of memory, or the status that words and script decide
+pub record HasCauses (job : Job) (left : Option (List ℕ)) (status : Status) (source_old source_new sink_old sink_new device_old device_new : ℕ) : Type 0 where
+  pub read : status ≡ ReadFault → Rose source_old source_new
+  pub write : status ≡ WriteFault → Rose sink_old sink_new
+  pub device : status ≡ DeviceFault → Rose device_old device_new
+  pub ends : MayEnd status job left

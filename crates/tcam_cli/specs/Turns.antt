@@ -1,0 +1,78 @@
+-- Where a run over a script stands between two lines, and how it ends.
+use Rattle.std.specs.Prelude.{◌≡◌, ◌⊎◌, ℕ, ◌++◌, Option, IfSome, IsSome, List, [], length, map}
+use Rattle.std.specs.Io.KnownBytes.{Appends}
+use Rattle.script_lines.specs.Lines.{limits, ScriptLines, lines_from, lines_of}
+use Rattle.rule_model.specs.AddressBlock.{IsIpv4Block}
+use Rattle.tcam_device.specs.declared.Write.{Write}
+use Rattle.route_reader.specs.declared.RouteCommand.{RouteCommand}
+use Rattle.route_reader.specs.declared.RouteCommand.TheVariants as route
+use Rattle.replay.specs.declared.Act.{Act}
+use Rattle.replay.specs.Script.{Script, Reading, NumberedAct, Whole, acts_from, script_of}
+use Rattle.replay.specs.Run.{Setting, Effect, written, printed, Progress, Runs}
+use Rattle.tcam_cli.specs.declared.Status.{Status}
+use Rattle.tcam_cli.specs.declared.Status.TheVariants.{Done, Refused, WriteFault}
+use Rattle.tcam_cli.specs.Headline.{whole_lines, script_so_far, IsOutcome}
+use Rattle.tcam_cli.specs.Readings.{reading}
+use Rattle.script_lines.specs.declared.Over.{Over}
+use Rattle.script_lines.specs.declared.Over.TheVariants as over
+use Rattle.script_lines.specs.Reader.{Held}
+
+-- the prefix of a command is one of IPv4
+abbrev pub IsIpv4Command : RouteCommand → Type 0
+IsIpv4Command (route.Add block answer) = IsIpv4Block block
+IsIpv4Command (route.Packet key) = Unit {0}
+IsIpv4Command route.Commit = Unit {0}
+
+-- a script with these acts at its front
+abbrev pub onto_all : List NumberedAct → Script → Script
+onto_all acts rest = record rest { acts = acts ++ rest.acts }
+
+-- the acts of some lines, with so many changes pending
+abbrev pub acts_next : Reading → ℕ → ScriptLines → Script
+acts_next reading pending lines = acts_from reading pending lines.lines lines.last
+
+-- bytes of whole lines gave these acts, and more lines may come
+pub record IsGoing (reading : Reading) (bytes : List ℕ) (held : Held) (left : List ℕ) (acts : List NumberedAct) (pending : ℕ) : Type 0 where
+  pub done : List ℕ
+  pub parts : bytes ≡ done ++ (held.pending ++ left)
+  pub script : (rest : List ℕ) → script_of reading (done ++ rest) ≡ onto_all acts (acts_next reading pending (lines_from limits held.before held.number [] rest))
+  pub last : (rest : List ℕ) → (lines_of (done ++ rest)).last ≡ (lines_from limits held.before held.number [] rest).last
+  pub whole : (rest : List ℕ) → whole_lines (done ++ rest) ≡ done ++ whole_lines rest
+
+-- the whole script gave these acts
+abbrev pub IsAllRead : Reading → List ℕ → List ℕ → List NumberedAct → Type 0
+IsAllRead reading bytes left acts = (script_of reading bytes ≡ record { acts = acts; last = Whole }) × (left ≡ [])
+
+-- what of the script is read
+abbrev pub IsRead : Over → Reading → List ℕ → Held → List ℕ → List NumberedAct → ℕ → Type 0
+IsRead over.Going reads bytes held left acts pending = IsGoing reads bytes held left acts pending
+IsRead over.Ended reads bytes held left acts pending = IsAllRead reads bytes left acts
+IsRead (over.Stopped fault) reads bytes held left acts pending = ⊥
+
+-- the acts alone
+abbrev pub acts_only : List NumberedAct → List Act
+acts_only acts = map (λ numbered. numbered.act) acts
+
+-- the acts so far are carried out, also where no device tells of it
+pub record SoFar (setting : Setting) (slots : ℕ) (bytes : List ℕ) (held : Held) (left : List ℕ) (progress : Progress) (journal : Option (List Write)) (taken_old taken_new : Option (List ℕ)) : Type 0 where
+  pub acts : List NumberedAct
+  pub effects : List Effect
+  pub run : Runs setting slots (acts_only acts) effects progress
+  pub journal_is : IfSome journal (λ writes. writes ≡ written effects)
+  pub report : IsSome journal → Appends taken_old taken_new (printed effects)
+  pub read : IsRead held.over reading bytes held left acts (length progress.batch)
+
+-- a run over a script ends, with these bytes taken of it
+pub record Ends (setting : Setting) (slots : ℕ) (bytes taken left : List ℕ) (status : Status) (journal : Option (List Write)) (taken_old taken_new : Option (List ℕ)) : Type 0 where
+  pub effects : List Effect
+  pub partial : List ℕ
+  pub outcome : IsOutcome setting slots (script_of reading bytes) (script_so_far reading taken) status effects partial
+  pub journal_is : IfSome journal (λ writes. writes ≡ written effects)
+  pub report : IsSome journal → Appends taken_old taken_new (printed effects ++ partial)
+  pub all : (status ≡ Done) ⊎ (status ≡ Refused) → left ≡ []
+
+-- a last line was written, or a part of it where the sink failed
+abbrev pub Closes : List ℕ → Status → Status → Option (List ℕ) → Option (List ℕ) → Type 0
+Closes line last status taken_old taken_new =
+    ((status ≡ last) × Appends taken_old taken_new line)
+    ⊎ ((status ≡ WriteFault) × ((partial : List ℕ) × (rest : List ℕ) × (line ≡ partial ++ rest) × Appends taken_old taken_new partial))
