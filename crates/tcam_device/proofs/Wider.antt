@@ -25,7 +25,8 @@ all_take P zero xs all = tt
 all_take P (suc n) [] all = tt
 all_take P (suc n) (x ∷ xs) all = (all.0, all_take P n xs all.1)
 
-empty_slot : {E : Type 0} (more at : ℕ) → slot {E = E} (replicate more None) at ≡ None
+-- an empty slot behind the others
+pub empty_slot : {E : Type 0} (more at : ℕ) → slot {E = E} (replicate more None) at ≡ None
 empty_slot zero at = refl
 empty_slot (suc more) zero = refl
 empty_slot (suc more) (suc at) = empty_slot more at
