@@ -16,6 +16,7 @@ pub mod InUse
 pub mod Wider
 pub mod Start
 pub mod Ordered
+pub mod KeepsOrder
 pub mod Counted
 pub mod Segment
 pub mod WholeCommit

@@ -5,13 +5,14 @@ use Rattle.std.proofs.lemmas.List.{map-set}
 use Rattle.slot_order.specs.Order.{slot, Ordered}
 use Rattle.slot_order.specs.Moves.{applied}
 use Rattle.slot_order.proofs.Images.{entries, slot_entries, stands_for}
+use Rattle.slot_order.proofs.Once.{AllOnce}
 use Rattle.slot_pool.specs.Arrangement.{Slots}
 use Rattle.rule_model.specs.Piece.{PiecesOverlap, piece_matches}
 use Rattle.ternary_word.specs.declared.Entry.{Entry}
 use Rattle.ternary_word.specs.Entry.{RankedPiece, entry_for, same_match, hits}
 use Rattle.ternary_word.specs.Word.{word_of}
 use Rattle.tcam_device.specs.State.{State, apply, state_after}
-use Rattle.tcam_device.specs.Order.{IsOrdered, Holds}
+use Rattle.tcam_device.specs.Order.{IsOrdered, Holds, StandsOnce}
 use Rattle.tcam_device.proofs.Lookups.{HitAsPieces}
 use Rattle.tcam_device.proofs.One.{slot_write, same_match-same}
 use Rattle.move_planner.proofs.Chain.{AllKnown}
@@ -66,6 +67,15 @@ ordered_state piece P Known d state apart up same o = record {
     at : (place : ℕ) (ranked : RankedPiece) → (m : Pieces piece P ranked) → Holds state place ranked → slot d place ≡ Some m.0
     at place ranked m s = same_id piece Known d state place m.0 apart all (up m.0 m.1) same (s ∙ ap (λ r. Some (entry_for r)) (sym m.2))
 
+-- ids that stand once are pieces that do
+pub stands_once : (piece : ℕ → RankedPiece) (P Known : ℕ → Type 0) (d : Slots) (state : State)
+    → MatchApart piece Known → ((a : ℕ) → P a → Known a) → AllKnown Known d → state.slots ≡ entries (entry_by piece) d → AllOnce d
+    → IsOrdered state (Pieces piece P) → StandsOnce state (Pieces piece P)
+stands_once piece P Known d state apart up all same once o ranked m = let w = o.complete ranked m in (w.0, w.1, λ other s. once other w.0 m.0 (at other s) (at w.0 w.1))
+  where
+    at : (place : ℕ) → Holds state place ranked → slot d place ≡ Some m.0
+    at place s = same_id piece Known d state place m.0 apart all (up m.0 m.1) same (s ∙ ap (λ r. Some (entry_for r)) (sym m.2))
+
 -- an order speaks of its members, by whatever name
 pub IsOrdered_same : (state : State) (P Q : RankedPiece → Type 0) → ((ranked : RankedPiece) → P ranked ↔ Q ranked) → IsOrdered state P → IsOrdered state Q
 IsOrdered_same state P Q same o = record {
@@ -73,6 +83,9 @@ IsOrdered_same state P Q same o = record {
   complete = λ ranked q. o.complete ranked ((same ranked).1 q);
   order = λ i j first second l a b. o.order i j first second l ((same first).1 a) ((same second).1 b);
 }
+
+pub StandsOnce_same : (state : State) (P Q : RankedPiece → Type 0) → ((ranked : RankedPiece) → P ranked ↔ Q ranked) → StandsOnce state P → StandsOnce state Q
+StandsOnce_same state P Q same once ranked q = once ranked ((same ranked).1 q)
 
 -- what a device that mirrors an arrangement has after some writes of it
 pub record After (piece : ℕ → RankedPiece) (d : Slots) (state after : State) : Type 0 where

@@ -1,18 +1,22 @@
--- The commit of one route into a blank device of eight slots: one write, of slot 3.
-use Rattle.std.proofs.Common.{List, [], ◌∷◌, Some, refl, sym}
+-- The commit of one route into a blank device of eight slots: one write, of slot 3; and writes that are no commit's.
+use Rattle.std.proofs.Common.{◌≡◌, ℕ, List, [], ◌∷◌, None, Some, replicate, arith, refl, sym}
+use Rattle.slot_order.specs.Order.{slot}
 use Rattle.rule_model.specs.declared.Rule.{Rule}
 use Rattle.rule_model.specs.AddressBlock.{ipv4_block}
 use Rattle.rule_model.specs.Rank.{ipv4_route_rank}
 use Rattle.rule_model.specs.Rule.{route_rule}
 use Rattle.rule_model.specs.Piece.{whole_piece}
-use Rattle.ternary_word.specs.Entry.{entry_of}
+use Rattle.ternary_word.specs.declared.Entry.{Entry}
+use Rattle.ternary_word.specs.Entry.{RankedPiece, entry_of, entry_for}
 use Rattle.rule_store.specs.declared.Mode.TheVariants.{Cover}
 use Rattle.rule_store.specs.declared.Command.TheVariants.{Add}
 use Rattle.tcam_device.specs.declared.Write.{Write}
 use Rattle.tcam_device.specs.declared.Write.TheVariants.{Slot}
-use Rattle.tcam_device.specs.State.{blank}
+use Rattle.tcam_device.specs.State.{blank, state_after}
+use Rattle.tcam_device.proofs.Wider.{empty_slot}
 use Rattle.commit_writes.specs.Bits.{no_bits}
 use Rattle.commit_writes.specs.Shape.{HasCommitShape}
+use Rattle.commit_writes.specs.Commit.{KeepsOrder}
 use Rattle.commit_writes.proofs.NoBits.{bit_writes-none}
 
 -- the route 10.0.0.0/8
@@ -36,3 +40,24 @@ shape =
       results = tt;
       erases = tt;
     }
+
+abbrev piece : RankedPiece
+piece = record { piece = whole_piece ten; rank = ten.priority; result = ten.result }
+
+-- a second copy that is left isn't a commit's,
+abbrev twice : List Write
+twice = Slot 3 (Some (entry_for piece)) ∷ Slot 5 (Some (entry_for piece)) ∷ []
+
+leak_refused : KeepsOrder Cover no_bits [] (Add ten ∷ []) (blank 8) twice → ⊥
+leak_refused keeps =
+    let stands = keeps.once piece (0, omega arith, refl) in
+    let third : 3 ≡ stands.0 = stands.2 3 refl in
+    let fifth : 5 ≡ stands.0 = stands.2 5 refl in
+    omega arith
+
+-- nor is the erase of an entry that stays
+loss_refused : KeepsOrder Cover no_bits (ten ∷ []) [] (state_after (blank 8) made) (Slot 3 None ∷ []) → ⊥
+loss_refused keeps = let stands = keeps.after.complete piece (0, omega arith, refl) in empty_is stands.0 stands.1
+  where
+    empty_is : (at : ℕ) → slot {E = Entry} (replicate 8 None) at ≡ Some (entry_for piece) → ⊥
+    empty_is at held = let none = empty_slot {E = Entry} 8 at in cc

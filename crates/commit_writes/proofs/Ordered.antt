@@ -15,11 +15,11 @@ use Rattle.overlap_index.proofs.Listed.{in_map, map_in}
 use Rattle.overlap_index.proofs.Above.{live_is, is_live_from}
 use Rattle.move_planner.specs.Insertion.{IsLive}
 use Rattle.tcam_device.specs.State.{State, state_after}
-use Rattle.tcam_device.specs.Order.{IsOrdered}
+use Rattle.tcam_device.specs.Order.{IsOrdered, StandsOnce}
 use Rattle.commit_writes.specs.Bits.{no_bits}
 use Rattle.commit_writes.specs.Shape.{set_pieces, inserted_pieces}
 use Rattle.commit_writes.specs.Planned.{Entries, Planned, IsPlannedCommit, entry_at, ranked_of, contents, plain_state, planned_writes, live_after, slots_after}
-use Rattle.commit_writes.proofs.Mirror.{Pieces, IsOrdered_same}
+use Rattle.commit_writes.proofs.Mirror.{Pieces, IsOrdered_same, StandsOnce_same, stands_once}
 use Rattle.commit_writes.proofs.Ids.{whole_is}
 use Rattle.commit_writes.proofs.Members.{of_routes}
 use Rattle.commit_writes.proofs.Start.{contents_are, commit_piece, new_piece, commit_readable, commit_first, commit_done}
@@ -99,6 +99,21 @@ planned_last rules batch live slots entries planned commit =
     subst (λ some. IsOrdered state (Contains (set_pieces Cover no_bits rules ++ some))) commit.inserted
     (IsOrdered_same state (Pieces (commit_piece live entries planned) (IsLive (live_after live planned))) (Contains (set_pieces Cover no_bits rules ++ map ranked_of planned))
     (members rules batch live slots entries planned planned commit (λ p member. member)) (commit_done rules batch live slots entries planned commit).last)
+
+-- each in one slot
+pub planned_once : (rules : List Rule) (batch : List Command) (live : List LivePiece) (slots : Slots) (entries : Entries) (planned : List Planned)
+    → IsPlannedCommit rules batch live slots entries planned
+    → StandsOnce (state_after (plain_state (contents entries slots)) (planned_writes entries planned))
+    (Contains (set_pieces Cover no_bits rules ++ inserted_pieces Cover no_bits rules batch))
+planned_once rules batch live slots entries planned commit =
+    let state = state_after (plain_state (contents entries slots)) (planned_writes entries planned) in
+    let all = live_after live planned in
+    let done = commit_done rules batch live slots entries planned commit in
+    let ready = commit_readable rules batch live slots entries planned commit in
+    subst (λ some. StandsOnce state (Contains (set_pieces Cover no_bits rules ++ some))) commit.inserted
+    (StandsOnce_same state (Pieces (commit_piece live entries planned) (IsLive all)) (Contains (set_pieces Cover no_bits rules ++ map ranked_of planned))
+    (members rules batch live slots entries planned planned commit (λ p member. member))
+    (stands_once (commit_piece live entries planned) (IsLive all) (IsLive all) (slots_after slots planned) state ready.apart (λ id is. is) done.within done.changed.slots done.alone done.last))
 
 same_state : (a b : State) → a.slots ≡ b.slots → a.src ≡ b.src → a.dst ≡ b.dst → a ≡ b
 same_state a b slots src dst = ap (λ x. record a { slots = x }) slots ∙ (ap (λ x. record { slots = b.slots; src = x; dst = a.dst }) src ∙ ap (λ x. record { slots = b.slots; src = b.src; dst = x }) dst)

@@ -106,6 +106,7 @@ pub record AreDone (held : Entries) (piece : ℕ → RankedPiece) (all live : Li
   pub last : IsOrdered (state_after state (planned_writes held planned)) (Pieces piece (IsLive (live_after live planned)))
   pub changed : After piece (slots_after slots planned) state (state_after state (planned_writes held planned))
   pub within : AllKnown (IsLive (live_after live planned)) (slots_after slots planned)
+  pub alone : AllOnce (slots_after slots planned)
   pub made : Makes state (planned_writes held planned) (made_by held piece state planned)
   pub as_planned : AllZip (IsAsPlanned piece all) planned (made_by held piece state planned)
 
@@ -115,9 +116,9 @@ none_taken (suc n) = refl
 
 -- nothing more is planned
 done_none : (held : Entries) (piece : ℕ → RankedPiece) (all live : List LivePiece) (slots : Slots) (state : State) → AreReadable held piece all
-    → ((one : LivePiece) → Contains live one → Contains all one) → state.slots ≡ entries (entry_by piece) slots → Ordered (over piece) (rank piece) (IsLive live) slots
+    → ((one : LivePiece) → Contains live one → Contains all one) → state.slots ≡ entries (entry_by piece) slots → Ordered (over piece) (rank piece) (IsLive live) slots → AllOnce slots
     → AreDone held piece all live slots state []
-done_none held piece all live slots state readable up same o =
+done_none held piece all live slots state readable up same o alone =
     let now = ordered_state piece (IsLive live) (IsLive all) slots state readable.apart (live_up live all up) same o in
     let now' = subst (λ some. IsOrdered state (Pieces piece (IsLive some))) (sym (append-nil live)) now in
     record {
@@ -125,6 +126,7 @@ done_none held piece all live slots state readable up same o =
       last = now';
       changed = record { slots = same; src = refl; dst = refl };
       within = subst (λ some. AllKnown (IsLive some) slots) (sym (append-nil live)) o.within;
+      alone = alone;
       made = λ more. refl;
       as_planned = tt;
     }
@@ -143,6 +145,7 @@ done_more held piece all live slots state planned rest readable up o span b h = 
   changed = subst (After piece (slots_after slots (planned ∷ rest)) state) (sym (state_after-append state ours theirs))
       record { slots = h.changed.slots; src = h.changed.src ∙ changed.src; dst = h.changed.dst ∙ changed.dst };
   within = subst (λ some. AllKnown (IsLive some) (slots_after slots (planned ∷ rest))) (regroup rest) h.within;
+  alone = h.alone;
   made = Makes-append state ours theirs (insertion ∷ []) (made_by held piece next rest) first h.made;
   as_planned = (
     record {
@@ -209,7 +212,7 @@ pub done_all : (held : Entries) (piece : ℕ → RankedPiece) (all live : List L
     → ((one : LivePiece) → Contains live one → Contains all one) → AllByRecursion (λ insertion. Contains all insertion.one) planned
     → state.slots ≡ entries (entry_by piece) slots → Ordered (over piece) (rank piece) (IsLive live) slots → AllOnce slots
     → HitAsPieces state (Pieces piece (IsLive all)) → ArePlanned live slots planned → AreDone held piece all live slots state planned
-done_all held piece all live slots state [] readable up ones same o once hits are = done_none held piece all live slots state readable up same o
+done_all held piece all live slots state [] readable up ones same o once hits are = done_none held piece all live slots state readable up same o once
 done_all held piece all live slots state (planned ∷ rest) readable up ones same o once hits are =
     let changed = subst (λ ws. After piece (after_moves slots planned.moves) state (state_after state ws)) (sym b.same_writes) b.changed in
     done_more held piece all live slots state planned rest readable up' o are.2 b

@@ -21,7 +21,7 @@ use Rattle.tcam_device.proofs.Spans.{wide_from_tight}
 use Rattle.commit_writes.specs.declared.Done.{Done}
 use Rattle.commit_writes.specs.Bits.{no_bits}
 use Rattle.commit_writes.specs.Shape.{HasCommitShape, Rewrites, Erases}
-use Rattle.commit_writes.specs.Commit.{AreCounts}
+use Rattle.commit_writes.specs.Commit.{KeepsOrder, AreCounts}
 use Rattle.commit_writes.specs.Planned.{Entries, Planned, contents, plain_state, planned_writes, live_after, ranked_of, write_for, IsPlannedCommit, IsRouteSegment, AreNumbersOf}
 use Rattle.commit_writes.proofs.NoBits.{bit_writes-none}
 use Rattle.commit_writes.proofs.Routes.{new_rules, new_rules-member, rewritten_none, erased_none}
@@ -127,14 +127,16 @@ planned_counts rules batch live slots entries planned counts commit numbers = re
     as_planned : AllZip (IsAsPlanned piece all) planned made
     as_planned = (commit_done rules batch live slots entries planned commit).as_planned
 
--- so where it is hitless it is a segment
+-- so where it is hitless and keeps the order it is a segment
 pub segment_of_hitless : (rules : List Rule) (batch : List Command) (live : List LivePiece) (slots : Slots) (entries : Entries) (planned : List Planned) (counts : Done)
     → IsPlannedCommit rules batch live slots entries planned → AreNumbersOf entries planned counts
     → IsHitless rules (set_after rules batch) (plain_state (contents entries slots)) (planned_writes entries planned)
+    → KeepsOrder Cover no_bits rules batch (plain_state (contents entries slots)) (planned_writes entries planned)
     → IsRouteSegment rules batch (plain_state (contents entries slots)) (planned_writes entries planned) counts
-segment_of_hitless rules batch live slots entries planned counts commit numbers hitless = record {
+segment_of_hitless rules batch live slots entries planned counts commit numbers hitless order = record {
   segment = record {
     hitless = hitless;
+    order = order;
     shape = planned_shape rules batch live slots entries planned commit;
     bound = λ chain bounds. wide_from_tight chain (insertions (plain_state (contents entries slots)) (planned_writes entries planned)) (planned_tight rules batch live slots entries planned chain commit bounds);
     tight = λ chain bounds. planned_tight rules batch live slots entries planned chain commit bounds;

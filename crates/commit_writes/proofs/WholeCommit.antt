@@ -1,4 +1,4 @@
--- A planned commit's writes are a segment: hitless, of its shape and within its bounds; on a device with more slots, too.
+-- A planned commit's writes are a segment: hitless, in order, of its shape and within its bounds; on a device with more slots, too.
 use Rattle.std.proofs.Common.{◌≤◌, ℕ, List, length, refl}
 use Rattle.slot_pool.specs.Arrangement.{Slots}
 use Rattle.rule_model.specs.declared.Rule.{Rule}
@@ -11,6 +11,7 @@ use Rattle.commit_writes.specs.declared.Done.{Done}
 use Rattle.commit_writes.specs.Planned.{Entries, Planned, contents, plain_state, planned_writes, IsPlannedCommit, IsRouteSegment, AreNumbersOf}
 use Rattle.commit_writes.proofs.Hitless.{hitless_of_ordered, planned_slots}
 use Rattle.commit_writes.proofs.Ordered.{planned_ordered, planned_first, planned_last}
+use Rattle.commit_writes.proofs.KeepsOrder.{planned_keeps}
 use Rattle.commit_writes.proofs.Segment.{segment_of_hitless}
 use Rattle.commit_writes.proofs.Wider.{wider_planned}
 
@@ -31,6 +32,7 @@ pub planned_segment : (rules : List Rule) (batch : List Command) (live : List Li
     → IsRouteSegment rules batch (plain_state (contents entries slots)) (planned_writes entries planned) counts
 planned_segment rules batch live slots entries planned counts commit numbers =
     segment_of_hitless rules batch live slots entries planned counts commit numbers (planned_hitless rules batch live slots entries planned commit)
+    (planned_keeps rules batch live slots entries planned commit)
 
 -- the same on a device with more slots
 pub wider_segment : (rules : List Rule) (batch : List Command) (live : List LivePiece) (slots : Slots) (entries : Entries) (planned : List Planned) (counts : Done) (device_slots : ℕ)

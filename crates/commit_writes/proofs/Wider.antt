@@ -1,5 +1,5 @@
 -- A commit's writes are its segment on a device with more slots, too.
-use Rattle.std.proofs.Common.{◌≡◌, ℕ, ◌-◌, List, [], ◌∷◌, ◌++◌, length, map, flat_map, sym, ◌∙◌, subst, ap}
+use Rattle.std.proofs.Common.{◌≡◌, ℕ, ◌-◌, List, [], ◌∷◌, ◌++◌, length, take, map, flat_map, Contains, sym, ◌∙◌, subst, ap}
 use Rattle.std.specs.List.{AllByRecursion, AllZip}
 use Rattle.std.proofs.lemmas.List.{length-map}
 use Rattle.slot_order.proofs.Inside.{all_append}
@@ -11,14 +11,15 @@ use Rattle.overlap_index.specs.declared.LivePiece.{LivePiece}
 use Rattle.ternary_word.specs.Entry.{RankedPiece}
 use Rattle.tcam_device.specs.declared.Write.{Write}
 use Rattle.tcam_device.specs.State.{State, IsInUse, state_after, on_device}
+use Rattle.tcam_device.specs.Order.{StandsOnce, IsOrdered}
 use Rattle.tcam_device.specs.Insertion.{Insertion, insertions, IsGreatestSpan, AreBoundedBy, IsUncrossed}
 use Rattle.rule_store.specs.Batch.{set_after}
-use Rattle.tcam_device.proofs.Wider.{padded, slot-padded, state_after-padded, slots-after, IsHitless-padded}
+use Rattle.tcam_device.proofs.Wider.{padded, all_take, slot-padded, state_after-padded, slots-after, IsHitless-padded, IsOrdered-padded, StandsOnce-padded}
 use Rattle.tcam_device.proofs.WiderInsertions.{widened, insertions-padded, longest-padded, writes-widened, entries-widened, IsGreatestSpan-widened, AreBoundedBy-widened, IsUncrossed-widened}
 use Rattle.commit_writes.specs.declared.Done.{Done}
 use Rattle.commit_writes.specs.Bits.{FieldBits, bits_with}
 use Rattle.commit_writes.specs.Shape.{Stands, Rewrites, Erases, rewritten_pieces, erased_pieces, HasCommitShape}
-use Rattle.commit_writes.specs.Commit.{IsSegment, AreCounts}
+use Rattle.commit_writes.specs.Commit.{new_pieces, KeepsOrder, IsSegment, AreCounts}
 use Rattle.commit_writes.specs.Planned.{Entries, Planned, ArePlanned, held_entry, contents, plain_state, planned_writes, IsRouteSegment}
 use Rattle.commit_writes.proofs.InUse.{planned_in_use}
 
@@ -97,10 +98,27 @@ HasCommitShape-padded more mode bits rules batch state writes inside shape = rec
         (subst (λ n. AllByRecursion (IsInUse n) shape.inserted) (sym (slots-after state shape.tables))
         (all_front (IsInUse (length state.slots)) shape.inserted _ later))
 
+pub KeepsOrder-padded : (more : ℕ) (mode : Mode) (bits : FieldBits) (rules : List Rule) (batch : List Command) (state : State) (made : List Write)
+    → AreInUse state made → KeepsOrder mode bits rules batch state made → KeepsOrder mode bits rules batch (padded more state) made
+KeepsOrder-padded more mode bits rules batch state made inside keeps = record {
+  during = λ n. let w = keeps.during n in (
+    w.0,
+    w.1,
+    subst (λ (now : State). IsOrdered now (Contains w.0)) (sym (state_after-padded more state (take n made) (all_take (IsInUse (length state.slots)) n made inside)))
+        (IsOrdered-padded more (state_after state (take n made)) (Contains w.0) w.2),
+  );
+  after = subst (λ (now : State). IsOrdered now new) (sym (state_after-padded more state made inside)) (IsOrdered-padded more (state_after state made) new keeps.after);
+  once = subst (λ (now : State). StandsOnce now new) (sym (state_after-padded more state made inside)) (StandsOnce-padded more (state_after state made) new keeps.once);
+}
+  where
+    new : RankedPiece → Type 0
+    new = Contains (new_pieces mode bits rules batch)
+
 pub IsSegment-padded : (more : ℕ) (mode : Mode) (bits : FieldBits) (rules : List Rule) (batch : List Command) (state : State) (made : List Write)
     → AreInUse state made → IsSegment mode bits rules batch state made → IsSegment mode bits rules batch (padded more state) made
 IsSegment-padded more mode bits rules batch state made inside segment = record {
   hitless = IsHitless-padded more rules (set_after rules batch) state made inside segment.hitless;
+  order = KeepsOrder-padded more mode bits rules batch state made inside segment.order;
   shape = HasCommitShape-padded more mode bits rules batch state made inside segment.shape;
   bound = λ chain bounds. subst (AreBoundedBy _) (sym (insertions-padded more state made inside)) (AreBoundedBy-widened more _ (insertions state made) (segment.bound chain bounds));
   tight = λ chain bounds. subst (AreBoundedBy _) (sym (insertions-padded more state made inside)) (AreBoundedBy-widened more _ (insertions state made) (segment.tight chain bounds));

@@ -1,17 +1,19 @@
 -- What an accepted commit writes, and its numbers.
-use Rattle.std.specs.Prelude.{◌≡◌, ℕ, ◌++◌, List, length}
+use Rattle.std.specs.Prelude.{◌≡◌, ℕ, ◌++◌, List, length, take, Contains, ◌⊎◌}
 use Rattle.rule_model.specs.declared.Rule.{Rule}
 use Rattle.rule_model.specs.RuleSet.{BoundsChains}
 use Rattle.rule_store.specs.declared.Mode.{Mode}
 use Rattle.rule_store.specs.declared.Command.{Command}
 use Rattle.rule_store.specs.Batch.{additions, set_after}
+use Rattle.ternary_word.specs.Entry.{RankedPiece}
 use Rattle.tcam_device.specs.declared.Write.{Write}
-use Rattle.tcam_device.specs.State.{State}
+use Rattle.tcam_device.specs.State.{State, state_after}
+use Rattle.tcam_device.specs.Order.{IsOrdered, StandsOnce}
 use Rattle.tcam_device.specs.Hitless.{IsHitless}
 use Rattle.tcam_device.specs.Insertion.{insertions, longest_insertion, table_writes, IsGreatestSpan, IsWithinBound, IsWithinTightBound}
 use Rattle.commit_writes.specs.declared.Done.{Done}
-use Rattle.commit_writes.specs.Bits.{FieldBits}
-use Rattle.commit_writes.specs.Shape.{HasCommitShape}
+use Rattle.commit_writes.specs.Bits.{FieldBits, bits_with}
+use Rattle.commit_writes.specs.Shape.{set_pieces, HasCommitShape}
 
 -- the numbers are those of the writes, made from the state on
 pub record AreCounts (state : State) (made : List Write) (counts : Done) : Type 0 where
@@ -20,9 +22,31 @@ pub record AreCounts (state : State) (made : List Write) (counts : Done) : Type 
   pub most : counts.most ≡ longest_insertion state made
   pub span : IsGreatestSpan (insertions state made) counts.span
 
--- the writes of an accepted commit: hitless, as many of each kind as the rules fix, and within the bounds
+-- the pieces of the set before the commit and of the set after it, with the bits that are live meanwhile
+abbrev pub old_pieces : Mode → FieldBits → List Rule → List Command → List RankedPiece
+old_pieces mode bits rules batch = set_pieces mode (bits_with mode rules batch bits) rules
+
+abbrev pub new_pieces : Mode → FieldBits → List Rule → List Command → List RankedPiece
+new_pieces mode bits rules batch = set_pieces mode (bits_with mode rules batch bits) (set_after rules batch)
+
+-- pieces on the way from some to others: each is one of either, and what both have is among them
+pub record AreBetween (old new standing : List RankedPiece) : Type 0 where
+  pub known : (ranked : RankedPiece) → Contains standing ranked → Contains old ranked ⊎ Contains new ranked
+  pub kept : (ranked : RankedPiece) → Contains old ranked → Contains new ranked → Contains standing ranked
+
+-- The device holds what it must, in order: after every write pieces on the way from the old set's to the new set's, and
+-- in the end those of the new set, each in one slot. So an entry that others shadow is neither lost nor left twice.
+pub record KeepsOrder (mode : Mode) (bits : FieldBits) (rules : List Rule) (batch : List Command) (state : State) (made : List Write) : Type 0 where
+  pub during : (n : ℕ) → (standing : List RankedPiece)
+      × AreBetween (old_pieces mode bits rules batch) (new_pieces mode bits rules batch) standing
+      × IsOrdered (state_after state (take n made)) (Contains standing)
+  pub after : IsOrdered (state_after state made) (Contains (new_pieces mode bits rules batch))
+  pub once : StandsOnce (state_after state made) (Contains (new_pieces mode bits rules batch))
+
+-- the writes of an accepted commit: hitless, in order, as many of each kind as the rules fix, and within the bounds
 pub record IsSegment (mode : Mode) (bits : FieldBits) (rules : List Rule) (batch : List Command) (state : State) (made : List Write) : Type 0 where
   pub hitless : IsHitless rules (set_after rules batch) state made
+  pub order : KeepsOrder mode bits rules batch state made
   pub shape : HasCommitShape mode bits rules batch state made
   pub bound : (chain : ℕ) → BoundsChains (rules ++ additions batch) chain → IsWithinBound chain (insertions state made)
   pub tight : (chain : ℕ) → BoundsChains (rules ++ additions batch) chain → IsWithinTightBound chain (insertions state made)

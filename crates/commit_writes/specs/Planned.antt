@@ -1,5 +1,5 @@
 -- Insertions as they are planned, over ids in slots, and what they mean on the device.
-use Rattle.std.specs.Prelude.{◌≡◌, ℕ, ◌≤◌, IsTrue, IsFalse, Option, Some, None, List, [], ◌∷◌, ◌++◌, Contains, length, map, flat_map, fold, max, slice_index_or}
+use Rattle.std.specs.Prelude.{◌≡◌, ℕ, ◌≤◌, IsFalse, Option, Some, None, List, [], ◌∷◌, ◌++◌, Contains, length, map, flat_map, fold, max, slice_index_or}
 use Rattle.std.specs.List.{AllByRecursion}
 use Rattle.slot_pool.specs.Arrangement.{Slots}
 use Rattle.ternary_word.specs.declared.Entry.{Entry}

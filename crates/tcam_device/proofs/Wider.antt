@@ -7,9 +7,11 @@ use Rattle.rule_model.specs.declared.Key.{Key}
 use Rattle.rule_model.specs.declared.Rule.{Rule}
 use Rattle.rule_model.specs.declared.Field.TheVariants.{Src, Dst}
 use Rattle.ternary_word.specs.declared.Entry.{Entry}
+use Rattle.ternary_word.specs.Entry.{RankedPiece}
 use Rattle.tcam_device.specs.declared.Write.{Write}
 use Rattle.tcam_device.specs.declared.Write.TheVariants.{Slot, Table}
 use Rattle.tcam_device.specs.State.{State, blank, blank_table, hits_key, told, lookup, Shows, IsInUse, apply, state_after, on_device}
+use Rattle.tcam_device.specs.Order.{StandsOnce, IsOrdered}
 use Rattle.tcam_device.specs.Hitless.{ShowsOldOrNew, IsHitless}
 use Rattle.tcam_device.proofs.Kept.{slots-apply}
 
@@ -23,7 +25,8 @@ all_take P zero xs all = tt
 all_take P (suc n) [] all = tt
 all_take P (suc n) (x ∷ xs) all = (all.0, all_take P n xs all.1)
 
-empty_slot : {E : Type 0} (more at : ℕ) → slot {E = E} (replicate more None) at ≡ None
+-- an empty slot behind the others
+pub empty_slot : {E : Type 0} (more at : ℕ) → slot {E = E} (replicate more None) at ≡ None
 empty_slot zero at = refl
 empty_slot (suc more) zero = refl
 empty_slot (suc more) (suc at) = empty_slot more at
@@ -109,3 +112,16 @@ IsHitless-padded more old new state writes inside hitless = record {
   };
   after = subst (λ (now : State). Shows now new) (sym (state_after-padded more state writes inside)) (Shows-padded more (state_after state writes) new hitless.after);
 }
+
+-- the same pieces stand, in the same order
+pub IsOrdered-padded : (more : ℕ) (state : State) (Member : RankedPiece → Type 0) → IsOrdered state Member → IsOrdered (padded more state) Member
+IsOrdered-padded more state Member ordered = record {
+  known = λ at entry held. ordered.known at entry (sym (slot-padded state.slots more at) ∙ held);
+  complete = λ ranked member. let stands = ordered.complete ranked member in (stands.0, slot-padded state.slots more stands.0 ∙ stands.1);
+  order = λ i j first second less a b here there. ordered.order i j first second less a b (sym (slot-padded state.slots more i) ∙ here) (sym (slot-padded state.slots more j) ∙ there);
+}
+
+pub StandsOnce-padded : (more : ℕ) (state : State) (Member : RankedPiece → Type 0) → StandsOnce state Member → StandsOnce (padded more state) Member
+StandsOnce-padded more state Member once ranked member =
+    let stands = once ranked member in
+    (stands.0, slot-padded state.slots more stands.0 ∙ stands.1, λ other held. stands.2 other (sym (slot-padded state.slots more other) ∙ held))
