@@ -1,9 +1,9 @@
 // A list of slots, kept in columns too.
-ghost use Rattle.std.specs.Prelude.{◌≡◌, ◌<◌, ◌≤◌, None, length, replicate, slice_set, IfOk};
+ghost use Rattle.std.specs.Prelude.{◌≡◌, ◌<◌, ◌≤◌, None, length, replicate, slice_set, vec_capacity, IfOk};
 ghost use Rattle.std.specs.List.{AllByRecursion};
 ghost use Rattle.slot_order.specs.Order as order;
 ghost use Rattle.ternary_word.specs.Entry.{first_hitting};
-ghost use Rattle.lane_lookup.specs.Columns.{HasPlace, with_row};
+ghost use Rattle.lane_lookup.specs.Columns.{HasPlace, blank_lane, used_from, with_row};
 
 use crate::column::Column;
 use crate::eight::first_of_eight;
@@ -16,19 +16,20 @@ use ternary_word::{Entry, LANES, Word, hits};
 pub struct Columns {
     slots: Vec<Option<Entry>>,
     lanes: Vec<Column>,
+    used: Vec<usize>,
     vacant: Vec<u32>,
 }
 
 impl Model for Columns {
-    ghost use Rattle.std.specs.Prelude.{List, Option};
+    ghost use Rattle.std.specs.Prelude.{List, Option, vec_capacity};
     ghost use Rattle.ternary_word.specs.declared.Entry.{Entry};
-    ghost use Rattle.lane_lookup.specs.Columns.{AreColumns};
+    ghost use Rattle.lane_lookup.specs.Columns.{AreColumns, AreUsed};
 
     ghost Value = { List (Option Entry) };
 
     ghost view = { λ c. c.slots.items };
 
-    ghost invariant = { λ c. AreColumns c.slots.items c.lanes.items c.vacant.items };
+    ghost invariant = { λ c. AreColumns c.slots.items c.lanes.items c.vacant.items × AreUsed c.lanes.items c.used.items (vec_capacity c.used) };
 }
 
 impl Columns {
@@ -42,6 +43,7 @@ impl Columns {
         Ok(Columns {
             slots: Vec::from_elem(alloc, None, n)?,
             lanes: blank_lanes(alloc, n)?,
+            used: Vec::with_capacity(alloc, LANES)?,
             vacant: Vec::from_elem(alloc, 1, n)?,
         })
     }
@@ -74,6 +76,7 @@ impl Columns {
             Some(row) => {
                 self.vacant[slot] = 0;
                 put_row(&mut self.lanes, slot, &row.value, &row.mask);
+                list_used(&self.lanes, &mut self.used);
             }
         }
     }
@@ -84,7 +87,7 @@ impl Columns {
     {
         let eights = self.slots.len() / 8;
         for step in 0..eights {
-            let before = first_of_eight(&self.lanes, &self.vacant, word, step * 8);
+            let before = first_of_eight(&self.lanes, &self.used, &self.vacant, word, step * 8);
             if before < 8 {
                 return Some((step * 8) as u32 + before);
             }
@@ -102,7 +105,7 @@ impl Columns {
 
 /// A column of zeros for each lane.
 fn blank_lanes(alloc: Global, slots: usize) -> Result<Vec<Column>, AllocError>
-    ensures { IfOk result (λ lanes. lanes.items ≡ replicate 11 (record { values = replicate slots 0; masks = replicate slots 0 })) }
+    ensures { IfOk result (λ lanes. lanes.items ≡ replicate 11 (blank_lane slots)) }
 {
     let mut lanes = Vec::with_capacity(alloc, LANES)?;
     for lane in 0..LANES {
@@ -120,6 +123,21 @@ fn put_row(lanes: &mut Vec<Column>, slot: usize, value: &Word, mask: &Word)
 {
     for lane in 0..LANES {
         lanes[lane].set(slot, value.lane[lane], mask.lane[lane]);
+    }
+}
+
+/// Lists the lanes in use anew, in memory that has room for every lane.
+fn list_used(lanes: &[Column], used: &mut Vec<usize>)
+    requires count { length lanes.now ≡ 11 }
+    requires room { 11 ≤ vec_capacity used.old }
+    ensures listed { used.new.items ≡ used_from lanes.now 0 }
+    ensures room { vec_capacity used.new ≡ vec_capacity used.old }
+{
+    used.clear();
+    for (lane, column) in lanes.iter().enumerate() {
+        if column.used {
+            used.push_reserved(lane);
+        }
     }
 }
 
