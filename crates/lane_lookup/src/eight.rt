@@ -8,7 +8,8 @@ use std::simd::prelude::*;
 use ternary_word::Word;
 
 /// How many of the eight slots from `at` on come before the first that hits the word, 8 where none does. The
-/// lanes in use are the only ones that can keep a slot from hitting.
+/// lanes in use are the only ones that can keep a slot from hitting, and once they keep all eight the others
+/// needn't be looked at.
 pub(crate) fn first_of_eight(
     lanes: &[Column],
     used: &[usize],
@@ -28,6 +29,9 @@ pub(crate) fn first_of_eight(
     let mut off = eight(vacant, at);
     for lane in used {
         off = either(off, lanes[*lane].off(at, word.lane[*lane]));
+        if first_zero(off) == 8 {
+            return 8;
+        }
     }
     first_zero(off)
 }

@@ -1,6 +1,6 @@
 use Rattle.std.proofs.Common.{◌≡◌, ◌+◌, ◌<◌, arith, length, get_or, sym, ◌∙◌, ap, subst, refl}
 use Rattle.std.specs.Prelude.{◌&&◌, ◌==◌}
-use Rattle.std.proofs.lemmas.List.{get_or_default}
+use Rattle.std.proofs.lemmas.Bool.{and_left}
 use Rattle.lane_lookup.specs.Columns.{HasSize, blank_lane, lane_off}
 use Rattle.lane_lookup.proofs.Steps.{holds_at}
 use Rattle.lane_lookup.proofs.Used.{all_agree, used_step, used_within}
@@ -49,16 +49,16 @@ off-requires-clause-masks c =
     let masks = size.1 in
     let room = c.requires.room in omega arith
 
+pub returns-then-first_zero-eq8-clause-before : goal.returns-then-first_zero-eq8-clause-before
+returns-then-first_zero-eq8-clause-before c k l =
+    used_step c.args.used.now c.args.lanes.now c.args.word.now.lane (c.args.at + k) c.loop-lane.lane-index _ _ _ _ _ c.requires.listed (omega arith)
+    c.index-lanes-lane.is (c.off.ensures.lanes k l) (c.either-off.ensures.lanes k l) (c.loop-lane.invariant.same k l)
+    ∙ and_left _ _ (c.first_zero.ensures.before k (omega arith))
+
 pub loop-lane-preserved : goal.loop-lane-preserved
 loop-lane-preserved c = record {
   len = c.either-off.ensures.len;
   same = λ k l.
-      let used = c.args.used.now in
-      let number = get_or used c.loop-lane.lane-index 0 in
-      let words = c.args.word.now.lane in
-      let within = used_within c.args.lanes.now used c.loop-lane.lane-index c.requires.listed (omega arith) in
-      used_step used c.args.lanes.now words (c.args.at + k) c.loop-lane.lane-index _ _ _ _ (omega arith)
-      (c.off.ensures.lanes k l
-      ∙ ap (λ lane. lane_off lane (get_or words number 0) (c.args.at + k)) (c.index-lanes-lane.is ∙ get_or_default c.args.lanes.now number _ (blank_lane 0) within))
-      (c.either-off.ensures.lanes k l) (c.loop-lane.invariant.same k l);
+      used_step c.args.used.now c.args.lanes.now c.args.word.now.lane (c.args.at + k) c.loop-lane.lane-index _ _ _ _ _ c.requires.listed (omega arith)
+      c.index-lanes-lane.is (c.off.ensures.lanes k l) (c.either-off.ensures.lanes k l) (c.loop-lane.invariant.same k l);
 }
