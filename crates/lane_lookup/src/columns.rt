@@ -145,6 +145,7 @@ fn list_used(lanes: &[Column], used: &mut Vec<usize>)
 mod tests {
     use super::*;
     use rule_model::Rank;
+    use std::process::Abort;
     use std::test::Fail;
 
     /// An entry that hits words with the lowest bit of each lane set.
@@ -176,6 +177,93 @@ mod tests {
                 }
             }
             assert_eq!(rt; columns.first(&word), want, "{slots} slots");
+        }
+        Ok(())
+    }
+
+    /// The least slot that hits, one slot after the other: what a look-up by lanes is compared with.
+    fn plain_first(columns: &Columns, word: &Word) -> Option<u32> {
+        for slot in 0..columns.len() {
+            if let Some(entry) = columns.get(slot)
+                && hits(&entry, word)
+            {
+                return Some(slot);
+            }
+        }
+        None
+    }
+
+    /// The next number of a linear congruential generator.
+    fn next(seed: &mut u64) -> u32 {
+        *seed = seed
+            .wrapping_mul(6_364_136_223_846_793_005)
+            .wrapping_add(1_442_695_040_888_963_407);
+        (*seed >> 32) as u32
+    }
+
+    /// Some of these bits.
+    fn random_word(seed: &mut u64, bits: &Word) -> Word {
+        let mut word = *bits;
+        for lane in 0..LANES {
+            word.lane[lane] &= next(seed);
+        }
+        word
+    }
+
+    /// An empty slot, or an entry that tests some of these bits.
+    fn random_entry(seed: &mut u64, bits: &Word) -> Option<Entry> {
+        if next(seed) & 7 == 0 {
+            return None;
+        }
+        Some(Entry {
+            value: random_word(seed, bits),
+            mask: random_word(seed, bits),
+            ..odd()
+        })
+    }
+
+    /// Puts other entries into all slots.
+    fn fill(columns: &mut Columns, seed: &mut u64, bits: &Word) {
+        for slot in 0..columns.len() {
+            let entry = random_entry(seed, bits);
+            if slot < columns.len() {
+                columns.set(slot, entry);
+            }
+        }
+    }
+
+    /// Looks a few words up both ways.
+    fn compare(rt: &impl Abort, columns: &Columns, seed: &mut u64) {
+        for _ in 0..12 {
+            let word = random_word(
+                seed,
+                &Word {
+                    lane: [u32::MAX; LANES],
+                },
+            );
+            assert_eq!(rt;
+                columns.first(&word),
+                plain_first(columns, &word),
+                "{word:?}"
+            );
+        }
+    }
+
+    #[test]
+    fn finds_what_the_plain_loop_finds(rt: HostRuntime) -> Result<(), Fail> {
+        let mut seed: u64 = 1;
+        for slots in [1, 7, 8, 9, 23, 64] {
+            let mut columns = Columns::new(rt.alloc(), slots)?;
+            for bits in [1, 3, 0x8000_0001, 7] {
+                let tested = random_word(
+                    &mut seed,
+                    &Word {
+                        lane: [bits; LANES],
+                    },
+                );
+                fill(&mut columns, &mut seed, &tested);
+                compare(&rt, &columns, &mut seed);
+            }
         }
         Ok(())
     }

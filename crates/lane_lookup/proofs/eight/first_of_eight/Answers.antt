@@ -1,7 +1,6 @@
-use Rattle.std.proofs.Common.{◌≡◌, ◌+◌, ◌<◌, arith, length, get_or, sym, ◌∙◌, ap, subst, refl}
-use Rattle.std.specs.Prelude.{◌&&◌, ◌==◌}
+use Rattle.std.proofs.Common.{◌≡◌, ◌+◌, arith, length, sym, ◌∙◌, subst, refl}
 use Rattle.std.proofs.lemmas.Bool.{and_left}
-use Rattle.lane_lookup.specs.Columns.{HasSize, blank_lane, lane_off}
+use Rattle.lane_lookup.specs.Columns.{HasSize}
 use Rattle.lane_lookup.proofs.Steps.{holds_at}
 use Rattle.lane_lookup.proofs.Used.{all_agree, used_step, used_within}
 use Rattle.lane_lookup.proofs.eight.first_of_eight.Goals as goal
