@@ -3,3 +3,4 @@ pub mod Zeros
 pub mod Places
 pub mod Steps
 pub mod Eights
+pub mod Used

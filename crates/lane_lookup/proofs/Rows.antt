@@ -63,7 +63,7 @@ sizes_put size place (lane ∷ lanes) (value ∷ values) [] all = all
 sizes_put size place (lane ∷ lanes) (value ∷ values) (mask ∷ masks) all =
     ((length-set lane.values place value ∙ all.0.0, length-set lane.masks place mask ∙ all.0.1), sizes_put size place lanes values masks all.1)
 
-count_put : (place : ℕ) (lanes : List Lane) (values masks : List ℕ) → length (with_row lanes values masks place) ≡ length lanes
+pub count_put : (place : ℕ) (lanes : List Lane) (values masks : List ℕ) → length (with_row lanes values masks place) ≡ length lanes
 count_put place [] values masks = refl
 count_put place (lane ∷ lanes) [] masks = refl
 count_put place (lane ∷ lanes) (value ∷ values) [] = refl

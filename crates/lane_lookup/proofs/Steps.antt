@@ -5,7 +5,7 @@ use Rattle.std.specs.List.{AllByRecursion}
 use Rattle.lane_lookup.specs.Columns.{Lane, lane_off, lanes_agree, HasPlace, with_cell, with_row}
 use Rattle.lane_lookup.proofs.Rows.{or_test}
 
-and_assoc : (a b c : Bool) → (a && (b && c)) ≡ ((a && b) && c)
+pub and_assoc : (a b c : Bool) → (a && (b && c)) ≡ ((a && b) && c)
 and_assoc true b c = refl
 and_assoc false b c = refl
 
@@ -52,10 +52,11 @@ row_step lanes values masks place j lane cell value mask a b c is_lane is_value 
     ∙ ap (λ x. with_cell (get_or lanes j lane) (get_or values j 0) x place) is_mask in
     rw (add-one, same) (row_suc lanes values masks place j lane a b c)
 
-place_at : (lanes : List Lane) (place j : ℕ) (d : Lane) → AllByRecursion (HasPlace place) lanes → j < length lanes → HasPlace place (get_or lanes j d)
-place_at [] place j d all below = absurd (omega arith)
-place_at (lane ∷ lanes) place zero d all below = all.0
-place_at (lane ∷ lanes) place (suc j) d all below = place_at lanes place j d all.1 (omega arith)
+-- what holds of all lanes holds of one
+pub holds_at : (P : Lane → Type 0) (lanes : List Lane) (j : ℕ) (d : Lane) → AllByRecursion P lanes → j < length lanes → P (get_or lanes j d)
+holds_at P [] j d all below = absurd (omega arith)
+holds_at P (lane ∷ lanes) zero d all below = all.0
+holds_at P (lane ∷ lanes) (suc j) d all below = holds_at P lanes j d all.1 (omega arith)
 
 places_set : (lanes : List Lane) (place j : ℕ) (cell : Lane) → AllByRecursion (HasPlace place) lanes → HasPlace place cell → AllByRecursion (HasPlace place) (set lanes j cell)
 places_set [] place j cell all has = tt
@@ -66,7 +67,7 @@ places_set (lane ∷ lanes) place (suc j) cell all has = (all.0, places_set lane
 pub places_step : (lanes : List Lane) (place j : ℕ) (lane cell : Lane) (value mask : ℕ) → AllByRecursion (HasPlace place) lanes → j < length lanes
     → lane ≡ get_or lanes j lane → cell ≡ with_cell lane value mask place → AllByRecursion (HasPlace place) (set lanes j cell)
 places_step lanes place j lane cell value mask all below is_lane is =
-    let here : HasPlace place lane = subst (HasPlace place) (sym is_lane) (place_at lanes place j lane all below) in
+    let here : HasPlace place lane = subst (HasPlace place) (sym is_lane) (holds_at (HasPlace place) lanes j lane all below) in
     let values = length-set lane.values place value in
     let masks = length-set lane.masks place mask in
     let within = here.0 in

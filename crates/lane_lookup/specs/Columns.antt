@@ -1,14 +1,15 @@
 -- The columns of a list of slots.
-use Rattle.std.specs.Prelude.{◌≡◌, ℕ, ◌<◌, ◌≤◌, Bool, true, ◌==◌, ◌&&◌, Option, Some, None, List, [], ◌∷◌, length, slice_index, slice_set, bit_and, bit_xor}
+use Rattle.std.specs.Prelude.{◌≡◌, ℕ, ◌<◌, ◌≤◌, Bool, true, false, ◌==◌, ◌&&◌, ◌||◌, not, if◌then◌else◌, Option, Some, None, List, [], ◌∷◌, length, replicate, slice_index, slice_set, bit_and, bit_xor, ◌+◌}
 use Rattle.std.specs.List.{AllByRecursion}
 use Rattle.slot_order.specs.Order.{slot}
 use Rattle.ternary_word.specs.declared.Word.{Word}
 use Rattle.ternary_word.specs.declared.Entry.{Entry}
 
--- One lane of every slot: the values and the masks.
+-- One lane of every slot: the values, the masks, and whether some mask was ever other than 0.
 pub record Lane : Type 0 where
   pub values : List ℕ
   pub masks : List ℕ
+  pub used : Bool
 
 -- the bits of a lane that keep a slot from hitting
 abbrev pub lane_off : Lane → ℕ → ℕ → ℕ
@@ -34,7 +35,25 @@ HasPlace place lane = (place < length lane.values) × (place < length lane.masks
 -- a lane with one slot's value and mask put
 abbrev pub with_cell : Lane → ℕ → ℕ → ℕ → Lane
 with_cell lane value mask place =
-    record { values = slice_set lane.values place value; masks = slice_set lane.masks place mask }
+    record {
+      values = slice_set lane.values place value;
+      masks = slice_set lane.masks place mask;
+      used = lane.used || not (mask == 0);
+    }
+
+-- a lane of zeros for this many slots
+abbrev pub blank_lane : ℕ → Lane
+blank_lane slots = record { values = replicate slots 0; masks = replicate slots 0; used = false }
+
+-- the numbers of the lanes in use, where the first lane has this number
+abbrev pub used_from : List Lane → ℕ → List ℕ
+used_from [] number = []
+used_from (lane ∷ lanes) number =
+    if lane.used then number ∷ used_from lanes (number + 1) else used_from lanes (number + 1)
+
+-- a lane that isn't in use has no mask other than 0
+abbrev pub IsZeroUnlessUsed : Lane → Type 0
+IsZeroUnlessUsed lane = lane.used ≡ false → (place : ℕ) → slice_index lane.masks place ≡ 0
 
 -- lanes with one slot's values and masks put
 abbrev pub with_row : List Lane → List ℕ → List ℕ → ℕ → List Lane
@@ -52,6 +71,12 @@ HoldRow lanes values masks place = ⊥
 abbrev pub IsRow : List Lane → ℕ → ℕ → Option Entry → Type 0
 IsRow lanes vacancy place None = vacancy ≡ 1
 IsRow lanes vacancy place (Some entry) = (vacancy ≡ 0) × HoldRow lanes entry.value.lane entry.mask.lane place
+
+-- The list of the lanes in use, in memory that has room for every lane.
+pub record AreUsed (lanes : List Lane) (used : List ℕ) (capacity : ℕ) : Type 0 where
+  pub listed : used ≡ used_from lanes 0
+  pub zeros : AllByRecursion IsZeroUnlessUsed lanes
+  pub room : 11 ≤ capacity
 
 -- The columns of these slots.
 pub record AreColumns (slots : List (Option Entry)) (lanes : List Lane) (vacant : List ℕ) : Type 0 where

@@ -1,9 +1,9 @@
 // A list of slots, kept in columns too.
-ghost use Rattle.std.specs.Prelude.{◌≡◌, ◌<◌, ◌≤◌, None, length, replicate, slice_set, IfOk};
+ghost use Rattle.std.specs.Prelude.{◌≡◌, ◌<◌, ◌≤◌, None, length, replicate, slice_set, vec_capacity, IfOk};
 ghost use Rattle.std.specs.List.{AllByRecursion};
 ghost use Rattle.slot_order.specs.Order as order;
 ghost use Rattle.ternary_word.specs.Entry.{first_hitting};
-ghost use Rattle.lane_lookup.specs.Columns.{HasPlace, with_row};
+ghost use Rattle.lane_lookup.specs.Columns.{HasPlace, blank_lane, used_from, with_row};
 
 use crate::column::Column;
 use crate::eight::first_of_eight;
@@ -16,19 +16,20 @@ use ternary_word::{Entry, LANES, Word, hits};
 pub struct Columns {
     slots: Vec<Option<Entry>>,
     lanes: Vec<Column>,
+    used: Vec<usize>,
     vacant: Vec<u32>,
 }
 
 impl Model for Columns {
-    ghost use Rattle.std.specs.Prelude.{List, Option};
+    ghost use Rattle.std.specs.Prelude.{List, Option, vec_capacity};
     ghost use Rattle.ternary_word.specs.declared.Entry.{Entry};
-    ghost use Rattle.lane_lookup.specs.Columns.{AreColumns};
+    ghost use Rattle.lane_lookup.specs.Columns.{AreColumns, AreUsed};
 
     ghost Value = { List (Option Entry) };
 
     ghost view = { λ c. c.slots.items };
 
-    ghost invariant = { λ c. AreColumns c.slots.items c.lanes.items c.vacant.items };
+    ghost invariant = { λ c. AreColumns c.slots.items c.lanes.items c.vacant.items × AreUsed c.lanes.items c.used.items (vec_capacity c.used) };
 }
 
 impl Columns {
@@ -42,6 +43,7 @@ impl Columns {
         Ok(Columns {
             slots: Vec::from_elem(alloc, None, n)?,
             lanes: blank_lanes(alloc, n)?,
+            used: Vec::with_capacity(alloc, LANES)?,
             vacant: Vec::from_elem(alloc, 1, n)?,
         })
     }
@@ -74,6 +76,7 @@ impl Columns {
             Some(row) => {
                 self.vacant[slot] = 0;
                 put_row(&mut self.lanes, slot, &row.value, &row.mask);
+                list_used(&self.lanes, &mut self.used);
             }
         }
     }
@@ -84,7 +87,7 @@ impl Columns {
     {
         let eights = self.slots.len() / 8;
         for step in 0..eights {
-            let before = first_of_eight(&self.lanes, &self.vacant, word, step * 8);
+            let before = first_of_eight(&self.lanes, &self.used, &self.vacant, word, step * 8);
             if before < 8 {
                 return Some((step * 8) as u32 + before);
             }
@@ -102,7 +105,7 @@ impl Columns {
 
 /// A column of zeros for each lane.
 fn blank_lanes(alloc: Global, slots: usize) -> Result<Vec<Column>, AllocError>
-    ensures { IfOk result (λ lanes. lanes.items ≡ replicate 11 (record { values = replicate slots 0; masks = replicate slots 0 })) }
+    ensures { IfOk result (λ lanes. lanes.items ≡ replicate 11 (blank_lane slots)) }
 {
     let mut lanes = Vec::with_capacity(alloc, LANES)?;
     for lane in 0..LANES {
@@ -123,10 +126,26 @@ fn put_row(lanes: &mut Vec<Column>, slot: usize, value: &Word, mask: &Word)
     }
 }
 
+/// Lists the lanes in use anew, in memory that has room for every lane.
+fn list_used(lanes: &[Column], used: &mut Vec<usize>)
+    requires count { length lanes.now ≡ 11 }
+    requires room { 11 ≤ vec_capacity used.old }
+    ensures listed { used.new.items ≡ used_from lanes.now 0 }
+    ensures room { vec_capacity used.new ≡ vec_capacity used.old }
+{
+    used.clear();
+    for (lane, column) in lanes.iter().enumerate() {
+        if column.used {
+            used.push_reserved(lane);
+        }
+    }
+}
+
 #[cfg(test)]
 mod tests {
     use super::*;
     use rule_model::Rank;
+    use std::process::Abort;
     use std::test::Fail;
 
     /// An entry that hits words with the lowest bit of each lane set.
@@ -158,6 +177,93 @@ mod tests {
                 }
             }
             assert_eq!(rt; columns.first(&word), want, "{slots} slots");
+        }
+        Ok(())
+    }
+
+    /// The least slot that hits, one slot after the other: what a look-up by lanes is compared with.
+    fn plain_first(columns: &Columns, word: &Word) -> Option<u32> {
+        for slot in 0..columns.len() {
+            if let Some(entry) = columns.get(slot)
+                && hits(&entry, word)
+            {
+                return Some(slot);
+            }
+        }
+        None
+    }
+
+    /// The next number of a linear congruential generator.
+    fn next(seed: &mut u64) -> u32 {
+        *seed = seed
+            .wrapping_mul(6_364_136_223_846_793_005)
+            .wrapping_add(1_442_695_040_888_963_407);
+        (*seed >> 32) as u32
+    }
+
+    /// Some of these bits.
+    fn random_word(seed: &mut u64, bits: &Word) -> Word {
+        let mut word = *bits;
+        for lane in 0..LANES {
+            word.lane[lane] &= next(seed);
+        }
+        word
+    }
+
+    /// An empty slot, or an entry that tests some of these bits.
+    fn random_entry(seed: &mut u64, bits: &Word) -> Option<Entry> {
+        if next(seed) & 7 == 0 {
+            return None;
+        }
+        Some(Entry {
+            value: random_word(seed, bits),
+            mask: random_word(seed, bits),
+            ..odd()
+        })
+    }
+
+    /// Puts other entries into all slots.
+    fn fill(columns: &mut Columns, seed: &mut u64, bits: &Word) {
+        for slot in 0..columns.len() {
+            let entry = random_entry(seed, bits);
+            if slot < columns.len() {
+                columns.set(slot, entry);
+            }
+        }
+    }
+
+    /// Looks a few words up both ways.
+    fn compare(rt: &impl Abort, columns: &Columns, seed: &mut u64) {
+        for _ in 0..12 {
+            let word = random_word(
+                seed,
+                &Word {
+                    lane: [u32::MAX; LANES],
+                },
+            );
+            assert_eq!(rt;
+                columns.first(&word),
+                plain_first(columns, &word),
+                "{word:?}"
+            );
+        }
+    }
+
+    #[test]
+    fn finds_what_the_plain_loop_finds(rt: HostRuntime) -> Result<(), Fail> {
+        let mut seed: u64 = 1;
+        for slots in [1, 7, 8, 9, 23, 64] {
+            let mut columns = Columns::new(rt.alloc(), slots)?;
+            for bits in [1, 3, 0x8000_0001, 7] {
+                let tested = random_word(
+                    &mut seed,
+                    &Word {
+                        lane: [bits; LANES],
+                    },
+                );
+                fill(&mut columns, &mut seed, &tested);
+                compare(&rt, &columns, &mut seed);
+            }
         }
         Ok(())
     }

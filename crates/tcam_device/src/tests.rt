@@ -95,7 +95,8 @@ fn fails_at_the_second_write(rt: HostRuntime) -> Result<(), Fail> {
     assert_eq!(rt; device.write(Write::Slot(3, None)), Err(DeviceFault));
     assert_eq!(rt; device.look(&to(0x0a01_0203)), FOUND);
     assert_eq!(rt; device.slot(3), Some(ten()));
-    assert_eq!(rt; device.journal().len(), 1);
+    let first = [Write::Slot(3, Some(ten()))];
+    assert_eq!(rt; device.journal(), first.as_slice());
     device.write(Write::Slot(3, None))?;
     assert_eq!(rt; device.look(&to(0x0a01_0203)), None);
     assert_eq!(rt; device.slot(3), None);

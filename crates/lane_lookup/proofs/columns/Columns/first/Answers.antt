@@ -11,9 +11,9 @@ returns-then-before-lt8 c =
     let start = c.loop-step.step * 8 in
     let len = c.len-eights.ensures in
     let below : start + c.first_of_eight-before.result < length slots = omega arith in
-    let told = rw (c.deref.ensures.value, c.deref-in-loop-step.ensures.value) at c.first_of_eight-before.ensures in
+    let told = rw (c.deref.ensures.value, c.deref-in-loop-step-2.ensures.value) at c.first_of_eight-before.ensures in
     rw (← c.self.view_is)
-    (sym (eight_found slots c.self.inside.lanes.items c.self.inside.vacant.items c.args.word.now start c.first_of_eight-before.result c.self.invariant
+    (sym (eight_found slots c.self.inside.lanes.items c.self.inside.vacant.items c.args.word.now start c.first_of_eight-before.result c.self.invariant.0
     below c.loop-step.invariant told.before (told.hit c.if-before-lt8.true)))
 
 pub loop-step-preserved : goal.loop-step-preserved
@@ -21,10 +21,10 @@ loop-step-preserved c k l =
     let slots = c.self.inside.slots.items in
     let start = c.loop-step.step * 8 in
     let len = c.len-eights.ensures in
-    let told = rw (c.deref.ensures.value, c.deref-in-loop-step.ensures.value) at c.first_of_eight-before.ensures in
+    let told = rw (c.deref.ensures.value, c.deref-in-loop-step-2.ensures.value) at c.first_of_eight-before.ensures in
     let bound = told.bound in
     let room : start + c.first_of_eight-before.result ≤ length slots = omega arith in
-    eight_passed slots c.self.inside.lanes.items c.self.inside.vacant.items c.args.word.now start c.first_of_eight-before.result c.self.invariant
+    eight_passed slots c.self.inside.lanes.items c.self.inside.vacant.items c.args.word.now start c.first_of_eight-before.result c.self.invariant.0
     room c.loop-step.invariant told.before k (omega arith)
 
 pub returns-in-loop-slot : goal.returns-in-loop-slot
