@@ -6,3 +6,4 @@ pub mod Separators
 pub mod HostBits
 pub mod Mapped
 pub mod Renamed
+pub mod Ranges

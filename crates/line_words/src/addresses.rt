@@ -2,7 +2,7 @@
 
 ghost use Rattle.std.specs.Prelude.{◌≡◌, ◌≤◌, ◌∷◌, None, MatchOption};
 ghost use Rattle.rule_model.specs.AddressBlock.{ipv4_block};
-ghost use Rattle.line_words.specs.Kinds.{parts_at, ipv4_number, ipv4_notation, address_of, block_of};
+ghost use Rattle.line_words.specs.Kinds.{parts_at, ipv4_number, ipv4_notation, address_of, block_of, side_of};
 
 use crate::WordFault;
 use crate::numbers::{number_of_8_bits, number_up_to, split_once};
@@ -37,6 +37,16 @@ pub fn ipv4_address(word: &[u8]) -> Result<Addr, WordFault>
 {
     let number = ipv4_number(word).ok_or(WordFault::BadAddress)?;
     Ok(Addr::from(number) << 96)
+}
+
+/// Every address for `any`, or an IPv4 prefix with its faults.
+pub fn ipv4_side(word: &[u8]) -> Result<Prefix, WordFault>
+    ensures { result ≡ side_of ipv4_notation word.now }
+{
+    match word {
+        b"any" => Ok(Prefix::any()),
+        _ => ipv4_prefix(word),
+    }
 }
 
 /// An IPv4 prefix (RFC 4632, section 3.1): an address, a slash and a length up to 32.

@@ -1,14 +1,14 @@
 //! The kinds of words that are no addresses, and packet keys.
 
-ghost use Rattle.std.specs.Prelude.{◌≡◌, ◌≤◌, length};
-ghost use Rattle.line_words.specs.Kinds.{result_of, proto_of, port_of, key_of, frame_key, ipv4_notation};
+ghost use Rattle.std.specs.Prelude.{◌≡◌, ◌≤◌, ◌∷◌, length};
+ghost use Rattle.line_words.specs.Kinds.{result_of, sequence_of, action_of, proto_of, proto_choice, port_of, parts_at, port_parts, ports_of, key_of, frame_key, ipv4_notation};
 
 use crate::WordFault;
 use crate::addresses::ipv4_address;
-use crate::numbers::{number_of_8_bits, number_of_16_bits, number_up_to};
+use crate::numbers::{number_of_8_bits, number_of_16_bits, number_up_to, split_once};
 use crate::words::Words;
 use packet_keys::key_of_frame;
-use rule_model::Key;
+use rule_model::{Key, Ports};
 use script_lines::LINE_BYTES;
 
 /// The most bytes that a frame of one line has.
@@ -19,6 +19,27 @@ pub fn result_of(word: &[u8]) -> Result<u32, WordFault>
     ensures { result ≡ result_of word.now }
 {
     number_up_to(u32::MAX, word).ok_or(WordFault::BadResult)
+}
+
+/// The sequence number of a line of an access list: a number of 32 bits that isn't 0, or BadSequence.
+pub fn sequence_of(word: &[u8]) -> Result<u32, WordFault>
+    ensures { result ≡ sequence_of word.now }
+{
+    match number_up_to(u32::MAX, word) {
+        None | Some(0) => Err(WordFault::BadSequence),
+        Some(number) => Ok(number),
+    }
+}
+
+/// The result of a line of an access list: 1 for `permit` and 0 for `deny`, or BadAction.
+pub fn action_of(word: &[u8]) -> Result<u32, WordFault>
+    ensures { result ≡ action_of word.now }
+{
+    match word {
+        b"permit" => Ok(1),
+        b"deny" => Ok(0),
+        _ => Err(WordFault::BadAction),
+    }
 }
 
 /// A protocol by its name, as `icmp`, `tcp` and `udp`, or by its number of 8 bits, or BadProtocol.
@@ -33,11 +54,51 @@ pub fn protocol_of(word: &[u8]) -> Result<u8, WordFault>
     }
 }
 
+/// No protocol for `any`, or one by its name or its number, or BadProtocol.
+pub fn protocol_choice(word: &[u8]) -> Result<Option<u8>, WordFault>
+    ensures { result ≡ proto_choice word.now }
+{
+    match word {
+        b"any" => Ok(None),
+        _ => Ok(Some(protocol_of(word)?)),
+    }
+}
+
 /// A port, a number of 16 bits, or BadPorts.
 fn port_of(word: &[u8]) -> Result<u16, WordFault>
     ensures { result ≡ port_of word.now }
 {
     number_of_16_bits(word).ok_or(WordFault::BadPorts)
+}
+
+/// Every port for `any`, one port, or two ports with a dash between, the first not above the second, or
+/// BadPorts.
+pub fn ports_of(word: &[u8]) -> Result<Ports, WordFault>
+    ensures { result ≡ ports_of word.now }
+{
+    match word {
+        b"any" => Ok(Ports::any()),
+        _ => port_or_range(word),
+    }
+}
+
+/// One port, or two with a dash between.
+fn port_or_range(word: &[u8]) -> Result<Ports, WordFault>
+    ensures { result ≡ port_parts (parts_at 45 word.now) }
+{
+    match split_once(word, b'-') {
+        None => port_range(word, word),
+        Some((first, last)) => port_range(first, last),
+    }
+}
+
+/// The ports from the first to the last, or BadPorts where the first is above the last.
+fn port_range(first: &[u8], last: &[u8]) -> Result<Ports, WordFault>
+    ensures { result ≡ port_parts (first.now ∷ parts_at 45 last.now) }
+{
+    let lo = port_of(first)?;
+    let hi = port_of(last)?;
+    Ports::new(lo, hi).ok_or(WordFault::BadPorts)
 }
 
 /// The key that five words are: source, destination, protocol, source port and destination port.

@@ -4,7 +4,8 @@
 //! kept for them. A reader first takes as many words as its command has, and only then looks at what
 //! they are: a wrong number of words is found before a bad word, and of bad words the leftmost.
 //!
-//!     route add 10.0.0.0/8 7     the reader's own: two words, a prefix and a result
+//!     route add 10.0.0.0/8 7     a reader's own: two words, a prefix and a result
+//!     acl set 10 deny            a reader's own: two words, a sequence number and an action
 //!     packet KEY                 common to both: five words, two addresses, a protocol, two ports
 //!     frame HEX                  common to both: one word, the bytes of a packet
 //!     commit                     common to both: no word
@@ -25,9 +26,9 @@ mod kinds;
 mod numbers;
 mod words;
 
-pub use addresses::ipv4_prefix;
+pub use addresses::{ipv4_prefix, ipv4_side};
 pub use commands::{CommonCommand, common_command};
-pub use kinds::result_of;
+pub use kinds::{action_of, key_of, ports_of, protocol_choice, result_of, sequence_of};
 pub use words::{Words, command_words};
 
 /// Why a line is no command.

@@ -1,0 +1,304 @@
+//! The commands of an access-list script.
+//!
+//!     acl add SEQ ACTION SIDE SIDE PROTOSPEC PORTSPEC PORTSPEC
+//!     acl set SEQ ACTION
+//!     acl del SEQ
+//!     probe KEY
+//!     packet KEY
+//!     frame HEX
+//!     commit
+//!
+//! `read_acl` is equal to the grammar both ways: it answers a command only where the line is one, and a
+//! fault only where the line has that fault. Faults are found in a fixed order: the words that begin no
+//! command, then a wrong number of words, then the leftmost bad word. The sides and the ports of a rule
+//! are written source first. A rule on ports isn't tied to a protocol. What is common to both kinds of
+//! script stands in `line_words`; here is what access lists alone have. Nothing takes memory.
+#![tactic(auto)]
+
+ghost use Rattle.std.specs.Prelude.{◌≡◌, ◌≤◌, ◌∷◌, length, take};
+ghost use Rattle.line_words.specs.Commands.{common_command};
+ghost use Rattle.line_words.specs.Kinds.{ipv4_notation};
+ghost use Rattle.acl_reader.specs.Grammar.{acl_command, acl_line, acl_words, addition, change, other_command, removal};
+
+use line_words::{
+    CommonCommand, WordFault, Words, action_of, command_words, common_command, ipv4_side, key_of,
+    ports_of, protocol_choice, sequence_of,
+};
+use rule_model::{Key, Rule, list_rank};
+use script_lines::{LINE_BYTES, Line};
+
+/// A command of an access-list script. A frame is read as a packet with its key.
+#[derive(Clone, Copy, Debug, PartialEq, Eq)]
+pub enum AclCommand {
+    /// Adds a rule, whose priority is that of its sequence number.
+    Add(Rule),
+    /// Gives the rule of this sequence number this result.
+    Set(u32, u32),
+    /// Removes the rule of this sequence number.
+    Del(u32),
+    /// Has the answer of a packet asked for after each later write.
+    Probe(Key),
+    /// Asks for the answer of a packet.
+    Packet(Key),
+    /// Carries out the pending batch.
+    Commit,
+}
+
+/// Reads a line of an access-list script: the command that it is, or nothing where it has no word or its
+/// first word begins with `#`.
+///
+/// UnknownCommand comes where the first word, or for `acl` the first two, begin no command. WordCount
+/// comes where the command has another number of words. Else the fault is that of the leftmost word
+/// that isn't of its kind.
+pub fn read_acl(line: &Line) -> Result<Option<AclCommand>, WordFault>
+    requires { line.now.len ≤ LINE_BYTES }
+    ensures { result ≡ acl_line ipv4_notation (take line.now.len line.now.bytes) }
+{
+    match command_words(&line.bytes[..usize::from(line.len)]) {
+        None => Ok(None),
+        Some((first, words)) => Ok(Some(command_of(first, words)?)),
+    }
+}
+
+/// The command of a line that begins with this word, from the words behind it.
+fn command_of(first: &[u8], rest: Words<'_>) -> Result<AclCommand, WordFault>
+    ensures { result ≡ acl_command ipv4_notation (first.now ∷ rest.entry) }
+{
+    match first {
+        b"acl" => acl_words(rest),
+        _ => other_command(first, rest),
+    }
+}
+
+/// A probe, or one of the commands that both kinds of script have.
+fn other_command(first: &[u8], rest: Words<'_>) -> Result<AclCommand, WordFault>
+    ensures { result ≡ other_command ipv4_notation first.now rest.entry }
+{
+    match first {
+        b"probe" => Ok(AclCommand::Probe(key_of(rest)?)),
+        _ => packet_or_commit(first, rest),
+    }
+}
+
+/// The command of a line that begins with a word of both kinds of script.
+fn packet_or_commit(first: &[u8], rest: Words<'_>) -> Result<AclCommand, WordFault>
+    ensures { result ≡ common_command ipv4_notation AclCommand.Packet AclCommand.Commit first.now rest.entry }
+{
+    match common_command(first, rest)? {
+        CommonCommand::Packet(key) => Ok(AclCommand::Packet(key)),
+        CommonCommand::Commit => Ok(AclCommand::Commit),
+    }
+}
+
+/// The command of a line whose first word is `acl`, from the words behind it.
+fn acl_words(mut words: Words<'_>) -> Result<AclCommand, WordFault>
+    ensures { result ≡ acl_words ipv4_notation words.entry }
+{
+    let verb = words.next().ok_or(WordFault::UnknownCommand)?;
+    match verb {
+        b"add" => addition(words),
+        b"set" => change(words),
+        b"del" => removal(words),
+        _ => Err(WordFault::UnknownCommand),
+    }
+}
+
+/// The addition of a rule, from its seven words.
+fn addition(mut words: Words<'_>) -> Result<AclCommand, WordFault>
+    ensures { result ≡ addition ipv4_notation words.entry }
+{
+    let sequence = words.required()?;
+    let action = words.required()?;
+    let src = words.required()?;
+    let dst = words.required()?;
+    let proto = words.required()?;
+    let sport = words.required()?;
+    let dport = words.required()?;
+    words.end()?;
+    let number = sequence_of(sequence)?;
+    let answer = action_of(action)?;
+    Ok(AclCommand::Add(Rule {
+        priority: list_rank(number),
+        src: ipv4_side(src)?,
+        dst: ipv4_side(dst)?,
+        proto: protocol_choice(proto)?,
+        sport: ports_of(sport)?,
+        dport: ports_of(dport)?,
+        result: answer,
+    }))
+}
+
+/// The new result of a rule, from its two words.
+fn change(mut words: Words<'_>) -> Result<AclCommand, WordFault>
+    ensures { result ≡ change words.entry }
+{
+    let sequence = words.required()?;
+    let action = words.required()?;
+    words.end()?;
+    Ok(AclCommand::Set(sequence_of(sequence)?, action_of(action)?))
+}
+
+/// The removal of a rule, from its one word.
+fn removal(mut words: Words<'_>) -> Result<AclCommand, WordFault>
+    ensures { result ≡ removal words.entry }
+{
+    let sequence = words.required()?;
+    words.end()?;
+    Ok(AclCommand::Del(sequence_of(sequence)?))
+}
+
+#[cfg(test)]
+mod tests {
+    use super::*;
+    use packet_keys::FrameFault;
+    use rule_model::{Addr, Ports, Prefix};
+    use std::test::Fail;
+
+    /// What a line of these bytes is.
+    fn read(text: &[u8]) -> Result<Option<AclCommand>, WordFault>
+        requires { length text.now ≤ LINE_BYTES }
+    {
+        let mut bytes = [0u8; LINE_BYTES];
+        bytes[..text.len()].copy_from_slice(text);
+        read_acl(&Line {
+            number: 1,
+            len: text.len() as u16,
+            bytes,
+        })
+    }
+
+    /// The key of a TCP packet from 10.1.2.3 port 1234 to 10.1.2.4 port 80.
+    fn web_key() -> Key {
+        Key {
+            src: Addr::from(0x0a01_0203u32) << 96,
+            dst: Addr::from(0x0a01_0204u32) << 96,
+            proto: 6,
+            sport: 1234,
+            dport: 80,
+        }
+    }
+
+    /// The rule of sequence number 10 that permits a protocol to these addresses and ports.
+    fn permit(dst: Prefix, proto: u8, dport: Ports) -> Rule {
+        Rule {
+            priority: list_rank(10),
+            src: Prefix::any(),
+            dst,
+            proto: Some(proto),
+            sport: Ports::any(),
+            dport,
+            result: 1,
+        }
+    }
+
+    #[test]
+    fn additions(rt: HostRuntime) -> Result<(), Fail> {
+        let ten = Prefix::v4(0x0a00_0000, 8)?;
+        let web = Ports::new(80, 80).ok_or("a range")?;
+        let high = Ports::new(1024, 65535).ok_or("a range")?;
+        let table: [(&[u8], Rule); 3] = [
+            (
+                b"acl add 10 permit any 10.0.0.0/8 tcp any 80",
+                permit(ten, 6, web),
+            ),
+            (
+                b"acl add 10 permit any any icmp any 80",
+                permit(Prefix::any(), 1, web),
+            ),
+            (
+                b"\tacl  add 4294967295 deny 10.0.0.0/8 any any 1024-65535 any\r",
+                Rule {
+                    priority: list_rank(4294967295),
+                    src: ten,
+                    dst: Prefix::any(),
+                    proto: None,
+                    sport: high,
+                    dport: Ports::any(),
+                    result: 0,
+                },
+            ),
+        ];
+        for (text, rule) in table {
+            assert!(rt; text.len() <= LINE_BYTES);
+            assert_eq!(rt; read(text), Ok(Some(AclCommand::Add(rule))), "{text:?}");
+        }
+        Ok(())
+    }
+
+    #[test]
+    fn other_commands(rt: HostRuntime) {
+        let table: [(&[u8], Option<AclCommand>); 8] = [
+            (b"acl set 100 deny", Some(AclCommand::Set(100, 0))),
+            (b"acl set 100 permit", Some(AclCommand::Set(100, 1))),
+            (b"acl del 7", Some(AclCommand::Del(7))),
+            (
+                b"probe 10.1.2.3 10.1.2.4 tcp 1234 80",
+                Some(AclCommand::Probe(web_key())),
+            ),
+            (
+                b"packet 10.1.2.3 10.1.2.4 6 1234 80",
+                Some(AclCommand::Packet(web_key())),
+            ),
+            (
+                b"frame 4500001c00000000400600000a0102030A01020404d20050",
+                Some(AclCommand::Packet(web_key())),
+            ),
+            (b"commit", Some(AclCommand::Commit)),
+            (b" # acl del 7", None),
+        ];
+        for (text, command) in table {
+            assert!(rt; text.len() <= LINE_BYTES);
+            assert_eq!(rt; read(text), Ok(command), "{text:?}");
+        }
+    }
+
+    #[test]
+    fn faults_of_rules(rt: HostRuntime) {
+        let table: [(&[u8], WordFault); 10] = [
+            (b"acl del 0", WordFault::BadSequence),
+            (b"acl set 4294967296 permit", WordFault::BadSequence),
+            (b"acl set 1 Permit", WordFault::BadAction),
+            (
+                b"acl add 1 permit 10.0.0.0/33 any any any any",
+                WordFault::BadPrefix,
+            ),
+            (
+                b"acl add 1 permit any 10.0.0.1/8 x any 5-4",
+                WordFault::HostBits,
+            ),
+            (
+                b"acl add 1 permit any any 256 any any",
+                WordFault::BadProtocol,
+            ),
+            (b"acl add 1 permit any any any any 5-4", WordFault::BadPorts),
+            (
+                b"acl add 1 permit any any any 65536 any",
+                WordFault::BadPorts,
+            ),
+            (b"acl add 0 permit any any any any", WordFault::WordCount),
+            (b"acl del 0 1", WordFault::WordCount),
+        ];
+        for (text, fault) in table {
+            assert!(rt; text.len() <= LINE_BYTES);
+            assert_eq!(rt; read(text), Err(fault), "{text:?}");
+        }
+    }
+
+    #[test]
+    fn other_faults(rt: HostRuntime) {
+        let table: [(&[u8], WordFault); 8] = [
+            (b"acl", WordFault::UnknownCommand),
+            (b"acl Add", WordFault::UnknownCommand),
+            (b"route add 10.0.0.0/8 7", WordFault::UnknownCommand),
+            (b"probe 10.1.2.3 10.1.2 6 0 80", WordFault::BadAddress),
+            (b"probe 10.1.2.3 10.1.2.4 6 0", WordFault::WordCount),
+            (b"frame 4g", WordFault::BadHex),
+            (b"frame 65", WordFault::Frame(FrameFault::Version)),
+            (b"commit 1", WordFault::WordCount),
+        ];
+        for (text, fault) in table {
+            assert!(rt; text.len() <= LINE_BYTES);
+            assert_eq!(rt; read(text), Err(fault), "{text:?}");
+        }
+    }
+}
