@@ -110,6 +110,7 @@ managed_made mode rules kept slots held managed less =
         old = carried.old;
         after = carried.after;
         leads = carried.leads;
+        hitless = carried.hitless;
         made = omega arith;
         in_use = carried.in_use;
         routes = carried.routes;

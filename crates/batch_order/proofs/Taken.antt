@@ -19,11 +19,13 @@ use Rattle.move_planner.specs.Insertion.{IsLive, StandOnce, free_slots}
 use Rattle.tcam_device.specs.declared.Write.{Write}
 use Rattle.tcam_device.specs.State.{State, IsInUse, Shows, state_after, on_device}
 use Rattle.tcam_device.specs.Insertion.{insertions, IsUncrossed}
+use Rattle.tcam_device.specs.Hitless.{KeepsOldOrNew, ShowsOldOrNew}
+use Rattle.tcam_device.proofs.Wider.{all_take, state_after-on_device}
 use Rattle.commit_writes.specs.declared.Done.{Done}
 use Rattle.commit_writes.specs.Bits.{no_bits, bits_with, bits_left}
 use Rattle.commit_writes.specs.Shape.{set_pieces}
 use Rattle.commit_writes.specs.Commit.{IsSegment, AreCounts}
-use Rattle.commit_writes.specs.Planned.{Planned, IsPlannedCommit, IsRouteSegment, AreNumbersOf, AreArranged, AreEntriesOf, ranked_of, planned_writes, live_after, slots_after, contents, plain_state}
+use Rattle.commit_writes.specs.Planned.{Planned, IsPlannedCommit, IsRouteSegment, AreNumbersOf, AreArranged, AreEntriesOf, ranked_of, planned_writes, live_after, slots_after, contents, held_entry, plain_state}
 use Rattle.commit_writes.proofs.Adds.{new_additions, new_apart, new_absent, added_routes, set_with_additions}
 use Rattle.commit_writes.proofs.Routes.{inserted_routes}
 use Rattle.commit_writes.proofs.Ordered.{planned_state}
@@ -35,7 +37,7 @@ use Rattle.batch_order.specs.declared.plan.Plan.{Plan}
 use Rattle.batch_order.specs.declared.Ready.{Ready}
 use Rattle.batch_order.specs.Entries.{Entries, AddsIds, AreLast, KeepEntries}
 use Rattle.batch_order.specs.Planning.{AreNew, HasPieces, IsSettled, IsPlannable, ArePlannedSince, route_piece}
-use Rattle.batch_order.specs.Kept.{IsManaged, IsArranged, held_of}
+use Rattle.batch_order.specs.Kept.{IsManaged, IsArranged, held_of, state_of}
 use Rattle.batch_order.specs.Managed.{Holds, OnlyAddsRoutes, ready_of}
 use Rattle.batch_order.proofs.News.{additions_entries, all_with_rules, length-with_rules, routes_encodable}
 use Rattle.batch_order.proofs.Judged.{accepted_room}
@@ -203,6 +205,16 @@ plan_made mode rules old new slots slots' batch plan plan' counts managed adds s
     are : plan'.writes.items ≡ planned_writes new.entries since.planned
     are = since.writes ∙ ap (λ (w : List Write). w ++ planned_writes new.entries since.planned) no_writes
 
+-- on a device with so many slots or more its writes are the batch's segment
+route_segment : (mode : Mode) (rules : StoredRules) (old new : Entries) (slots slots' : Slots) (batch : List Command) (writes : List Write) (counts : Done)
+    → IsPlanOf mode rules old new slots slots' batch writes counts → (device_slots : ℕ) → length slots ≤ device_slots
+    → IsRouteSegment rules.rules batch (on_device device_slots (plain_state (contents old.entries slots))) writes counts
+route_segment mode rules old new slots slots' batch writes counts plan device_slots wide =
+    subst (λ (w : List Write). IsRouteSegment rules.rules batch (on_device device_slots (plain_state (contents old.entries slots))) w counts) (sym plan.writes_are)
+    (subst (λ (e : _). IsRouteSegment rules.rules batch (on_device device_slots (plain_state e)) (planned_writes new.entries plan.planned) counts)
+    (contents_kept old.live old.entries new.entries slots plan.kept (settled_live old slots plan.managed.carried.settled))
+    (wider_segment rules.rules batch old.live slots new.entries plan.planned counts device_slots wide plan.commit plan.numbers))
+
 -- a manager that holds the plan of a batch
 pub managed_held : (mode : Mode) (rules rules' : StoredRules) (old new : Entries) (slots : Slots) (batch : List Command) (held : Held)
     → IsPlanOf mode rules old new slots held.arrangement batch held.writes.items held.counts → rules'.rules ≡ rules.rules → length (additions batch) ≤ rules'.spare
@@ -225,6 +237,12 @@ managed_held mode rules rules' old new slots batch held plan same room made adde
     leads = ap (state_after (plain_state (contents new.entries slots))) plan.writes_are
         ∙ (planned_state rules.rules batch old.live slots new.entries plan.planned plan.commit
         ∙ ap (λ (s : Slots). plain_state (contents new.entries s)) (sym plan.slots_are));
+    hitless = λ device_slots wide.
+        subst (λ (old_set : List Rule). KeepsOldOrNew old_set (fold with_rule rules'.rules held.added.items) (on_device device_slots (plain_state (contents new.entries slots))) held.writes.items) (sym same)
+        (subst (λ (new_set : List Rule). KeepsOldOrNew rules.rules new_set (on_device device_slots (plain_state (contents new.entries slots))) held.writes.items) (set_with_additions rules.rules batch plan.adds ∙ sym sets)
+        (subst (λ (e : _). KeepsOldOrNew rules.rules (set_after rules.rules batch) (on_device device_slots (plain_state e)) held.writes.items)
+        (sym (contents_kept old.live old.entries new.entries slots plan.kept (settled_live old slots plan.managed.carried.settled)))
+        (route_segment mode rules old new slots held.arrangement batch held.writes.items held.counts plan device_slots wide).segment.hitless.on_the_way));
     made = omega arith;
     in_use = plan.in_use;
     routes = subst (AllByRecursion IsIpv4Route) (sym added) (added_routes batch plan.adds);
@@ -235,16 +253,6 @@ managed_held mode rules rules' old new slots batch held plan same room made adde
   where
     sets : fold with_rule rules'.rules held.added.items ≡ fold with_rule rules.rules (additions batch)
     sets = ap₂ (λ (r a : List Rule). fold with_rule r a) same added
-
--- on a device with so many slots or more its writes are the batch's segment
-route_segment : (mode : Mode) (rules : StoredRules) (old new : Entries) (slots slots' : Slots) (batch : List Command) (writes : List Write) (counts : Done)
-    → IsPlanOf mode rules old new slots slots' batch writes counts → (device_slots : ℕ) → length slots ≤ device_slots
-    → IsRouteSegment rules.rules batch (on_device device_slots (plain_state (contents old.entries slots))) writes counts
-route_segment mode rules old new slots slots' batch writes counts plan device_slots wide =
-    subst (λ (w : List Write). IsRouteSegment rules.rules batch (on_device device_slots (plain_state (contents old.entries slots))) w counts) (sym plan.writes_are)
-    (subst (λ (e : _). IsRouteSegment rules.rules batch (on_device device_slots (plain_state e)) (planned_writes new.entries plan.planned) counts)
-    (contents_kept old.live old.entries new.entries slots plan.kept (settled_live old slots plan.managed.carried.settled))
-    (wider_segment rules.rules batch old.live slots new.entries plan.planned counts device_slots wide plan.commit plan.numbers))
 
 -- without a commit under way the device answers as the rules do
 pub idle_answers : (mode : Mode) (rules : StoredRules) (kept : Entries) (slots : Slots) → IsManaged mode rules kept slots None
@@ -302,3 +310,15 @@ holds_plan mode rules rules' old new slots batch held ready plan same made added
 
     made_by : (device_slots : ℕ) → length slots ≤ device_slots → IsRouteSegment rules.rules batch (on_device device_slots (plain_state (contents old.entries slots))) held.writes.items held.counts
     made_by device_slots wide = route_segment mode rules old new slots held.arrangement batch held.writes.items held.counts plan device_slots wide
+
+-- and with one under way, as the old rules or the new ones do
+pub held_answers : (mode : Mode) (rules : StoredRules) (kept : Entries) (slots : Slots) (held : Held) → IsManaged mode rules kept slots (Some held)
+    → (device_slots : ℕ) → length slots ≤ device_slots
+    → ShowsOldOrNew (on_device device_slots (state_of kept.entries slots (Some held))) rules.rules (fold with_rule rules.rules held.added.items)
+held_answers mode rules kept slots held managed device_slots wide =
+    let begun : State = plain_state (contents kept.entries slots) in
+    let size : length begun.slots ≡ length slots = length-map slots (held_entry kept.entries) in
+    let used : AllByRecursion (IsInUse (length begun.slots)) (take held.made held.writes.items) =
+    all_take (IsInUse (length begun.slots)) held.made held.writes.items (subst (λ (n : ℕ). AllByRecursion (IsInUse n) held.writes.items) (sym size) managed.carried.in_use) in
+    subst (λ (state : State). ShowsOldOrNew state rules.rules (fold with_rule rules.rules held.added.items)) (state_after-on_device device_slots begun (take held.made held.writes.items) used)
+    ((managed.carried.hitless device_slots wide).during held.made)

@@ -1,5 +1,5 @@
 -- What holds of a manager between its calls.
-use Rattle.std.specs.Prelude.{◌≡◌, ◌≤◌, Option, Some, None, List, length, take, drop, fold}
+use Rattle.std.specs.Prelude.{◌≡◌, ℕ, ◌≤◌, Option, Some, None, List, length, take, drop, fold}
 use Rattle.std.specs.List.{AllByRecursion}
 use Rattle.slot_pool.specs.Arrangement.{Slots}
 use Rattle.rule_model.specs.declared.Rule.{Rule}
@@ -11,7 +11,8 @@ use Rattle.rule_store.specs.declared.Mode.TheVariants.{Cover}
 use Rattle.rule_store.specs.Batch.{with_rule}
 use Rattle.rule_store.specs.Store.{StoredRules}
 use Rattle.overlap_index.specs.declared.LivePiece.{LivePiece}
-use Rattle.tcam_device.specs.State.{State, IsInUse, state_after}
+use Rattle.tcam_device.specs.State.{State, IsInUse, state_after, on_device}
+use Rattle.tcam_device.specs.Hitless.{KeepsOldOrNew}
 use Rattle.commit_writes.specs.Bits.{no_bits}
 use Rattle.commit_writes.specs.Shape.{set_pieces}
 use Rattle.commit_writes.specs.Planned.{AreEntriesOf, contents, plain_state}
@@ -50,6 +51,9 @@ pub record IsHeld (rules : StoredRules) (kept : Entries) (slots : Slots) (held :
   pub after : IsArranged (fold with_rule rules.rules held.added.items) kept held.arrangement
   pub leads : state_after (plain_state (contents kept.entries slots)) held.writes.items
       ≡ plain_state (contents kept.entries held.arrangement)
+  -- and on the way each key has the old or the new answer, on a device with so many slots or more
+  pub hitless : (device_slots : ℕ) → length slots ≤ device_slots
+      → KeepsOldOrNew rules.rules (fold with_rule rules.rules held.added.items) (on_device device_slots (plain_state (contents kept.entries slots))) held.writes.items
   pub made : held.made ≤ length held.writes.items
   pub in_use : AllByRecursion (IsInUse (length slots)) held.writes.items
   pub routes : AllByRecursion IsIpv4Route held.added.items

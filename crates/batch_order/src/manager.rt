@@ -3,6 +3,7 @@
 ghost use Rattle.std.specs.Prelude.{◌≡◌, ◌+◌, ◌-◌, ◌++◌, ◌∷◌, [], ◌≤◌, ◌<◌, ◌↔◌, ℕ, List, Option, Some, None, Err, IfSome, IsSome, IfOk, IfErr, OnOk, OnErr, length, option_map, fold};
 ghost use Rattle.tcam_device.specs.Cause.{HasCause};
 ghost use Rattle.tcam_device.specs.State.{IsInUse, Shows, on_device};
+ghost use Rattle.tcam_device.specs.Hitless.{ShowsOldOrNew};
 ghost use Rattle.rule_store.specs.Verdict.{entries_of, verdict, Accepted};
 ghost use Rattle.rule_store.specs.Batch.{batch_fault, with_rule};
 ghost use Rattle.batch_order.specs.Planning.{AreNew};
@@ -81,11 +82,14 @@ impl Manager {
     }
 
     /// The rules of the set; while a commit is under way, those of the old set. With none under way a device that
-    /// holds what the manager's writes left answers as they do.
+    /// holds what the manager's writes left answers as they do, and after each write of a commit each key gets the
+    /// answer of the old rules or that of the new ones.
     pub fn rules(&self) -> &Store
         ensures rules { result.now.rules ≡ self.now.rules }
         ensures answers { self.now.held ≡ None → (device_slots : ℕ) → self.now.slots ≤ device_slots
             → Shows (on_device device_slots self.now.state) self.now.rules }
+        ensures on_the_way { IfSome self.now.held (λ held. (device_slots : ℕ) → self.now.slots ≤ device_slots
+            → ShowsOldOrNew (on_device device_slots self.now.state) self.now.rules held.rules) }
     {
         &self.rules
     }

@@ -1,10 +1,12 @@
 use Rattle.std.proofs.Common.{◌≡◌, ◌≤◌, ℕ, Option, Some, None, length, subst}
+use Rattle.std.specs.Prelude.{IfSome}
 use Rattle.tcam_device.specs.State.{Shows, on_device}
+use Rattle.tcam_device.specs.Hitless.{ShowsOldOrNew}
 use Rattle.batch_order.specs.declared.manager.Held.{Held}
 use Rattle.batch_order.specs.Kept.{IsManaged}
 use Rattle.batch_order.specs.Managed.{Managed}
 use Rattle.batch_order.proofs.Carried.{view_of}
-use Rattle.batch_order.proofs.Taken.{idle_answers}
+use Rattle.batch_order.proofs.Taken.{idle_answers, held_answers}
 use Rattle.batch_order.proofs.manager.Manager.rules.Goals as goal
 
 pub returns-clause-answers : goal.returns-clause-answers
@@ -18,3 +20,15 @@ returns-clause-answers c =
         → Shows (on_device device_slots (view_of c.self.inside.mode c.self.inside.rules c.self.inside.live c.self.inside.arrangement h).state) c.self.inside.rules.rules
     go None managed none device_slots wide = idle_answers c.self.inside.mode c.self.inside.rules c.self.inside.live c.self.inside.arrangement managed device_slots wide
     go (Some held) managed none device_slots wide = absurd (cc)
+
+pub returns-clause-on_the_way : goal.returns-clause-on_the_way
+returns-clause-on_the_way c =
+    let i = c.self.inside in
+    let view : view_of i.mode i.rules i.live i.arrangement i.held ≡ c.args.self.now = c.self.view_is in
+    subst (λ (m : Managed). IfSome m.held (λ held. (device_slots : ℕ) → m.slots ≤ device_slots → ShowsOldOrNew (on_device device_slots m.state) m.rules held.rules)) view (go i.held c.self.invariant)
+  where
+    go : (h : Option Held) → IsManaged c.self.inside.mode c.self.inside.rules c.self.inside.live c.self.inside.arrangement h
+        → IfSome (view_of c.self.inside.mode c.self.inside.rules c.self.inside.live c.self.inside.arrangement h).held (λ held. (device_slots : ℕ) → length c.self.inside.arrangement ≤ device_slots
+        → ShowsOldOrNew (on_device device_slots (view_of c.self.inside.mode c.self.inside.rules c.self.inside.live c.self.inside.arrangement h).state) c.self.inside.rules.rules held.rules)
+    go None managed = tt
+    go (Some held) managed = held_answers c.self.inside.mode c.self.inside.rules c.self.inside.live c.self.inside.arrangement held managed
