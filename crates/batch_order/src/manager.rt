@@ -1,7 +1,7 @@
 //! The manager of one device.
 
 ghost use Rattle.std.specs.Prelude.{◌≡◌, ◌+◌, ◌-◌, ◌++◌, ◌∷◌, [], ◌≤◌, ◌<◌, ◌↔◌, ℕ, List, Option, Some, None, Err, IfSome, IsSome, IfOk, IfErr, OnOk, OnErr, length, option_map, fold};
-ghost use Rattle.tcam_device.specs.Cause.{HasCause};
+ghost use Rattle.script_lines.specs.Cause.{HasCause};
 ghost use Rattle.tcam_device.specs.State.{IsInUse, Shows, on_device};
 ghost use Rattle.tcam_device.specs.Hitless.{ShowsOldOrNew};
 ghost use Rattle.rule_store.specs.Verdict.{entries_of, verdict, Accepted};

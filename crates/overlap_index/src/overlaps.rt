@@ -72,9 +72,10 @@ fn is_on(side: Side, other: &LivePiece, of: &LivePiece) -> bool
     }
 }
 
-/// Whether the first piece overlaps the second and has the higher priority.
+/// Whether the first piece overlaps the second and has the higher priority. The priorities are looked at first: that
+/// is the cheaper test, and about half of all pieces fail it.
 fn is_over(upper: &LivePiece, lower: &LivePiece) -> bool
     ensures { result ≡ is_over upper.now lower.now }
 {
-    piece_overlaps(&upper.piece, &lower.piece) && lower.rank < upper.rank
+    lower.rank < upper.rank && piece_overlaps(&upper.piece, &lower.piece)
 }

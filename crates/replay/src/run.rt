@@ -3,7 +3,6 @@
 ghost use Rattle.std.specs.Prelude.{◌≡◌, ◌≢◌, ◌+◌, ◌<◌, ◌≤◌, ◌^◌, ◌↔◌, ◌++◌, ◌∷◌, [], ℕ, Ok, Err, None, IsSome, IfOk, IfErr, IfSome, OnOk, OnErr, ◌⊎◌, length, true};
 ghost use Rattle.std.specs.Io.KnownBytes.{Appends};
 ghost use Rattle.script_lines.specs.Cause.{Rose, HasCause};
-ghost use Rattle.tcam_device.specs.Cause as devices;
 ghost use Rattle.rule_store.specs.Verdict.{Accepted};
 ghost use Rattle.commit_writes.specs.Planned.{AddsRoute};
 ghost use Rattle.replay.specs.Text.{verdict_told, refused_line};
@@ -113,7 +112,7 @@ impl Run {
         ensures sink_later { K.faults sink.old ≤ K.faults sink.new }
         ensures sink_cause { (result ≡ Err RunFault.Sink) → Rose (K.faults sink.old) (K.faults sink.new) }
         ensures device_later { D.faults device.old ≤ D.faults device.new }
-        ensures device_cause { (result ≡ Err RunFault.Device) → devices.Rose (D.faults device.old) (D.faults device.new) }
+        ensures device_cause { (result ≡ Err RunFault.Device) → Rose (D.faults device.old) (D.faults device.new) }
     {
         match *act {
             Act::Command(command) => self.push(command),
@@ -179,7 +178,7 @@ impl Run {
         ensures sink_later { K.faults sink.old ≤ K.faults sink.new }
         ensures sink_cause { (result ≡ Err RunFault.Sink) → Rose (K.faults sink.old) (K.faults sink.new) }
         ensures device_later { D.faults device.old ≤ D.faults device.new }
-        ensures device_cause { (result ≡ Err RunFault.Device) → devices.Rose (D.faults device.old) (D.faults device.new) }
+        ensures device_cause { (result ≡ Err RunFault.Device) → Rose (D.faults device.old) (D.faults device.new) }
     {
         match self.manager.prepare(&self.pending, device) {
             Ok(_) => self.carry_out(sink, device),
@@ -239,7 +238,7 @@ impl Run {
         ensures sink_later { K.faults sink.old ≤ K.faults sink.new }
         ensures sink_cause { (result ≡ Err RunFault.Sink) → Rose (K.faults sink.old) (K.faults sink.new) }
         ensures device_later { D.faults device.old ≤ D.faults device.new }
-        ensures device_cause { (result ≡ Err RunFault.Device) → devices.Rose (D.faults device.old) (D.faults device.new) }
+        ensures device_cause { (result ≡ Err RunFault.Device) → Rose (D.faults device.old) (D.faults device.new) }
     {
         let done = match make_writes(&mut self.manager, device) {
             Ok(done) => done,

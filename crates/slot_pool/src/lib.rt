@@ -4,12 +4,18 @@
 //! id may stand in several slots, as it does while an entry moves. Searches for a free slot look
 //! outwards from where it is wanted, so they take as many steps as it is away. No call but `new`
 //! and `try_copy` takes memory.
+//!
+//! Beside the slots stands a table of homes: for each id below the number of slots the least slot
+//! that holds it. A planner asks for the homes of all entries that overlap one, and erases a slot
+//! only once for each move, so the table is looked up at once, and only an id that leaves its home
+//! is searched for, behind it. An id past the table is searched for among the slots.
 #![tactic(auto)]
 
 ghost use Rattle.std.specs.Prelude.{◌≡◌, ◌==◌, ℕ, ◌+◌, ◌<◌, ◌≤◌, None, Some, IfOk, length, replicate, slice_set, count_by, is_none};
 ghost use Rattle.slot_order.specs.Order.{slot as held_in};
-ghost use Rattle.slot_pool.specs.Arrangement.{is_free, passes, is_free_within, home_of, nearest_free, next_free_above, last_free_below, HasTwin};
+ghost use Rattle.slot_pool.specs.Arrangement.{is_free, is_free_within, home_of, nearest_free, next_free_above, last_free_below, HasTwin};
 
+mod homes;
 #[cfg(test)]
 mod tests;
 
@@ -23,17 +29,20 @@ pub const MOST_SLOTS: u32 = 65_536;
 #[derive(Debug, Drop)]
 pub struct Arrangement {
     slots: Vec<Option<u32>>,
+    // The least slot of each id below the number of slots.
+    homes: Vec<Option<u32>>,
 }
 
 impl Model for Arrangement {
     ghost use Rattle.std.specs.Prelude.{◌≤◌, length};
     ghost use Rattle.slot_pool.specs.Arrangement.{Slots};
+    ghost use Rattle.slot_pool.specs.Homes.{AreHomes};
 
     ghost Value = { Slots };
 
     ghost view = { λ a. a.slots.items };
 
-    ghost invariant = { λ a. (1 ≤ length a.slots.items) × (length a.slots.items ≤ 65536) };
+    ghost invariant = { λ a. (1 ≤ length a.slots.items) × (length a.slots.items ≤ 65536) × AreHomes a.slots.items a.homes.items };
 }
 
 impl Arrangement {
@@ -43,8 +52,9 @@ impl Arrangement {
         requires most { slots ≤ MOST_SLOTS }
         ensures { IfOk result (λ arrangement. arrangement ≡ replicate slots None) }
     {
+        let homes = vec![in alloc; None; slots as usize]?;
         let slots = vec![in alloc; None; slots as usize]?;
-        Ok(Arrangement { slots })
+        Ok(Arrangement { slots, homes })
     }
 
     /// The number of slots, from 1 to `MOST_SLOTS`.
@@ -68,12 +78,11 @@ impl Arrangement {
     pub fn home(&self, id: u32) -> Option<u32>
         ensures { result ≡ home_of self.now id }
     {
-        for slot in 0..self.slots() {
-            if self.holds(slot, id) {
-                return Some(slot);
-            }
+        if (id as usize) < self.homes.len() {
+            self.homes[id as usize]
+        } else {
+            homes::first_of(&self.slots, 0, id)
         }
-        None
     }
 
     /// The number of empty slots.
@@ -135,7 +144,7 @@ impl Arrangement {
         requires free { held_in self.old slot ≡ None }
         ensures { self.new ≡ slice_set self.old slot (Some id) }
     {
-        self.slots[slot as usize] = Some(id);
+        homes::put(&mut self.slots, &mut self.homes, slot, id);
     }
 
     /// Empties a slot, and changes no other one.
@@ -143,7 +152,7 @@ impl Arrangement {
         requires { slot < length self.old }
         ensures { self.new ≡ slice_set self.old slot None }
     {
-        self.slots[slot as usize] = None;
+        homes::erase(&mut self.slots, &mut self.homes, slot);
     }
 
     /// Puts an id over the one in a slot, which stands in another slot too, and changes no other
@@ -153,7 +162,8 @@ impl Arrangement {
         requires twin { HasTwin self.old slot }
         ensures { self.new ≡ slice_set self.old slot (Some id) }
     {
-        self.slots[slot as usize] = Some(id);
+        self.erase(slot);
+        self.put(slot, id);
     }
 
     /// Makes a copy of its own memory.
@@ -161,7 +171,8 @@ impl Arrangement {
         ensures { IfOk result (λ copy. copy ≡ self.now) }
     {
         let slots = Vec::from_slice(alloc, &self.slots)?;
-        Ok(Arrangement { slots })
+        let homes = Vec::from_slice(alloc, &self.homes)?;
+        Ok(Arrangement { slots, homes })
     }
 
     /// Whether a slot is empty.
@@ -170,17 +181,6 @@ impl Arrangement {
         ensures { result ≡ is_free self.now slot }
     {
         self.at(slot).is_none()
-    }
-
-    /// Whether a slot holds an id.
-    fn holds(&self, slot: u32, id: u32) -> bool
-        requires { slot < length self.now }
-        ensures { result ≡ passes (λ held. held == id) (held_in self.now slot) }
-    {
-        match self.at(slot) {
-            Some(held) => held == id,
-            None => false,
-        }
     }
 
     /// Whether a slot is empty and lies from `from` on and before `to`.

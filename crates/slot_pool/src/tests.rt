@@ -1,6 +1,18 @@
 use crate::Arrangement;
 use std::test::Fail;
 
+// The least slot that holds an id, by a look at each slot.
+fn plain_home(arrangement: &Arrangement, id: u32) -> Option<u32> {
+    for slot in 0..arrangement.slots() {
+        if let Some(held) = arrangement.at(slot) {
+            if held == id {
+                return Some(slot);
+            }
+        }
+    }
+    None
+}
+
 #[test]
 fn free_slots(rt: HostRuntime) -> Result<(), Fail> {
     let mut arrangement = Arrangement::new(rt.alloc(), 8)?;
@@ -27,5 +39,11 @@ fn moves(rt: HostRuntime) -> Result<(), Fail> {
     copy.erase(2);
     assert_eq!(rt; copy.home(4), None);
     assert_eq!(rt; arrangement.at(2), Some(4));
+    copy.put(2, 1);
+    copy.put(0, 1);
+    copy.erase(0);
+    for id in 0..5 {
+        assert_eq!(rt; copy.home(id), plain_home(&copy, id));
+    }
     Ok(())
 }

@@ -4,7 +4,6 @@ ghost use Rattle.std.specs.Prelude.{◌≡◌, ◌≢◌, ◌*◌, ◌+◌, ◌<
 ghost use Rattle.std.specs.Io.KnownBytes.{Consumes};
 ghost use Rattle.script_lines.specs.Cause.{Rose};
 ghost use Rattle.script_lines.specs.Lines.{numbered};
-ghost use Rattle.tcam_device.specs.Cause as devices;
 ghost use Rattle.line_words.specs.Texts.{word_fault_text};
 ghost use Rattle.replay.specs.Run.{IsRouteAct, start, ending};
 ghost use Rattle.replay.specs.Running.{progress_of, setting_of};
@@ -151,7 +150,7 @@ fn turn<S: Source, K: Sink, D: Device>(
     ensures no_usage { result ≢ Some Status.Usage }
     ensures read { result ≡ Some Status.ReadFault → Rose (S.faults source.old) (S.faults source.new) }
     ensures write { result ≡ Some Status.WriteFault → Rose (K.faults sink.old) (K.faults sink.new) }
-    ensures device { result ≡ Some Status.DeviceFault → devices.Rose (D.faults device.old) (D.faults device.new) }
+    ensures device { result ≡ Some Status.DeviceFault → Rose (D.faults device.old) (D.faults device.new) }
 {
     let line = match lines.next(source) {
         Err(LineFault::Read) => return Some(Status::ReadFault),

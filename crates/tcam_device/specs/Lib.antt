@@ -2,5 +2,4 @@ pub mod State
 pub mod Hitless
 pub mod Insertion
 pub mod Order
-pub mod Cause
 pub mod Tcam

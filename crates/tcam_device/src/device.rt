@@ -1,7 +1,7 @@
 // What a device does, over every device.
 ghost use Rattle.std.specs.Prelude.{◌≡◌, ◌<◌, ◌≤◌, ◌+◌, ◌++◌, ◌∷◌, [], ℕ, List, Option, option_map, IfSome, OnOk, OnErr};
 ghost use Rattle.tcam_device.specs.declared.Write.{Write};
-ghost use Rattle.tcam_device.specs.Cause.{HasCause};
+ghost use Rattle.script_lines.specs.Cause.{HasCause};
 ghost use Rattle.tcam_device.specs.State.{IsInUse, lookup, replay};
 
 use crate::{DeviceFault, Write};

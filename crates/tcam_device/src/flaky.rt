@@ -74,7 +74,7 @@ impl<'a> FlakyTcam<'a> {
 
 impl<'a> Device for FlakyTcam<'a> {
     ghost use Rattle.std.specs.Prelude.{◌≡◌, ◌<◌, ◌≤◌, ◌+◌, ◌-◌, ◌^◌, ◌++◌, ◌∷◌, [], ◌↔◌, min, IsErr, OnOk, OnErr, Some};
-    ghost use Rattle.tcam_device.specs.Cause.{HasCause};
+    ghost use Rattle.script_lines.specs.Cause.{HasCause};
     ghost use Rattle.tcam_device.specs.State.{IsInUse};
     ghost use Rattle.tcam_device.specs.Tcam.{IsNextListed};
 
