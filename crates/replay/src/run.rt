@@ -285,7 +285,7 @@ fn make_writes<D: Device>(manager: &mut Manager, device: &mut D) -> Result<Done,
     ensures made { IfOk result (λ done. MakesAll manager.old done manager.new (D.journal device.old) (D.journal device.new)) }
     ensures cut { OnErr result (MakesSome manager.old manager.new (D.journal device.old) (D.journal device.new)) }
     ensures slot_count { D.slot_count device.new ≡ D.slot_count device.old }
-    ensures cause { devices.HasCause (D.faults device.old) (D.faults device.new) result }
+    ensures cause { HasCause (D.faults device.old) (D.faults device.new) result }
 {
     'making: loop {
         match manager.step(device) {

@@ -40,3 +40,23 @@ help-of-routes = refl
 no-help-command : job_of (codes "tcam" ∷ codes "help" ∷ []) ≡ NoJob
 unfolding clap_on_literals tcam_command route_command slots_option
 no-help-command = refl
+
+help : job_of (codes "tcam" ∷ codes "--help" ∷ []) ≡ Tells help_text
+unfolding clap_on_literals tcam_command route_command slots_option
+help = refl
+
+help-behind-a-fault : job_of (codes "tcam" ∷ codes "route" ∷ codes "--slots" ∷ codes "0" ∷ codes "--help" ∷ []) ≡ NoJob
+unfolding clap_on_literals tcam_command route_command slots_option
+help-behind-a-fault = refl
+
+help-of-a-fault : job_of (codes "tcam" ∷ codes "frob" ∷ codes "--help" ∷ []) ≡ NoJob
+unfolding clap_on_literals tcam_command route_command slots_option
+help-of-a-fault = refl
+
+version-of-routes : job_of (codes "tcam" ∷ codes "route" ∷ codes "--version" ∷ []) ≡ NoJob
+unfolding clap_on_literals tcam_command route_command slots_option
+version-of-routes = refl
+
+plus : job_of (codes "tcam" ∷ codes "route" ∷ codes "--slots" ∷ codes "+008" ∷ []) ≡ Reads (route_setting 8)
+unfolding clap_on_literals tcam_command route_command slots_option
+plus = refl

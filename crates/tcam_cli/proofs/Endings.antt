@@ -105,7 +105,7 @@ next-line reading bytes old left line new after acts acts2 p p2 going (inl h) ef
 next-line reading bytes old left line new after acts acts2 p p2 going (inr h) effect =
     let is : IsAllRead reading bytes after acts2 = (
       ap (script_of reading) (going.parts ∙ ap (λ x. going.done ++ x) h.bytes) ∙ going.script line.text
-      ∙ ap (λ l. onto_all acts (acts_next reading p l)) (last-at old left line new after h) ∙ effect (ends_at EndOfInput) ∙ onto-nil acts2 Whole,
+          ∙ ap (λ l. onto_all acts (acts_next reading p l)) (last-at old left line new after h) ∙ effect (ends_at EndOfInput) ∙ onto-nil acts2 Whole,
       h.none,
     ) in
     subst (λ o. IsRead o reading bytes new after acts2 p2) (sym h.ended) is
@@ -113,14 +113,16 @@ next-line reading bytes old left line new after acts acts2 p p2 going (inr h) ef
 pub line-here : (reading : Reading) (bytes : List ℕ) (old : Held) (left : List ℕ) (line : NumberedLine) (new : Held) (after : List ℕ) (acts : List NumberedAct) (p : ℕ)
     → IsGoing reading bytes old left acts p → HandsOne old left line new after
     → (rest : ScriptLines) × (script_of reading bytes ≡ onto_all acts (acts_from reading p (line ∷ rest.lines) rest.last))
-line-here reading bytes old left line new after acts p going (inl h) =
-    (lines_from limits new.before new.number [] (new.pending ++ after),
-    ap (script_of reading) (going.parts ∙ ap (λ x. going.done ++ x) h.bytes) ∙ going.script (line.text ++ 10 ∷ (new.pending ++ after))
-    ∙ ap (λ l. onto_all acts (acts_next reading p l)) (whole-at old left line new after (new.pending ++ after) h))
-line-here reading bytes old left line new after acts p going (inr h) =
-    (ends_at EndOfInput,
-    ap (script_of reading) (going.parts ∙ ap (λ x. going.done ++ x) h.bytes) ∙ going.script line.text
-    ∙ ap (λ l. onto_all acts (acts_next reading p l)) (last-at old left line new after h))
+line-here reading bytes old left line new after acts p going (inl h) = (
+  lines_from limits new.before new.number [] (new.pending ++ after),
+  ap (script_of reading) (going.parts ∙ ap (λ x. going.done ++ x) h.bytes) ∙ going.script (line.text ++ 10 ∷ (new.pending ++ after))
+      ∙ ap (λ l. onto_all acts (acts_next reading p l)) (whole-at old left line new after (new.pending ++ after) h),
+)
+line-here reading bytes old left line new after acts p going (inr h) = (
+  ends_at EndOfInput,
+  ap (script_of reading) (going.parts ∙ ap (λ x. going.done ++ x) h.bytes) ∙ going.script line.text
+      ∙ ap (λ l. onto_all acts (acts_next reading p l)) (last-at old left line new after h),
+)
 
 -- the fault of a byte
 pub bytes-fault : (reading : Reading) (bytes : List ℕ) (old : Held) (left : List ℕ) (acts : List NumberedAct) (p : ℕ) (fault : LineFault)
@@ -328,10 +330,13 @@ pub ends-device : (setting : Setting) (slots : ℕ) (bytes taken now : List ℕ)
 ends-device setting slots bytes taken now act acts later effects last journal_old journal_new start before after is run told report cut = record {
   effects = effects ++ cut.front;
   partial = [];
-  outcome = (record {
-    write = cut.write;
-    due = inl (record { done = acts_only acts; act = act; later = later; acts = is; body = effects; before = last; run = run; front = cut.front; cut = cut.cut; effects_are = refl });
-  }, refl);
+  outcome = (
+    record {
+      write = cut.write;
+      due = inl (record { done = acts_only acts; act = act; later = later; acts = is; body = effects; before = last; run = run; front = cut.front; cut = cut.cut; effects_are = refl });
+    },
+    refl,
+  );
   journal_is = does-journal effects cut.front [] journal_old journal_new before after cut.does told;
   report = does-report effects cut.front [] journal_old journal_new start before after cut.does report;
   all = λ e. elim e [ inl d ↦ absurd (cc) | inr r ↦ absurd (cc) ];

@@ -14,3 +14,6 @@ mod ActLines
 mod Limits
 mod Closings
 mod Begun
+mod Corners
+mod Examples
+mod Wrong

@@ -1,4 +1,4 @@
--- Where a run over a script stands between two lines, and how it ends.
+-- Where a run over a script stands between two lines, how it ends, and what a command of it has.
 use Rattle.std.specs.Prelude.{◌≡◌, ◌⊎◌, ℕ, ◌++◌, Option, IfSome, IsSome, List, [], length, map}
 use Rattle.std.specs.Io.KnownBytes.{Appends}
 use Rattle.script_lines.specs.Lines.{limits, ScriptLines, lines_from, lines_of}

@@ -1,12 +1,14 @@
 //! The worked rows, over memory.
 
+ghost use Rattle.std.specs.Prelude.{◌<◌};
+
 use crate::Status;
 use crate::top::run;
 use script_lines::{FailSink, FailSource, MemSink, MemSource};
 use std::alloc::{AllocError, Global};
 use std::process::Abort;
 use std::test::Fail;
-use tcam_device::{FlakyTcam, MemTcam};
+use tcam_device::{Device, FlakyTcam, MemTcam};
 
 /// The words of a command line that blanks part.
 fn words_of(alloc: Global, line: &str) -> Result<Vec<String>, AllocError> {
@@ -192,4 +194,130 @@ fn failing_source(rt: HostRuntime) -> Result<(), Fail> {
         b"commit 1 ok writes 1 words 0 most 1 span 0\n".as_slice()
     );
     Ok(())
+}
+
+const NESTED: &str =
+    "route add 10.0.0.0/8 7\ncommit\nroute add 10.1.2.0/24 8\ncommit\nroute add 10.1.0.0/16 9\ncommit\nroute add 10.1.0.0/20 5\ncommit\n";
+
+const ONE: &str = "commit 1 ok writes 1 words 0 most 1 span 0\n";
+
+const TWO: &str =
+    "commit 1 ok writes 1 words 0 most 1 span 0\ncommit 2 ok writes 1 words 0 most 1 span 0\n";
+
+const THREE: &str =
+    "commit 1 ok writes 1 words 0 most 1 span 0\ncommit 2 ok writes 1 words 0 most 1 span 0\ncommit 3 ok writes 1 words 0 most 1 span 0\n";
+
+const FOUR: &str =
+    "commit 1 ok writes 1 words 0 most 1 span 0\ncommit 2 ok writes 1 words 0 most 1 span 0\ncommit 3 ok writes 1 words 0 most 1 span 0\ncommit 4 ok writes 2 words 0 most 2 span 0\n";
+
+/// The result of the entry in a slot, if it holds one.
+fn result_at(device: &FlakyTcam<'_>, slot: u32) -> Option<u32>
+    requires { slot < device.now.device.slots }
+{
+    match device.slot(slot) {
+        Some(entry) => Some(entry.result),
+        None => None,
+    }
+}
+
+/// Runs the nested commits over a device of which one write call fails, and compares report, number of writes, and
+/// the results in slots 0 to 3.
+fn check_call(
+    rt: &(impl Abort + AllocGlobal),
+    call: u64,
+    report: &str,
+    writes: usize,
+    held: (Option<u32>, Option<u32>, Option<u32>, Option<u32>),
+) -> Result<(), Fail> {
+    let alloc = rt.alloc();
+    let words = words_of(alloc, EIGHT)?;
+    let calls = [call];
+    let mut device = FlakyTcam::new(alloc, 4096, &calls)?;
+    let mut source = MemSource::new(NESTED.as_bytes());
+    let mut sink = MemSink::new(alloc)?;
+    sink.reserve(4096)?;
+    let ended = run(alloc, words.as_slice(), &mut source, &mut sink, &mut device);
+    assert_eq!(rt; ended, Status::DeviceFault);
+    assert_eq!(rt; sink.bytes(), report.as_bytes());
+    assert_eq!(rt; device.journal().len(), writes);
+    assert!(rt; 4 <= device.slots());
+    assert_eq!(rt; result_at(&device, 0), held.0);
+    assert_eq!(rt; result_at(&device, 1), held.1);
+    assert_eq!(rt; result_at(&device, 2), held.2);
+    assert_eq!(rt; result_at(&device, 3), held.3);
+    Ok(())
+}
+
+#[test]
+fn each_device_write(rt: HostRuntime) -> Result<(), Fail> {
+    check_call(&rt, 1, "", 0, (None, None, None, None))?;
+    check_call(&rt, 2, ONE, 1, (None, None, None, Some(7)))?;
+    check_call(&rt, 3, TWO, 2, (None, Some(8), None, Some(7)))?;
+    check_call(&rt, 4, THREE, 3, (None, Some(8), Some(9), Some(7)))?;
+    check_call(&rt, 5, THREE, 4, (Some(8), Some(8), Some(9), Some(7)))
+}
+
+/// Runs the nested commits with one report write that fails, and compares report and number of device writes.
+fn check_line(
+    rt: &(impl Abort + AllocGlobal),
+    call: u64,
+    report: &str,
+    writes: usize,
+) -> Result<(), Fail> {
+    let alloc = rt.alloc();
+    let words = words_of(alloc, EIGHT)?;
+    let calls = [call];
+    let mut device = MemTcam::new(alloc, 4096)?;
+    let mut source = MemSource::new(NESTED.as_bytes());
+    let mut sink = FailSink::new(alloc, &calls)?;
+    sink.reserve(4096)?;
+    let ended = run(alloc, words.as_slice(), &mut source, &mut sink, &mut device);
+    assert_eq!(rt; ended, Status::WriteFault);
+    assert_eq!(rt; sink.bytes(), report.as_bytes());
+    assert_eq!(rt; device.journal().len(), writes);
+    Ok(())
+}
+
+#[test]
+fn each_report_write(rt: HostRuntime) -> Result<(), Fail> {
+    check_line(&rt, 1, "", 1)?;
+    check_line(&rt, 2, ONE, 2)?;
+    check_line(&rt, 3, TWO, 3)?;
+    check_line(&rt, 4, THREE, 5)?;
+    check_line(&rt, 5, FOUR, 5)
+}
+
+/// Runs the first script in reads of 23 bytes, the length of its first line, of which one fails, and compares report
+/// and number of device writes.
+fn check_read(
+    rt: &(impl Abort + AllocGlobal),
+    call: u64,
+    report: &str,
+    writes: usize,
+) -> Result<(), Fail> {
+    let alloc = rt.alloc();
+    let words = words_of(alloc, EIGHT)?;
+    let calls = [call];
+    let mut device = MemTcam::new(alloc, 4096)?;
+    let mut source = FailSource::new(FIRST.as_bytes(), 23, &calls);
+    let mut sink = MemSink::new(alloc)?;
+    sink.reserve(4096)?;
+    let ended = run(alloc, words.as_slice(), &mut source, &mut sink, &mut device);
+    assert_eq!(rt; ended, Status::ReadFault);
+    assert_eq!(rt; sink.bytes(), report.as_bytes());
+    assert_eq!(rt; device.journal().len(), writes);
+    Ok(())
+}
+
+#[test]
+fn each_read(rt: HostRuntime) -> Result<(), Fail> {
+    check_read(&rt, 1, "", 0)?;
+    check_read(&rt, 2, "", 0)?;
+    check_read(&rt, 3, ONE, 1)?;
+    check_read(
+        &rt,
+        4,
+        "commit 1 ok writes 1 words 0 most 1 span 0\npacket 10.0.0.0/8 7\n",
+        1,
+    )
 }

@@ -1,4 +1,4 @@
-use Rattle.std.proofs.Common.{◌≡◌, ◌≤◌, length, lit≤, subst, sym}
+use Rattle.std.proofs.Common.{◌≤◌, length, lit≤}
 use Rattle.packet_keys.specs.declared.FrameFault.TheVariants.{Empty, Version, HeaderLength, Short}
 use Rattle.line_words.specs.declared.WordFault.{WordFault}
 use Rattle.line_words.specs.declared.WordFault.TheVariants.{UnknownCommand, WordCount, BadPrefix, HostBits, BadResult, BadSequence, BadAction, BadProtocol, BadPorts, BadAddress, BadHex, Frame}
@@ -25,4 +25,3 @@ short (Frame Short) = lit≤ tt
 
 pub returns-clause-short : goal.returns-clause-short
 returns-clause-short c = rw c.text.ensures (short c.args.fault.now)
-

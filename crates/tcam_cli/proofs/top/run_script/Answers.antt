@@ -48,8 +48,8 @@ returns-in-Some-clause-carried_out g c =
     let t = c.in-Some.ensures in
     carried (setting_of c.args.run.now) (g.D.Device.slot_count c.args.device.now) c.in-Some.status (g.S.Source.left c.args.source.now) (g.S.Source.left c.turn.new.source) (g.D.Device.journal c.turn.new.device) (g.K.Sink.taken c.args.sink.now) (g.K.Sink.taken c.turn.new.sink)
     (i.takes.0 ++ t.takes.0, Consumes-trans _ _ _ _ _ i.takes.1 t.takes.1) (λ left taken now el en parts.
-        let mid = told-forward _ _ left i.takes el in
-        rw (← i.setting, ← i.slot_count) (t.ends left taken mid.0 now _ mid.1 en parts (rw (i.setting, i.slot_count) (i.goes left mid.0 el mid.1))))
+    let mid = told-forward _ _ left i.takes el in
+    rw (← i.setting, ← i.slot_count) (t.ends left taken mid.0 now _ mid.1 en parts (rw (i.setting, i.slot_count) (i.goes left mid.0 el mid.1))))
 
 pub returns-in-Some-clause-causes : goal.returns-in-Some-clause-causes
 returns-in-Some-clause-causes g c =
@@ -61,6 +61,6 @@ returns-in-Some-clause-causes g c =
       device = λ e. rose-later (g.D.Device.faults c.args.device.now) (g.D.Device.faults c.acts.device) (g.D.Device.faults c.turn.new.device) i.makes (t.device (ap Some e));
       ends = may-end (setting_of c.args.run.now) (g.D.Device.slot_count c.args.device.now) c.in-Some.status (g.S.Source.left c.args.source.now) (g.S.Source.left c.turn.new.source) (g.D.Device.journal c.turn.new.device) (g.K.Sink.taken c.args.sink.now) (g.K.Sink.taken c.turn.new.sink)
           (i.takes.0 ++ t.takes.0, Consumes-trans _ _ _ _ _ i.takes.1 t.takes.1) (λ e. t.no_usage (ap Some e)) (λ left taken now el en parts.
-              let mid = told-forward _ _ left i.takes el in
-              rw (← i.setting, ← i.slot_count) (t.ends left taken mid.0 now _ mid.1 en parts (rw (i.setting, i.slot_count) (i.goes left mid.0 el mid.1))));
+          let mid = told-forward _ _ left i.takes el in
+          rw (← i.setting, ← i.slot_count) (t.ends left taken mid.0 now _ mid.1 en parts (rw (i.setting, i.slot_count) (i.goes left mid.0 el mid.1))));
     }

@@ -13,7 +13,7 @@ invariant-acts g l = record {
   within : l.lines.before ≤ 16777216;
   goes : (left now : List ℕ) → g.S.Source.left l.fn.source ≡ Some left → g.S.Source.left l.source ≡ Some now
       → SoFar (setting_of l.fn.run) (g.D.Device.slot_count l.fn.device) left l.lines now (progress_of (g.D.Device.slot_count l.fn.device) l.run)
-          (g.D.Device.journal l.device) (g.K.Sink.taken l.fn.sink) (g.K.Sink.taken l.sink);
+      (g.D.Device.journal l.device) (g.K.Sink.taken l.fn.sink) (g.K.Sink.taken l.sink);
   takes : (bytes : List ℕ) × Consumes (g.S.Source.left l.fn.source) (g.S.Source.left l.source) bytes;
   told : (IsSome (g.D.Device.journal l.fn.device) → IsSome (g.D.Device.journal l.device)) × (IsSome (g.K.Sink.taken l.fn.sink) → IsSome (g.K.Sink.taken l.sink));
   reads : g.S.Source.faults l.fn.source ≤ g.S.Source.faults l.source;

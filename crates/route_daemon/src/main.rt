@@ -1,0 +1,33 @@
+//! How a route daemon drives the manager over a device of its own.
+//!
+//! The device is [`Registers`]: it stands for a memory behind registers, and all that the manager asks of it is the
+//! trait `Device`. A commit is a batch, one `prepare`, and `step` until it has finished; packets are looked up between
+//! any two steps.
+#![tactic(auto)]
+
+mod daemon;
+mod registers;
+
+use batch_order::{Manager, Mode};
+use daemon::{add_route, commit};
+use registers::{Registers, SLOTS};
+use rule_store::Batch;
+
+/// Adds four routes, a commit each. The last goes between two that stand side by side, so one of them moves.
+fn main(rt: HostRuntime) -> anyhow::Result<()> {
+    let mut device = Registers::new();
+    let mut manager = Manager::new(rt.alloc(), SLOTS, Mode::Cover)?;
+    let mut batch = Batch::new(rt.alloc());
+    for (address, length, port) in [
+        (0x0a00_0000, 8, 7),
+        (0x0a01_0200, 24, 8),
+        (0x0a01_0000, 16, 9),
+        (0x0a01_0000, 20, 5),
+    ] {
+        batch.clear();
+        if let Ok(()) = add_route(&mut batch, address, length, port) {
+            commit(&rt, &mut manager, &batch, &mut device)?;
+        }
+    }
+    Ok(())
+}

@@ -1,0 +1,213 @@
+-- The promise of the top call at some small scripts, each with its whole report.
+use Rattle.std.proofs.Common.{◌≡◌, ℕ, ◌+◌, List, [], ◌∷◌, ◌++◌, Some, None, false, refl, sym, inl, inr}
+use Rattle.std.specs.Prelude.{codes, ℕ}
+use Rattle.std.specs.Fmt.{digits}
+use Rattle.rule_store.specs.declared.Mode.TheVariants.{Cover}
+use Rattle.rule_store.specs.Verdict.{OutOfSlots}
+use Rattle.replay.specs.declared.Family.TheVariants.{Route}
+use Rattle.replay.specs.declared.Act.{Act}
+use Rattle.replay.specs.declared.Act.TheVariants.{Command, Commit}
+use Rattle.rule_store.specs.declared.Command.TheVariants.{Add}
+use Rattle.rule_model.specs.AddressBlock.{ipv4_block}
+use Rattle.rule_model.specs.Rank.{ipv4_route_rank}
+use Rattle.rule_model.specs.Rule.{route_rule}
+use Rattle.replay.specs.Script.{Whole, script_of}
+use Rattle.replay.specs.Text.{accepted_line, refused_line, fault_line}
+use Rattle.replay.specs.Run.{Setting, Prints, Progress, start, ending, after_refusal, after_segment}
+use Rattle.tcam_cli.specs.declared.Status.TheVariants.{Done, Refused, Script as ScriptFault, Usage}
+use Rattle.std.proofs.Math.Seq.{take-nil}
+use Rattle.commit_writes.proofs.NoBits.{bit_writes-none}
+use Rattle.tcam_device.specs.State as State
+use Rattle.commit_writes.specs.declared.Done.{Done as Counts}
+use Rattle.commit_writes.specs.Bits.{no_bits}
+use Rattle.commit_writes.specs.Commit.{IsSegment}
+use Rattle.tcam_cli.specs.Readings.{reading}
+use Rattle.tcam_cli.specs.CommandLine.{route_setting}
+use Rattle.tcam_cli.specs.Headline.{NoJob, Reads, IsCarriedOut}
+
+abbrev routes : ℕ → Setting
+routes slots = route_setting slots
+
+abbrev feed : List ℕ → List ℕ
+feed line = line ++ 10 ∷ []
+
+-- the words are no command line
+usage : IsCarriedOut NoJob 8 Usage None None (Some (codes "x")) (Some (codes "x" ++ feed (codes "usage"))) (Some [])
+usage = (refl, refl, (feed (codes "usage"), refl, inl (refl, refl)))
+
+-- an empty script
+empty : IsCarriedOut (Reads (routes 8)) 8 Done (Some []) (Some []) (Some []) (Some (feed (codes "end rules 0 entries 0 writes 0 pending 0"))) (Some [])
+unfolding digits
+empty = (
+  record { taken = []; parts = refl; all = λ _. refl },
+  record {
+    effects = Prints (ending (routes 8) (start 8)) ∷ [];
+    partial = [];
+    outcome = (record { body = []; last = start 8; run = (refl, refl); status_is = refl; effects_are = refl }, refl);
+    journal_is = refl;
+    report_is = refl;
+  },
+)
+
+-- the acts of two routes for one slot
+abbrev two-routes : List ℕ
+two-routes = feed (codes "route add 10.0.0.0/8 7") ++ feed (codes "route add 11.0.0.0/8 8") ++ feed (codes "commit")
+
+abbrev ten : Act
+ten = Command (Add (route_rule (ipv4_route_rank (ipv4_block 0x0a000000 8)) (ipv4_block 0x0a000000 8) 7))
+
+abbrev eleven : Act
+eleven = Command (Add (route_rule (ipv4_route_rank (ipv4_block 0x0b000000 8)) (ipv4_block 0x0b000000 8) 8))
+
+two-routes-acts : script_of reading two-routes ≡ record { acts = record { line = 1; act = ten } ∷ record { line = 2; act = eleven } ∷ record { line = 3; act = Commit } ∷ []; last = Whole }
+two-routes-acts = refl
+
+abbrev one-pending : Progress
+one-pending = record (start 8) { batch = Add (route_rule (ipv4_route_rank (ipv4_block 0x0a000000 8)) (ipv4_block 0x0a000000 8) 7) ∷ [] }
+
+abbrev two-pending : Progress
+two-pending = record one-pending { batch = Add (route_rule (ipv4_route_rank (ipv4_block 0x0a000000 8)) (ipv4_block 0x0a000000 8) 7) ∷ Add (route_rule (ipv4_route_rank (ipv4_block 0x0b000000 8)) (ipv4_block 0x0b000000 8) 8) ∷ [] }
+
+refused : IsCarriedOut (Reads (routes 1)) 8 Refused (Some two-routes) (Some []) (Some []) (Some (feed (codes "commit 1 refused slots 2 1") ++ feed (codes "end rules 0 entries 0 writes 0 pending 0"))) (Some [])
+unfolding digits
+refused = (
+  record { taken = two-routes; parts = refl; all = λ _. refl },
+  record {
+    effects = Prints (refused_line Route 1 (OutOfSlots 2 1)) ∷ Prints (ending (routes 1) (after_refusal two-pending)) ∷ [];
+    partial = [];
+    outcome = (
+      record {
+        body = Prints (refused_line Route 1 (OutOfSlots 2 1)) ∷ [];
+        last = after_refusal two-pending;
+        run = (
+          [],
+          one-pending,
+          Prints (refused_line Route 1 (OutOfSlots 2 1)) ∷ [],
+          (refl, refl),
+          (
+            [],
+            two-pending,
+            Prints (refused_line Route 1 (OutOfSlots 2 1)) ∷ [],
+            (refl, refl),
+            (Prints (refused_line Route 1 (OutOfSlots 2 1)) ∷ [], after_refusal two-pending, [], (refl, refl), (refl, refl), refl),
+            refl,
+          ),
+          refl,
+        );
+        status_is = refl;
+        effects_are = refl;
+      },
+      refl,
+    );
+    journal_is = refl;
+    report_is = refl;
+  },
+)
+
+-- a line at fault, behind one that is carried out, of a script that goes on
+abbrev at-fault : List ℕ
+at-fault = feed (codes "route add 10.0.0.0/8 7") ++ feed (codes "route add 10.0.0.1/8 x") ++ codes "more"
+
+faulty : IsCarriedOut (Reads (routes 8)) 8 ScriptFault (Some at-fault) (Some (codes "more")) (Some []) (Some (feed (codes "line 2 host bits"))) (Some [])
+unfolding digits
+faulty = (
+  record { taken = feed (codes "route add 10.0.0.0/8 7") ++ feed (codes "route add 10.0.0.1/8 x"); parts = refl; all = λ either. elim either [ inl is ↦ cc | inr is ↦ cc ] },
+  record {
+    effects = Prints (fault_line 2 (codes "host bits")) ∷ [];
+    partial = [];
+    outcome = (
+      record {
+        body = [];
+        last = one-pending;
+        run = ([], one-pending, [], (refl, refl), (refl, refl), refl);
+        status_is = refl;
+        effects_are = refl;
+      },
+      refl,
+    );
+    journal_is = refl;
+    report_is = refl;
+  },
+)
+
+-- a commit of an empty batch, which is accepted and writes nothing
+abbrev empty-commit : List ℕ
+empty-commit = feed (codes "commit")
+
+abbrev none-counted : Counts
+none-counted = record { writes = 0; words = 0; most = 0; span = 0 }
+
+blank-shows : State.Shows (State.blank 8) []
+blank-shows key is = refl
+
+nothing-made : IsSegment Cover no_bits [] [] (State.blank 8) []
+nothing-made =
+    record {
+      hitless =
+          record {
+            on_the_way = record { before = blank-shows; during = λ n key is. inl (rw take-nil refl) };
+            after = blank-shows;
+          };
+      shape =
+          record {
+            tables = [];
+            inserted = [];
+            rewritten = [];
+            erased = [];
+            parts = refl;
+            words = sym (bit_writes-none (State.blank 8));
+            whole = refl;
+            entries = refl;
+            results = tt;
+            erases = tt;
+          };
+      bound = λ chain is. tt;
+      tight = λ chain is. tt;
+    }
+
+abbrev committed : Progress
+committed = after_segment (routes 8) (start 8) []
+
+accepted : IsCarriedOut (Reads (routes 8)) 8 Done (Some empty-commit) (Some []) (Some []) (Some (feed (codes "commit 1 ok writes 0 words 0 most 0 span 0") ++ feed (codes "end rules 0 entries 0 writes 0 pending 0"))) (Some [])
+unfolding digits
+accepted = (
+  record { taken = empty-commit; parts = refl; all = λ _. refl },
+  record {
+    effects = Prints (accepted_line 1 none-counted) ∷ Prints (ending (routes 8) committed) ∷ [];
+    partial = [];
+    outcome = (
+      record {
+        body = Prints (accepted_line 1 none-counted) ∷ [];
+        last = committed;
+        run = (
+          Prints (accepted_line 1 none-counted) ∷ [],
+          committed,
+          [],
+          record {
+            made = [];
+            counts = none-counted;
+            segment = nothing-made;
+            of_family = (tt, tt);
+            in_use = tt;
+            numbers =
+                record {
+                  writes = refl;
+                  words = refl;
+                  most = refl;
+                  span = record { no_less = tt; no_more = inl refl };
+                };
+            effects_are = refl;
+            after = refl;
+          },
+          (refl, refl),
+          refl,
+        );
+        status_is = refl;
+        effects_are = refl;
+      },
+      refl,
+    );
+    journal_is = refl;
+    report_is = refl;
+  },
+)
