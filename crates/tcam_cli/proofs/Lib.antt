@@ -14,3 +14,7 @@ mod ActLines
 mod Limits
 mod Closings
 mod Begun
+mod AllTheWay
+mod FirstActs
+mod HitlessRuns
+mod SetExamples
