@@ -1,5 +1,5 @@
 -- The promise of the top call at some small scripts, each with its whole report.
-use Rattle.std.proofs.Common.{◌≡◌, ℕ, ◌+◌, List, [], ◌∷◌, ◌++◌, Some, None, false, refl, sym, inl, inr}
+use Rattle.std.proofs.Common.{◌≡◌, ℕ, ◌+◌, ◌∙◌, Contains, List, [], ◌∷◌, ◌++◌, Some, None, false, refl, sym, inl, inr}
 use Rattle.std.specs.Prelude.{codes, ℕ}
 use Rattle.std.specs.Fmt.{digits}
 use Rattle.rule_store.specs.declared.Mode.TheVariants.{Cover}
@@ -16,6 +16,10 @@ use Rattle.replay.specs.Text.{accepted_line, refused_line, fault_line}
 use Rattle.replay.specs.Run.{Setting, Prints, Progress, start, ending, after_refusal, after_segment}
 use Rattle.tcam_cli.specs.declared.Status.TheVariants.{Done, Refused, Script as ScriptFault, Usage}
 use Rattle.std.proofs.Math.Seq.{take-nil}
+use Rattle.slot_order.proofs.Rules.{contains_none}
+use Rattle.ternary_word.specs.declared.Entry.{Entry}
+use Rattle.tcam_device.specs.Order.{IsOrdered}
+use Rattle.tcam_device.proofs.Wider.{empty_slot}
 use Rattle.commit_writes.proofs.NoBits.{bit_writes-none}
 use Rattle.tcam_device.specs.State as State
 use Rattle.commit_writes.specs.declared.Done.{Done as Counts}
@@ -140,6 +144,15 @@ none-counted = record { writes = 0; words = 0; most = 0; span = 0 }
 blank-shows : State.Shows (State.blank 8) []
 blank-shows key is = refl
 
+-- a blank device is in order for no pieces
+blank-ordered : IsOrdered (State.blank 8) (Contains [])
+blank-ordered =
+    record {
+      known = λ at entry held. absurd (let none : None ≡ Some entry = sym (empty_slot {E = Entry} 8 at) ∙ held in cc);
+      complete = λ ranked member. absurd (contains_none ranked member);
+      order = λ i j first second less member other here there meet. absurd (contains_none first member);
+    }
+
 nothing-made : IsSegment Cover no_bits [] [] (State.blank 8) []
 nothing-made =
     record {
@@ -147,6 +160,16 @@ nothing-made =
           record {
             on_the_way = record { before = blank-shows; during = λ n key is. inl (rw take-nil refl) };
             after = blank-shows;
+          };
+      order =
+          record {
+            during = λ n. (
+              [],
+              record { known = λ ranked member. absurd (contains_none ranked member); kept = λ ranked old new. absurd (contains_none ranked old) },
+              rw take-nil blank-ordered,
+            );
+            after = blank-ordered;
+            once = λ ranked member. absurd (contains_none ranked member);
           };
       shape =
           record {

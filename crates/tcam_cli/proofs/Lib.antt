@@ -17,3 +17,7 @@ mod Begun
 mod Corners
 mod Examples
 mod Wrong
+mod AllTheWay
+mod FirstActs
+mod HitlessRuns
+mod SetExamples

@@ -3,3 +3,4 @@ pub mod Headline
 pub mod CommandLine
 pub mod Turns
 pub mod ExitCodes
+pub mod AllTheWay

@@ -9,6 +9,7 @@ ghost use Rattle.replay.specs.Run.{IsRouteAct, start, ending};
 ghost use Rattle.replay.specs.Running.{progress_of, setting_of};
 ghost use Rattle.replay.specs.Script.{Whole};
 ghost use Rattle.replay.specs.Text.{fault_line};
+ghost use Rattle.tcam_cli.specs.AllTheWay.{IsHitlessJob};
 ghost use Rattle.tcam_cli.specs.CommandLine.{job_of, route_setting};
 ghost use Rattle.tcam_cli.specs.Headline.{IsCarriedOut, HasCauses, Reads, status_of};
 ghost use Rattle.tcam_cli.specs.Readings.{reading, route_act};
@@ -41,6 +42,8 @@ pub fn run<S: Source, K: Sink, D: Device>(
     requires blank { IfSome (D.journal device.old) (λ writes. writes ≡ []) }
     ensures carried_out { IsCarriedOut (job_of (map (λ w. string_bytes w) words.now)) (D.slot_count device.old) result
         (S.left source.old) (S.left source.new) (K.taken sink.old) (K.taken sink.new) (D.journal device.new) }
+    ensures hitless { IsHitlessJob (job_of (map (λ w. string_bytes w) words.now)) (D.slot_count device.old) result
+        (S.left source.old) (S.left source.new) (D.journal device.new) }
     ensures told { (IsSome (S.left source.old) → IsSome (S.left source.new)) × (IsSome (K.taken sink.old) → IsSome (K.taken sink.new))
         × (IsSome (D.journal device.old) → IsSome (D.journal device.new)) }
     ensures slot_count { D.slot_count device.new ≡ D.slot_count device.old }

@@ -1,6 +1,7 @@
 use Rattle.tcam_cli.specs.declared.Status.TheVariants.{Done}
 use Rattle.tcam_cli.specs.CommandLine.{help_text, version_text}
 use Rattle.tcam_cli.proofs.TopCall.{memory-carried, told-alone}
+use Rattle.tcam_cli.proofs.HitlessRuns.{hitless-job}
 use Rattle.tcam_cli.proofs.top.run.Goals as goal
 
 pub returns-in-Ok-Help-clause-carried_out : goal.returns-in-Ok-Help-clause-carried_out
@@ -17,3 +18,11 @@ returns-in-Ok-Version-clause-carried_out g c =
 
 pub returns-in-Err-Memory-clause-carried_out : goal.returns-in-Err-Memory-clause-carried_out
 returns-in-Err-Memory-clause-carried_out g c = memory-carried _ _ _ _ _ c.requires.blank
+
+pub returns-in-Ok-Route-clause-hitless : goal.returns-in-Ok-Route-clause-hitless
+returns-in-Ok-Route-clause-hitless g c =
+    let is = rw c.in-Ok-Route.field-0-is at c.in-Ok-Route.ensures.asked in
+    rw is (search hitless-job)
+
+pub returns-in-Err-Memory-clause-hitless : goal.returns-in-Err-Memory-clause-hitless
+returns-in-Err-Memory-clause-hitless g c = hitless-job _ _ _ _ _ _ _ _ (memory-carried _ _ _ (g.K.Sink.taken c.args.sink.now) _ c.requires.blank)

@@ -1,0 +1,40 @@
+-- The sets of some scripts, and what the promise leaves no room for.
+use Rattle.std.proofs.Common.{◌≡◌, inl, inr, ℕ, zero, suc, Some, None, List, [], ◌∷◌, ◌++◌, length, map, take, refl, sym, subst}
+use Rattle.std.specs.Prelude.{codes}
+use Rattle.rule_model.specs.declared.Rule.{Rule}
+use Rattle.rule_store.specs.declared.Mode.TheVariants.{Cover}
+use Rattle.tcam_device.specs.declared.Write.{Write}
+use Rattle.tcam_device.specs.State.{State, Shows, state_after}
+use Rattle.tcam_device.specs.Hitless.{ShowsOldOrNew}
+use Rattle.replay.specs.declared.Family.TheVariants.{Route}
+use Rattle.replay.specs.Script.{script_of}
+use Rattle.tcam_cli.specs.Readings.{reading}
+use Rattle.tcam_cli.specs.AllTheWay.{sets_of, ShowsSetOrNext, AnswersAllTheWay}
+
+abbrev sets : ℕ → List ℕ → List (List Rule)
+sets slots bytes = sets_of (record { slots = slots; mode = Cover; family = Route }) (script_of reading bytes)
+
+abbrev two_routes : List ℕ
+two_routes = codes "route add 10.0.0.0/8 7" ++ 10 ∷ codes "route add 11.0.0.0/8 7" ++ 10 ∷ codes "commit" ++ 10 ∷ []
+
+-- nothing is committed
+idle : sets 8 (codes "route add 10.0.0.0/8 7") ≡ [] ∷ []
+idle = refl
+
+-- one set more for a commit that is accepted, and none for one that is refused
+accepted : map length (sets 8 (two_routes ++ two_routes)) ≡ 0 ∷ 2 ∷ []
+accepted = refl
+
+refused : sets 1 two_routes ≡ [] ∷ []
+refused = refl
+
+-- with one set alone every key has its answer after each write
+shows-one : (state : State) (rules : List Rule) (place : ℕ) → ShowsSetOrNext state (rules ∷ []) place → Shows state rules
+shows-one state rules (suc place) (old, new, here, next, shows) key valid = absurd (let none : None ≡ Some old = here in cc)
+shows-one state rules zero (old, new, here, inl next, shows) key valid = absurd (let none : None ≡ Some new = next in cc)
+shows-one state rules zero (old, new, here, inr same, shows) key valid =
+    let first : rules ≡ old = cc in
+    elim (subst (λ set. ShowsOldOrNew state set set) (sym first) (subst (λ set. ShowsOldOrNew state old set) same shows) key valid) [ inl is ↦ is | inr is ↦ is ]
+
+one-set : (state : State) (rules : List Rule) (writes : List Write) → AnswersAllTheWay state (rules ∷ []) writes → (n : ℕ) → Shows (state_after state (take n writes)) rules
+one-set state rules writes is n = shows-one (state_after state (take n writes)) rules (is.place n) (is.answers n)

@@ -1,0 +1,86 @@
+-- What packets see of a run, in the words of rule sets: the acts lead from set to set, and after each device write
+-- every packet key has the answer of one of these sets or of the next one.
+use Rattle.std.specs.Prelude.{◌≡◌, ℕ, ◌+◌, ◌-◌, ◌≤◌, ◌⊎◌, Option, Some, IfSome, List, [], ◌∷◌, ◌++◌, length, take, slice_get}
+use Rattle.rule_model.specs.declared.Rule.{Rule}
+use Rattle.rule_store.specs.declared.Command.{Command as Change}
+use Rattle.rule_store.specs.Batch.{set_after}
+use Rattle.rule_store.specs.Verdict.{Accepted, verdict}
+use Rattle.tcam_device.specs.declared.Write.{Write}
+use Rattle.tcam_device.specs.State.{State, blank, Shows, state_after}
+use Rattle.tcam_device.specs.Hitless.{ShowsOldOrNew}
+use Rattle.replay.specs.declared.Act.{Act}
+use Rattle.replay.specs.declared.Act.TheVariants.{Command, Packet, Commit}
+use Rattle.replay.specs.Script.{Script, script_of}
+use Rattle.replay.specs.Run.{Setting}
+use Rattle.tcam_cli.specs.declared.Status.{Status}
+use Rattle.tcam_cli.specs.declared.Status.TheVariants.{Done, Refused, Script as ScriptFault, ReadFault, WriteFault, DeviceFault, Memory, Usage}
+use Rattle.tcam_cli.specs.Headline.{Job, NoJob, Tells, Reads, acts_of, script_so_far}
+use Rattle.tcam_cli.specs.Readings.{reading}
+
+-- the sets that acts lead through, by the rule lists alone: the first, and one more for each accepted commit
+abbrev pub sets_through : Setting → List Rule → List Change → List Act → List (List Rule)
+sets_through setting rules batch [] = rules ∷ []
+sets_through setting rules batch (Command change ∷ acts) = sets_through setting rules (batch ++ change ∷ []) acts
+sets_through setting rules batch (Packet key ∷ acts) = sets_through setting rules batch acts
+sets_through setting rules batch (Commit ∷ acts) =
+    elim (verdict setting.slots setting.mode rules batch) [
+      | Accepted ↦ rules ∷ sets_through setting (set_after rules batch) [] acts
+      | _ ↦ sets_through setting rules [] acts
+    ]
+
+-- the sets that a script leads a blank device through: the empty one first
+abbrev pub sets_of : Setting → Script → List (List Rule)
+sets_of setting script = sets_through setting [] [] (acts_of script)
+
+-- every key has the answer of the set at this place, or of the next one, where there is one
+abbrev pub ShowsSetOrNext : State → List (List Rule) → ℕ → Type 0
+ShowsSetOrNext state sets place =
+    (old : List Rule) × (new : List Rule) × (slice_get sets place ≡ Some old)
+    × ((slice_get sets (place + 1) ≡ Some new) ⊎ (new ≡ old)) × ShowsOldOrNew state old new
+
+-- Before the first and after each of the writes every key has the answer of one of the sets or of the next one, and
+-- the sets come in their order: none comes again once it is left.
+pub record AnswersAllTheWay (state : State) (sets : List (List Rule)) (writes : List Write) : Type 0 where
+  pub place : ℕ → ℕ
+  pub rises : (n m : ℕ) → n ≤ m → place n ≤ place m
+  pub answers : (n : ℕ) → ShowsSetOrNext (state_after state (take n writes)) sets (place n)
+
+-- after all of the writes every key has the answer of the last set
+pub record EndsAtLast (state : State) (sets : List (List Rule)) (writes : List Write) : Type 0 where
+  pub front : List (List Rule)
+  pub rules : List Rule
+  pub sets_are : sets ≡ front ++ rules ∷ []
+  pub shows : Shows (state_after state writes) rules
+
+-- the acts that came are the first of the script, and so are their sets; all of them are carried out
+pub record EndsWithin (state : State) (setting : Setting) (script came : Script) (writes : List Write) : Type 0 where
+  pub later : List Act
+  pub acts : acts_of script ≡ acts_of came ++ later
+  pub behind : List (List Rule)
+  pub sets : sets_of setting script ≡ sets_of setting came ++ behind
+  pub answers : AnswersAllTheWay state (sets_of setting came) writes
+  pub ends : EndsAtLast state (sets_of setting came) writes
+
+-- Where the writes of a run end, by its status: at the last set of the script, or of what came of it, or on the way.
+abbrev pub EndsAs : State → Setting → Script → Script → Status → List Write → Type 0
+EndsAs state setting script came Done writes = EndsAtLast state (sets_of setting script) writes
+EndsAs state setting script came Refused writes = EndsAtLast state (sets_of setting script) writes
+EndsAs state setting script came ScriptFault writes = EndsAtLast state (sets_of setting script) writes
+EndsAs state setting script came ReadFault writes = EndsWithin state setting script came writes
+EndsAs state setting script came WriteFault writes = Unit {0}
+EndsAs state setting script came DeviceFault writes = Unit {0}
+EndsAs state setting script came Memory writes = Unit {0}
+EndsAs state setting script came Usage writes = ⊥
+
+-- what packets see of a run over a script, on a device that was blank
+pub record IsHitlessRun (setting : Setting) (device_slots : ℕ) (script came : Script) (status : Status) (journal : List Write) : Type 0 where
+  pub answers : AnswersAllTheWay (blank device_slots) (sets_of setting script) journal
+  pub ends : EndsAs (blank device_slots) setting script came status journal
+
+-- what packets see of a job, by what source and a device that was blank tell: a job without a script writes nothing
+abbrev pub IsHitlessJob : Job → ℕ → Status → Option (List ℕ) → Option (List ℕ) → Option (List Write) → Type 0
+IsHitlessJob NoJob device_slots status left_old left_new journal = IfSome journal (λ writes. writes ≡ [])
+IsHitlessJob (Tells text) device_slots status left_old left_new journal = IfSome journal (λ writes. writes ≡ [])
+IsHitlessJob (Reads setting) device_slots status left_old left_new journal =
+    IfSome left_old (λ old. IfSome left_new (λ new. IfSome journal (λ writes.
+    IsHitlessRun setting device_slots (script_of reading old) (script_so_far reading (take (length old - length new) old)) status writes)))
