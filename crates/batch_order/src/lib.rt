@@ -22,6 +22,8 @@ mod entries;
 mod manager;
 mod plan;
 mod planning;
+#[cfg(test)]
+mod tests;
 
 pub use commit_writes::Done;
 pub use manager::Manager;
