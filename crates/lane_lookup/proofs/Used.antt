@@ -5,9 +5,9 @@ use Rattle.std.specs.List.{AllByRecursion}
 use Rattle.std.proofs.lemmas.Bool.{cases_Bool, or_parts, not-false, eqb-true, eq-eqb}
 use Rattle.std.proofs.lemmas.Nat.{and_le_r}
 use Rattle.std.proofs.lemmas.List.{get_or_default, at_drop_more}
-use Rattle.lane_lookup.specs.Columns.{Lane, blank_lane, lane_off, lanes_agree, with_cell, with_row, used_from, IsZeroUnlessUsed}
+use Rattle.lane_lookup.specs.Columns.{Lane, blank_lane, lane_off, lanes_agree, with_cell, with_row, used_from, HasSize, IsZeroUnlessUsed}
 use Rattle.lane_lookup.proofs.Rows.{or_test}
-use Rattle.lane_lookup.proofs.Steps.{and_assoc}
+use Rattle.lane_lookup.proofs.Steps.{and_assoc, holds_at}
 
 -- the lanes with these numbers don't keep the slot from hitting
 abbrev pub used_agree : List ℕ → List Lane → List ℕ → ℕ → Bool
@@ -59,6 +59,12 @@ used_within lanes used j listed below =
     let at : j < length (used_from lanes 0) = subst (λ us. j < length us) listed below in
     let bound = used_below lanes 0 j 0 at in
     subst (λ us. get_or us j 0 < length lanes) (sym listed) (omega arith)
+
+-- a lane in use has this many slots
+pub used_size : (lanes : List Lane) (used : List ℕ) (j size : ℕ) (lane : Lane) → used ≡ used_from lanes 0 → j < length used → AllByRecursion (HasSize size) lanes
+    → lane ≡ get_or lanes (get_or used j 0) lane → HasSize size lane
+used_size lanes used j size lane listed below sizes is_lane =
+    subst (HasSize size) (sym is_lane) (holds_at (HasSize size) lanes _ lane sizes (used_within lanes used j listed below))
 
 -- all lanes agree where those in use do
 pub all_agree : (lanes : List Lane) (words used : List ℕ) (place : ℕ) → used ≡ used_from lanes 0 → length words ≡ length lanes → AllByRecursion IsZeroUnlessUsed lanes

@@ -1,8 +1,6 @@
-use Rattle.std.proofs.Common.{◌≡◌, ◌+◌, arith, length, sym, ◌∙◌, subst, refl}
+use Rattle.std.proofs.Common.{◌≡◌, ◌+◌, arith, length, ◌∙◌, refl}
 use Rattle.std.proofs.lemmas.Bool.{and_left}
-use Rattle.lane_lookup.specs.Columns.{HasSize}
-use Rattle.lane_lookup.proofs.Steps.{holds_at}
-use Rattle.lane_lookup.proofs.Used.{all_agree, used_step, used_within}
+use Rattle.lane_lookup.proofs.Used.{all_agree, used_size, used_step, used_within}
 use Rattle.lane_lookup.proofs.eight.first_of_eight.Goals as goal
 
 pub loop-lane-init : goal.loop-lane-init
@@ -34,19 +32,13 @@ bounds-word-lane c =
 
 pub off-requires-clause-values : goal.off-requires-clause-values
 off-requires-clause-values c =
-    let within = used_within c.args.lanes.now c.args.used.now c.loop-lane.lane-index c.requires.listed (omega arith) in
-    let size : HasSize (length c.args.vacant.now) c.index-lanes-lane.result =
-    subst (HasSize (length c.args.vacant.now)) (sym c.index-lanes-lane.is) (holds_at (HasSize (length c.args.vacant.now)) c.args.lanes.now _ _ c.requires.sizes within) in
-    let values = size.0 in
-    let room = c.requires.room in omega arith
+    let size = used_size c.args.lanes.now c.args.used.now c.loop-lane.lane-index _ _ c.requires.listed (omega arith) c.requires.sizes c.index-lanes-lane.is in
+    let values : length c.index-lanes-lane.result.values ≡ length c.args.vacant.now = size.0 in omega arith
 
 pub off-requires-clause-masks : goal.off-requires-clause-masks
 off-requires-clause-masks c =
-    let within = used_within c.args.lanes.now c.args.used.now c.loop-lane.lane-index c.requires.listed (omega arith) in
-    let size : HasSize (length c.args.vacant.now) c.index-lanes-lane.result =
-    subst (HasSize (length c.args.vacant.now)) (sym c.index-lanes-lane.is) (holds_at (HasSize (length c.args.vacant.now)) c.args.lanes.now _ _ c.requires.sizes within) in
-    let masks = size.1 in
-    let room = c.requires.room in omega arith
+    let size = used_size c.args.lanes.now c.args.used.now c.loop-lane.lane-index _ _ c.requires.listed (omega arith) c.requires.sizes c.index-lanes-lane.is in
+    let masks : length c.index-lanes-lane.result.masks ≡ length c.args.vacant.now = size.1 in omega arith
 
 pub returns-then-first_zero-eq8-clause-before : goal.returns-then-first_zero-eq8-clause-before
 returns-then-first_zero-eq8-clause-before c k l =
