@@ -1,38 +1,25 @@
 -- Whether the gap of an id is crossed, and which chains there are.
-use Rattle.std.proofs.Common.{◌≡◌, ℕ, ◌+◌, ◌-◌, ◌*◌, ◌<◌, ◌≤◌, true, Option, None, Some, List, [], ◌∷◌, ◌++◌, length, map, ◌⊎◌, false, inl, inr, arith, refl, sym, ◌∙◌, subst, ap, append_assoc, length-append}
-use Rattle.std.proofs.lemmas.List.{length-map, map-append}
-use Rattle.slot_order.specs.Order.{slot, Ordered}
-use Rattle.slot_order.specs.Moves.{applied, Turn, Down, Up, turn_moves, IsTurn}
-use Rattle.slot_order.proofs.Insertion.{Closer, turn_closer}
-use Rattle.slot_order.proofs.Once.{turn_once}
-use Rattle.slot_order.proofs.Count.{length-chain_moves}
-use Rattle.slot_order.proofs.Inside.{length-applied}
+use Rattle.std.proofs.Common.{◌≡◌, ℕ, ◌+◌, ◌-◌, ◌<◌, ◌≤◌, true, Option, None, Some, length, false, inl, inr, arith, refl, sym, ◌∙◌, subst, ap}
+use Rattle.slot_order.specs.Order.{slot}
 use Rattle.slot_pool.specs.Arrangement.{Slots, is_free, next_free_above, last_free_below}
 use Rattle.slot_pool.proofs.Places.{find_range_none}
-use Rattle.slot_pool.proofs.Scan.{IsFree, next_free_is, last_free_is, find_back_none}
-use Rattle.slot_order.proofs.Writes.{slot_inside}
+use Rattle.slot_pool.proofs.Scan.{find_back_none}
 use Rattle.std.proofs.lemmas.Bool.{cases_lt, and_from, lt-ltb}
-use Rattle.std.specs.Prelude.{slice_index_or, nat_lt, is_none, ◌&&◌}
+use Rattle.std.specs.Prelude.{nat_lt, is_none, ◌&&◌}
 use Rattle.overlap_index.specs.Live.{LivePieces, is_above}
 use Rattle.overlap_index.proofs.Above.{rank_in}
-use Rattle.move_planner.specs.declared.Move.{Move}
-use Rattle.move_planner.specs.declared.Move.TheVariants.{Erase}
-use Rattle.move_planner.specs.Placement.{Above, after_moves, moves_along, first_lower, last_upper, next_slot, gap_start, gap_end, IsPlacement, uncross_down, uncross_up}
-use Rattle.move_planner.specs.Placement.{IsDownChain as PlansDown, IsUpChain as PlansUp}
-use Rattle.move_planner.specs.Insertion.{IsOther, free_slots}
+use Rattle.move_planner.specs.Placement.{Above, first_lower, last_upper, next_slot, gap_start, gap_end}
+use Rattle.move_planner.specs.Insertion.{free_slots}
 use Rattle.move_planner.specs.declared.chains.Chain.{Chain}
-use Rattle.move_planner.specs.Steps.{CanShift, IsReady, IsCrossed, IsTurned, IsShiftedOut, FindsDown, FindsUp}
+use Rattle.move_planner.specs.Steps.{IsReady, IsCrossed, FindsDown, FindsUp}
 use Rattle.move_planner.specs.Steps.{IsDown as FoundDown, IsUp as FoundUp}
 use Rattle.move_planner.proofs.Shifted.{free_somewhere}
-use Rattle.move_planner.proofs.Chain.{write_of, after_moves-applied, Reads, lower_is, upper_is, floor_is, ceiling_is, down_is, up_is, IsDown, IsUp, LowerAt, UpperAt}
-use Rattle.move_planner.proofs.Planner.{Related, ranked_reads}
-use Rattle.move_planner.proofs.Orders.{ranked}
-use Rattle.move_planner.proofs.Readied.{ready_ordered, order_from, start_inside, down_size, up_size, down_can_shift, up_can_shift}
+use Rattle.move_planner.proofs.Readied.{start_inside}
 use Rattle.std.specs.Option.{unwrap_or}
 use Rattle.move_planner.proofs.Turned.{low_at, high_at}
 
 -- of an id that isn't crossed, and of two slots that aren't
-pub not_crossed : (index : LivePieces) (id : ℕ) (slots : Slots) (lower upper : ℕ) → IsReady index id slots → first_lower (is_above index.live) slots id ≡ Some lower
+not_crossed : (index : LivePieces) (id : ℕ) (slots : Slots) (lower upper : ℕ) → IsReady index id slots → first_lower (is_above index.live) slots id ≡ Some lower
     → last_upper (is_above index.live) slots id ≡ Some upper → upper ≤ lower → gap_start (is_above index.live) slots id ≤ gap_end (is_above index.live) slots id
 not_crossed index id slots lower upper ready low high le =
     let a = low_at index id slots lower ready low in
@@ -51,14 +38,35 @@ not_crossed index id slots lower upper ready low high le =
           )
     ]
 
-pub not_crossed_low : (above : Above) (slots : Slots) (id : ℕ) → first_lower above slots id ≡ None → gap_start above slots id ≤ gap_end above slots id
+not_crossed_low : (above : Above) (slots : Slots) (id : ℕ) → first_lower above slots id ≡ None → gap_start above slots id ≤ gap_end above slots id
 not_crossed_low above slots id none =
     let end_at : gap_end above slots id ≡ length slots = ap (λ found. unwrap_or found (length slots)) none in
     let a = start_inside above slots id in omega arith
 
-pub not_crossed_high : (above : Above) (slots : Slots) (id : ℕ) → last_upper above slots id ≡ None → gap_start above slots id ≤ gap_end above slots id
+not_crossed_high : (above : Above) (slots : Slots) (id : ℕ) → last_upper above slots id ≡ None → gap_start above slots id ≤ gap_end above slots id
 not_crossed_high above slots id none =
     let start_at : gap_start above slots id ≡ 0 = ap next_slot none in omega arith
+
+-- where the gap's end is before its start, the slots on either side cross
+pub is_crossed : (index : LivePieces) (id : ℕ) (slots : Slots) (start end : ℕ) → IsReady index id slots → start ≡ gap_start (is_above index.live) slots id
+    → end ≡ gap_end (is_above index.live) slots id → end < start → IsCrossed (is_above index.live) slots id end (start - 1)
+is_crossed index id slots start end ready s e crossed = go (first_lower (is_above index.live) slots id) refl (last_upper (is_above index.live) slots id) refl
+  where
+    go : (low : Option ℕ) → first_lower (is_above index.live) slots id ≡ low → (high : Option ℕ) → last_upper (is_above index.live) slots id ≡ high
+        → IsCrossed (is_above index.live) slots id end (start - 1)
+    go None l high h = absurd (let k = not_crossed_low (is_above index.live) slots id l in omega arith)
+    go (Some lower) l None h = absurd (let k = not_crossed_high (is_above index.live) slots id h in omega arith)
+    go (Some lower) l (Some upper) h =
+        let end_at : gap_end (is_above index.live) slots id ≡ lower = ap (λ found. unwrap_or found (length slots)) l in
+        let start_at : gap_start (is_above index.live) slots id ≡ upper + 1 = ap next_slot h in
+        record {
+          low = l ∙ ap Some (let k : lower ≡ end = omega arith in k);
+          high = h ∙ ap Some (let k : upper ≡ start - 1 = omega arith in k);
+          crossed = elim (cases_lt lower upper) [
+            | inl less ↦ omega arith
+            | inr most ↦ absurd (let k = not_crossed index id slots lower upper ready l h most in omega arith)
+          ];
+        }
 
 -- with an empty slot there is one on either side of a taken one
 pub free_beside : (slots : Slots) (at held : ℕ) → 0 < free_slots slots → slot slots at ≡ Some held → next_free_above slots at ≡ None → last_free_below slots at ≡ None → ⊥

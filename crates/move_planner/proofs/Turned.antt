@@ -1,5 +1,5 @@
 -- A turn that moves a chain out of the way leaves an arrangement that is ready for the next.
-use Rattle.std.proofs.Common.{◌≡◌, ℕ, ◌+◌, ◌-◌, ◌*◌, ◌<◌, ◌≤◌, true, Option, None, Some, List, [], ◌∷◌, ◌++◌, length, map, ◌⊎◌, false, inl, inr, arith, refl, sym, ◌∙◌, subst, ap, append_assoc, length-append}
+use Rattle.std.proofs.Common.{◌≡◌, ℕ, ◌+◌, ◌-◌, ◌*◌, ◌<◌, ◌≤◌, Option, None, Some, List, [], ◌∷◌, ◌++◌, length, map, ◌⊎◌, inl, inr, arith, refl, sym, ◌∙◌, subst, ap, append_assoc, length-append}
 use Rattle.std.proofs.lemmas.List.{length-map, map-append}
 use Rattle.slot_order.specs.Order.{slot, Ordered}
 use Rattle.slot_order.specs.Moves.{applied, Turn, Down, Up, turn_moves, IsTurn}
@@ -7,23 +7,20 @@ use Rattle.slot_order.proofs.Insertion.{Closer, turn_closer}
 use Rattle.slot_order.proofs.Once.{turn_once}
 use Rattle.slot_order.proofs.Count.{length-chain_moves}
 use Rattle.slot_order.proofs.Inside.{length-applied}
-use Rattle.slot_pool.specs.Arrangement.{Slots, is_free, next_free_above, last_free_below}
-use Rattle.slot_pool.proofs.Places.{find_range_none}
-use Rattle.slot_pool.proofs.Scan.{IsFree, next_free_is, last_free_is, find_back_none}
+use Rattle.slot_pool.specs.Arrangement.{Slots, next_free_above, last_free_below}
+use Rattle.slot_pool.proofs.Scan.{IsFree, next_free_is, last_free_is}
 use Rattle.slot_order.proofs.Writes.{slot_inside}
-use Rattle.std.proofs.lemmas.Bool.{cases_lt, and_from, lt-ltb}
-use Rattle.std.specs.Prelude.{slice_index_or, nat_lt, is_none, ◌&&◌}
+use Rattle.std.specs.Prelude.{slice_index_or}
 use Rattle.overlap_index.specs.Live.{LivePieces, is_above}
 use Rattle.overlap_index.proofs.Above.{rank_in}
 use Rattle.move_planner.specs.declared.Move.{Move}
 use Rattle.move_planner.specs.declared.Move.TheVariants.{Erase}
-use Rattle.move_planner.specs.Placement.{Above, after_moves, moves_along, first_lower, last_upper, next_slot, gap_start, gap_end, IsPlacement, uncross_down, uncross_up}
+use Rattle.move_planner.specs.Placement.{after_moves, moves_along, first_lower, last_upper, next_slot, gap_start, gap_end, IsPlacement, uncross_down, uncross_up}
 use Rattle.move_planner.specs.Placement.{IsDownChain as PlansDown, IsUpChain as PlansUp}
 use Rattle.move_planner.specs.Insertion.{IsOther, free_slots}
 use Rattle.move_planner.specs.declared.chains.Chain.{Chain}
-use Rattle.move_planner.specs.Steps.{CanShift, IsReady, IsCrossed, IsTurned, IsShiftedOut, FindsDown, FindsUp}
+use Rattle.move_planner.specs.Steps.{CanShift, IsReady, IsCrossed, IsTurned, IsShiftedOut}
 use Rattle.move_planner.specs.Steps.{IsDown as FoundDown, IsUp as FoundUp}
-use Rattle.move_planner.proofs.Shifted.{free_somewhere}
 use Rattle.move_planner.proofs.Chain.{write_of, after_moves-applied, Reads, lower_is, upper_is, floor_is, ceiling_is, down_is, up_is, IsDown, IsUp, LowerAt, UpperAt}
 use Rattle.move_planner.proofs.Planner.{Related, ranked_reads}
 use Rattle.move_planner.proofs.Orders.{ranked}

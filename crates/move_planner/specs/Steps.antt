@@ -6,7 +6,6 @@ use Rattle.overlap_index.specs.Live.{LivePieces, AreApart, is_live, is_above}
 use Rattle.move_planner.specs.declared.Move.{Move}
 use Rattle.move_planner.specs.declared.Move.TheVariants.{Put, Erase}
 use Rattle.move_planner.specs.declared.chains.Chain.{Chain}
-use Rattle.move_planner.specs.declared.crossings.Crossing.{Crossing}
 use Rattle.move_planner.specs.Placement.{Above, after_moves, moves_along, first_lower, last_upper, gap_start, gap_end, StopsBelow, StopsAbove, step_down, step_up, IsDownChain, IsUpChain, DownChain, UpChain, IsPlacement, IsInOrder}
 use Rattle.move_planner.specs.Insertion.{IsOther, StandOnce, free_slots}
 
@@ -107,12 +106,6 @@ pub record IsCrossed (above : Above) (slots : Slots) (id lower upper : ℕ) : Ty
   pub low : first_lower above slots id ≡ Some lower
   pub high : last_upper above slots id ≡ Some upper
   pub crossed : lower < upper
-
--- a crossing that was looked for: none exactly where the gap isn't crossed
-abbrev pub FindsCrossing : Above → Slots → ℕ → Option Crossing → Type 0
-FindsCrossing above slots id found =
-    MatchOption found (gap_start above slots id ≤ gap_end above slots id)
-    (λ crossing. (crossing.id ≡ id) × IsCrossed above slots id crossing.lower crossing.upper)
 
 -- what the last part of an insertion leaves: a placement was planned and made
 pub record IsPlaced (index : LivePieces) (id : ℕ) (slots slots' : Slots) (plan plan' : List Move) : Type 0 where

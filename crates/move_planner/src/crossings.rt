@@ -3,10 +3,9 @@ ghost use Rattle.std.specs.Prelude.{◌≡◌, ◌-◌, ◌<◌, OnOk, OnErr};
 ghost use Rattle.overlap_index.specs.Live.{is_above};
 ghost use Rattle.move_planner.specs.Placement.{gap_start, gap_end};
 ghost use Rattle.move_planner.specs.Insertion.{AreMade};
-ghost use Rattle.move_planner.specs.Steps.{CanShift, IsReady, IsCrossed, IsShiftedOut, IsTurned, FindsCrossing};
+ghost use Rattle.move_planner.specs.Steps.{CanShift, IsReady, IsCrossed, IsShiftedOut, IsTurned};
 
 use crate::chains::{Chain, down_chain, up_chain};
-use crate::places::{first_lower, last_upper};
 use crate::{Move, Plan};
 use overlap_index::Index;
 use slot_pool::Arrangement;
@@ -18,20 +17,6 @@ pub(crate) struct Crossing {
     pub(crate) id: u32,
     pub(crate) lower: u32,
     pub(crate) upper: u32,
-}
-
-/// The crossing of a live id, or `None` exactly where its gap isn't crossed.
-pub(crate) fn find_crossing(slots: &Arrangement, index: &Index, id: u32) -> Option<Crossing>
-    requires { IsReady index.now id slots.now }
-    ensures { FindsCrossing (is_above index.now.live) slots.now id result }
-{
-    let lower = first_lower(slots, index, id)?;
-    let upper = last_upper(slots, index, id)?;
-    if lower < upper {
-        Some(Crossing { id, lower, upper })
-    } else {
-        None
-    }
 }
 
 /// Moves the lower id past the upper one, or where no slot there is free the upper one before the

@@ -39,7 +39,8 @@
 //! # What it costs
 //! A chain's entries overlap one after the other at falling priorities. So with the new entry it has at most as many
 //! members as the longest such chain among the live pieces has, `m`, and an insertion of crossing span `c` takes at
-//! most `m * (1 + c)` moves: each turn of rule 3 narrows the span.
+//! most `m * (1 + c)` moves: each turn of rule 3 narrows the span. The gap is found once before each turn, and a
+//! chain looks once at what overlaps each of its members; an entry's slot is looked up, not searched for.
 //!
 //! # What isn't promised
 //! A least number of moves. The rules look at one entry at a time; we don't know a good way to look further ahead that
@@ -60,9 +61,9 @@ mod placing;
 #[cfg(test)]
 mod tests;
 
-use crossings::{find_crossing, uncross};
+use crossings::{Crossing, uncross};
 use overlap_index::Index;
-use places::span;
+use places::find_gap;
 use placing::place;
 use slot_pool::Arrangement;
 use std::alloc::{AllocError, Global};
@@ -184,11 +185,18 @@ pub fn plan_insert(
     ensures free { OnOk result (free_slots slots.new + 1 ≡ free_slots slots.old) }
 {
     let before = plan.len();
-    let span = span(slots, index, id);
-    while let Some(crossing) = find_crossing(slots, index, id) {
+    let mut gap = find_gap(slots, index, id);
+    let span = gap.span();
+    while gap.end < gap.start {
+        let crossing = Crossing {
+            id,
+            lower: gap.end,
+            upper: gap.start - 1,
+        };
         uncross(alloc, slots, index, plan, crossing)?;
+        gap = find_gap(slots, index, id);
     }
-    place(alloc, slots, index, plan, id)?;
+    place(alloc, slots, index, plan, id, gap)?;
     let writes = (plan.len() - before) as u32;
     Ok(Insert { writes, span })
 }

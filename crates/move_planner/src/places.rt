@@ -3,7 +3,7 @@ ghost use Rattle.std.specs.Prelude.{◌≡◌, ◌<◌, ◌≤◌, ◌+◌, ◌-
 ghost use Rattle.slot_order.specs.Order.{slot as held_in};
 ghost use Rattle.slot_pool.specs.Arrangement.{nearest_free};
 ghost use Rattle.overlap_index.specs.Live.{AreApart, is_live, is_above};
-ghost use Rattle.move_planner.specs.Placement.{first_lower, last_upper, next_slot, span_of};
+ghost use Rattle.move_planner.specs.Placement.{first_lower, last_upper, next_slot, gap_start, gap_end};
 ghost use Rattle.move_planner.specs.Steps.{lesser, greater};
 
 use overlap_index::Index;
@@ -58,8 +58,8 @@ fn greater(a: Option<u32>, b: Option<u32>) -> Option<u32>
     }
 }
 
-/// The slot behind this one, or the first of all.
-pub(crate) fn next_slot(slot: Option<u32>) -> u32
+// The slot behind this one, or the first of all.
+fn next_slot(slot: Option<u32>) -> u32
     requires { next_slot slot < 2 ^ 32 }
     ensures { result ≡ next_slot slot }
 {
@@ -69,18 +69,37 @@ pub(crate) fn next_slot(slot: Option<u32>) -> u32
     }
 }
 
-/// How far the last upper id of one stands past its first lower one.
-pub(crate) fn span(slots: &Arrangement, index: &Index, id: u32) -> u32
+/// The slots in which a live id may stand: those from `start` on and before `end`. Where `end` is
+/// before `start` the last upper id stands past the first lower one.
+#[derive(Clone, Copy, Debug)]
+pub(crate) struct Gap {
+    pub(crate) start: u32,
+    pub(crate) end: u32,
+}
+
+impl Gap {
+    /// How far the last upper id stands past the first lower one.
+    pub(crate) fn span(&self) -> u32
+        ensures { result ≡ self.now.start - 1 - self.now.end }
+    {
+        self.start.saturating_sub(1).saturating_sub(self.end)
+    }
+}
+
+/// The gap of a live id, from one look at all that overlaps it on either side.
+pub(crate) fn find_gap(slots: &Arrangement, index: &Index, id: u32) -> Gap
+    requires few { length slots.now ≤ 4096 }
     requires live { IsTrue (is_live index.now.live id) }
     requires once { (i j other : ℕ) → held_in slots.now i ≡ Some other → held_in slots.now j ≡ Some other → i ≡ j }
-    ensures span { result ≡ span_of (is_above index.now.live) slots.now id }
+    ensures start { result.start ≡ gap_start (is_above index.now.live) slots.now id }
+    ensures end { result.end ≡ gap_end (is_above index.now.live) slots.now id }
     ensures apart { AreApart index.now.slots index.now.live }
 {
-    let end = first_lower(slots, index, id).unwrap_or(slots.slots());
-    match last_upper(slots, index, id) {
-        Some(upper) => upper.saturating_sub(end),
-        None => 0,
-    }
+    let upper = last_upper(slots, index, id);
+    let lower = first_lower(slots, index, id);
+    let start = next_slot(upper);
+    let end = lower.unwrap_or(slots.slots());
+    Gap { start, end }
 }
 
 /// The place in a gap, from `start` on and before `end`, that a new id takes: the free slot nearest

@@ -6,7 +6,7 @@ ghost use Rattle.move_planner.specs.Insertion.{AreMade};
 ghost use Rattle.move_planner.specs.Steps.{IsReady, IsPlaced, IsWay, FindsDownFrom, FindsUpFrom, shorter};
 
 use crate::chains::{Chain, down_chain, up_chain};
-use crate::places::{choose, first_lower, last_upper, next_slot};
+use crate::places::{Gap, choose, first_lower, last_upper};
 use crate::{Move, Plan};
 use overlap_index::Index;
 use slot_pool::Arrangement;
@@ -20,16 +20,16 @@ pub(crate) fn place(
     index: &Index,
     plan: &mut Plan,
     id: u32,
+    gap: Gap,
 ) -> Result<(), AllocError>
     requires ready { IsReady index.now id slots.old }
+    requires start { gap.start ≡ gap_start (is_above index.now.live) slots.old id }
+    requires end { gap.end ≡ gap_end (is_above index.now.live) slots.old id }
     requires uncrossed { gap_start (is_above index.now.live) slots.old id ≤ gap_end (is_above index.now.live) slots.old id }
     ensures placed { OnOk result (IsPlaced index.now id slots.old slots.new plan.old plan.new) }
     ensures made { OnErr result (AreMade slots.old slots.new plan.old plan.new) }
 {
-    let upper = last_upper(slots, index, id);
-    let lower = first_lower(slots, index, id);
-    let end = lower.unwrap_or(slots.slots());
-    if let Some(slot) = choose(slots, next_slot(upper), end) {
+    if let Some(slot) = choose(slots, gap.start, gap.end) {
         return plan.make(slots, Move::Put(slot, id));
     }
     let chain = way(alloc, slots, index, id)?;
