@@ -1,9 +1,9 @@
 -- A run over a blank device stands at the start.
-use Rattle.std.proofs.Common.{◌≡◌, ℕ, ◌+◌, ◌-◌, ◌≤◌, ◌++◌, None, Option, List, length, replicate, refl, ap, ◌∙◌, arith}
+use Rattle.std.proofs.Common.{◌≡◌, ℕ, ◌+◌, ◌-◌, ◌≤◌, ◌++◌, None, Option, List, length, replicate, ap, ◌∙◌, arith}
 use Rattle.std.proofs.lemmas.List.{length-replicate, replicate-append-replicate}
 use Rattle.ternary_word.specs.declared.Entry.{Entry}
 use Rattle.rule_store.specs.declared.Mode.TheVariants.{Cover}
-use Rattle.tcam_device.specs.State.{State, blank, blank_table}
+use Rattle.tcam_device.specs.State.{blank}
 use Rattle.replay.specs.declared.Family.TheVariants.{Route}
 use Rattle.replay.specs.Run.{Progress, start}
 use Rattle.replay.specs.Running.{begun, progress_of}

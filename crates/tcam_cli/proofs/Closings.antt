@@ -1,7 +1,6 @@
 -- A line that is written whole or in part closes a report.
-use Rattle.std.proofs.Common.{◌≡◌, inl, inr, ap, true, false, ℕ, ◌≤◌, Option, List, ◌++◌, length, take, drop, refl, sym}
+use Rattle.std.proofs.Common.{◌≡◌, inl, inr, ap, true, false, ℕ, Option, List, refl, sym}
 use Rattle.std.specs.Io.KnownBytes.{Appends}
-use Rattle.std.proofs.lemmas.List.{take-append-drop}
 use Rattle.replay.specs.Carried.{AppendsPart}
 use Rattle.replay.specs.Run.{Progress}
 use Rattle.replay.specs.Script.{Whole}

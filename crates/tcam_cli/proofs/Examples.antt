@@ -1,5 +1,5 @@
 -- The promise of the top call at some small scripts, each with its whole report.
-use Rattle.std.proofs.Common.{◌≡◌, ℕ, ◌+◌, ◌∙◌, Contains, List, [], ◌∷◌, ◌++◌, Some, None, false, refl, sym, inl, inr}
+use Rattle.std.proofs.Common.{◌≡◌, ℕ, ◌∙◌, Contains, List, [], ◌∷◌, ◌++◌, Some, None, refl, sym, inl, inr}
 use Rattle.std.specs.Prelude.{codes, ℕ}
 use Rattle.std.specs.Fmt.{digits}
 use Rattle.rule_store.specs.declared.Mode.TheVariants.{Cover}

@@ -1,5 +1,5 @@
 -- The jobs beside a script's.
-use Rattle.std.proofs.Common.{◌≡◌, inl, inr, ℕ, Option, Some, None, IfSome, List, [], ◌++◌, refl, sym, ◌∙◌, subst, append-nil}
+use Rattle.std.proofs.Common.{◌≡◌, inl, inr, ℕ, Option, Some, None, IfSome, List, [], ◌++◌, refl, sym, append-nil}
 use Rattle.std.proofs.KnownBytes.{Appends-nil}
 use Rattle.tcam_device.specs.declared.Write.{Write}
 use Rattle.replay.specs.Script.{Script}

@@ -1,12 +1,12 @@
 -- Outcomes that are wrong, and that the promise refuses.
-use Rattle.std.proofs.Common.{◌≡◌, ℕ, List, [], ◌∷◌, ◌++◌, Some, None, refl, false, inl, inr, ◌∙◌, ap}
+use Rattle.std.proofs.Common.{◌≡◌, List, [], ◌∷◌, ◌++◌, Some, None, refl, inl, inr, ◌∙◌, ap}
 use Rattle.std.specs.Prelude.{codes}
 use Rattle.rule_store.specs.declared.Mode.TheVariants.{Cover}
 use Rattle.replay.specs.declared.Family.TheVariants.{Route}
 use Rattle.tcam_device.specs.declared.Write.{Write}
 use Rattle.replay.specs.declared.Act.{Act}
 use Rattle.replay.specs.Run.{Setting, written}
-use Rattle.tcam_cli.specs.declared.Status.TheVariants.{Done, Refused, Script as ScriptFault, ReadFault, WriteFault, DeviceFault, Memory, Usage}
+use Rattle.tcam_cli.specs.declared.Status.TheVariants.{Done, Refused, Script as ScriptFault, ReadFault, WriteFault, DeviceFault, Usage}
 use Rattle.tcam_cli.specs.Headline.{NoJob, Reads, IsCarriedOut, MayEnd}
 
 abbrev setting : Setting
