@@ -1,7 +1,8 @@
 //! The daemon's side of a commit.
 
-ghost use Rattle.std.specs.Prelude.{◌≡◌, ◌≤◌, ◌+◌, None, OnOk};
+ghost use Rattle.std.specs.Prelude.{◌≡◌, ◌<◌, ◌≤◌, IfOk, IfSome};
 ghost use Rattle.batch_order.specs.Managed.{OnlyAddsRoutes};
+ghost use Rattle.route_daemon.specs.Left.{HasRoom, left_number};
 
 use anyhow::anyhow;
 use batch_order::{Manager, Step};
@@ -33,7 +34,8 @@ pub fn add_route(batch: &mut Batch, address: u32, length: u8, port: u32) -> Resu
     }
 }
 
-/// Carries a batch out, write by write, and looks one packet up after each.
+/// Carries a batch out, write by write, and looks one packet up after each: it finds the answer of the old routes or
+/// that of the new ones.
 pub fn commit<D: Device>(
     rt: &HostRuntime,
     manager: &mut Manager,
@@ -45,6 +47,39 @@ pub fn commit<D: Device>(
     ensures slots { manager.new.slots ≡ manager.old.slots }
     ensures slot_count { D.slot_count device.new ≡ D.slot_count device.old }
 {
+    match manager.prepare(batch, device) {
+        Ok(ready) => println!(rt; "commit writes {}", ready.writes)?,
+        Err(refusal) => return Err(anyhow!("{refusal}")),
+    }
+    while let Some(write) = next_write(manager, device)? {
+        tell(rt, &write, device)?;
+    }
+    Ok(())
+}
+
+/// Makes the next write of the commit under way. None: there was none left, and the routes are the new ones. After a
+/// failure the same write is next again.
+fn next_write<D: Device>(manager: &mut Manager, device: &mut D) -> anyhow::Result<Option<Write>>
+    requires slots { manager.old.slots ≤ D.slot_count device.old }
+    requires room { HasRoom manager.old.held (D.spare device.old) }
+    ensures slots { manager.new.slots ≡ manager.old.slots }
+    ensures slot_count { D.slot_count device.new ≡ D.slot_count device.old }
+    ensures room { IfOk result (λ made. HasRoom manager.new.held (D.spare device.new)) }
+    ensures fewer { IfOk result (λ made. IfSome made (λ write. left_number manager.new.held < left_number manager.old.held)) }
+{
+    match manager.step(device) {
+        Ok(Step::Wrote(write)) => Ok(Some(write)),
+        Ok(Step::Finished(_)) => Ok(None),
+        Ok(Step::Idle) => Ok(None),
+        Err(_) => Err(anyhow!("the device failed")),
+    }
+}
+
+/// Prints a write, and where a packet to 10.1.2.3 goes after it.
+fn tell<D: Device>(rt: &HostRuntime, write: &Write, device: &D) -> anyhow::Result<()> {
+    if let Write::Slot(slot, _) = write {
+        println!(rt; "  slot {slot} written")?;
+    }
     let key = Key {
         src: 0,
         dst: 0x0a01_0203 << 96,
@@ -52,21 +87,9 @@ pub fn commit<D: Device>(
         sport: 0,
         dport: 0,
     };
-    match manager.prepare(batch, device) {
-        Ok(ready) => println!(rt; "commit of {} writes", ready.writes)?,
-        Err(refusal) => return Err(anyhow!("{refusal}")),
-    }
-    'writes: loop {
-        match manager.step(device) {
-            Ok(Step::Wrote(Write::Slot(slot, Some(_)))) => println!(rt; "  slot {slot} set")?,
-            Ok(Step::Wrote(_)) => println!(rt; "  another write")?,
-            Ok(Step::Finished(_)) | Ok(Step::Idle) => break,
-            Err(_) => return Err(anyhow!("the device failed")),
-        }
-        match device.look(&key) {
-            Some((_, port)) => println!(rt; "  10.1.2.3 goes to {port}")?,
-            None => println!(rt; "  10.1.2.3 goes nowhere")?,
-        }
+    match device.look(&key) {
+        Some((_, port)) => println!(rt; "  10.1.2.3 goes to {port}")?,
+        None => println!(rt; "  10.1.2.3 goes nowhere")?,
     }
     Ok(())
 }
