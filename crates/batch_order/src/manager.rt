@@ -64,7 +64,11 @@ impl Model for Manager {
 }
 
 impl Manager {
-    /// A manager of a blank device with so many slots in use, 1 to 4,096, and no rules.
+    /// A manager of a blank device with so many slots in use, 1 to 4,096, and no rules. The mode is `Cover` until range
+    /// bits come. It fails only for want of memory.
+    ///
+    /// From here on nobody else may write the device: what is promised of it holds of one that the manager's writes
+    /// alone have changed.
     pub fn new(alloc: Global, slots: u32, mode: Mode) -> Result<Manager, AllocError>
         requires least { 1 ≤ slots }
         requires most { slots ≤ 4096 }
@@ -111,8 +115,14 @@ impl Manager {
         }
     }
 
-    /// Judges a batch and, where it is taken, plans all of its writes and takes all memory for them, the device's
-    /// too. A refusal writes nothing, and leaves rules, manager and device as they were.
+    /// Judges a batch of changes that add IPv4 routes, over a device with at least the slots in use. Where the batch is
+    /// taken, all of its writes are planned, and all memory for them is taken, the device's too: then nothing can fail
+    /// for memory until the commit has finished. The answer has the numbers of the writes.
+    ///
+    /// Refusals are tried in this order. `Busy` comes exactly while a commit is under way, with the writes that are
+    /// left. Else the rule lists alone decide: `Twice`, `Taken` and `Absent` by the first command that the set doesn't
+    /// take, `Slots` where the additions need more entries than slots are free. `Memory` comes last. A refusal writes
+    /// nothing, and leaves rules, manager, and the device's journal as they were.
     pub fn prepare<D: Device>(&mut self, batch: &Batch, device: &mut D) -> Result<Ready, Refusal>
         requires slots { self.old.slots ≤ D.slot_count device.old }
         requires changes { OnlyAddsRoutes batch.now }
@@ -211,7 +221,12 @@ impl Manager {
         Ok(ready(&counts))
     }
 
-    /// Makes the next write of the commit under way; with none left, the rules become the new set.
+    /// Makes the next write of the commit under way, over the device that `prepare` reserved, with room for the writes
+    /// that are left. With none left there is no write: the rules become the new set, and the answer is `Finished`.
+    /// With no commit under way the answer is `Idle`, and nothing changes. It takes no memory.
+    ///
+    /// A failure comes only where a write is due and the device's count of failures rose. It changes nothing, and the
+    /// same write is next again.
     pub fn step<D: Device>(&mut self, device: &mut D) -> Result<Step, DeviceFault>
         requires slots { self.old.slots ≤ D.slot_count device.old }
         requires room { IfSome self.old.held (λ held. length held.writes ≤ D.spare device.old) }

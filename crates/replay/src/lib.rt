@@ -16,10 +16,12 @@ pub use run::Run;
 use std::alloc::AllocError;
 use thiserror::Error;
 
-/// How rules are named in a report, and what a route's priority is.
+/// How the rules of a script are named in its report.
 #[derive(Clone, Copy, Debug, PartialEq, Eq)]
 pub enum Family {
+    /// By their prefix.
     Route,
+    /// By their sequence number.
     Acl,
 }
 

@@ -78,8 +78,8 @@ impl Run {
     /// `Memory` comes at a change, or at a commit that would be accepted. Nothing was done then, and the run is as
     /// before. `Sink` comes only where the sink's count of failures rose: all that comes before the line was done, and
     /// a part of the line was taken, perhaps none or all of it. `Device` comes only where the device's count of
-    /// failures rose: the writes of the commit before the failed one were made, and its line wasn't written. No call
-    /// may follow one that answered `Sink` or `Device`.
+    /// failures rose: the writes of the commit before the failed one were made, and its line wasn't written. No act
+    /// may follow one that answered `Device`, since its commit is still under way.
     pub fn apply<K: Sink, D: Device>(
         &mut self,
         act: &Act,

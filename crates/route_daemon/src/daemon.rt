@@ -13,7 +13,9 @@ use tcam_device::{Device, Write};
 /// Why a route can't be added to a batch.
 #[derive(Clone, Copy, Debug, PartialEq, Eq)]
 pub enum RouteFault {
+    /// The prefix is none of IPv4.
     Prefix(PrefixFault),
+    /// The batch is full, or memory is wanting.
     Batch(PushFault),
 }
 
@@ -34,8 +36,8 @@ pub fn add_route(batch: &mut Batch, address: u32, length: u8, port: u32) -> Resu
     }
 }
 
-/// Carries a batch out, write by write, and looks one packet up after each: it finds the answer of the old routes or
-/// that of the new ones.
+/// Carries a batch that adds routes out, write by write, and looks one packet up after each. What the manager has
+/// written then answers it as the old routes or the new ones do (`Manager::rules`, `on_the_way`).
 pub fn commit<D: Device>(
     rt: &HostRuntime,
     manager: &mut Manager,

@@ -8,6 +8,7 @@
 mod daemon;
 mod registers;
 
+use anyhow::anyhow;
 use batch_order::{Manager, Mode};
 use daemon::{add_route, commit};
 use registers::{Registers, SLOTS};
@@ -25,9 +26,10 @@ fn main(rt: HostRuntime) -> anyhow::Result<()> {
         (0x0a01_0000, 20, 5),
     ] {
         batch.clear();
-        if let Ok(()) = add_route(&mut batch, address, length, port) {
-            commit(&rt, &mut manager, &batch, &mut device)?;
+        if let Err(fault) = add_route(&mut batch, address, length, port) {
+            return Err(anyhow!("{fault:?}"));
         }
+        commit(&rt, &mut manager, &batch, &mut device)?;
     }
     Ok(())
 }

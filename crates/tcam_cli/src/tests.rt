@@ -147,11 +147,9 @@ fn full(rt: HostRuntime) -> Result<(), Fail> {
 
 #[test]
 fn nested(rt: HostRuntime) -> Result<(), Fail> {
-    let script =
-        "route add 10.0.0.0/8 7\ncommit\nroute add 10.1.2.0/24 8\ncommit\nroute add 10.1.0.0/16 9\ncommit\nroute add 10.1.0.0/20 5\ncommit\n";
     let report =
         "commit 1 ok writes 1 words 0 most 1 span 0\ncommit 2 ok writes 1 words 0 most 1 span 0\ncommit 3 ok writes 1 words 0 most 1 span 0\ncommit 4 ok writes 2 words 0 most 2 span 0\nend rules 4 entries 4 writes 5 pending 0\n";
-    check(&rt, EIGHT, script, Status::Done, report, 5)
+    check(&rt, EIGHT, NESTED, Status::Done, report, 5)
 }
 
 #[test]
@@ -210,6 +208,17 @@ const THREE: &str =
 const FOUR: &str =
     "commit 1 ok writes 1 words 0 most 1 span 0\ncommit 2 ok writes 1 words 0 most 1 span 0\ncommit 3 ok writes 1 words 0 most 1 span 0\ncommit 4 ok writes 2 words 0 most 2 span 0\n";
 
+/// A device over which a script was carried out, with nothing that fails.
+fn carried_out(alloc: Global, script: &str) -> Result<MemTcam, AllocError> {
+    let words = words_of(alloc, EIGHT)?;
+    let mut source = MemSource::new(script.as_bytes());
+    let mut sink = MemSink::new(alloc)?;
+    sink.reserve(4096)?;
+    let mut device = MemTcam::new(alloc, 4096)?;
+    let _status = run(alloc, words.as_slice(), &mut source, &mut sink, &mut device);
+    Ok(device)
+}
+
 /// The result of the entry in a slot, if it holds one.
 fn result_at(device: &FlakyTcam<'_>, slot: u32) -> Option<u32>
     requires { slot < device.now.device.slots }
@@ -220,8 +229,8 @@ fn result_at(device: &FlakyTcam<'_>, slot: u32) -> Option<u32>
     }
 }
 
-/// Runs the nested commits over a device of which one write call fails, and compares report, number of writes, and
-/// the results in slots 0 to 3.
+/// Runs the nested commits over a device of which one write call fails, and compares report, number of writes, the
+/// results in slots 0 to 3, and the journal with the first writes of the whole run.
 fn check_call(
     rt: &(impl Abort + AllocGlobal),
     call: u64,
@@ -245,6 +254,8 @@ fn check_call(
     assert_eq!(rt; result_at(&device, 1), held.1);
     assert_eq!(rt; result_at(&device, 2), held.2);
     assert_eq!(rt; result_at(&device, 3), held.3);
+    let whole = carried_out(alloc, NESTED)?;
+    assert_eq!(rt; whole.journal().get(..writes), Some(device.journal()));
     Ok(())
 }
 
@@ -257,7 +268,8 @@ fn each_device_write(rt: HostRuntime) -> Result<(), Fail> {
     check_call(&rt, 5, THREE, 4, (Some(8), Some(8), Some(9), Some(7)))
 }
 
-/// Runs the nested commits with one report write that fails, and compares report and number of device writes.
+/// Runs the nested commits with one report write that fails, and compares report, number of device writes, and the
+/// journal with the first writes of the whole run.
 fn check_line(
     rt: &(impl Abort + AllocGlobal),
     call: u64,
@@ -275,6 +287,8 @@ fn check_line(
     assert_eq!(rt; ended, Status::WriteFault);
     assert_eq!(rt; sink.bytes(), report.as_bytes());
     assert_eq!(rt; device.journal().len(), writes);
+    let whole = carried_out(alloc, NESTED)?;
+    assert_eq!(rt; whole.journal().get(..writes), Some(device.journal()));
     Ok(())
 }
 
@@ -287,8 +301,8 @@ fn each_report_write(rt: HostRuntime) -> Result<(), Fail> {
     check_line(&rt, 5, FOUR, 5)
 }
 
-/// Runs the first script in reads of 23 bytes, the length of its first line, of which one fails, and compares report
-/// and number of device writes.
+/// Runs the first script in reads of 23 bytes, the length of its first line, of which one fails, and compares report,
+/// number of device writes, and the journal with the first writes of the whole run.
 fn check_read(
     rt: &(impl Abort + AllocGlobal),
     call: u64,
@@ -306,6 +320,8 @@ fn check_read(
     assert_eq!(rt; ended, Status::ReadFault);
     assert_eq!(rt; sink.bytes(), report.as_bytes());
     assert_eq!(rt; device.journal().len(), writes);
+    let whole = carried_out(alloc, FIRST)?;
+    assert_eq!(rt; whole.journal().get(..writes), Some(device.journal()));
     Ok(())
 }
 

@@ -26,11 +26,17 @@ use script_lines::{Failed, Line, LineFault, Lines, Sink, Source};
 use std::alloc::Global;
 use tcam_device::Device;
 
-/// Runs what the words of a command line ask for, the program's name first, over a device of at least 4,096 slots.
+/// Runs what the words of a command line ask for, the program's name first, over a blank device of at least 4,096
+/// slots: a script of routes from the source, or one of the product's own texts.
 ///
-/// `Usage` comes where the words are no command line, and there nothing else comes but a failing sink and want of
-/// memory. `ReadFault`, `WriteFault` and `DeviceFault` come only where the count of failures of source, sink or
-/// device rose. Each line of the report is handed to the sink as soon as it is known, and none after one that failed.
+/// After every single device write each packet key has the answer of the set before the commit or of the one after it,
+/// and after a commit's last write that of the one after it; a refused commit writes nothing. The answer is `Done` or
+/// `Refused` where the script was read to its end, `Refused` where some commit was refused; `Script` where a line is at
+/// fault, which the last line of the report names. `ReadFault`, `WriteFault` and `DeviceFault` come only where the
+/// count of failures of source, sink or device rose, and then nothing more is read, written or printed. `Memory` comes
+/// for want of memory alone, before a commit's first write. `Usage` comes where the words are no command line, and
+/// there nothing else comes but a failing sink and want of memory. Each line of the report is handed to the sink as
+/// soon as it is known.
 pub fn run<S: Source, K: Sink, D: Device>(
     alloc: Global,
     words: &[String],
