@@ -19,7 +19,7 @@ use Rattle.commit_writes.proofs.Mirror.{IsOrdered_same, StandsOnce_same}
 use Rattle.commit_writes.proofs.Routes.{route_piece, new_rules, set_of_routes, inserted_routes}
 use Rattle.commit_writes.proofs.RoutePieces.{after_routes, after_pieces}
 use Rattle.commit_writes.proofs.Members.{absent_of}
-use Rattle.commit_writes.proofs.Ordered.{planned_ordered, planned_last, planned_once}
+use Rattle.commit_writes.proofs.Ordered.{planned_ordered, planned_between, planned_last, planned_once}
 
 -- the new set's pieces are those of the old one and the inserted ones
 new_are : (rules : List Rule) (batch : List Command) (live : List LivePiece) (slots : Slots) (entries : Entries) (planned : List Planned)
@@ -64,6 +64,7 @@ planned_keeps rules batch live slots entries planned commit = record {
       (old ++ take w.0 inserted, between old inserted new w.0 (λ ranked. (same ranked).0), w.1);
   after = IsOrdered_same last (Contains (old ++ inserted)) (Contains new) same (planned_last rules batch live slots entries planned commit);
   once = StandsOnce_same last (Contains (old ++ inserted)) (Contains new) same (planned_once rules batch live slots entries planned commit);
+  between = λ k insertion read. planned_between rules batch live slots entries planned k insertion commit read;
 }
   where
     last : State

@@ -1,5 +1,5 @@
 -- The commit of one route into a blank device of eight slots: one write, of slot 3; and writes that are no commit's.
-use Rattle.std.proofs.Common.{◌≡◌, ℕ, List, [], ◌∷◌, None, Some, replicate, arith, refl, sym}
+use Rattle.std.proofs.Common.{◌≡◌, ℕ, List, [], ◌∷◌, ◌++◌, None, Some, replicate, arith, refl, sym}
 use Rattle.slot_order.specs.Order.{slot}
 use Rattle.rule_model.specs.declared.Rule.{Rule}
 use Rattle.rule_model.specs.AddressBlock.{ipv4_block}
@@ -12,7 +12,8 @@ use Rattle.rule_store.specs.declared.Mode.TheVariants.{Cover}
 use Rattle.rule_store.specs.declared.Command.TheVariants.{Add}
 use Rattle.tcam_device.specs.declared.Write.{Write}
 use Rattle.tcam_device.specs.declared.Write.TheVariants.{Slot}
-use Rattle.tcam_device.specs.State.{blank, state_after}
+use Rattle.tcam_device.specs.State.{State, blank, state_after}
+use Rattle.tcam_device.specs.Insertion.{Insertion}
 use Rattle.tcam_device.proofs.Wider.{empty_slot}
 use Rattle.commit_writes.specs.Bits.{no_bits}
 use Rattle.commit_writes.specs.Shape.{HasCommitShape}
@@ -61,3 +62,27 @@ loss_refused keeps = let stands = keeps.after.complete piece (0, omega arith, re
   where
     empty_is : (at : ℕ) → slot {E = Entry} (replicate 8 None) at ≡ Some (entry_for piece) → ⊥
     empty_is at held = let none = empty_slot {E = Entry} 8 at in cc
+
+-- nor is a second copy that one insertion leaves and the next erases
+abbrev eleven : Rule
+eleven = route_rule (ipv4_route_rank (ipv4_block 0x0b000000 8)) (ipv4_block 0x0b000000 8) 8
+
+abbrev twelve : Rule
+twelve = route_rule (ipv4_route_rank (ipv4_block 0x0c000000 8)) (ipv4_block 0x0c000000 8) 9
+
+abbrev one-stands : State
+one-stands = state_after (blank 8) made
+
+abbrev leaves : List Write
+leaves = Slot 5 (Some (entry_for piece)) ∷ Slot 2 (Some (entry_of (whole_piece eleven) eleven.priority eleven.result)) ∷ []
+
+abbrev clears : List Write
+clears = Slot 5 None ∷ Slot 6 (Some (entry_of (whole_piece twelve) twelve.priority twelve.result)) ∷ []
+
+leak_between_refused : KeepsOrder Cover no_bits (ten ∷ []) (Add eleven ∷ Add twelve ∷ []) one-stands (leaves ++ clears) → ⊥
+leak_between_refused keeps =
+    let second : Insertion = record { before = state_after one-stands leaves; writes = clears; entry = entry_of (whole_piece twelve) twelve.priority twelve.result } in
+    let stands = keeps.between 1 second refl piece (0, omega arith, refl) in
+    let third : 3 ≡ stands.0 = stands.2 3 refl in
+    let fifth : 5 ≡ stands.0 = stands.2 5 refl in
+    omega arith

@@ -1,5 +1,5 @@
 -- The device is in order before, during and after a planned commit.
-use Rattle.std.proofs.Common.{◌≡◌, ℕ, Some, List, [], ◌++◌, map, take, Contains, inl, inr, sym, ◌∙◌, subst, ap, append-nil}
+use Rattle.std.proofs.Common.{◌≡◌, ℕ, Some, List, [], ◌++◌, map, take, slice_get, Contains, inl, inr, sym, ◌∙◌, subst, ap, append-nil}
 use Rattle.std.specs.Prelude.{◌↔◌}
 use Rattle.std.proofs.lemmas.List.{take-map}
 use Rattle.std.proofs.lemmas.List.Elements.{Contains-append_left, Contains-append_right, Contains-append_cases}
@@ -16,13 +16,14 @@ use Rattle.overlap_index.proofs.Above.{live_is, is_live_from}
 use Rattle.move_planner.specs.Insertion.{IsLive}
 use Rattle.tcam_device.specs.State.{State, state_after}
 use Rattle.tcam_device.specs.Order.{IsOrdered, StandsOnce}
+use Rattle.tcam_device.specs.Insertion.{Insertion, insertions}
 use Rattle.commit_writes.specs.Bits.{no_bits}
 use Rattle.commit_writes.specs.Shape.{set_pieces, inserted_pieces}
 use Rattle.commit_writes.specs.Planned.{Entries, Planned, IsPlannedCommit, entry_at, ranked_of, contents, plain_state, planned_writes, live_after, slots_after}
 use Rattle.commit_writes.proofs.Mirror.{Pieces, IsOrdered_same, StandsOnce_same, stands_once}
 use Rattle.commit_writes.proofs.Ids.{whole_is}
 use Rattle.commit_writes.proofs.Members.{of_routes}
-use Rattle.commit_writes.proofs.Start.{contents_are, commit_piece, new_piece, commit_readable, commit_first, commit_done}
+use Rattle.commit_writes.proofs.Start.{contents_are, commit_piece, new_piece, commit_readable, commit_first, commit_done, commit_makes}
 
 -- the pieces of the set's ids and of some new ones
 members : (rules : List Rule) (batch : List Command) (live : List LivePiece) (slots : Slots) (entries : Entries) (planned some : List Planned) → IsPlannedCommit rules batch live slots entries planned
@@ -60,6 +61,15 @@ members rules batch live slots entries planned some commit up ranked = (to, from
       )
     ]
 
+-- and of the first of them
+first_members : (rules : List Rule) (batch : List Command) (live : List LivePiece) (slots : Slots) (entries : Entries) (planned : List Planned) (k : ℕ) → IsPlannedCommit rules batch live slots entries planned
+    → (ranked : RankedPiece) → Pieces (commit_piece live entries planned) (IsLive (live_after live (take k planned))) ranked
+    ↔ Contains (set_pieces Cover no_bits rules ++ take k (inserted_pieces Cover no_bits rules batch)) ranked
+first_members rules batch live slots entries planned k commit ranked =
+    subst (λ (some : List RankedPiece). Pieces (commit_piece live entries planned) (IsLive (live_after live (take k planned))) ranked ↔ Contains (set_pieces Cover no_bits rules ++ some) ranked)
+    (sym (take-map ranked_of k planned) ∙ ap (take k) commit.inserted)
+    (members rules batch live slots entries planned (take k planned) commit (λ p member. let c = contains_take k planned p member in (c.0, c.2, c.3)) ranked)
+
 -- after each of a planned commit's writes the device is in order for the pieces of the set and the first of the new ones,
 pub planned_ordered : (rules : List Rule) (batch : List Command) (live : List LivePiece) (slots : Slots) (entries : Entries) (planned : List Planned) (n : ℕ)
     → IsPlannedCommit rules batch live slots entries planned
@@ -67,16 +77,22 @@ pub planned_ordered : (rules : List Rule) (batch : List Command) (live : List Li
     (Contains (set_pieces Cover no_bits rules ++ take k (inserted_pieces Cover no_bits rules batch)))
 planned_ordered rules batch live slots entries planned n commit =
     let w = (commit_done rules batch live slots entries planned commit).during n in
-    let state = state_after (plain_state (contents entries slots)) (take n (planned_writes entries planned)) in
-    let same : map ranked_of (take w.0 planned) ≡ take w.0 (inserted_pieces Cover no_bits rules batch) = sym (take-map ranked_of w.0 planned) ∙ ap (take w.0) commit.inserted in (
+    let state = state_after (plain_state (contents entries slots)) (take n (planned_writes entries planned)) in (
       w.0,
-      subst (λ some. IsOrdered state (Contains (set_pieces Cover no_bits rules ++ some))) same
-          (IsOrdered_same state (Pieces (commit_piece live entries planned) (IsLive (live_after live (take w.0 planned)))) (Contains (set_pieces Cover no_bits rules ++ map ranked_of (take w.0 planned)))
-          (members rules batch live slots entries planned (take w.0 planned) commit (taken_in w.0)) w.1),
+      IsOrdered_same state (Pieces (commit_piece live entries planned) (IsLive (live_after live (take w.0 planned)))) (Contains (set_pieces Cover no_bits rules ++ take w.0 (inserted_pieces Cover no_bits rules batch)))
+          (first_members rules batch live slots entries planned w.0 commit) w.1,
     )
-  where
-    taken_in : (k : ℕ) (p : Planned) → Contains (take k planned) p → Contains planned p
-    taken_in k p member = let c = contains_take k planned p member in (c.0, c.2, c.3)
+
+-- where one of its insertions begins each of those pieces stands in one slot,
+pub planned_between : (rules : List Rule) (batch : List Command) (live : List LivePiece) (slots : Slots) (entries : Entries) (planned : List Planned) (k : ℕ) (insertion : Insertion)
+    → IsPlannedCommit rules batch live slots entries planned
+    → slice_get (insertions (plain_state (contents entries slots)) (planned_writes entries planned)) k ≡ Some insertion
+    → StandsOnce insertion.before (Contains (set_pieces Cover no_bits rules ++ take k (inserted_pieces Cover no_bits rules batch)))
+planned_between rules batch live slots entries planned k insertion commit read =
+    StandsOnce_same insertion.before (Pieces (commit_piece live entries planned) (IsLive (live_after live (take k planned)))) (Contains (set_pieces Cover no_bits rules ++ take k (inserted_pieces Cover no_bits rules batch)))
+    (first_members rules batch live slots entries planned k commit)
+    ((commit_done rules batch live slots entries planned commit).between k insertion
+    (ap (λ (all : List Insertion). slice_get all k) (sym (commit_makes rules batch live slots entries planned commit)) ∙ read))
 
 -- before the first for those of the set alone,
 pub planned_first : (rules : List Rule) (batch : List Command) (live : List LivePiece) (slots : Slots) (entries : Entries) (planned : List Planned)

@@ -1,8 +1,9 @@
 -- Insertions that were planned one after the other, made one after the other.
-use Rattle.std.proofs.Common.{◌≡◌, ℕ, zero, suc, ◌+◌, ◌-◌, ◌*◌, ◌<◌, ◌≤◌, true, false, List, [], ◌∷◌, ◌++◌, length, map, take, Contains, arith, inl, inr, refl, sym, ◌∙◌, subst, ap, append_assoc, append-nil}
+use Rattle.std.proofs.Common.{◌≡◌, ℕ, zero, suc, ◌+◌, ◌-◌, ◌*◌, ◌<◌, ◌≤◌, true, false, Some, List, [], ◌∷◌, ◌++◌, length, map, take, slice_get, Contains, arith, inl, inr, refl, sym, ◌∙◌, subst, ap, append_assoc, append-nil}
 use Rattle.std.specs.Prelude.{◌↔◌}
 use Rattle.std.specs.List.{AllByRecursion, AllZip}
 use Rattle.std.proofs.lemmas.Bool.{cases_lt}
+use Rattle.std.proofs.lemmas.Option.{none-some, same_Some}
 use Rattle.std.proofs.lemmas.List.{take-append-le, length-map}
 use Rattle.std.proofs.Math.Seq.{take-append-add}
 use Rattle.std.proofs.lemmas.List.Elements.{Contains-append_left, Contains-append_right, Contains-append_cases}
@@ -24,12 +25,12 @@ use Rattle.move_planner.specs.Insertion.{IsLive}
 use Rattle.move_planner.proofs.Chain.{Reads, AllKnown, floor_is, ceiling_is}
 use Rattle.tcam_device.specs.declared.Write.{Write}
 use Rattle.tcam_device.specs.State.{State, state_after}
-use Rattle.tcam_device.specs.Order.{IsOrdered}
+use Rattle.tcam_device.specs.Order.{IsOrdered, StandsOnce}
 use Rattle.tcam_device.specs.Insertion.{Insertion, insertions, IsCrossingSpan}
 use Rattle.tcam_device.proofs.Lookups.{HitAsPieces}
 use Rattle.tcam_device.proofs.Spans.{Makes, Makes-append, state_after-append}
 use Rattle.commit_writes.specs.Planned.{Entries, Planned, ArePlanned, write_for, planned_writes, live_after, slots_after}
-use Rattle.commit_writes.proofs.Mirror.{Pieces, entry_by, over, rank, MatchApart, ordered_state, After, hits_after}
+use Rattle.commit_writes.proofs.Mirror.{Pieces, entry_by, over, rank, MatchApart, ordered_state, stands_once, After, hits_after}
 use Rattle.commit_writes.proofs.Bridge.{HaveEntries, IsBridged, bridge}
 
 -- what is known of all ids: how they are told apart, their entries, what the index says of any of them, and that of two
@@ -109,6 +110,8 @@ pub record AreDone (held : Entries) (piece : ℕ → RankedPiece) (all live : Li
   pub alone : AllOnce (slots_after slots planned)
   pub made : Makes state (planned_writes held planned) (made_by held piece state planned)
   pub as_planned : AllZip (IsAsPlanned piece all) planned (made_by held piece state planned)
+  pub between : (k : ℕ) (insertion : Insertion) → slice_get (made_by held piece state planned) k ≡ Some insertion
+      → StandsOnce insertion.before (Pieces piece (IsLive (live_after live (take k planned))))
 
 none_taken : (n : ℕ) → take {A = Write} n [] ≡ []
 none_taken zero = refl
@@ -129,16 +132,18 @@ done_none held piece all live slots state readable up same o alone =
       alone = alone;
       made = λ more. refl;
       as_planned = tt;
+      between = λ k insertion none. absurd (none-some insertion none);
     }
 
 -- one more in front
 done_more : (held : Entries) (piece : ℕ → RankedPiece) (all live : List LivePiece) (slots : Slots) (state : State) (planned : Planned) (rest : List Planned) → AreReadable held piece all
     → ((one : LivePiece) → Contains (live ++ planned.one ∷ []) one → Contains all one) → Ordered (over piece) (rank piece) (IsLive live) slots
+    → StandsOnce state (Pieces piece (IsLive live))
     → planned.span ≡ span_of (is_above (live ++ planned.one ∷ [])) slots planned.one.id
     → IsBridged held piece (IsLive live) (IsLive (live ++ planned.one ∷ [])) (is_above (live ++ planned.one ∷ [])) slots state planned.one.id planned.moves
     → AreDone held piece all (live ++ planned.one ∷ []) (after_moves slots planned.moves) (state_after state (map (write_for held) planned.moves)) rest
     → AreDone held piece all live slots state (planned ∷ rest)
-done_more held piece all live slots state planned rest readable up o span b h = record {
+done_more held piece all live slots state planned rest readable up o single span b h = record {
   during = during;
   last = subst (λ some. IsOrdered (state_after state (ours ++ theirs)) (Pieces piece (IsLive some))) (regroup rest)
       (subst (λ s. IsOrdered s (Pieces piece (IsLive (live_after more rest)))) (sym (state_after-append state ours theirs)) h.last);
@@ -159,6 +164,7 @@ done_more held piece all live slots state planned rest readable up o span b h = 
     },
     h.as_planned,
   );
+  between = between;
 }
   where
     more : List LivePiece
@@ -188,6 +194,13 @@ done_more held piece all live slots state planned rest readable up o span b h = 
     first : Makes state ours (insertion ∷ [])
     first more = subst (λ ws. insertions state (ws ++ more) ≡ record { before = state; writes = ws; entry = entry_by piece planned.one.id } ∷ insertions (state_after state ws) more) (sym b.same_writes) (b.first more)
 
+    between : (k : ℕ) (begun : Insertion) → slice_get (insertion ∷ made_by held piece next rest) k ≡ Some begun
+        → StandsOnce begun.before (Pieces piece (IsLive (live_after live (take k (planned ∷ rest)))))
+    between zero begun read =
+        subst (λ (s : State). StandsOnce s (Pieces piece (IsLive (live ++ [])))) (ap (λ (i : Insertion). i.before) (same_Some insertion begun read))
+        (subst (λ some. StandsOnce state (Pieces piece (IsLive some))) (sym (append-nil live)) single)
+    between (suc k) begun read = subst (λ some. StandsOnce begun.before (Pieces piece (IsLive some))) (regroup (take k rest)) (h.between k begun read)
+
     during : (n : ℕ) → (k : ℕ) × IsOrdered (state_after state (take n (planned_writes held (planned ∷ rest)))) (Pieces piece (IsLive (live_after live (take k (planned ∷ rest)))))
     during n = elim (cases_lt n (length ours)) [
       | inl short ↦ (
@@ -215,7 +228,7 @@ pub done_all : (held : Entries) (piece : ℕ → RankedPiece) (all live : List L
 done_all held piece all live slots state [] readable up ones same o once hits are = done_none held piece all live slots state readable up same o once
 done_all held piece all live slots state (planned ∷ rest) readable up ones same o once hits are =
     let changed = subst (λ ws. After piece (after_moves slots planned.moves) state (state_after state ws)) (sym b.same_writes) b.changed in
-    done_more held piece all live slots state planned rest readable up' o are.2 b
+    done_more held piece all live slots state planned rest readable up' o single are.2 b
     (done_all held piece all more (after_moves slots planned.moves) (state_after state (map (write_for held) planned.moves)) rest readable up' ones.1 changed.slots
     (Ordered_same (over piece) (rank piece) (Plus (IsLive live) planned.one.id) (IsLive more) (after_moves slots planned.moves) (live_more live planned.one) b.ids) b.once_ids
     (hits_after piece (Pieces piece (IsLive all)) (after_moves slots planned.moves) state (state_after state (map (write_for held) planned.moves)) hits changed) are.3)
@@ -228,6 +241,10 @@ done_all held piece all live slots state (planned ∷ rest) readable up ones sam
       | inl old ↦ up one old
       | inr new ↦ elim (contains_cases planned.one one [] new) [ inl same ↦ subst (Contains all) same ones.0 | inr none ↦ absurd (contains_none one none) ]
     ]
+
+    single : StandsOnce state (Pieces piece (IsLive live))
+    single = stands_once piece (IsLive live) (IsLive all) slots state readable.apart (live_up live all up) (λ place id s. live_up live all up id (o.within place id s)) same once
+        (ordered_state piece (IsLive live) (IsLive all) slots state readable.apart (live_up live all up) same o)
 
     known : (id : ℕ) → IsLive more id → IsLive all id
     known id is = live_up more all up' id is

@@ -28,15 +28,8 @@ use Rattle.commit_writes.proofs.Routes.{new_rules, new_rules-member, rewritten_n
 use Rattle.commit_writes.proofs.Mirror.{entry_by}
 use Rattle.commit_writes.proofs.Members.{routes_of, of_routes, absent_of}
 use Rattle.commit_writes.proofs.Row.{made_by, IsAsPlanned}
-use Rattle.commit_writes.proofs.Start.{commit_piece, commit_done, new_piece}
-use Rattle.commit_writes.proofs.Counted.{chains_of_ids, chains_short, made_alone, writes_of_made, entries_of_made, sizes_of_made, made_within, made_uncrossed, no_span, greatest_none, no_words}
-
--- the insertions that its writes make
-commit_makes : (rules : List Rule) (batch : List Command) (live : List LivePiece) (slots : Slots) (entries : Entries) (planned : List Planned) → IsPlannedCommit rules batch live slots entries planned
-    → insertions (plain_state (contents entries slots)) (planned_writes entries planned) ≡ made_by entries (commit_piece live entries planned) (plain_state (contents entries slots)) planned
-commit_makes rules batch live slots entries planned commit =
-    made_alone (plain_state (contents entries slots)) (planned_writes entries planned) (made_by entries (commit_piece live entries planned) (plain_state (contents entries slots)) planned)
-    (commit_done rules batch live slots entries planned commit).made
+use Rattle.commit_writes.proofs.Start.{commit_piece, commit_done, commit_makes, new_piece}
+use Rattle.commit_writes.proofs.Counted.{chains_of_ids, chains_short, writes_of_made, entries_of_made, sizes_of_made, made_within, made_uncrossed, no_span, greatest_none, no_words}
 
 -- a planned commit has the shape of one,
 pub planned_shape : (rules : List Rule) (batch : List Command) (live : List LivePiece) (slots : Slots) (entries : Entries) (planned : List Planned)

@@ -22,11 +22,13 @@ use Rattle.tcam_device.specs.State.{IsState}
 use Rattle.tcam_device.proofs.Lookups.{HitAsPieces}
 use Rattle.tcam_device.proofs.States.{IsState-blank}
 use Rattle.tcam_device.proofs.Shown.{hit_as_pieces}
-use Rattle.commit_writes.specs.Planned.{Entries, Planned, IsPlannedCommit, AreArranged, entry_at, contents, plain_state, live_after, ranked_of}
+use Rattle.tcam_device.specs.Insertion.{insertions}
+use Rattle.commit_writes.specs.Planned.{Entries, Planned, IsPlannedCommit, AreArranged, entry_at, contents, plain_state, planned_writes, live_after, ranked_of}
 use Rattle.commit_writes.proofs.Routes.{all_members, route_piece, route_conditions, route_encodable}
 use Rattle.commit_writes.proofs.Mirror.{Pieces, entry_by, over, rank, ordered_state}
 use Rattle.commit_writes.proofs.Bridge.{HaveEntries}
-use Rattle.commit_writes.proofs.Row.{AreReadable, AreDone, live_up, done_all}
+use Rattle.commit_writes.proofs.Row.{AreReadable, AreDone, made_by, live_up, done_all}
+use Rattle.commit_writes.proofs.Counted.{made_alone}
 use Rattle.commit_writes.proofs.Ids.{whole_is, AreOfRoutes, piece_by, known_is, readable}
 use Rattle.commit_writes.proofs.Members.{routes_of, of_routes}
 
@@ -127,3 +129,10 @@ commit_done rules batch live slots held planned commit =
     (all_members (λ insertion. Contains (live_after live planned) insertion.one) planned (λ p member. Contains-append_right live (map (λ insertion. insertion.one) planned) p.one (map_in (λ insertion. insertion.one) planned p member)))
     (mirrored rules batch live slots held planned commit) (begins rules batch live slots held planned commit) (λ i j id a b. commit.arranged.standing.once i j id a b)
     (plain_hits (routes_of rules batch) (live_after live planned) held slots (of_routes rules batch live slots held planned commit)) commit.are_planned
+
+-- and which insertions they make
+pub commit_makes : (rules : List Rule) (batch : List Command) (live : List LivePiece) (slots : Slots) (entries : Entries) (planned : List Planned) → IsPlannedCommit rules batch live slots entries planned
+    → insertions (plain_state (contents entries slots)) (planned_writes entries planned) ≡ made_by entries (commit_piece live entries planned) (plain_state (contents entries slots)) planned
+commit_makes rules batch live slots entries planned commit =
+    made_alone (plain_state (contents entries slots)) (planned_writes entries planned) (made_by entries (commit_piece live entries planned) (plain_state (contents entries slots)) planned)
+    (commit_done rules batch live slots entries planned commit).made

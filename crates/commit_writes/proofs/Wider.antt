@@ -1,6 +1,7 @@
 -- A commit's writes are its segment on a device with more slots, too.
-use Rattle.std.proofs.Common.{◌≡◌, ℕ, ◌-◌, List, [], ◌∷◌, ◌++◌, length, take, map, flat_map, Contains, sym, ◌∙◌, subst, ap}
+use Rattle.std.proofs.Common.{◌≡◌, ℕ, zero, suc, ◌-◌, Some, List, [], ◌∷◌, ◌++◌, length, take, map, flat_map, slice_get, Contains, refl, sym, ◌∙◌, subst, ap}
 use Rattle.std.specs.List.{AllByRecursion, AllZip}
+use Rattle.std.proofs.lemmas.Option.{none-some, same_Some}
 use Rattle.std.proofs.lemmas.List.{length-map}
 use Rattle.slot_order.proofs.Inside.{all_append}
 use Rattle.rule_model.specs.declared.Rule.{Rule}
@@ -18,8 +19,8 @@ use Rattle.tcam_device.proofs.Wider.{padded, all_take, slot-padded, state_after-
 use Rattle.tcam_device.proofs.WiderInsertions.{widened, insertions-padded, longest-padded, writes-widened, entries-widened, IsGreatestSpan-widened, AreBoundedBy-widened, IsUncrossed-widened}
 use Rattle.commit_writes.specs.declared.Done.{Done}
 use Rattle.commit_writes.specs.Bits.{FieldBits, bits_with}
-use Rattle.commit_writes.specs.Shape.{Stands, Rewrites, Erases, rewritten_pieces, erased_pieces, HasCommitShape}
-use Rattle.commit_writes.specs.Commit.{new_pieces, KeepsOrder, IsSegment, AreCounts}
+use Rattle.commit_writes.specs.Shape.{Stands, Rewrites, Erases, inserted_pieces, rewritten_pieces, erased_pieces, HasCommitShape}
+use Rattle.commit_writes.specs.Commit.{old_pieces, new_pieces, KeepsOrder, IsSegment, AreCounts}
 use Rattle.commit_writes.specs.Planned.{Entries, Planned, ArePlanned, held_entry, contents, plain_state, planned_writes, IsRouteSegment}
 use Rattle.commit_writes.proofs.InUse.{planned_in_use}
 
@@ -98,6 +99,12 @@ HasCommitShape-padded more mode bits rules batch state writes inside shape = rec
         (subst (λ n. AllByRecursion (IsInUse n) shape.inserted) (sym (slots-after state shape.tables))
         (all_front (IsInUse (length state.slots)) shape.inserted _ later))
 
+-- what is read of a mapped list is the image of what is read of the list
+map_read : {X Y : Type 0} (f : X → Y) (xs : List X) (k : ℕ) (y : Y) → slice_get (map f xs) k ≡ Some y → (x : X) × (slice_get xs k ≡ Some x) × (f x ≡ y)
+map_read f [] k y none = absurd (none-some y none)
+map_read f (x ∷ xs) zero y read = (x, refl, same_Some (f x) y read)
+map_read f (x ∷ xs) (suc k) y read = map_read f xs k y read
+
 pub KeepsOrder-padded : (more : ℕ) (mode : Mode) (bits : FieldBits) (rules : List Rule) (batch : List Command) (state : State) (made : List Write)
     → AreInUse state made → KeepsOrder mode bits rules batch state made → KeepsOrder mode bits rules batch (padded more state) made
 KeepsOrder-padded more mode bits rules batch state made inside keeps = record {
@@ -109,8 +116,14 @@ KeepsOrder-padded more mode bits rules batch state made inside keeps = record {
   );
   after = subst (λ (now : State). IsOrdered now new) (sym (state_after-padded more state made inside)) (IsOrdered-padded more (state_after state made) new keeps.after);
   once = subst (λ (now : State). StandsOnce now new) (sym (state_after-padded more state made inside)) (StandsOnce-padded more (state_after state made) new keeps.once);
+  between = λ k insertion read.
+      let w = map_read (widened more) (insertions state made) k insertion (ap (λ (all : List Insertion). slice_get all k) (sym (insertions-padded more state made inside)) ∙ read) in
+      subst (λ (begun : Insertion). StandsOnce begun.before (first k)) w.2 (StandsOnce-padded more w.0.before (first k) (keeps.between k w.0 w.1));
 }
   where
+    first : ℕ → RankedPiece → Type 0
+    first k = Contains (old_pieces mode bits rules batch ++ take k (inserted_pieces mode (bits_with mode rules batch bits) rules batch))
+
     new : RankedPiece → Type 0
     new = Contains (new_pieces mode bits rules batch)
 

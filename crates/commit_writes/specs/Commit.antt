@@ -1,5 +1,5 @@
 -- What an accepted commit writes, and its numbers.
-use Rattle.std.specs.Prelude.{◌≡◌, ℕ, ◌++◌, List, length, take, Contains, ◌⊎◌}
+use Rattle.std.specs.Prelude.{◌≡◌, ℕ, ◌++◌, Some, List, length, take, slice_get, Contains, ◌⊎◌}
 use Rattle.rule_model.specs.declared.Rule.{Rule}
 use Rattle.rule_model.specs.RuleSet.{BoundsChains}
 use Rattle.rule_store.specs.declared.Mode.{Mode}
@@ -10,10 +10,10 @@ use Rattle.tcam_device.specs.declared.Write.{Write}
 use Rattle.tcam_device.specs.State.{State, state_after}
 use Rattle.tcam_device.specs.Order.{IsOrdered, StandsOnce}
 use Rattle.tcam_device.specs.Hitless.{IsHitless}
-use Rattle.tcam_device.specs.Insertion.{insertions, longest_insertion, table_writes, IsGreatestSpan, IsWithinBound, IsWithinTightBound}
+use Rattle.tcam_device.specs.Insertion.{Insertion, insertions, longest_insertion, table_writes, IsGreatestSpan, IsWithinBound, IsWithinTightBound}
 use Rattle.commit_writes.specs.declared.Done.{Done}
 use Rattle.commit_writes.specs.Bits.{FieldBits, bits_with}
-use Rattle.commit_writes.specs.Shape.{set_pieces, HasCommitShape}
+use Rattle.commit_writes.specs.Shape.{set_pieces, inserted_pieces, HasCommitShape}
 
 -- the numbers are those of the writes, made from the state on
 pub record AreCounts (state : State) (made : List Write) (counts : Done) : Type 0 where
@@ -35,13 +35,17 @@ pub record AreBetween (old new standing : List RankedPiece) : Type 0 where
   pub kept : (ranked : RankedPiece) → Contains old ranked → Contains new ranked → Contains standing ranked
 
 -- The device holds what it must, in order: after every write pieces on the way from the old set's to the new set's, and
--- in the end those of the new set, each in one slot. So an entry that others shadow is neither lost nor left twice.
+-- in the end those of the new set, each in one slot. Where an insertion begins, too, each that must stand does so in one
+-- slot. So an entry that others shadow is neither lost nor left twice, not even from one insertion to a later one.
 pub record KeepsOrder (mode : Mode) (bits : FieldBits) (rules : List Rule) (batch : List Command) (state : State) (made : List Write) : Type 0 where
   pub during : (n : ℕ) → (standing : List RankedPiece)
       × AreBetween (old_pieces mode bits rules batch) (new_pieces mode bits rules batch) standing
       × IsOrdered (state_after state (take n made)) (Contains standing)
   pub after : IsOrdered (state_after state made) (Contains (new_pieces mode bits rules batch))
   pub once : StandsOnce (state_after state made) (Contains (new_pieces mode bits rules batch))
+  -- where an insertion begins, each piece of the old set and each that was inserted before it stands in one slot
+  pub between : (k : ℕ) (insertion : Insertion) → slice_get (insertions state made) k ≡ Some insertion
+      → StandsOnce insertion.before (Contains (old_pieces mode bits rules batch ++ take k (inserted_pieces mode (bits_with mode rules batch bits) rules batch)))
 
 -- the writes of an accepted commit: hitless, in order, as many of each kind as the rules fix, and within the bounds
 pub record IsSegment (mode : Mode) (bits : FieldBits) (rules : List Rule) (batch : List Command) (state : State) (made : List Write) : Type 0 where

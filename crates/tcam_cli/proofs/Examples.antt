@@ -15,6 +15,7 @@ use Rattle.replay.specs.Script.{Whole, script_of}
 use Rattle.replay.specs.Text.{accepted_line, refused_line, fault_line}
 use Rattle.replay.specs.Run.{Setting, Prints, Progress, start, ending, after_refusal, after_segment}
 use Rattle.tcam_cli.specs.declared.Status.TheVariants.{Done, Refused, Script as ScriptFault, Usage}
+use Rattle.std.proofs.lemmas.Option.{none-some}
 use Rattle.std.proofs.Math.Seq.{take-nil}
 use Rattle.slot_order.proofs.Rules.{contains_none}
 use Rattle.ternary_word.specs.declared.Entry.{Entry}
@@ -170,6 +171,7 @@ nothing-made =
             );
             after = blank-ordered;
             once = λ ranked member. absurd (contains_none ranked member);
+            between = λ k insertion none. absurd (none-some insertion none);
           };
       shape =
           record {
