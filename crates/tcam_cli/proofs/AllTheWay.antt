@@ -149,7 +149,7 @@ wider-at : (sets behind : List (List Rule)) (place : ℕ) (state : State) → Sh
 wider-at sets behind place state is =
     (is.0, is.1, get-append sets behind place is.0 is.2, elim is.3 [ inl next ↦ inl (get-append sets behind (place + 1) is.1 next) | inr last ↦ inr last ], is.4)
 
-wider : (state : State) (sets all : List (List Rule)) (writes : List Write) → Continues sets all → AnswersAllTheWay state sets writes → AnswersAllTheWay state all writes
+pub wider : (state : State) (sets all : List (List Rule)) (writes : List Write) → Continues sets all → AnswersAllTheWay state sets writes → AnswersAllTheWay state all writes
 wider state sets all writes (behind, same) is = record {
   place = is.place;
   rises = is.rises;
@@ -247,7 +247,3 @@ run-cut setting slots done act behind all body front due before same run step =
     (subst (λ writes. AnswersAllTheWay (blank slots) sets writes) parts
     (run-first setting slots (done ++ act ∷ []) behind all whole step.after (same ∙ sym (append_assoc done (act ∷ []) behind))
     (run-more setting slots done body before act (front ++ due ∷ step.back) step.after run step.step)))
-
--- nothing is done
-pub run-none : (setting : Setting) (slots : ℕ) (acts : List Act) (effects : List Effect) → effects ≡ [] → AnswersAllTheWay (blank slots) (sets_through setting [] [] acts) (written effects)
-run-none setting slots acts effects none = run-first setting slots [] acts acts effects (start slots) refl (none, refl)

@@ -1,16 +1,19 @@
 -- What packets see of each outcome of a run.
-use Rattle.std.proofs.Common.{◌≡◌, inl, inr, ℕ, ◌-◌, Option, Some, None, List, [], ◌∷◌, length, take, drop, ap, sym, ◌∙◌, subst, append-nil, take-append-drop}
+use Rattle.std.proofs.Common.{◌≡◌, inl, inr, ℕ, ◌-◌, Option, Some, None, List, [], ◌∷◌, ◌++◌, length, take, drop, refl, ap, sym, ◌∙◌, subst, append_assoc, append-nil, take-append-drop}
+use Rattle.rule_store.specs.Verdict.{Verdict, Accepted, Unsound, OutOfBits, OutOfSlots, verdict}
 use Rattle.tcam_device.specs.declared.Write.{Write}
 use Rattle.tcam_device.specs.State.{blank}
+use Rattle.replay.specs.declared.Act.{Act}
+use Rattle.replay.specs.declared.Act.TheVariants.{Command, Packet, Commit}
 use Rattle.replay.specs.Script.{Script, Whole, script_of}
-use Rattle.replay.specs.Run.{Setting, Effect, written}
+use Rattle.replay.specs.Run.{Setting, Effect, Prints, written, Progress, start, writes_of, Judged, Step, Runs}
 use Rattle.tcam_cli.specs.declared.Status.{Status}
 use Rattle.tcam_cli.specs.declared.Status.TheVariants.{Done, Refused, Script as ScriptFault, ReadFault, WriteFault, DeviceFault, Memory, Usage}
-use Rattle.tcam_cli.specs.Headline.{Job, NoJob, Tells, Reads, acts_of, script_so_far, IsComplete, IsDue, IsOutcome, IsOutOfMemory, IsCutAtRead, IsCarriedOut}
+use Rattle.tcam_cli.specs.Headline.{Job, NoJob, Tells, Reads, acts_of, script_so_far, IsComplete, IsDue, IsOutcome, IsOutOfMemory, IsCarriedOut}
 use Rattle.tcam_cli.specs.Readings.{reading}
-use Rattle.tcam_cli.specs.AllTheWay.{sets_through, sets_of, AnswersAllTheWay, EndsAtLast, IsHitlessRun, IsHitlessJob}
-use Rattle.tcam_cli.proofs.OneMore.{written-append}
-use Rattle.tcam_cli.proofs.AllTheWay.{more-sets, run-goes, run-first, run-cut, run-none}
+use Rattle.tcam_cli.specs.AllTheWay.{sets_through, sets_of, AnswersAllTheWay, EndsAtLast, EndsAfter, EndsAfterSome, IsHitlessRun, IsHitlessJob}
+use Rattle.tcam_cli.proofs.OneMore.{written-append, run-more}
+use Rattle.tcam_cli.proofs.AllTheWay.{more-sets, run-goes, run-cut, wider}
 use Rattle.tcam_cli.proofs.FirstActs.{AreFirstActs, first-acts}
 
 complete : (setting : Setting) (slots : ℕ) (script : Script) (status : Status) (effects : List Effect) → IsComplete setting slots script status effects
@@ -27,27 +30,77 @@ at-due setting slots script effects due (inl at) =
     (run-cut setting slots at.done at.act at.later (acts_of script) at.body at.front due at.before at.acts at.run at.cut)
 at-due setting slots script effects due (inr end) = (run-goes setting slots (acts_of script) effects end.last end.run).0
 
-for-memory : (setting : Setting) (slots : ℕ) (script : Script) (effects : List Effect) → IsOutOfMemory setting slots script effects
-    → AnswersAllTheWay (blank slots) (sets_of setting script) (written effects)
-for-memory setting slots script effects (inl none) = run-none setting slots (acts_of script) effects none
-for-memory setting slots script effects (inr at) = run-first setting slots at.done (at.act ∷ at.later) (acts_of script) effects at.before at.acts at.run
-
-at-read : (setting : Setting) (slots : ℕ) (script came : Script) (effects : List Effect) → AreFirstActs (acts_of came) (acts_of script) → IsCutAtRead setting slots came effects
-    → IsHitlessRun setting slots script came ReadFault (written effects)
-at-read setting slots script came effects (later, first) is =
-    let goes = run-goes setting slots (acts_of came) effects is.last is.run in
-    let more = more-sets setting [] [] (acts_of came) later in
+-- some first acts, all of them carried out
+after-acts : (setting : Setting) (slots : ℕ) (script : Script) (done later : List Act) (effects : List Effect) (last : Progress) → acts_of script ≡ done ++ later
+    → Runs setting slots done effects last → EndsAfter (blank slots) setting script done (written effects)
+after-acts setting slots script done later effects last same run =
+    let goes = run-goes setting slots done effects last run in
+    let more = more-sets setting [] [] done later in
     record {
-      answers = run-first setting slots (acts_of came) later (acts_of script) effects is.last first is.run;
-      ends = record {
-        later = later;
-        acts = first;
-        behind = more.0;
-        sets = ap (sets_through setting [] []) first ∙ more.1;
-        answers = goes.0;
-        ends = goes.1;
-      };
+      later = later;
+      acts = same;
+      behind = more.0;
+      sets = ap (sets_through setting [] []) same ∙ more.1;
+      answers = goes.0;
+      ends = goes.1;
     }
+
+whole-acts : (setting : Setting) (slots : ℕ) (script : Script) (done : List Act) (writes : List Write) → EndsAfter (blank slots) setting script done writes
+    → AnswersAllTheWay (blank slots) (sets_of setting script) writes
+whole-acts setting slots script done writes is = wider (blank slots) (sets_through setting [] [] done) (sets_of setting script) writes (is.behind, is.sets) is.answers
+
+for-memory : (setting : Setting) (slots : ℕ) (script : Script) (effects : List Effect) → IsOutOfMemory setting slots script effects
+    → EndsAfterSome (blank slots) setting script (written effects)
+for-memory setting slots script effects (inl none) = ([], after-acts setting slots script [] (acts_of script) effects (start slots) refl (none, refl))
+for-memory setting slots script effects (inr at) = (at.done, after-acts setting slots script at.done (at.act ∷ at.later) effects at.before at.acts at.run)
+
+-- ---- a line is the last effect of its act
+
+not-none : (front : List Effect) (effect : Effect) (back : List Effect) → front ++ effect ∷ back ≡ [] → ⊥
+not-none [] effect back is = cc
+not-none (first ∷ front) effect back is = cc
+
+last-line : (made : List Write) (front back : List Effect) (line text : List ℕ) → front ++ Prints line ∷ back ≡ writes_of made ++ Prints text ∷ [] → back ≡ []
+last-line [] [] back line text is = cc
+last-line [] (effect ∷ front) back line text is = let none : front ++ Prints line ∷ back ≡ [] = cc in absurd (not-none front (Prints line) back none)
+last-line (write ∷ made) [] back line text is = absurd (cc)
+last-line (write ∷ made) (effect ∷ front) back line text is =
+    let more : front ++ Prints line ∷ back ≡ writes_of made ++ Prints text ∷ [] = cc in last-line made front back line text more
+
+last-judged : (setting : Setting) (before : Progress) (is : Verdict) (front back : List Effect) (line : List ℕ) (after : Progress)
+    → Judged setting before is (front ++ Prints line ∷ back) after → back ≡ []
+last-judged setting before Accepted front back line after step = last-line step.made front back line _ step.effects_are
+last-judged setting before (Unsound fault) front back line after step = last-line [] front back line _ step.0
+last-judged setting before (OutOfBits field needed free) front back line after step = last-line [] front back line _ step.0
+last-judged setting before (OutOfSlots needed free) front back line after step = last-line [] front back line _ step.0
+
+last-step : (setting : Setting) (before : Progress) (act : Act) (front back : List Effect) (line : List ℕ) (after : Progress)
+    → Step setting before act (front ++ Prints line ∷ back) after → back ≡ []
+last-step setting before (Command change) front back line after step = absurd (not-none front (Prints line) back step.0)
+last-step setting before (Packet key) front back line after step = last-line [] front back line _ step.0
+last-step setting before Commit front back line after step =
+    last-judged setting before (verdict setting.slots setting.mode before.rules before.batch) front back line after step
+
+-- so where a line fails the writes of its act are all made
+at-line : (setting : Setting) (slots : ℕ) (script : Script) (effects : List Effect) (line : List ℕ) → IsDue setting slots script effects (Prints line)
+    → EndsAfterSome (blank slots) setting script (written effects)
+at-line setting slots script effects line (inl at) =
+    let none = last-step setting at.before at.act at.front at.cut.back line at.cut.after at.cut.step in
+    let whole : List Effect = at.body ++ (at.front ++ Prints line ∷ at.cut.back) in
+    let same : written whole ≡ written effects =
+    ap (λ back. written (at.body ++ (at.front ++ Prints line ∷ back))) none
+    ∙ ap written (sym (append_assoc at.body at.front (Prints line ∷ [])))
+    ∙ written-append (at.body ++ at.front) (Prints line ∷ []) ∙ append-nil (written (at.body ++ at.front)) ∙ sym (ap written at.effects_are) in
+    let done : List Act = at.done ++ at.act ∷ [] in (
+      done,
+      subst (λ writes. EndsAfter (blank slots) setting script done writes) same
+          (after-acts setting slots script done at.later whole at.cut.after (at.acts ∙ sym (append_assoc at.done (at.act ∷ []) at.later))
+          (run-more setting slots at.done at.body at.before at.act (at.front ++ Prints line ∷ at.cut.back) at.cut.after at.run at.cut.step)),
+    )
+at-line setting slots script effects line (inr end) =
+    (acts_of script, after-acts setting slots script (acts_of script) [] effects end.last (sym (append-nil (acts_of script))) end.run)
+
+-- ---- each outcome
 
 -- whatever comes of a run, packets see nothing but the sets of its script
 pub outcome_answers : (setting : Setting) (slots : ℕ) (script came : Script) (status : Status) (effects : List Effect) (partial : List ℕ)
@@ -59,10 +112,17 @@ outcome_answers setting slots script came Refused effects partial first is =
     let goes = complete setting slots script Refused effects is.0 in record { answers = goes.0; ends = goes.1 }
 outcome_answers setting slots script came ScriptFault effects partial first is =
     let goes = complete setting slots script ScriptFault effects is.0 in record { answers = goes.0; ends = goes.1 }
-outcome_answers setting slots script came ReadFault effects partial first is = at-read setting slots script came effects (first is.0.sound) is.0
-outcome_answers setting slots script came WriteFault effects partial first is = record { answers = at-due setting slots script effects _ is.due; ends = tt }
+outcome_answers setting slots script came ReadFault effects partial first is =
+    let some = first is.0.sound in
+    let ends = after-acts setting slots script (acts_of came) some.0 effects is.0.last some.1 is.0.run in
+    record { answers = whole-acts setting slots script (acts_of came) (written effects) ends; ends = ends }
+outcome_answers setting slots script came WriteFault effects partial first is =
+    let ends = at-line setting slots script effects is.line is.due in
+    record { answers = whole-acts setting slots script ends.0 (written effects) ends.1; ends = ends }
 outcome_answers setting slots script came DeviceFault effects partial first is = record { answers = at-due setting slots script effects _ is.0.due; ends = tt }
-outcome_answers setting slots script came Memory effects partial first is = record { answers = for-memory setting slots script effects is.0; ends = tt }
+outcome_answers setting slots script came Memory effects partial first is =
+    let ends = for-memory setting slots script effects is.0 in
+    record { answers = whole-acts setting slots script ends.0 (written effects) ends.1; ends = ends }
 outcome_answers setting slots script came Usage effects partial first is = absurd is
 
 -- so of a job that is carried out

@@ -52,24 +52,33 @@ pub record EndsAtLast (state : State) (sets : List (List Rule)) (writes : List W
   pub sets_are : sets ≡ front ++ rules ∷ []
   pub shows : Shows (state_after state writes) rules
 
--- the acts that came are the first of the script, and so are their sets; all of them are carried out
-pub record EndsWithin (state : State) (setting : Setting) (script came : Script) (writes : List Write) : Type 0 where
+-- These acts are the first of the script, and so are their sets. All of them are carried out, so the writes end at the
+-- last of their sets.
+pub record EndsAfter (state : State) (setting : Setting) (script : Script) (done : List Act) (writes : List Write) : Type 0 where
   pub later : List Act
-  pub acts : acts_of script ≡ acts_of came ++ later
+  pub acts : acts_of script ≡ done ++ later
   pub behind : List (List Rule)
-  pub sets : sets_of setting script ≡ sets_of setting came ++ behind
-  pub answers : AnswersAllTheWay state (sets_of setting came) writes
-  pub ends : EndsAtLast state (sets_of setting came) writes
+  pub sets : sets_of setting script ≡ sets_through setting [] [] done ++ behind
+  pub answers : AnswersAllTheWay state (sets_through setting [] [] done) writes
+  pub ends : EndsAtLast state (sets_through setting [] [] done) writes
 
--- Where the writes of a run end, by its status: at the last set of the script, or of what came of it, or on the way.
+-- some first acts of the script are carried out whole: all, none, or any number of them
+abbrev pub EndsAfterSome : State → Setting → Script → List Write → Type 0
+EndsAfterSome state setting script writes = (done : List Act) × EndsAfter state setting script done writes
+
+-- Where the writes of a run end, by its status: at the last set of the script, of what came of it, or of some first
+-- acts. Memory is wanting only before a commit's first write, and a commit prints its line after its last one, so
+-- neither want of memory nor a line that fails leaves a commit half made. A device write that fails may: the writes
+-- then end within a commit, where each key has the answer of the set before it or of the one after it (`answers` of
+-- IsHitlessRun), and nothing more can be said.
 abbrev pub EndsAs : State → Setting → Script → Script → Status → List Write → Type 0
 EndsAs state setting script came Done writes = EndsAtLast state (sets_of setting script) writes
 EndsAs state setting script came Refused writes = EndsAtLast state (sets_of setting script) writes
 EndsAs state setting script came ScriptFault writes = EndsAtLast state (sets_of setting script) writes
-EndsAs state setting script came ReadFault writes = EndsWithin state setting script came writes
-EndsAs state setting script came WriteFault writes = Unit {0}
+EndsAs state setting script came ReadFault writes = EndsAfter state setting script (acts_of came) writes
+EndsAs state setting script came WriteFault writes = EndsAfterSome state setting script writes
 EndsAs state setting script came DeviceFault writes = Unit {0}
-EndsAs state setting script came Memory writes = Unit {0}
+EndsAs state setting script came Memory writes = EndsAfterSome state setting script writes
 EndsAs state setting script came Usage writes = ⊥
 
 -- what packets see of a run over a script, on a device that was blank
