@@ -6,3 +6,4 @@ pub mod Runs
 pub mod Acts
 pub mod Making
 pub mod Exits
+mod Examples

@@ -1,0 +1,60 @@
+-- Lines of reports and the ends of scripts, by computation.
+use Rattle.std.proofs.Common.{◌≡◌, [], ◌∷◌, ◌++◌, Ok, Some, None, refl}
+use Rattle.std.specs.Prelude.{codes}
+use Rattle.std.specs.Fmt.{digits}
+use Rattle.rule_model.specs.AddressBlock.{ipv4_block}
+use Rattle.rule_model.specs.Rank.{ipv4_route_rank, list_rank}
+use Rattle.rule_model.specs.declared.Field.TheVariants.{Dst}
+use Rattle.rule_store.specs.declared.BatchFault.TheVariants.{Twice}
+use Rattle.rule_store.specs.Verdict.{Unsound, OutOfBits, OutOfSlots}
+use Rattle.replay.specs.declared.Family.TheVariants.{Route, Acl}
+use Rattle.replay.specs.declared.Act.TheVariants.{Commit}
+use Rattle.replay.specs.Script.{Reading, Whole, FaultAt, script_of}
+use Rattle.replay.specs.Text.{packet_line, accepted_line, refused_line, fault_line, end_line, usage_line}
+
+packet : packet_line Route (Some (ipv4_route_rank (ipv4_block 0x0a000000 8), 7)) ≡ codes "packet 10.0.0.0/8 7" ++ 10 ∷ []
+unfolding digits
+packet = refl
+
+permitted : packet_line Acl (Some (list_rank 10, 1)) ≡ codes "packet 10 permit" ++ 10 ∷ []
+unfolding digits
+permitted = refl
+
+accepted : accepted_line 1 (record { writes = 64513; words = 64512; most = 1; span = 0 }) ≡ codes "commit 1 ok writes 64513 words 64512 most 1 span 0" ++ 10 ∷ []
+unfolding digits
+accepted = refl
+
+twice : refused_line Acl 3 (Unsound (Twice (list_rank 100))) ≡ codes "commit 3 refused twice 100" ++ 10 ∷ []
+unfolding digits
+twice = refl
+
+bits : refused_line Acl 1 (OutOfBits Dst 17 16) ≡ codes "commit 1 refused bits dst 17 16" ++ 10 ∷ []
+unfolding digits
+bits = refl
+
+slots : refused_line Route 1 (OutOfSlots 2 1) ≡ codes "commit 1 refused slots 2 1" ++ 10 ∷ []
+unfolding digits
+slots = refl
+
+end : end_line 4 4 6 0 ≡ codes "end rules 4 entries 4 writes 6 pending 0" ++ 10 ∷ []
+unfolding digits
+end = refl
+
+fault : fault_line 1 (codes "host bits") ≡ codes "line 1 host bits" ++ 10 ∷ []
+unfolding digits
+fault = refl
+
+usage : usage_line ≡ codes "usage" ++ 10 ∷ []
+usage = refl
+
+-- every line is a commit
+commits : Reading
+commits line = Ok (Some Commit)
+
+bad-byte : (script_of commits (codes "x" ++ 10 ∷ 200 ∷ [])).last ≡ FaultAt 2 (codes "bad byte")
+unfolding commits
+bad-byte = refl
+
+whole : (script_of commits (codes "x" ++ 10 ∷ codes "y")).last ≡ Whole
+unfolding commits
+whole = refl
