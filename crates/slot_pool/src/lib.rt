@@ -5,7 +5,7 @@
 //! outwards from where it is wanted. No call but `new` and `try_copy` takes memory.
 //!
 //! Beside the slots stand words of bits, one bit a slot that is 1 where the slot is empty, and the
-//! number of empty slots. A table is mostly full where a slot is searched for, so a search passes
+//! number of empty slots. Most slots are taken where a free one is far, so a search passes
 //! 64 taken slots at a step.
 //!
 //! A table of homes stands beside them too: for each id below the number of slots the least slot
