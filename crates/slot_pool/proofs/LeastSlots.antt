@@ -31,7 +31,7 @@ none_some : (id : ℕ) → None ≢ Some id
 none_some id e = absurd (cc)
 
 -- nothing stands in empty slots
-empty : (n at : ℕ) → slot {E = ℕ} (replicate n None) at ≡ None
+pub empty : (n at : ℕ) → slot {E = ℕ} (replicate n None) at ≡ None
 empty n at = elim (cases_lt at n) [
   | inl inside ↦ get_or-replicate n at None None inside
   | inr past ↦ get_or_past (replicate n None) at None (let l : length (replicate {A = Option ℕ} n None) ≡ n = length-replicate n None in omega arith)

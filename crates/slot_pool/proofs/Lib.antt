@@ -1,6 +1,8 @@
+pub mod Bits
 mod Examples
 pub mod Finds
 pub mod LeastSlots
+pub mod Marks
 pub mod Places
 pub mod Scan
 pub mod Searches

@@ -2,10 +2,13 @@
 //!
 //! An `Arrangement` is a list of slots, each empty or an id, and contracts see it as that list. An
 //! id may stand in several slots, as it does while an entry moves. Searches for a free slot look
-//! outwards from where it is wanted, so they take as many steps as it is away. No call but `new`
-//! and `try_copy` takes memory.
+//! outwards from where it is wanted. No call but `new` and `try_copy` takes memory.
 //!
-//! Beside the slots stands a table of homes: for each id below the number of slots the least slot
+//! Beside the slots stand words of bits, one bit a slot that is 1 where the slot is empty, and the
+//! number of empty slots. Most slots are taken where a free one is far, so a search passes
+//! 64 taken slots at a step.
+//!
+//! A table of homes stands beside them too: for each id below the number of slots the least slot
 //! that holds it. A planner asks for the homes of all entries that overlap one, and erases a slot
 //! only once for each move, so the table is looked up at once, and only an id that leaves its home
 //! is searched for, behind it. An id past the table is searched for among the slots.
@@ -13,8 +16,10 @@
 
 ghost use Rattle.std.specs.Prelude.{◌≡◌, ◌==◌, ℕ, ◌+◌, ◌<◌, ◌≤◌, None, Some, IfOk, length, replicate, slice_set, count_by, is_none};
 ghost use Rattle.slot_order.specs.Order.{slot as held_in};
-ghost use Rattle.slot_pool.specs.Arrangement.{is_free, is_free_within, home_of, nearest_free, next_free_above, last_free_below, HasTwin};
+ghost use Rattle.slot_pool.specs.Free.{IsBelow, IsFrom, nearer_of};
+ghost use Rattle.slot_pool.specs.Arrangement.{home_of, nearest_free, next_free_above, last_free_below, HasTwin};
 
+mod free;
 mod homes;
 #[cfg(test)]
 mod tests;
@@ -31,18 +36,23 @@ pub struct Arrangement {
     slots: Vec<Option<u32>>,
     // The least slot of each id below the number of slots.
     homes: Vec<Option<u32>>,
+    // The bit of each slot, 64 slots a word, 1 where the slot is empty.
+    free: Vec<u64>,
+    // How many slots are empty.
+    free_count: u32,
 }
 
 impl Model for Arrangement {
-    ghost use Rattle.std.specs.Prelude.{◌≤◌, length};
+    ghost use Rattle.std.specs.Prelude.{◌≡◌, ◌≤◌, length, count_by, is_none};
     ghost use Rattle.slot_pool.specs.Arrangement.{Slots};
+    ghost use Rattle.slot_pool.specs.Free.{AreFree};
     ghost use Rattle.slot_pool.specs.Homes.{AreHomes};
 
     ghost Value = { Slots };
 
     ghost view = { λ a. a.slots.items };
 
-    ghost invariant = { λ a. (1 ≤ length a.slots.items) × (length a.slots.items ≤ 65536) × AreHomes a.slots.items a.homes.items };
+    ghost invariant = { λ a. (1 ≤ length a.slots.items) × (length a.slots.items ≤ 65536) × AreHomes a.slots.items a.homes.items × AreFree a.slots.items a.free.items × (a.free_count ≡ count_by (λ held. is_none held) a.slots.items) };
 }
 
 impl Arrangement {
@@ -52,9 +62,16 @@ impl Arrangement {
         requires most { slots ≤ MOST_SLOTS }
         ensures { IfOk result (λ arrangement. arrangement ≡ replicate slots None) }
     {
+        let free = free::all_marked(alloc, slots)?;
+        let free_count = slots;
         let homes = vec![in alloc; None; slots as usize]?;
         let slots = vec![in alloc; None; slots as usize]?;
-        Ok(Arrangement { slots, homes })
+        Ok(Arrangement {
+            slots,
+            homes,
+            free,
+            free_count,
+        })
     }
 
     /// The number of slots, from 1 to `MOST_SLOTS`.
@@ -89,7 +106,7 @@ impl Arrangement {
     pub fn free_count(&self) -> u32
         ensures { result ≡ count_by (λ held. is_none held) self.now }
     {
-        self.slots.iter().filter(|held| held.is_none()).count() as u32
+        self.free_count
     }
 
     /// The empty slot from `from` on and before `to` that is nearest to `mid`, the lower one of two
@@ -100,15 +117,9 @@ impl Arrangement {
         requires mid { mid < length self.now }
         ensures { result ≡ nearest_free self.now from to mid }
     {
-        for distance in 0..self.slots() {
-            if distance <= mid && self.is_free_within(mid - distance, from, to) {
-                return Some(mid - distance);
-            }
-            if self.is_free_within(mid + distance, from, to) {
-                return Some(mid + distance);
-            }
-        }
-        None
+        let above = free::next_marked(&self.free, mid.max(from), to);
+        let below = free::last_marked(&self.free, from, mid.min(to));
+        nearer(mid, below, above)
     }
 
     /// The least empty slot above a slot, or `None` exactly where there is none.
@@ -116,13 +127,7 @@ impl Arrangement {
         requires { slot < length self.now }
         ensures { result ≡ next_free_above self.now slot }
     {
-        let slots = self.slots();
-        for above in slot + 1..slots {
-            if self.is_free(above) {
-                return Some(above);
-            }
-        }
-        None
+        free::next_marked(&self.free, slot + 1, self.slots())
     }
 
     /// The greatest empty slot below a slot, or `None` exactly where there is none.
@@ -130,12 +135,7 @@ impl Arrangement {
         requires { slot < length self.now }
         ensures { result ≡ last_free_below self.now slot }
     {
-        for below in (0..slot).rev() {
-            if self.is_free(below) {
-                return Some(below);
-            }
-        }
-        None
+        free::last_marked(&self.free, 0, slot)
     }
 
     /// Puts an id into an empty slot, and changes no other one.
@@ -145,6 +145,8 @@ impl Arrangement {
         ensures { self.new ≡ slice_set self.old slot (Some id) }
     {
         homes::put(&mut self.slots, &mut self.homes, slot, id);
+        free::unmark(&mut self.free, slot);
+        self.free_count -= 1;
     }
 
     /// Empties a slot, and changes no other one.
@@ -152,7 +154,12 @@ impl Arrangement {
         requires { slot < length self.old }
         ensures { self.new ≡ slice_set self.old slot None }
     {
+        let held = self.at(slot);
         homes::erase(&mut self.slots, &mut self.homes, slot);
+        free::mark(&mut self.free, slot);
+        if held.is_some() {
+            self.free_count += 1;
+        }
     }
 
     /// Puts an id over the one in a slot, which stands in another slot too, and changes no other
@@ -172,22 +179,27 @@ impl Arrangement {
     {
         let slots = Vec::from_slice(alloc, &self.slots)?;
         let homes = Vec::from_slice(alloc, &self.homes)?;
-        Ok(Arrangement { slots, homes })
+        let free = Vec::from_slice(alloc, &self.free)?;
+        Ok(Arrangement {
+            slots,
+            homes,
+            free,
+            free_count: self.free_count,
+        })
     }
+}
 
-    /// Whether a slot is empty.
-    fn is_free(&self, slot: u32) -> bool
-        requires { slot < length self.now }
-        ensures { result ≡ is_free self.now slot }
-    {
-        self.at(slot).is_none()
-    }
-
-    /// Whether a slot is empty and lies from `from` on and before `to`.
-    fn is_free_within(&self, slot: u32, from: u32, to: u32) -> bool
-        requires { to ≤ length self.now }
-        ensures { result ≡ is_free_within self.now from to slot }
-    {
-        from <= slot && slot < to && self.is_free(slot)
-    }
+/// Of a slot below `mid` and one that isn't, the nearer one, the lower of two at one distance.
+fn nearer(mid: u32, below: Option<u32>, above: Option<u32>) -> Option<u32>
+    requires below { IsBelow mid below }
+    requires above { IsFrom mid above }
+    ensures { result ≡ nearer_of mid below above }
+{
+    let Some(low) = below else {
+        return above;
+    };
+    let Some(high) = above else {
+        return below;
+    };
+    if high - mid < mid - low { above } else { below }
 }

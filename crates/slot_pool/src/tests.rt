@@ -13,6 +13,81 @@ fn plain_home(arrangement: &Arrangement, id: u32) -> Option<u32> {
     None
 }
 
+// Whether a slot is empty.
+fn is_empty(arrangement: &Arrangement, slot: u32) -> bool {
+    slot < arrangement.slots() && arrangement.at(slot).is_none()
+}
+
+// The least empty slot from one on, by a look at each slot.
+fn plain_next(arrangement: &Arrangement, from: u32) -> Option<u32> {
+    for slot in from..arrangement.slots() {
+        if is_empty(arrangement, slot) {
+            return Some(slot);
+        }
+    }
+    None
+}
+
+// The greatest empty slot below one, by a look at each slot.
+fn plain_last(arrangement: &Arrangement, to: u32) -> Option<u32> {
+    for slot in (0..to).rev() {
+        if is_empty(arrangement, slot) {
+            return Some(slot);
+        }
+    }
+    None
+}
+
+// The nearest empty slot of a range, the lower of two, by a look at each slot.
+fn plain_nearest(arrangement: &Arrangement, from: u32, to: u32, mid: u32) -> Option<u32> {
+    let mut nearest: Option<u32> = None;
+    for slot in from..to {
+        let is_nearer = match nearest {
+            Some(other) => slot.abs_diff(mid) < other.abs_diff(mid),
+            None => true,
+        };
+        if is_nearer && is_empty(arrangement, slot) {
+            nearest = Some(slot);
+        }
+    }
+    nearest
+}
+
+// Puts an id into a slot, if it is empty.
+fn take(arrangement: &mut Arrangement, slot: u32) {
+    if slot < arrangement.slots() && arrangement.at(slot).is_none() {
+        arrangement.put(slot, slot);
+    }
+}
+
+#[test]
+fn searches_by_words(rt: HostRuntime) -> Result<(), Fail> {
+    let mut arrangement = Arrangement::new(rt.alloc(), 200)?;
+    for slot in 0..190 {
+        if slot % 37 != 0 && slot != 63 && slot != 64 {
+            take(&mut arrangement, slot);
+        }
+    }
+    for slot in 0..arrangement.slots() {
+        assert_eq!(rt;
+            arrangement.next_free_above(slot),
+            plain_next(&arrangement, slot + 1)
+        );
+        assert_eq!(rt;
+            arrangement.last_free_below(slot),
+            plain_last(&arrangement, slot)
+        );
+        for to in slot..arrangement.slots() {
+            let mid = to / 2;
+            assert_eq!(rt;
+                arrangement.nearest_free(slot, to, mid),
+                plain_nearest(&arrangement, slot, to, mid)
+            );
+        }
+    }
+    Ok(())
+}
+
 #[test]
 fn free_slots(rt: HostRuntime) -> Result<(), Fail> {
     let mut arrangement = Arrangement::new(rt.alloc(), 8)?;

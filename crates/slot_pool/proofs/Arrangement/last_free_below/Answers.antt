@@ -1,11 +1,6 @@
-use Rattle.std.proofs.Common.{◌-◌, arith, sym, ◌∙◌}
-use Rattle.slot_pool.proofs.Searches.{last_found, last_none}
+use Rattle.std.proofs.Common.{sym, rules}
+use Rattle.slot_pool.proofs.Marks.{last_is}
 use Rattle.slot_pool.proofs.Arrangement.last_free_below.Goals as goal
 
-pub returns-then-is_free : goal.returns-then-is_free
-returns-then-is_free c =
-    sym (last_found c.args.self.now c.args.slot (c.loop-below.below - 1) (omega arith) c.requires (sym c.is_free.ensures ∙ c.if-is_free.true)
-    (λ k a b. c.loop-below.invariant k (omega arith) b))
-
 pub returns : goal.returns
-returns c = sym (last_none c.args.self.now c.args.slot (λ k b. c.loop-below.invariant k (omega arith) b))
+returns c = rw (← c.self.view_is) (sym (last_is c.self.inside.slots.items c.self.inside.free.items c.args.slot c.last_marked.result c.self.invariant.3 (search rules) (search (rules, c.last_marked.ensures, c.deref.ensures.value))))

@@ -1,10 +1,6 @@
-use Rattle.std.proofs.Common.{arith, sym, ◌∙◌}
-use Rattle.slot_pool.proofs.Searches.{next_found, next_none}
+use Rattle.std.proofs.Common.{sym, rules}
+use Rattle.slot_pool.proofs.Marks.{next_is}
 use Rattle.slot_pool.proofs.Arrangement.next_free_above.Goals as goal
 
-pub returns-then-is_free : goal.returns-then-is_free
-returns-then-is_free c =
-    sym (next_found c.args.self.now c.args.slot c.loop-above.above (omega arith) (omega arith) (sym c.is_free.ensures ∙ c.if-is_free.true) c.loop-above.invariant)
-
 pub returns : goal.returns
-returns c = sym (next_none c.args.self.now c.args.slot (λ k a b. c.loop-above.invariant k a (omega arith)))
+returns c = rw (← c.self.view_is) (sym (next_is c.self.inside.slots.items c.self.inside.free.items c.args.slot c.next_marked.result c.self.invariant.3 (search (rules, c.next_marked.ensures, c.deref.ensures.value, c.slots.ensures.number, c.self.view_is))))
