@@ -89,7 +89,7 @@ impl<'a> Iterator for Overlaps<'a> {
 
 /// The first id on one side of a piece among the live ones from `at` on, and the place after it. Those whose
 /// destinations are far from the piece's aren't looked at.
-fn next_on(
+pub(crate) fn next_on(
     side: Side,
     of: &LivePiece,
     live: &[LivePiece],
