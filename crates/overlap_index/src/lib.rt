@@ -2,19 +2,23 @@
 //!
 //! An id is live from `add` to `remove`, with a piece of a rule and its priority. Of two live ids
 //! whose pieces overlap, as some packet key matches both, the one of higher priority is above the
-//! other. `above` and `below` name them by looking at each live piece once. Only `new` and `add`
-//! take memory.
+//! other. `above` and `below` name them by looking at each live piece once. Most are passed over
+//! eight at a time, by the upper 32 bits of their destinations' first and last addresses, which
+//! stand in columns of their own. Only `new` and `add` take memory.
 #![tactic(auto)]
 
-ghost use Rattle.std.specs.Prelude.{◌≡◌, ◌<◌, ◌≤◌, ◌↔◌, ℕ, [], ◌∷◌, ◌++◌, IsTrue, IsFalse, IfOk, OnOk, OnErr, Contains, nat_lt, nat_eq};
+ghost use Rattle.std.specs.Prelude.{◌≡◌, ◌<◌, ◌≤◌, ◌↔◌, ℕ, [], ◌∷◌, ◌++◌, length, slice_index_or, IsTrue, IsFalse, IfOk, OnOk, OnErr, Contains, nat_lt, nat_eq};
 ghost use Rattle.std.specs.List.{IsDistinct};
 ghost use Rattle.rule_model.specs.Piece.{pieces_meet};
+ghost use Rattle.overlap_index.specs.declared.LivePiece.{LivePiece};
 ghost use Rattle.overlap_index.specs.Live.{AreApart, is_live, is_over, is_on, with_id, without_id, ids_above, ids_below};
 
+mod near;
 mod overlaps;
 #[cfg(test)]
 mod tests;
 
+use near::{first_of, last_of};
 pub use overlaps::Overlaps;
 use overlaps::Side;
 use rule_model::{Piece, Rank};
@@ -39,16 +43,20 @@ pub struct Index {
     slots: u32,
     // In the order in which they came, no id twice.
     live: Vec<LivePiece>,
+    // The upper 32 bits of the first and of the last address of each one's destination.
+    firsts: Vec<u32>,
+    lasts: Vec<u32>,
 }
 
 impl Model for Index {
     ghost use Rattle.overlap_index.specs.Live.{LivePieces, AreApart};
+    ghost use Rattle.overlap_index.specs.Near.{AreColumns};
 
     ghost Value = { LivePieces };
 
     ghost view = { λ i. record { slots = i.slots; live = i.live.items } };
 
-    ghost invariant = { λ i. AreApart i.slots i.live.items };
+    ghost invariant = { λ i. AreApart i.slots i.live.items × AreColumns i.firsts.items i.lasts.items i.live.items };
 }
 
 impl Index {
@@ -60,7 +68,14 @@ impl Index {
         ensures live { IfOk result (λ index. index.live ≡ []) }
     {
         let live = Vec::with_capacity(alloc, slots as usize)?;
-        Ok(Index { slots, live })
+        let firsts = Vec::with_capacity(alloc, slots as usize)?;
+        let lasts = Vec::with_capacity(alloc, slots as usize)?;
+        Ok(Index {
+            slots,
+            live,
+            firsts,
+            lasts,
+        })
     }
 
     /// Makes an id live, with its piece and its priority. After a refusal all is as before.
@@ -76,7 +91,11 @@ impl Index {
             piece: *piece,
             rank: priority,
         };
+        self.firsts.reserve(1)?;
+        self.lasts.reserve(1)?;
         self.live.push(one)?;
+        self.firsts.push_reserved(first_of(&piece.dst));
+        self.lasts.push_reserved(last_of(&piece.dst));
         Ok(())
     }
 
@@ -86,7 +105,10 @@ impl Index {
         ensures live { self.new.live ≡ without_id self.old.live id }
         ensures slots { self.new.slots ≡ self.old.slots }
     {
-        self.live.retain(|one| one.id != id);
+        let place = place_of(&self.live, id);
+        self.live.remove(place);
+        self.firsts.remove(place);
+        self.lasts.remove(place);
     }
 
     /// The live ids of higher priority whose pieces overlap that of a live id, each once, in any
@@ -97,7 +119,13 @@ impl Index {
         ensures once { IsDistinct nat_eq result }
         ensures apart { AreApart self.now.slots self.now.live }
     {
-        Overlaps::new(Side::Above, self.piece_of(id), self.live.as_slice())
+        Overlaps::new(
+            Side::Above,
+            self.piece_of(id),
+            self.live.as_slice(),
+            self.firsts.as_slice(),
+            self.lasts.as_slice(),
+        )
     }
 
     /// The live ids of lower priority whose pieces overlap that of a live id, each once, in any
@@ -108,7 +136,13 @@ impl Index {
         ensures once { IsDistinct nat_eq result }
         ensures apart { AreApart self.now.slots self.now.live }
     {
-        Overlaps::new(Side::Below, self.piece_of(id), self.live.as_slice())
+        Overlaps::new(
+            Side::Below,
+            self.piece_of(id),
+            self.live.as_slice(),
+            self.firsts.as_slice(),
+            self.lasts.as_slice(),
+        )
     }
 
     /// What is live by a live id.
@@ -123,4 +157,18 @@ impl Index {
         }
         unreachable!()
     }
+}
+
+/// The first place of a live id.
+fn place_of(live: &[LivePiece], id: u32) -> usize
+    requires { IsTrue (is_live live.now id) }
+    ensures inside { result < length live.now }
+    ensures found { (none : LivePiece) → (slice_index_or live.now result none).id ≡ id }
+{
+    for (place, one) in live.iter().enumerate() {
+        if one.id == id {
+            return place;
+        }
+    }
+    unreachable!()
 }

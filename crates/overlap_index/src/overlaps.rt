@@ -1,9 +1,11 @@
 //! The ids on one side of a live one.
-ghost use Rattle.std.specs.Prelude.{◌≡◌};
+ghost use Rattle.std.specs.Prelude.{◌≡◌, ◌∷◌, [], ◌≤◌, length, drop, IfSome, IsNone};
 ghost use Rattle.std.specs.Iterator.{YieldsFirst, item_count};
 ghost use Rattle.overlap_index.specs.Live.{is_over, is_on, ids_on};
+ghost use Rattle.overlap_index.specs.Near.{AreColumns};
 
 use crate::LivePiece;
+use crate::near::{first_of, last_of, next_near};
 use rule_model::piece_overlaps;
 use std::marker::Model;
 
@@ -21,26 +23,46 @@ pub enum Side {
 pub struct Overlaps<'a> {
     side: Side,
     of: LivePiece,
-    // The live pieces that weren't looked at yet.
-    rest: &'a [LivePiece],
+    live: &'a [LivePiece],
+    // The upper 32 bits of their destinations' first and last addresses.
+    firsts: &'a [u32],
+    lasts: &'a [u32],
+    // Those from here on weren't looked at yet.
+    at: usize,
 }
 
 impl<'a> Model for Overlaps<'a> {
-    ghost use Rattle.std.specs.Prelude.{List, ℕ};
+    ghost use Rattle.std.specs.Prelude.{List, ℕ, ◌≤◌, length, drop};
+    ghost use Rattle.overlap_index.specs.Live.{ids_on};
+    ghost use Rattle.overlap_index.specs.Near.{AreColumns};
 
     ghost Value = { List ℕ };
 
-    ghost use Rattle.overlap_index.specs.Live.{ids_on};
+    ghost view = { λ o. ids_on o.side o.of (drop o.at o.live.now) };
 
-    ghost view = { λ o. ids_on o.side o.of o.rest.now };
+    ghost invariant = { λ o. AreColumns o.firsts.now o.lasts.now o.live.now × (o.at ≤ length o.live.now) };
 }
 
 impl<'a> Overlaps<'a> {
-    /// The ids on one side of a piece, among some live ones.
-    pub(crate) fn new(side: Side, of: LivePiece, rest: &'a [LivePiece]) -> Overlaps<'a>
-        ensures { result ≡ ids_on side of rest.now }
+    /// The ids on one side of a piece, among some live ones whose columns are given.
+    pub(crate) fn new(
+        side: Side,
+        of: LivePiece,
+        live: &'a [LivePiece],
+        firsts: &'a [u32],
+        lasts: &'a [u32],
+    ) -> Overlaps<'a>
+        requires { AreColumns firsts.now lasts.now live.now }
+        ensures { result ≡ ids_on side of live.now }
     {
-        Overlaps { side, of, rest }
+        Overlaps {
+            side,
+            of,
+            live,
+            firsts,
+            lasts,
+            at: 0,
+        }
     }
 }
 
@@ -52,14 +74,49 @@ impl<'a> Iterator for Overlaps<'a> {
     ghost remaining = { item_count (λ rest. rest) };
 
     fn next(&mut self) -> Option<u32> {
-        while let Some((other, rest)) = self.rest.split_first() {
-            self.rest = rest;
-            if is_on(self.side, other, &self.of) {
-                return Some(other.id);
+        let (id, next) = next_on(
+            self.side,
+            &self.of,
+            self.live,
+            self.firsts,
+            self.lasts,
+            self.at,
+        )?;
+        self.at = next;
+        Some(id)
+    }
+}
+
+/// The first id on one side of a piece among the live ones from `at` on, and the place after it. Those whose
+/// destinations are far from the piece's aren't looked at.
+pub(crate) fn next_on(
+    side: Side,
+    of: &LivePiece,
+    live: &[LivePiece],
+    firsts: &[u32],
+    lasts: &[u32],
+    at: usize,
+) -> Option<(u32, usize)>
+    requires columns { AreColumns firsts.now lasts.now live.now }
+    requires inside { at ≤ length live.now }
+    ensures some { IfSome result (λ found. ids_on side of.now (drop at live.now) ≡ found.0 ∷ ids_on side of.now (drop found.1 live.now)) }
+    ensures inside { IfSome result (λ found. found.1 ≤ length live.now) }
+    ensures none { IsNone result → ids_on side of.now (drop at live.now) ≡ [] }
+{
+    let first = first_of(&of.piece.dst);
+    let last = last_of(&of.piece.dst);
+    let mut next = at;
+    while next < live.len() {
+        next = next_near(firsts, lasts, first, last, next);
+        if next < live.len() {
+            let other = &live[next];
+            next += 1;
+            if is_on(side, other, of) {
+                return Some((other.id, next));
             }
         }
-        None
     }
+    None
 }
 
 /// Whether a piece overlaps another one and is on that side of it.

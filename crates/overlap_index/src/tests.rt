@@ -1,5 +1,11 @@
-use crate::Index;
-use rule_model::{Piece, Prefix, Rank, list_rank, route_rule};
+ghost use Rattle.std.specs.Prelude.{IfOk};
+ghost use Rattle.overlap_index.specs.Near.{AreColumns};
+
+use crate::near::{first_of, last_of};
+use crate::overlaps::{Side, next_on};
+use crate::{Index, LivePiece};
+use rule_model::{Piece, Prefix, Rank, list_rank, piece_overlaps, route_rule};
+use std::alloc::{AllocError, Global};
 use std::test::Fail;
 
 // A line of an access list to the addresses of a prefix.
@@ -25,5 +31,55 @@ fn neighbours(rt: HostRuntime) -> Result<(), Fail> {
     index.remove(1);
     let below: Vec<u32> = index.below(2).collect(rt.alloc())?;
     assert_eq!(rt; below.len(), 0);
+    Ok(())
+}
+
+// The columns beside some live pieces.
+fn columns(alloc: Global, live: &[LivePiece]) -> Result<(Vec<u32>, Vec<u32>), AllocError>
+    ensures { IfOk result (λ columns. AreColumns columns.0.items columns.1.items live.now) }
+{
+    let mut firsts = Vec::new(alloc);
+    let mut lasts = Vec::new(alloc);
+    for one in live {
+        firsts.push(first_of(&one.piece.dst))?;
+        lasts.push(last_of(&one.piece.dst))?;
+    }
+    Ok((firsts, lasts))
+}
+
+// The first id on one side of a piece from a place on, and the place after it, each live piece compared.
+fn plain(side: Side, of: &LivePiece, live: &[LivePiece], at: usize) -> Option<(u32, usize)> {
+    for (place, one) in live.iter().enumerate() {
+        let higher = match side {
+            Side::Above => of.rank < one.rank,
+            Side::Below => one.rank < of.rank,
+        };
+        if place >= at && higher && piece_overlaps(&one.piece, &of.piece) {
+            return Some((one.id, place + 1));
+        }
+    }
+    None
+}
+
+// Prefixes of all lengths, some apart and some nested, 29 of them: the last few aren't eight.
+#[test]
+fn finds_what_the_plain_loop_finds(rt: HostRuntime) -> Result<(), Fail> {
+    let mut live: Vec<LivePiece> = Vec::new(rt.alloc());
+    for id in 0..29u32 {
+        let past = 32 - id * 7 % 33;
+        let bits = u64::from(id % 5) * 0x3333_3333;
+        let addr = (bits >> past << past) as u32;
+        let (piece, rank) = line(1 + id * 11 % 29, addr, (32 - past) as u8)?;
+        live.push(LivePiece { id, piece, rank })?;
+    }
+    let (firsts, lasts) = columns(rt.alloc(), &live)?;
+    for of in &live {
+        for at in 0..live.len() {
+            for side in [Side::Above, Side::Below] {
+                let found = next_on(side, of, &live, &firsts, &lasts, at);
+                assert_eq!(rt; found, plain(side, of, &live, at));
+            }
+        }
+    }
     Ok(())
 }

@@ -15,7 +15,7 @@ returns-clause-exact c =
 pub returns-clause-once : goal.returns-clause-once
 returns-clause-once c =
     subst (IsDistinct nat_eq) (sym (c.new.ensures ∙ ap (ids_on Above c.piece_of.result) c.as_slice.ensures.value))
-    (distinct_on Above c.piece_of.result c.self.inside.live.items c.self.invariant.once)
+    (distinct_on Above c.piece_of.result c.self.inside.live.items c.self.invariant.0.once)
 
 pub returns-clause-apart : goal.returns-clause-apart
-returns-clause-apart c = subst (λ v. AreApart v.slots v.live) c.self.view_is c.self.invariant
+returns-clause-apart c = subst (λ v. AreApart v.slots v.live) c.self.view_is c.self.invariant.0

@@ -11,5 +11,5 @@ returns-then-one-id c =
     let size = ap length same in
     let inside : c.loop-one.one-index < length live = omega arith in
     subst (λ xs. with_id xs c.args.id ≡ one ∷ []) (ap (λ v. v.live) c.self.view_is)
-    (found_piece live one c.args.id c.loop-one.one-index c.self.invariant.once inside
+    (found_piece live one c.args.id c.loop-one.one-index c.self.invariant.0.once inside
     (ap (λ xs. slice_index_or xs c.loop-one.one-index one) (sym same) ∙ sym c.one-item.is) c.if-one-id.true)

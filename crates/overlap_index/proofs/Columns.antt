@@ -1,0 +1,74 @@
+-- The columns beside the live pieces, and a live piece that is taken out.
+use Rattle.std.proofs.Common.{◌≡◌, ℕ, zero, suc, Bool, true, not, ◌<◌, List, [], ◌∷◌, ◌++◌, length, map, filter, Contains, get_or, arith, refl, sym, ◌∙◌, ap, subst}
+use Rattle.std.specs.Prelude.{◌==◌, nat_eq}
+use Rattle.std.specs.List.{IsDistinct, remove}
+use Rattle.std.proofs.lemmas.Bool.{cond-true, cond-false, false_from_ne_true, eqb-true, eq-eqb}
+use Rattle.std.proofs.lemmas.List.{get_or_default, length-map}
+use Rattle.slot_order.proofs.Rules.{contains_head, contains_tail}
+use Rattle.overlap_index.specs.declared.LivePiece.{LivePiece}
+use Rattle.overlap_index.specs.Live.{without_id}
+use Rattle.overlap_index.specs.Near.{AreColumns, first_of, last_of}
+use Rattle.overlap_index.proofs.Listed.{map_in}
+use Rattle.overlap_index.proofs.Live.{all_apart}
+
+abbrev ids : List LivePiece → List ℕ
+ids live = map (λ one. one.id) live
+
+-- a test that everything passes keeps everything
+filter_everything : (p : LivePiece → Bool) (xs : List LivePiece) → ((x : LivePiece) → Contains xs x → p x ≡ true) → filter p xs ≡ xs
+filter_everything p [] all = refl
+filter_everything p (x ∷ xs) all =
+    cond-true _ _ _ (all x (contains_head x xs)) ∙ ap (λ ys. x ∷ ys) (filter_everything p xs (λ y c. all y (contains_tail x y xs c)))
+
+-- a live piece whose id isn't this one
+other_id : (a b : ℕ) → (a ≡ b → ⊥) → not (a == b) ≡ true
+other_id a b apart = ap not (false_from_ne_true (a == b) (λ e. apart (eqb-true a b e)))
+
+-- to take out the place of an id is to leave out the id
+pub remove_place : (live : List LivePiece) (id k : ℕ) (none : LivePiece) → IsDistinct nat_eq (ids live) → k < length live → (get_or live k none).id ≡ id
+    → remove live k ≡ without_id live id
+unfolding IsDistinct
+remove_place [] id k none d inside at = absurd (omega arith)
+remove_place (one ∷ live) id zero none d inside at =
+    let here : one.id ≡ id = at in
+    sym (cond-false _ _ _ (ap not (eq-eqb one.id id here)) ∙ filter_everything (λ x. not (x.id == id)) live (λ x c.
+    other_id x.id id (λ e. all_apart one.id (ids live) d.0 (subst (Contains (ids live)) (e ∙ sym here) (map_in (λ y. y.id) live x c)))))
+remove_place (one ∷ live) id (suc k) none d inside at =
+    let found = get_or live k none in
+    let has : Contains live found = (k, omega arith, get_or_default live k found none (omega arith)) in
+    ap (λ xs. one ∷ xs) (remove_place live id k none d.1 (omega arith) at)
+    ∙ sym (cond-true _ _ _ (other_id one.id id (λ e. all_apart one.id (ids live) d.0 (subst (Contains (ids live)) (at ∙ sym e) (map_in (λ y. y.id) live found has)))))
+
+map_remove : (f : LivePiece → ℕ) (xs : List LivePiece) (k : ℕ) → remove (map f xs) k ≡ map f (remove xs k)
+map_remove f [] zero = refl
+map_remove f [] (suc k) = refl
+map_remove f (x ∷ xs) zero = refl
+map_remove f (x ∷ xs) (suc k) = ap (λ ys. f x ∷ ys) (map_remove f xs k)
+
+map_more : (f : LivePiece → ℕ) (xs : List LivePiece) (x : LivePiece) → map f xs ++ f x ∷ [] ≡ map f (xs ++ x ∷ [])
+map_more f [] x = refl
+map_more f (y ∷ xs) x = ap (λ ys. f y ∷ ys) (map_more f xs x)
+
+-- columns of no live piece, of one more, and of all but one
+pub columns_none : AreColumns [] [] []
+columns_none = record { first = refl; last = refl }
+
+pub columns_more : (firsts lasts : List ℕ) (live : List LivePiece) (one : LivePiece) → AreColumns firsts lasts live
+    → AreColumns (firsts ++ first_of one.piece.dst ∷ []) (lasts ++ last_of one.piece.dst ∷ []) (live ++ one ∷ [])
+columns_more firsts lasts live one are = record {
+  first = ap (λ xs. xs ++ first_of one.piece.dst ∷ []) are.first ∙ map_more (λ x. first_of x.piece.dst) live one;
+  last = ap (λ xs. xs ++ last_of one.piece.dst ∷ []) are.last ∙ map_more (λ x. last_of x.piece.dst) live one;
+}
+
+pub columns_remove : (firsts lasts : List ℕ) (live : List LivePiece) (k : ℕ) → AreColumns firsts lasts live → AreColumns (remove firsts k) (remove lasts k) (remove live k)
+columns_remove firsts lasts live k are = record {
+  first = ap (λ xs. remove xs k) are.first ∙ map_remove (λ x. first_of x.piece.dst) live k;
+  last = ap (λ xs. remove xs k) are.last ∙ map_remove (λ x. last_of x.piece.dst) live k;
+}
+
+-- the columns are as long as the list of live pieces
+pub columns_size : (firsts lasts : List ℕ) (live : List LivePiece) → AreColumns firsts lasts live → (length firsts ≡ length live) × (length lasts ≡ length live)
+columns_size firsts lasts live are = (
+  ap length are.first ∙ length-map live (λ one. first_of one.piece.dst),
+  ap length are.last ∙ length-map live (λ one. last_of one.piece.dst),
+)
