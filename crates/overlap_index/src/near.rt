@@ -45,6 +45,10 @@ pub(crate) fn next_near(firsts: &[u32], lasts: &[u32], first: u32, last: u32, at
     ensures most { result ≤ length firsts.now }
     ensures passed { (k : ℕ) → at ≤ k → k < result → is_near firsts.now lasts.now first last k ≡ false }
 {
+    // Where many are near, the next one often is.
+    if at < firsts.len() && firsts[at] <= last && first <= lasts[at] {
+        return at;
+    }
     let mut next = at;
     while firsts.len() - next >= 8 {
         let before = first_zero(apart_eight(firsts, lasts, first, last, next));
