@@ -15,3 +15,4 @@ pub mod CommonKeys
 pub mod Ranks
 pub mod RuleSets
 pub mod Routes
+pub mod Parts

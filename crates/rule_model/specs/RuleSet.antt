@@ -31,6 +31,10 @@ IsBestRule rules key found =
     (λ best. Contains rules best × IsTrue (rule_matches best key) ×
     ((rule : Rule) → Contains rules rule → IsTrue (rule_matches rule key) → IsFalse (nat_lt best.priority rule.priority)))
 
+-- what a set answers is such a rule
+abbrev pub AnswersByItsBestRule : Type 0
+AnswersByItsBestRule = (rules : List Rule) (key : Key) → IsBestRule rules key (best_rule rules key)
+
 -- the order in which a set is listed doesn't matter
 abbrev pub AnswersInAnyOrder : Type 0
 AnswersInAnyOrder = (set list : List Rule) (key : Key) → IsRuleSet set → IsPermutation set list → answer list key ≡ answer set key

@@ -2,7 +2,7 @@
 ghost use Rattle.std.specs.Prelude.{IfSome, ◌<◌, ◌^◌};
 ghost use Rattle.rule_model.specs.Key.{IsKey};
 ghost use Rattle.rule_model.specs.Rule.{AreConditions, HasConditions};
-ghost use Rattle.rule_model.specs.RuleSet.{AnswersInAnyOrder};
+ghost use Rattle.rule_model.specs.RuleSet.{AnswersByItsBestRule, AnswersInAnyOrder};
 ghost use Rattle.rule_model.specs.Routes.{Ipv4RoutesAreNested, Ipv4ChainsAreShort};
 
 use crate::{Key, Piece, Rule};
@@ -34,6 +34,12 @@ pub fn piece_conditions(piece: &Piece)
     );
     proto_fits(piece.proto);
 }
+
+/// What a set of rules answers is the result of a rule of it that matches the key, and that no other one which matches it
+/// exceeds in priority; and nothing only where none matches.
+pub fn answers_by_its_best_rule()
+    ensures { AnswersByItsBestRule }
+{}
 
 /// The order in which a set of rules is listed doesn't change what it answers.
 pub fn answers_in_any_order()

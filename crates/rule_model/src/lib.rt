@@ -28,8 +28,8 @@ ghost use Rattle.rule_model.specs.Piece as pieces;
 ghost use Rattle.rule_model.specs.Piece.{PiecesOverlap, pieces_meet};
 
 pub use laws::{
-    answers_in_any_order, ipv4_chains_are_short, ipv4_routes_are_nested, key_fields,
-    piece_conditions, rule_conditions,
+    answers_by_its_best_rule, answers_in_any_order, ipv4_chains_are_short, ipv4_routes_are_nested,
+    key_fields, piece_conditions, rule_conditions,
 };
 use std::cmp::Ordering;
 use std::marker::Model;

@@ -16,3 +16,6 @@ pub mod Sound
 pub mod Steps
 pub mod Stores
 pub mod Sums
+pub mod RulesAt
+pub mod Additions
+pub mod PieceTests

@@ -13,6 +13,7 @@ use Rattle.rule_store.proofs.Sets.{rule_at-none}
 use Rattle.rule_store.specs.Applied.{kept_rules}
 use Rattle.rule_store.proofs.After.{with_rules}
 use Rattle.rule_store.proofs.Sound.{taken, sound-parts, removes-append, fresh-taken}
+pub use Rattle.rule_store.specs.Batch.{IsKept}
 
 -- a member of a list that begins with it
 here : {X : Type 0} (first x : X) (rest : List X) → first ≡ x → Contains (first ∷ rest) x
@@ -43,7 +44,8 @@ with_rule-from (first ∷ rules) new rule member =
       ]
     ])
 
-with_rules-to : (rules added : List Rule) (rule : Rule) → Contains (with_rules rules added) rule → Contains added rule ⊎ Contains rules rule
+-- a member of a set with additions is an addition or one of the set
+pub with_rules-to : (rules added : List Rule) (rule : Rule) → Contains (with_rules rules added) rule → Contains added rule ⊎ Contains rules rule
 with_rules-to rules [] rule member = inr member
 with_rules-to rules (new ∷ added) rule member =
     elim (with_rules-to (with_rule rules new) added rule member) [
@@ -51,7 +53,7 @@ with_rules-to rules (new ∷ added) rule member =
       | inr before ↦ elim (with_rule-to rules new rule before) [ inl is ↦ inl (here new rule added is) | inr old ↦ inr old ]
     ]
 
-with_rules-from : (rules added : List Rule) (rule : Rule) → Contains added rule ⊎ Contains rules rule → Contains (with_rules rules added) rule
+pub with_rules-from : (rules added : List Rule) (rule : Rule) → Contains added rule ⊎ Contains rules rule → Contains (with_rules rules added) rule
 with_rules-from rules [] rule (inl none) = absurd (contains_none rule none)
 with_rules-from rules [] rule (inr old) = old
 with_rules-from rules (new ∷ added) rule (inl member) =
@@ -60,10 +62,6 @@ with_rules-from rules (new ∷ added) rule (inl member) =
       | inr later ↦ with_rules-from (with_rule rules new) added rule (inl later)
     ]
 with_rules-from rules (new ∷ added) rule (inr old) = with_rules-from (with_rule rules new) added rule (inr (with_rule-from rules new rule (inr old)))
-
--- an old rule that a batch keeps, as it is after the batch
-abbrev pub IsKept : List Rule → List Command → Rule → Type 0
-IsKept rules batch rule = (old : Rule) × Contains rules old × IsFalse (removes old.priority batch) × (rule ≡ with_result_after batch old)
 
 kept-to : (rules : List Rule) (batch : List Command) (rule : Rule) → Contains (kept_rules rules batch) rule → IsKept rules batch rule
 kept-to [] batch rule member = absurd (contains_none rule member)

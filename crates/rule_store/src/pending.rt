@@ -1,11 +1,11 @@
 //! The commands of a batch that waits for its commit.
 
-ghost use Rattle.std.specs.Prelude.{◌≡◌, ◌↔◌, ◌<◌, ◌≤◌, [], ◌∷◌, ◌++◌, Err, Some, IsTrue, length, OnOk, OnErr, slice_get, take};
+ghost use Rattle.std.specs.Prelude.{◌≡◌, ◌↔◌, ◌<◌, ◌≤◌, [], ◌∷◌, ◌++◌, Err, Some, IsTrue, length, IfOk, OnOk, OnErr, slice_get, take};
 ghost use Rattle.rule_store.specs.Naming as naming;
 
 use crate::Command;
 use rule_model::Rank;
-use std::alloc::Global;
+use std::alloc::{AllocError, Global};
 use std::collections::BTreeMap;
 use std::marker::Model;
 use thiserror::Error;
@@ -161,6 +161,21 @@ impl Batch {
     {
         self.commands.clear();
         self.uses.clear();
+    }
+
+    /// A copy of the batch; it fails only for want of memory.
+    pub fn try_copy(&self, alloc: Global) -> Result<Batch, AllocError>
+        ensures { IfOk result (λ copy. copy ≡ self.now) }
+    {
+        let mut copy = Batch::new(alloc);
+        for place in 0..self.len() {
+            match copy.push(self.at(place)) {
+                Ok(()) => {}
+                Err(PushFault::Memory) => return Err(AllocError),
+                Err(PushFault::Full) => unreachable!(),
+            }
+        }
+        Ok(copy)
     }
 
     /// The command at a place, and how it names its priority.

@@ -143,7 +143,7 @@ fn applied(rt: HostRuntime) -> Result<(), Fail> {
     store.reserve(2)?;
     put(&rt, &mut store, line(1, 0, 65535, 1));
     put(&rt, &mut store, line(3, 0, 65535, 1));
-    let batch = batch(rt.alloc(), &[del(1), set(3), add(2)])?;
+    let batch = batch(rt.alloc(), &[del(1), set(3), add(2)])?.try_copy(rt.alloc())?;
     assert_eq!(rt; store.len(), 2);
     store.reserve(batch.len())?;
     assert!(rt; store.check(&batch).is_ok());
