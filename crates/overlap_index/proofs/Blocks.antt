@@ -45,6 +45,10 @@ same_between x y size some same =
 rounded : (x size : ℕ) → x / size * size ≤ x
 rounded x size = let parts = div-add-mod' x size in omega arith
 
+-- a block's first address isn't behind its last
+pub first_below_last : (block : AddressBlock) → first_of block ≤ last_of block
+first_below_last block = let round = rounded (block.addr / 2 ^ 96) (2 ^ (32 - block.len)) in omega arith
+
 -- a block that holds the address of another one is near it
 held_near : (a b : AddressBlock) → block_holds a b.addr ≡ true → (first_of a ≤ last_of b) × (first_of b ≤ last_of a)
 held_near a b held =

@@ -2,17 +2,19 @@
 //!
 //! An id is live from `add` to `remove`, with a piece of a rule and its priority. Of two live ids
 //! whose pieces overlap, as some packet key matches both, the one of higher priority is above the
-//! other. `above` and `below` name them by looking at each live piece once. Most are passed over
-//! eight at a time, by the upper 32 bits of their destinations' first and last addresses, which
-//! stand in columns of their own. Only `new` and `add` take memory.
+//! other. `above` and `below` name them by looking at each live piece once, and `id_of` finds one by
+//! its piece and its priority. Most are passed over eight at a time, by the upper 32 bits of their
+//! destinations' first and last addresses, which stand in columns of their own. Only `new` and
+//! `add` take memory.
 #![tactic(auto)]
 
-ghost use Rattle.std.specs.Prelude.{◌≡◌, ◌<◌, ◌≤◌, ◌↔◌, ℕ, [], ◌∷◌, ◌++◌, length, slice_index_or, IsTrue, IsFalse, IfOk, OnOk, OnErr, Contains, nat_lt, nat_eq};
+ghost use Rattle.std.specs.Prelude.{◌≡◌, ◌<◌, ◌≤◌, ◌↔◌, ℕ, [], ◌∷◌, ◌++◌, length, slice_index_or, IsTrue, IsFalse, IsNone, IfSome, IfOk, OnOk, OnErr, Contains, nat_lt, nat_eq};
 ghost use Rattle.std.specs.List.{IsDistinct};
 ghost use Rattle.rule_model.specs.Piece.{pieces_meet};
 ghost use Rattle.overlap_index.specs.declared.LivePiece.{LivePiece};
 ghost use Rattle.overlap_index.specs.Live.{AreApart, is_live, is_over, is_on, with_id, without_id, ids_above, ids_below};
 
+mod exact;
 mod near;
 mod overlaps;
 #[cfg(test)]
@@ -142,6 +144,20 @@ impl Index {
             self.live.as_slice(),
             self.firsts.as_slice(),
             self.lasts.as_slice(),
+        )
+    }
+
+    /// The live id of this piece and this priority, if there is one.
+    pub fn id_of(&self, piece: &Piece, priority: Rank) -> Option<u32>
+        ensures found { IfSome result (λ id. Contains self.now.live (record { id = id; piece = piece.now; rank = priority })) }
+        ensures none { IsNone result → (one : LivePiece) → Contains self.now.live one → one.piece ≡ piece.now → one.rank ≡ priority → ⊥ }
+    {
+        exact::id_of(
+            self.live.as_slice(),
+            self.firsts.as_slice(),
+            self.lasts.as_slice(),
+            piece,
+            priority,
         )
     }
 

@@ -1,6 +1,7 @@
 ghost use Rattle.std.specs.Prelude.{IfOk};
 ghost use Rattle.overlap_index.specs.Near.{AreColumns};
 
+use crate::exact::id_of;
 use crate::near::{first_of, last_of};
 use crate::overlaps::{Side, next_on};
 use crate::{Index, LivePiece};
@@ -28,7 +29,9 @@ fn neighbours(rt: HostRuntime) -> Result<(), Fail> {
     assert_eq!(rt; above.as_slice(), [0].as_slice());
     let below: Vec<u32> = index.below(2).collect(rt.alloc())?;
     assert_eq!(rt; below.as_slice(), [1].as_slice());
+    assert_eq!(rt; index.id_of(&eleven, last), Some(1));
     index.remove(1);
+    assert_eq!(rt; index.id_of(&eleven, last), None);
     let below: Vec<u32> = index.below(2).collect(rt.alloc())?;
     assert_eq!(rt; below.len(), 0);
     Ok(())
@@ -74,6 +77,10 @@ fn finds_what_the_plain_loop_finds(rt: HostRuntime) -> Result<(), Fail> {
     }
     let (firsts, lasts) = columns(rt.alloc(), &live)?;
     for of in &live {
+        let found = id_of(&live, &firsts, &lasts, &of.piece, of.rank);
+        assert_eq!(rt; found, Some(of.id));
+        let other = id_of(&live, &firsts, &lasts, &of.piece, list_rank(30));
+        assert_eq!(rt; other, None);
         for at in 0..live.len() {
             for side in [Side::Above, Side::Below] {
                 let found = next_on(side, of, &live, &firsts, &lasts, at);

@@ -1,0 +1,6 @@
+use Rattle.std.proofs.Common.{◌∙◌, ap, sym, subst, Contains}
+use Rattle.overlap_index.proofs.Index.id_of.Goals as goal
+
+pub returns-clause-none : goal.returns-clause-none
+returns-clause-none c none one member =
+    c.id_of.ensures.none none one (subst (λ live. Contains live one) (sym (c.as_slice.ensures.value ∙ ap (λ v. v.live) c.self.view_is)) member)
