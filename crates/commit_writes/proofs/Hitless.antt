@@ -1,61 +1,61 @@
--- Additions of routes by falling priority are hitless: after each write every key has its best route of the old set or of the new one.
-use Rattle.std.proofs.Common.{◌≡◌, ℕ, zero, suc, List, [], ◌∷◌, ◌++◌, length, take, map, Contains, None, Some, IsFalse, inl, inr, ◌↔◌, refl, ◌∙◌, subst, ap}
+-- The writes of a planned batch are hitless: after each of them every key has its best rule of the old set or of the new one.
+use Rattle.std.proofs.Common.{sym, ◌≡◌, ℕ, zero, suc, List, [], ◌∷◌, ◌++◌, length, take, map, Contains, None, Some, IsFalse, refl, ◌∙◌}
 use Rattle.std.specs.List.{AllByRecursion}
-use Rattle.std.proofs.lemmas.List.Elements.{Contains-append_left, Contains-append_right, Contains-append_cases}
-use Rattle.slot_order.specs.Order.{Distinct, With}
-use Rattle.slot_order.proofs.Between.{IsBetween, adding}
-use Rattle.slot_order.proofs.Sets.{IsBetween_same}
+use Rattle.slot_order.proofs.Inside.{all_append}
+use Rattle.slot_pool.specs.Arrangement.{Slots}
 use Rattle.rule_model.specs.declared.Rule.{Rule}
-use Rattle.rule_model.specs.Routes.{IsIpv4Route}
+use Rattle.rule_model.specs.Rule.{HasConditions}
 use Rattle.rule_model.specs.RuleSet.{IsRuleSet}
 use Rattle.rule_model.proofs.RuleSets.{AllByRecursion-member, IsRuleSet-distinct}
 use Rattle.rule_store.specs.declared.Command.{Command}
+use Rattle.rule_store.specs.Batch.{set_after}
 use Rattle.rule_store.specs.declared.Mode.TheVariants.{Cover}
-use Rattle.rule_store.specs.Batch.{additions, set_after, batch_fault}
-use Rattle.rule_store.proofs.After.{set_after-set}
-use Rattle.overlap_index.proofs.Listed.{in_map}
-use Rattle.ternary_word.specs.Entry.{RankedPiece, HitsExactly, entry_for}
+use Rattle.ternary_word.specs.Entry.{RankedPiece}
 use Rattle.ternary_word.proofs.Exact.{hits-entry_of}
+use Rattle.overlap_index.specs.declared.LivePiece.{LivePiece}
+use Rattle.move_planner.specs.declared.Move.{Move}
+use Rattle.move_planner.specs.declared.Move.TheVariants.{Put, Erase}
 use Rattle.tcam_device.specs.declared.Write.{Write}
 use Rattle.tcam_device.specs.declared.Write.TheVariants.{Slot, Table}
 use Rattle.tcam_device.specs.State.{State, apply, state_after, blank_table}
-use Rattle.tcam_device.specs.Order.{IsOrdered}
 use Rattle.tcam_device.specs.Hitless.{IsHitless}
 use Rattle.tcam_device.specs.Insertion.{is_table_write}
 use Rattle.tcam_device.proofs.Lookups.{HitAsPieces}
 use Rattle.tcam_device.proofs.States.{IsState-plain}
-use Rattle.tcam_device.proofs.Shown.{ArePiecesOf, ArePiecesOf-same, hit_as_pieces, ordered_shows, ordered_between}
-use Rattle.move_planner.specs.declared.Move.{Move}
-use Rattle.move_planner.specs.declared.Move.TheVariants.{Put, Erase}
-use Rattle.slot_order.proofs.Inside.{all_append}
+use Rattle.tcam_device.proofs.Shown.{hit_as_pieces, ordered_shows}
+use Rattle.commit_writes.specs.declared.Rewrite.{Rewrite}
 use Rattle.commit_writes.specs.Bits.{no_bits}
-use Rattle.commit_writes.specs.Planned.{AddsRoute, Entries, Planned, write_for, planned_writes}
 use Rattle.commit_writes.specs.Shape.{set_pieces, inserted_pieces}
-use Rattle.commit_writes.proofs.Adds.{new_additions, new_absent}
-use Rattle.commit_writes.proofs.Routes.{route_piece, new_rules, set_of_routes, inserted_routes, route_conditions, route_encodable}
-use Rattle.commit_writes.proofs.RoutePieces.{route_pieces-of, route_pieces-fall, after_routes, after_pieces, new_rules-set}
+use Rattle.commit_writes.specs.Planned.{IsPlain, Entries, Planned, contents, plain_state, write_for, planned_writes, slots_after}
+use Rattle.commit_writes.specs.PlannedBatch.{rewrite_write, erase_write, batch_writes, IsPlannedBatch}
+use Rattle.commit_writes.proofs.BatchRow.{row_of}
+use Rattle.commit_writes.proofs.BatchRules.{IsSoundChange, change_of, right_after, set_after-is}
+use Rattle.commit_writes.proofs.BatchStages.{batch_stage, batch_last}
+use Rattle.commit_writes.proofs.SetPieces.{set_pieces-of, set_plain}
+use Rattle.commit_writes.proofs.OnTheWay.{on_the_way_shows}
+use Rattle.commit_writes.proofs.Ordered.{planned_first}
 
 -- no write is to a table
-abbrev pub AreSlotWrites : List Write → Type 0
+abbrev AreSlotWrites : List Write → Type 0
 AreSlotWrites writes = AllByRecursion (λ write. IsFalse (is_table_write write)) writes
 
 -- neither table was ever written
-pub record IsPlain (state : State) : Type 0 where
-  pub src : state.src ≡ blank_table
-  pub dst : state.dst ≡ blank_table
+record AreBlank (state : State) : Type 0 where
+  src : state.src ≡ blank_table
+  dst : state.dst ≡ blank_table
 
-pub plain_after : (state : State) (writes : List Write) → AreSlotWrites writes → IsPlain state → IsPlain (state_after state writes)
-plain_after state [] slots plain = plain
-plain_after state (Slot at entry ∷ writes) slots plain = plain_after (apply state (Slot at entry)) writes slots.1 record { src = plain.src; dst = plain.dst }
-plain_after state (Table field port word ∷ writes) slots plain = absurd (let wrong = slots.0 in cc)
+blank_after : (state : State) (writes : List Write) → AreSlotWrites writes → AreBlank state → AreBlank (state_after state writes)
+blank_after state [] slots blank = blank
+blank_after state (Slot at entry ∷ writes) slots blank = blank_after (apply state (Slot at entry)) writes slots.1 record { src = blank.src; dst = blank.dst }
+blank_after state (Table field port word ∷ writes) slots blank = absurd (let wrong = slots.0 in cc)
 
-pub slots_take : (n : ℕ) (writes : List Write) → AreSlotWrites writes → AreSlotWrites (take n writes)
+slots_take : (n : ℕ) (writes : List Write) → AreSlotWrites writes → AreSlotWrites (take n writes)
 slots_take zero writes slots = tt
 slots_take (suc n) [] slots = tt
 slots_take (suc n) (write ∷ writes) slots = (slots.0, slots_take n writes slots.1)
 
--- the moves of insertions are slot writes
-pub planned_slots : (entries : Entries) (planned : List Planned) → AreSlotWrites (planned_writes entries planned)
+-- the moves of insertions are slot writes,
+planned_slots : (entries : Entries) (planned : List Planned) → AreSlotWrites (planned_writes entries planned)
 planned_slots entries [] = tt
 planned_slots entries (insertion ∷ planned) =
     all_append (λ write. IsFalse (is_table_write write)) (map (write_for entries) insertion.moves) (planned_writes entries planned) (each insertion.moves) (planned_slots entries planned)
@@ -65,100 +65,77 @@ planned_slots entries (insertion ∷ planned) =
     each (Put slot id ∷ moves) = (refl, each moves)
     each (Erase slot ∷ moves) = (refl, each moves)
 
--- where no table is written the entries of routes hit what their pieces match
-pub routes_hit : (state : State) (rules : List Rule) → IsPlain state → ((rule : Rule) → Contains rules rule → IsIpv4Route rule) → HitAsPieces state (Contains (map route_piece rules))
-routes_hit state rules plain routes =
-    hit_as_pieces (length state.slots) state (Contains (map route_piece rules)) (IsState-plain state plain.src plain.dst)
-    (λ ranked member. let found = in_map route_piece rules ranked member in let route = routes found.0 found.1 in
-    subst (λ (r : RankedPiece). HitsExactly r.piece (entry_for r)) found.2
-    (hits-entry_of (route_piece found.0).piece found.0.priority found.0.result (route_conditions found.0 route) (route_encodable found.0 route)))
+-- and so are new results and erases
+batch_slots : (entries : Entries) (slots : Slots) (planned : List Planned) (rewrites : List Rewrite) (erased : List ℕ) → AreSlotWrites (batch_writes entries slots planned rewrites erased)
+batch_slots entries slots planned rewrites erased =
+    all_append (λ write. IsFalse (is_table_write write)) (planned_writes entries planned)
+    (map (rewrite_write arranged) rewrites ++ map (erase_write arranged) erased) (planned_slots entries planned)
+    (all_append (λ write. IsFalse (is_table_write write)) (map (rewrite_write arranged) rewrites) (map (erase_write arranged) erased) (results rewrites) (erases erased))
+  where
+    arranged : Slots
+    arranged = slots_after slots planned
+
+    results : (some : List Rewrite) → AreSlotWrites (map (rewrite_write arranged) some)
+    results [] = tt
+    results (rewrite ∷ some) = (refl, results some)
+
+    erases : (ids : List ℕ) → AreSlotWrites (map (erase_write arranged) ids)
+    erases [] = tt
+    erases (id ∷ ids) = (refl, erases ids)
+
+-- where no table is written the entries of pieces without bits hit what these match
+plain_hit : (state : State) (pieces : List RankedPiece) → AreBlank state → AllByRecursion IsPlain pieces → HitAsPieces state (Contains pieces)
+plain_hit state pieces blank plain =
+    hit_as_pieces (length state.slots) state (Contains pieces) (IsState-plain state blank.src blank.dst)
+    (λ ranked member. let is = AllByRecursion-member IsPlain pieces ranked plain member in hits-entry_of ranked.piece ranked.rank ranked.result is.right is.encodable)
     record {
-      srcbits = λ ranked bit member tested. let found = in_map route_piece rules ranked member in absurd (let none : None ≡ Some bit = ap (λ (r : RankedPiece). r.piece.srcbit) found.2 ∙ tested in cc);
-      dstbits = λ ranked bit member tested. let found = in_map route_piece rules ranked member in absurd (let none : None ≡ Some bit = ap (λ (r : RankedPiece). r.piece.dstbit) found.2 ∙ tested in cc);
+      srcbits = λ ranked bit member tested. absurd (let is = AllByRecursion-member IsPlain pieces ranked plain member in let none : None ≡ Some bit = sym is.srcbit ∙ tested in cc);
+      dstbits = λ ranked bit member tested. absurd (let is = AllByRecursion-member IsPlain pieces ranked plain member in let none : None ≡ Some bit = sym is.dstbit ∙ tested in cc);
     }
 
--- the first additions lie between the old set and the new one
-between : (rules : List Rule) (batch : List Command) (k : ℕ) → IsRuleSet (new_rules batch)
-    → IsBetween (λ (ranked : RankedPiece). ranked.rank) (Contains (map route_piece rules))
-    (Contains (map route_piece rules ++ take k (map route_piece (new_rules batch)))) (Contains (map route_piece rules ++ map route_piece (new_rules batch)))
-between rules batch k set =
-    IsBetween_same (λ (ranked : RankedPiece). ranked.rank) old (With old (take k added)) (With old added) old (Contains (map route_piece rules ++ take k added)) (Contains (map route_piece rules ++ added))
-    (λ e. ((λ m. m), (λ m. m))) (joined (take k added)) (joined added)
-    (adding (λ (ranked : RankedPiece). ranked.rank) old added k (route_pieces-fall (new_rules batch) set))
-  where
-    old : RankedPiece → Type 0
-    old = Contains (map route_piece rules)
-
-    added : List RankedPiece
-    added = map route_piece (new_rules batch)
-
-    joined : (some : List RankedPiece) (e : RankedPiece) → With old some e ↔ Contains (map route_piece rules ++ some) e
-    joined some e = (
-      λ w. elim w [ inl m ↦ Contains-append_left (map route_piece rules) some e m | inr m ↦ Contains-append_right (map route_piece rules) some e m ],
-      λ m. Contains-append_cases (map route_piece rules) some e m,
-    )
-
--- the same of the pieces as lists of routes
-routes_hitless : (rules : List Rule) (batch : List Command) (state : State) (writes : List Write)
-    → IsRuleSet rules → AllByRecursion IsIpv4Route rules → AllByRecursion AddsRoute batch → batch_fault rules batch ≡ None
-    → IsPlain state → AreSlotWrites writes
-    → IsOrdered state (Contains (map route_piece rules))
-    → ((n : ℕ) → (k : ℕ) × IsOrdered (state_after state (take n writes)) (Contains (map route_piece rules ++ take k (map route_piece (new_rules batch)))))
-    → IsOrdered (state_after state writes) (Contains (map route_piece rules ++ map route_piece (new_rules batch)))
-    → IsHitless rules (set_after rules batch) state writes
-routes_hitless rules batch state writes set routes adds sound plain slots first each last = record {
+pub batch_hitless : (rules : List Rule) (batch : List Command) (live : List LivePiece) (slots : Slots) (entries : Entries) (planned : List Planned) (rewrites : List Rewrite) (erased : List ℕ)
+    → IsPlannedBatch rules batch live slots entries planned rewrites erased
+    → IsHitless rules (set_after rules batch) (plain_state (contents entries slots)) (batch_writes entries slots planned rewrites erased)
+batch_hitless rules batch live slots entries planned rewrites erased plan = record {
   on_the_way = record {
-    before = ordered_shows state rules old distinct (route_pieces-of rules) (routes_hit state rules plain (old_routes)) first;
-    during = λ n. let now = each n in
-        ordered_between (state_after state (take n writes)) rules (set_after rules batch) old (Contains (map route_piece rules ++ take now.0 (map route_piece (new_rules batch)))) all
-        distinct distinct_after (route_pieces-of rules) after_of (all_hit (state_after state (take n writes)) (plain_after state (take n writes) (slots_take n writes slots) plain))
-        (between rules batch now.0 (new_rules-set rules batch adds sound)) now.1;
+    before = ordered_shows start rules (Contains old) (IsRuleSet-distinct rules plan.is_set) (set_pieces-of rules plan.right) (plain_hit start old blank (set_plain rules plan.right))
+        (planned_first old (inserted_pieces Cover no_bits rules batch) live slots entries planned (row_of rules batch live slots entries planned rewrites erased plan));
+    during = λ n. let stage = batch_stage rules batch live slots entries planned rewrites erased plan n in
+        let now = blank_after start (take n made) (slots_take n made all_slots) blank in
+        on_the_way_shows (state_after start (take n made)) rules later old new stage.standing
+        (IsRuleSet-distinct rules plan.is_set) (IsRuleSet-distinct later after_set) (set_pieces-of rules plan.right) (set_pieces-of later after_right)
+        (plain_hit (state_after start (take n made)) old now (set_plain rules plan.right)) (plain_hit (state_after start (take n made)) new now (set_plain later after_right)) stage.way stage.ordered;
   };
-  after = ordered_shows (state_after state writes) (set_after rules batch) all distinct_after after_of (all_hit (state_after state writes) (plain_after state writes slots plain)) last;
+  after = ordered_shows (state_after start made) later (Contains new) (IsRuleSet-distinct later after_set) (set_pieces-of later after_right)
+      (plain_hit (state_after start made) new (blank_after start made all_slots blank) (set_plain later after_right)) (batch_last rules batch live slots entries planned rewrites erased plan).ordered;
 }
   where
-    old : RankedPiece → Type 0
-    old = Contains (map route_piece rules)
+    start : State
+    start = plain_state (contents entries slots)
 
-    all : RankedPiece → Type 0
-    all = Contains (map route_piece rules ++ map route_piece (new_rules batch))
+    made : List Write
+    made = batch_writes entries slots planned rewrites erased
 
-    distinct : Distinct (λ (rule : Rule). rule.priority) rules
-    distinct = IsRuleSet-distinct rules set
+    later : List Rule
+    later = set_after rules batch
 
-    distinct_after : Distinct (λ (rule : Rule). rule.priority) (set_after rules batch)
-    distinct_after = IsRuleSet-distinct (set_after rules batch) (set_after-set rules batch set sound)
+    old : List RankedPiece
+    old = set_pieces Cover no_bits rules
 
-    old_routes : (rule : Rule) → Contains rules rule → IsIpv4Route rule
-    old_routes rule member = AllByRecursion-member IsIpv4Route rules rule routes member
+    new : List RankedPiece
+    new = set_pieces Cover no_bits later
 
-    after_of : ArePiecesOf (set_after rules batch) all
-    after_of = ArePiecesOf-same (set_after rules batch) (Contains (map route_piece (set_after rules batch))) all (λ ranked. after_pieces rules batch ranked adds) (route_pieces-of (set_after rules batch))
+    blank : AreBlank start
+    blank = record { src = refl; dst = refl }
 
-    all_hit : (now : State) → IsPlain now → HitAsPieces now all
-    all_hit now is ranked key member = routes_hit now (set_after rules batch) is (λ rule has. AllByRecursion-member IsIpv4Route (set_after rules batch) rule (after_routes rules batch routes adds) has) ranked key ((after_pieces rules batch ranked adds).1 member)
+    all_slots : AreSlotWrites made
+    all_slots = batch_slots entries slots planned rewrites erased
 
--- A device that is in order for the pieces of a set of routes, after each write for those and the first of the new ones, and after the last for all.
-pub hitless_of_ordered : (rules : List Rule) (batch : List Command) (state : State) (writes : List Write)
-    → IsRuleSet rules → AllByRecursion IsIpv4Route rules → AllByRecursion AddsRoute batch → batch_fault rules batch ≡ None
-    → IsPlain state → AreSlotWrites writes
-    → IsOrdered state (Contains (set_pieces Cover no_bits rules))
-    → ((n : ℕ) → (k : ℕ) × IsOrdered (state_after state (take n writes)) (Contains (set_pieces Cover no_bits rules ++ take k (inserted_pieces Cover no_bits rules batch))))
-    → IsOrdered (state_after state writes) (Contains (set_pieces Cover no_bits rules ++ inserted_pieces Cover no_bits rules batch))
-    → IsHitless rules (set_after rules batch) state writes
-hitless_of_ordered rules batch state writes set routes adds sound plain slots first each last =
-    routes_hitless rules batch state writes set routes adds sound plain slots
-    (subst (λ s. IsOrdered state (Contains s)) old first)
-    (λ n. let now = each n in (
-      now.0,
-      subst (λ i. IsOrdered (state_after state (take n writes)) (Contains (map route_piece rules ++ take now.0 i))) new
-          (subst (λ s. IsOrdered (state_after state (take n writes)) (Contains (s ++ take now.0 (inserted_pieces Cover no_bits rules batch)))) old now.1),
-    ))
-    (subst (λ i. IsOrdered (state_after state writes) (Contains (map route_piece rules ++ i))) new
-    (subst (λ s. IsOrdered (state_after state writes) (Contains (s ++ inserted_pieces Cover no_bits rules batch))) old last))
-  where
-    old : set_pieces Cover no_bits rules ≡ map route_piece rules
-    old = set_of_routes rules routes
+    change : IsSoundChange rules batch
+    change = change_of rules batch live slots entries planned rewrites erased plan
 
-    new : inserted_pieces Cover no_bits rules batch ≡ map route_piece (new_rules batch)
-    new = inserted_routes rules batch adds (new_absent rules (additions batch) (new_additions rules batch adds sound))
+    after_set : IsRuleSet later
+    after_set = set_after-is rules batch change
+
+    after_right : AllByRecursion HasConditions later
+    after_right = right_after rules batch change

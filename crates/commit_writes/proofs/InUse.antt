@@ -1,5 +1,5 @@
 -- Planned insertions write slots of the arrangement only.
-use Rattle.std.proofs.Common.{◌≡◌, ◌<◌, ◌+◌, ℕ, Option, None, Some, List, [], ◌∷◌, ◌++◌, length, map, subst, arith}
+use Rattle.std.proofs.Common.{◌≡◌, ◌<◌, ◌≤◌, ◌+◌, ◌-◌, ℕ, Option, None, Some, List, [], ◌∷◌, ◌++◌, length, map, refl, sym, ◌∙◌, subst, arith}
 use Rattle.std.specs.List.{AllByRecursion}
 use Rattle.slot_order.specs.Order.{slot}
 use Rattle.slot_order.proofs.Inside.{all_append}
@@ -10,10 +10,10 @@ use Rattle.overlap_index.specs.declared.LivePiece.{LivePiece}
 use Rattle.overlap_index.specs.Live.{is_above}
 use Rattle.move_planner.specs.declared.Move.{Move}
 use Rattle.move_planner.specs.declared.Move.TheVariants.{Put, Erase}
-use Rattle.move_planner.specs.Placement.{Above, after_moves, first_lower, last_upper, gap_start, gap_end, lower_of_held, upper_of_held, IsDownChain, IsUpChain, put_held, moves_along, DownChain, UpChain, IsPlacement, into_gap, push_down, push_up, uncross_down, uncross_up}
+use Rattle.move_planner.specs.Placement.{Above, after_moves, first_lower, last_upper, next_slot, gap_start, gap_end, span_of, lower_of_held, upper_of_held, IsDownChain, IsUpChain, put_held, moves_along, DownChain, UpChain, IsPlacement, into_gap, push_down, push_up, uncross_down, uncross_up}
 use Rattle.move_planner.proofs.Settled.{length-after_moves}
 use Rattle.tcam_device.specs.State.{IsInUse}
-use Rattle.commit_writes.specs.Planned.{Entries, Planned, ArePlanned, write_for, planned_writes}
+use Rattle.commit_writes.specs.Planned.{Entries, Planned, ArePlanned, write_for, planned_writes, slots_after}
 
 -- the move's slot is one of so many
 abbrev IsInside : ℕ → Move → Type 0
@@ -104,3 +104,24 @@ planned_in_use live slots entries (insertion ∷ planned) are =
     (writes_inside entries (length slots) insertion.moves (placement_inside (is_above (live ++ insertion.one ∷ [])) insertion.one.id slots insertion.moves are.1))
     (subst (λ size. AllByRecursion (IsInUse size) (planned_writes entries planned)) (length-after_moves slots insertion.moves)
     (planned_in_use (live ++ insertion.one ∷ []) (after_moves slots insertion.moves) entries planned are.3))
+
+span_inside : (above : Above) (slots : Slots) (id : ℕ) → span_of above slots id ≤ length slots
+span_inside above slots id = at (last_upper above slots id) (λ place is. upper_inside above slots id place is)
+  where
+    at : (upper : Option ℕ) → ((place : ℕ) → upper ≡ Some place → place < length slots) → next_slot upper - 1 - gap_end above slots id ≤ length slots
+    at None inside = omega arith
+    at (Some place) inside = let here = inside place refl in omega arith
+
+-- nor do they cross more slots than it has
+pub planned_spans : (live : List LivePiece) (slots : Slots) (planned : List Planned) → ArePlanned live slots planned → AllByRecursion (λ insertion. insertion.span ≤ length slots) planned
+planned_spans live slots [] are = tt
+planned_spans live slots (insertion ∷ planned) are = (
+  subst (λ span. span ≤ length slots) (sym are.2) (span_inside (is_above (live ++ insertion.one ∷ [])) slots insertion.one.id),
+  subst (λ size. AllByRecursion (λ insertion. insertion.span ≤ size) planned) (length-after_moves slots insertion.moves)
+      (planned_spans (live ++ insertion.one ∷ []) (after_moves slots insertion.moves) planned are.3),
+)
+
+-- and they leave the number of slots
+pub slots_kept : (slots : Slots) (planned : List Planned) → length (slots_after slots planned) ≡ length slots
+slots_kept slots [] = refl
+slots_kept slots (insertion ∷ planned) = slots_kept (after_moves slots insertion.moves) planned ∙ length-after_moves slots insertion.moves

@@ -1,32 +1,19 @@
--- The live ids of a planned commit are those of the set's routes and of the new ones.
-use Rattle.std.proofs.Common.{◌≡◌, ℕ, ◌+◌, ◌<◌, ◌≤◌, true, false, IsTrue, IsFalse, Some, List, [], ◌∷◌, ◌++◌, map, Contains, arith, inl, inr, sym, ◌∙◌, subst, ap, append_assoc, append-nil, ltb-true}
-use Rattle.std.specs.Prelude.{nat_lt}
-use Rattle.std.specs.List.{AllByRecursion}
-use Rattle.std.proofs.lemmas.List.{map-append}
-use Rattle.std.proofs.lemmas.List.Elements.{Contains-append_left, Contains-append_right, Contains-append_cases}
-use Rattle.slot_order.specs.Order.{Distinct}
+-- The live ids of a planned row are those of the pieces that stand and of the new ones.
+use Rattle.std.proofs.Common.{◌≡◌, ℕ, ◌+◌, ◌<◌, ◌≤◌, Some, List, [], ◌∷◌, ◌++◌, map, Contains, arith, inl, inr, ◌⊎◌, sym, ◌∙◌, subst, ap, append_assoc, append-nil}
+use Rattle.std.specs.List.{AllByRecursion, AllPairs}
+use Rattle.std.proofs.lemmas.List.Elements.{All-contains, Contains-append_left, Contains-append_right, Contains-append_cases}
 use Rattle.slot_order.proofs.Rules.{contains_cases, contains_none}
 use Rattle.slot_pool.specs.Arrangement.{Slots}
-use Rattle.rule_model.specs.declared.Rule.{Rule}
-use Rattle.rule_model.specs.Routes.{IsIpv4Route}
-use Rattle.rule_model.specs.RuleSet.{IsRuleSet, has_priority}
-use Rattle.rule_model.proofs.RuleSets.{AllByRecursion-member, IsRuleSet-distinct}
-use Rattle.rule_store.specs.declared.Mode.TheVariants.{Cover}
-use Rattle.rule_store.specs.declared.Command.{Command}
-use Rattle.rule_store.specs.Batch.{additions}
-use Rattle.rule_store.proofs.Members.{member-has}
+use Rattle.rule_model.proofs.Pairs.{pairs_head, pairs_tail}
+use Rattle.rule_model.proofs.RuleSets.{AllByRecursion-member}
 use Rattle.ternary_word.specs.Entry.{RankedPiece, entry_for}
 use Rattle.overlap_index.specs.declared.LivePiece.{LivePiece}
 use Rattle.overlap_index.specs.Live.{AreApart}
 use Rattle.overlap_index.proofs.Listed.{in_map, map_in}
 use Rattle.overlap_index.proofs.Live.{apart_more}
 use Rattle.move_planner.specs.Placement.{after_moves}
-use Rattle.commit_writes.specs.Bits.{no_bits}
-use Rattle.commit_writes.specs.Shape.{set_pieces, inserted_pieces}
-use Rattle.commit_writes.specs.Planned.{Entries, Planned, ArePlanned, IsPlannedCommit, entry_at, ranked_of, live_after}
-use Rattle.commit_writes.proofs.Adds.{new_additions, new_apart, new_absent, set_with_new, added_routes}
-use Rattle.commit_writes.proofs.Routes.{route_piece, new_rules, new_rules-member, set_of_routes, inserted_routes}
-use Rattle.commit_writes.proofs.Ids.{AreOfRoutes}
+use Rattle.commit_writes.specs.Planned.{Entries, Planned, ArePlanned, IsPlain, IsPlannedRow, entry_at, ranked_of, live_after}
+use Rattle.commit_writes.proofs.Ids.{AreOfPieces}
 
 -- ids below a number are below a greater one
 apart_wider : (few many : ℕ) (live : List LivePiece) → few ≤ many → AreApart few live → AreApart many live
@@ -46,152 +33,113 @@ apart_after count live slots (planned ∷ rest) apart are =
     (apart_more most planned.one live (omega arith) are.0 (apart_wider count most live (omega arith) apart)) are.3 in
     (w.0, subst (AreApart w.0) (append_assoc live (planned.one ∷ []) (map (λ insertion. insertion.one) rest)) w.1)
 
--- planned insertions of routes of distinct priorities are told apart by them
-one_planned : (news : List Rule) (planned : List Planned) (p q : Planned) → map ranked_of planned ≡ map route_piece news → IsRuleSet news
-    → Contains planned p → Contains planned q → p.one.rank ≡ q.one.rank → p ≡ q
-one_planned news [] p q same set mp mq e = absurd (contains_none p mp)
-one_planned [] (first ∷ planned) p q same set mp mq e = absurd (cc)
-one_planned (new ∷ news) (first ∷ planned) p q same set mp mq e =
-    let head : ranked_of first ≡ route_piece new = cc in
-    let tail : map ranked_of planned ≡ map route_piece news = cc in
-    let rank_is : first.one.rank ≡ new.priority = ap (λ r. r.rank) head in
-    elim (contains_cases first p planned mp) [
-      | inl here ↦ elim (contains_cases first q planned mq) [
-        | inl there ↦ sym here ∙ there
-        | inr later ↦ absurd (let l = lower tail q later in let k : first.one.rank ≡ p.one.rank = ap (λ x. x.one.rank) here in omega arith)
-      ]
-      | inr early ↦ elim (contains_cases first q planned mq) [
-        | inl there ↦ absurd (let l = lower tail p early in let k : first.one.rank ≡ q.one.rank = ap (λ x. x.one.rank) there in omega arith)
-        | inr later ↦ one_planned news planned p q tail set.1 early later e
-      ]
-    ]
-  where
-    lower : map ranked_of planned ≡ map route_piece news → (r : Planned) → Contains planned r → r.one.rank < new.priority
-    lower tail r member =
-        let w = in_map route_piece news (ranked_of r) (subst (λ some. Contains some (ranked_of r)) tail (map_in ranked_of planned r member)) in
-        let k : w.0.priority ≡ r.one.rank = ap (λ x. x.rank) w.2 in
-        let l = ltb-true w.0.priority new.priority (AllByRecursion-member (λ rule. IsTrue (nat_lt rule.priority new.priority)) news w.0 set.0 w.1) in
-        omega arith
+-- what holds of each element and each later one holds of the first and of any later one,
+pairs_first : {X : Type 0} (R : X → X → Type 0) (x y : X) (xs : List X) → AllPairs R (x ∷ xs) → Contains xs y → R x y
+pairs_first R x y xs all member = All-contains (R x) xs y (pairs_head R x xs all) member
 
--- the routes of a commit: those of the set and the new ones
-abbrev pub routes_of : List Rule → List Command → List Rule
-routes_of rules batch = rules ++ new_rules batch
+-- of the elements behind some,
+pub pairs_behind : {X : Type 0} (R : X → X → Type 0) (xs ys : List X) → AllPairs R (xs ++ ys) → AllPairs R ys
+pairs_behind R [] ys all = all
+pairs_behind R (x ∷ xs) ys all = pairs_behind R xs ys (pairs_tail R x (xs ++ ys) all)
 
-pub absent_of : (rules : List Rule) (batch : List Command) (live : List LivePiece) (slots : Slots) (entries : Entries) (planned : List Planned) → IsPlannedCommit rules batch live slots entries planned
-    → AllByRecursion (λ rule. IsFalse (has_priority rules rule.priority)) (additions batch)
-absent_of rules batch live slots entries planned commit = new_absent rules (additions batch) (new_additions rules batch commit.adds commit.sound)
+-- of one of these and one of those behind them,
+pub pairs_across : {X : Type 0} (R : X → X → Type 0) (xs ys : List X) (x y : X) → AllPairs R (xs ++ ys) → Contains xs x → Contains ys y → R x y
+pairs_across R [] ys x y all first second = absurd (contains_none x first)
+pairs_across R (z ∷ xs) ys x y all first second = elim (contains_cases z x xs first) [
+  | inl here ↦ subst (λ w. R w y) here (pairs_first R z y (xs ++ ys) all (Contains-append_right xs ys y second))
+  | inr later ↦ pairs_across R xs ys x y (pairs_tail R z (xs ++ ys) all) later second
+]
 
--- the pieces of the set, and those that are inserted
-pub set_is : (rules : List Rule) (batch : List Command) (live : List LivePiece) (slots : Slots) (entries : Entries) (planned : List Planned) → IsPlannedCommit rules batch live slots entries planned
-    → set_pieces Cover no_bits rules ≡ map route_piece rules
-set_is rules batch live slots entries planned commit = set_of_routes rules commit.routes
+-- and of the images of any two that are not one, one way or the other
+pub pairs_one : {X Y : Type 0} (R : Y → Y → Type 0) (f : X → Y) (xs : List X) (a b : X) → AllPairs R (map f xs) → Contains xs a → Contains xs b
+    → (a ≡ b) ⊎ (R (f a) (f b) ⊎ R (f b) (f a))
+pairs_one R f [] a b all in_a in_b = absurd (contains_none a in_a)
+pairs_one R f (x ∷ xs) a b all in_a in_b = elim (contains_cases x a xs in_a) [
+  | inl here ↦ elim (contains_cases x b xs in_b) [
+    | inl there ↦ inl (sym here ∙ there)
+    | inr later ↦ inr (inl (subst (λ w. R (f w) (f b)) here (pairs_first R (f x) (f b) (map f xs) all (map_in f xs b later))))
+  ]
+  | inr later_a ↦ elim (contains_cases x b xs in_b) [
+    | inl there ↦ inr (inr (subst (λ w. R (f w) (f a)) there (pairs_first R (f x) (f a) (map f xs) all (map_in f xs a later_a))))
+    | inr later_b ↦ pairs_one R f xs a b (pairs_tail R (f x) (map f xs) all) later_a later_b
+  ]
+]
 
-pub inserted_is : (rules : List Rule) (batch : List Command) (live : List LivePiece) (slots : Slots) (entries : Entries) (planned : List Planned) → IsPlannedCommit rules batch live slots entries planned
-    → inserted_pieces Cover no_bits rules batch ≡ map route_piece (new_rules batch)
-inserted_is rules batch live slots entries planned commit = inserted_routes rules batch commit.adds (absent_of rules batch live slots entries planned commit)
+-- two pieces that aren't one piece of one rank
+abbrev Apart : RankedPiece → RankedPiece → Type 0
+Apart a b = a.rank ≡ b.rank → a.piece ≡ b.piece → ⊥
 
--- the live ids are those of these routes
-pub of_routes : (rules : List Rule) (batch : List Command) (live : List LivePiece) (slots : Slots) (entries : Entries) (planned : List Planned) → IsPlannedCommit rules batch live slots entries planned
-    → AreOfRoutes (routes_of rules batch) (live_after live planned) entries
-of_routes rules batch live slots entries planned commit = record {
-  are = are;
-  distinct = distinct;
-  ids = (apart_after _ live slots planned commit.arranged.apart commit.are_planned).1.once;
+-- planned insertions of distinct pieces are told apart by them
+one_planned : (planned : List Planned) (p q : Planned) → AllPairs Apart (map ranked_of planned)
+    → Contains planned p → Contains planned q → p.one.rank ≡ q.one.rank → p.one.piece ≡ q.one.piece → p ≡ q
+one_planned planned p q apart mp mq rank piece = elim (pairs_one Apart ranked_of planned p q apart mp mq) [
+  | inl same ↦ same
+  | inr differ ↦ absurd (elim differ [ inl first ↦ first rank piece | inr second ↦ second (sym rank) (sym piece) ])
+]
+
+-- the live ids are those of these pieces
+pub of_row : (standing inserted : List RankedPiece) (live : List LivePiece) (slots : Slots) (entries : Entries) (planned : List Planned) → IsPlannedRow standing inserted live slots entries planned
+    → AreOfPieces (standing ++ inserted) (live_after live planned) entries
+of_row standing inserted live slots entries planned row = record {
+  plain = λ ranked member. AllByRecursion-member IsPlain (standing ++ inserted) ranked row.plain member;
+  ids = (apart_after _ live slots planned row.arranged.apart row.are_planned).1.once;
   entries_are = record { of_piece = of_piece; has_id = has_id; once = once };
 }
   where
-    absent : AllByRecursion (λ rule. IsFalse (has_priority rules rule.priority)) (additions batch)
-    absent = absent_of rules batch live slots entries planned commit
+    ones : List LivePiece
+    ones = map (λ insertion. insertion.one) planned
 
-    news_set : IsRuleSet (new_rules batch)
-    news_set = set_with_new [] (additions batch) tt (new_apart rules (additions batch) (new_additions rules batch commit.adds commit.sound))
+    entry_of_new : (p : Planned) → Contains planned p → entry_at entries p.one.id ≡ Some (entry_for (ranked_of p))
+    entry_of_new p member = AllByRecursion-member (λ insertion. entry_at entries insertion.one.id ≡ Some (entry_for (ranked_of insertion))) planned p row.have_entries member
 
-    are : (rule : Rule) → Contains (routes_of rules batch) rule → IsIpv4Route rule
-    are rule member = elim (Contains-append_cases rules (new_rules batch) rule member) [
-      | inl old ↦ AllByRecursion-member IsIpv4Route rules rule commit.routes old
-      | inr new ↦ AllByRecursion-member IsIpv4Route (additions batch) rule (added_routes batch commit.adds) (new_rules-member batch rule new)
-    ]
+    new_in : (p : Planned) → Contains planned p → Contains inserted (ranked_of p)
+    new_in p member = subst (λ some. Contains some (ranked_of p)) row.inserted_are (map_in ranked_of planned p member)
 
-    -- no old route has the priority of a new one
-    differ : (old new : Rule) → Contains rules old → Contains (new_rules batch) new → old.priority ≡ new.priority → ⊥
-    differ old new has is same =
-        let here : IsTrue (has_priority rules new.priority) = subst (λ n. IsTrue (has_priority rules n)) same (member-has rules old has) in
-        let none : IsFalse (has_priority rules new.priority) = AllByRecursion-member (λ rule. IsFalse (has_priority rules rule.priority)) (additions batch) new absent (new_rules-member batch new is) in
-        let wrong : true ≡ false = sym here ∙ none in cc
-
-    distinct : Distinct (λ rule. rule.priority) (routes_of rules batch)
-    distinct a b in_a in_b same = elim (Contains-append_cases rules (new_rules batch) a in_a) [
-      | inl old_a ↦ elim (Contains-append_cases rules (new_rules batch) b in_b) [
-        | inl old_b ↦ IsRuleSet-distinct rules commit.is_set a b old_a old_b same
-        | inr new_b ↦ absurd (differ a b old_a new_b same)
-      ]
-      | inr new_a ↦ elim (Contains-append_cases rules (new_rules batch) b in_b) [
-        | inl old_b ↦ absurd (differ b a old_b new_a (sym same))
-        | inr new_b ↦ IsRuleSet-distinct (new_rules batch) news_set a b new_a new_b same
-      ]
-    ]
-
-    inserted : map ranked_of planned ≡ map route_piece (new_rules batch)
-    inserted = commit.inserted ∙ inserted_is rules batch live slots entries planned commit
-
-    split : map route_piece (routes_of rules batch) ≡ map route_piece rules ++ map route_piece (new_rules batch)
-    split = map-append route_piece rules (new_rules batch)
-
-    old_in : (ranked : RankedPiece) → Contains (set_pieces Cover no_bits rules) ranked → Contains (map route_piece (routes_of rules batch)) ranked
-    old_in ranked member = subst (λ some. Contains some ranked) (sym split)
-        (Contains-append_left (map route_piece rules) (map route_piece (new_rules batch)) ranked (subst (λ some. Contains some ranked) (set_is rules batch live slots entries planned commit) member))
-
-    new_in : (p : Planned) → Contains planned p → Contains (map route_piece (new_rules batch)) (ranked_of p)
-    new_in p member = subst (λ some. Contains some (ranked_of p)) inserted (map_in ranked_of planned p member)
-
-    of_piece : (one : LivePiece) → Contains (live_after live planned) one → (ranked : RankedPiece) × Contains (map route_piece (routes_of rules batch)) ranked
+    of_piece : (one : LivePiece) → Contains (live_after live planned) one → (ranked : RankedPiece) × Contains (standing ++ inserted) ranked
         × (ranked.piece ≡ one.piece) × (ranked.rank ≡ one.rank) × (entry_at entries one.id ≡ Some (entry_for ranked))
-    of_piece one member = elim (Contains-append_cases live (map (λ insertion. insertion.one) planned) one member) [
-      | inl old ↦ let w = commit.entries_are.of_piece one old in (w.0, old_in w.0 w.1, w.2, w.3, w.4)
+    of_piece one member = elim (Contains-append_cases live ones one member) [
+      | inl old ↦ let w = row.entries_are.of_piece one old in (w.0, Contains-append_left standing inserted w.0 w.1, w.2, w.3, w.4)
       | inr new ↦ let w = in_map (λ insertion. insertion.one) planned one new in (
         ranked_of w.0,
-        subst (λ some. Contains some (ranked_of w.0)) (sym split) (Contains-append_right (map route_piece rules) (map route_piece (new_rules batch)) (ranked_of w.0) (new_in w.0 w.1)),
+        Contains-append_right standing inserted (ranked_of w.0) (new_in w.0 w.1),
         ap (λ x. x.piece) w.2,
         ap (λ x. x.rank) w.2,
-        ap (λ x. entry_at entries x.id) (sym w.2) ∙ AllByRecursion-member (λ insertion. entry_at entries insertion.one.id ≡ Some (entry_for (ranked_of insertion))) planned w.0 commit.have_entries w.1,
+        ap (λ x. entry_at entries x.id) (sym w.2) ∙ entry_of_new w.0 w.1,
       )
     ]
 
-    has_id : (ranked : RankedPiece) → Contains (map route_piece (routes_of rules batch)) ranked → (one : LivePiece) × Contains (live_after live planned) one
+    has_id : (ranked : RankedPiece) → Contains (standing ++ inserted) ranked → (one : LivePiece) × Contains (live_after live planned) one
         × (ranked.piece ≡ one.piece) × (ranked.rank ≡ one.rank) × (entry_at entries one.id ≡ Some (entry_for ranked))
-    has_id ranked member = elim (Contains-append_cases (map route_piece rules) (map route_piece (new_rules batch)) ranked (subst (λ some. Contains some ranked) split member)) [
-      | inl old ↦
-          let w = commit.entries_are.has_id ranked (subst (λ some. Contains some ranked) (sym (set_is rules batch live slots entries planned commit)) old) in
-          (w.0, Contains-append_left live (map (λ insertion. insertion.one) planned) w.0 w.1, w.2, w.3, w.4)
-      | inr new ↦ let w = in_map ranked_of planned ranked (subst (λ some. Contains some ranked) (sym inserted) new) in (
+    has_id ranked member = elim (Contains-append_cases standing inserted ranked member) [
+      | inl old ↦ let w = row.entries_are.has_id ranked old in (w.0, Contains-append_left live ones w.0 w.1, w.2, w.3, w.4)
+      | inr new ↦ let w = in_map ranked_of planned ranked (subst (λ some. Contains some ranked) (sym row.inserted_are) new) in (
         w.0.one,
-        Contains-append_right live (map (λ insertion. insertion.one) planned) w.0.one (map_in (λ insertion. insertion.one) planned w.0 w.1),
+        Contains-append_right live ones w.0.one (map_in (λ insertion. insertion.one) planned w.0 w.1),
         ap (λ x. x.piece) (sym w.2),
         ap (λ x. x.rank) (sym w.2),
-        AllByRecursion-member (λ insertion. entry_at entries insertion.one.id ≡ Some (entry_for (ranked_of insertion))) planned w.0 commit.have_entries w.1 ∙ ap (λ x. Some (entry_for x)) w.2,
+        entry_of_new w.0 w.1 ∙ ap (λ x. Some (entry_for x)) w.2,
       )
     ]
 
-    -- nor does an old piece
-    differ_pieces : (a b : LivePiece) → Contains live a → Contains (map (λ insertion. insertion.one) planned) b → a.rank ≡ b.rank → ⊥
-    differ_pieces a b old new same =
-        let x = commit.entries_are.of_piece a old in
-        let r = in_map route_piece rules x.0 (subst (λ some. Contains some x.0) (set_is rules batch live slots entries planned commit) x.1) in
-        let y = in_map (λ insertion. insertion.one) planned b new in
-        let s = in_map route_piece (new_rules batch) (ranked_of y.0) (new_in y.0 y.1) in
-        differ r.0 s.0 r.1 s.1 (ap (λ z. z.rank) r.2 ∙ (x.3 ∙ (same ∙ (ap (λ z. z.rank) (sym y.2) ∙ ap (λ z. z.rank) (sym s.2)))))
+    -- no new piece is one that stands
+    differ : (a b : LivePiece) → Contains live a → Contains ones b → a.rank ≡ b.rank → a.piece ≡ b.piece → ⊥
+    differ a b old new rank piece =
+        let x = row.entries_are.of_piece a old in let y = in_map (λ insertion. insertion.one) planned b new in
+        pairs_across Apart standing inserted x.0 (ranked_of y.0) row.once x.1 (new_in y.0 y.1)
+        (x.3 ∙ (rank ∙ ap (λ z. z.rank) (sym y.2))) (x.2 ∙ (piece ∙ ap (λ z. z.piece) (sym y.2)))
 
     once : (a b : LivePiece) → Contains (live_after live planned) a → Contains (live_after live planned) b → a.rank ≡ b.rank → a.piece ≡ b.piece → a.id ≡ b.id
-    once a b in_a in_b rank piece = elim (Contains-append_cases live (map (λ insertion. insertion.one) planned) a in_a) [
-      | inl old_a ↦ elim (Contains-append_cases live (map (λ insertion. insertion.one) planned) b in_b) [
-        | inl old_b ↦ commit.entries_are.once a b old_a old_b rank piece
-        | inr new_b ↦ absurd (differ_pieces a b old_a new_b rank)
+    once a b in_a in_b rank piece = elim (Contains-append_cases live ones a in_a) [
+      | inl old_a ↦ elim (Contains-append_cases live ones b in_b) [
+        | inl old_b ↦ row.entries_are.once a b old_a old_b rank piece
+        | inr new_b ↦ absurd (differ a b old_a new_b rank piece)
       ]
-      | inr new_a ↦ elim (Contains-append_cases live (map (λ insertion. insertion.one) planned) b in_b) [
-        | inl old_b ↦ absurd (differ_pieces b a old_b new_a (sym rank))
+      | inr new_a ↦ elim (Contains-append_cases live ones b in_b) [
+        | inl old_b ↦ absurd (differ b a old_b new_a (sym rank) (sym piece))
         | inr new_b ↦
             let x = in_map (λ insertion. insertion.one) planned a new_a in let y = in_map (λ insertion. insertion.one) planned b new_b in
-            let e : x.0 ≡ y.0 = one_planned (new_rules batch) planned x.0 y.0 inserted news_set x.1 y.1 (ap (λ z. z.rank) x.2 ∙ (rank ∙ ap (λ z. z.rank) (sym y.2))) in
+            let e : x.0 ≡ y.0 = one_planned planned x.0 y.0 (subst (AllPairs Apart) (sym row.inserted_are) (pairs_behind Apart standing inserted row.once)) x.1 y.1
+            (ap (λ z. z.rank) x.2 ∙ (rank ∙ ap (λ z. z.rank) (sym y.2))) (ap (λ z. z.piece) x.2 ∙ (piece ∙ ap (λ z. z.piece) (sym y.2))) in
             ap (λ z. z.id) (sym x.2) ∙ (ap (λ z. z.one.id) e ∙ ap (λ z. z.id) y.2)
       ]
     ]

@@ -76,6 +76,18 @@ stands_once piece P Known d state apart up all same once o ranked m = let w = o.
     at : (place : ℕ) → Holds state place ranked → slot d place ≡ Some m.0
     at place s = same_id piece Known d state place m.0 apart all (up m.0 m.1) same (s ∙ ap (λ r. Some (entry_for r)) (sym m.2))
 
+-- and the other way round
+pub ordered_ids : (piece : ℕ → RankedPiece) (P : ℕ → Type 0) (d : Slots) (state : State) → MatchApart piece P → AllKnown P d → state.slots ≡ entries (entry_by piece) d
+    → IsOrdered state (Pieces piece P) → Ordered (over piece) (rank piece) P d
+ordered_ids piece P d state apart all same o = record {
+  within = all;
+  placed = λ id is. let w = o.complete (piece id) (id, is, refl) in (w.0, same_id piece P d state w.0 id apart all is same w.1);
+  sorted = λ i j a b l s t v. o.order i j (piece a) (piece b) l (a, all i a s, refl) (b, all j b t, refl) (here i a s) (here j b t) v;
+}
+  where
+    here : (at id : ℕ) → slot d at ≡ Some id → Holds state at (piece id)
+    here at id s = ap (λ xs. slot xs at) same ∙ (slot_entries (entry_by piece) d at ∙ ap (option_map (entry_by piece)) s)
+
 -- an order speaks of its members, by whatever name
 pub IsOrdered_same : (state : State) (P Q : RankedPiece → Type 0) → ((ranked : RankedPiece) → P ranked ↔ Q ranked) → IsOrdered state P → IsOrdered state Q
 IsOrdered_same state P Q same o = record {

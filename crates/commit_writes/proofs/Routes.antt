@@ -1,101 +1,179 @@
--- The pieces of IPv4 routes: one each, and those that a batch of routes inserts, rewrites and erases.
-use Rattle.std.proofs.Common.{◌≡◌, fold, List, [], ◌∷◌, ◌++◌, map, filter, reverse, Contains, None, IsFalse, inl, inr, refl, sym, ap, ap₂, subst, ◌∙◌, arith, lit<}
-use Rattle.std.specs.Prelude.{flat_map}
+-- The pieces that stand while a batch is inserted are of the old rules and the added ones, so their chains are no longer, and those of
+-- routes are nested.
+use Rattle.std.proofs.Common.{◌≡◌, ℕ, ◌<◌, List, [], ◌∷◌, ◌++◌, length, IsTrue, Contains, inl, inr, refl, sym, ap, subst, ◌∙◌, arith}
 use Rattle.std.specs.List.{AllByRecursion}
-use Rattle.std.proofs.lemmas.Bool.{cases_Bool, cond-true, cond-false}
-use Rattle.slot_order.proofs.Rules.{contains_head, contains_tail, contains_none}
+use Rattle.std.proofs.lemmas.List.Elements.{Contains-append_cases, Contains-append_left, Contains-append_right}
+use Rattle.slot_order.specs.Moves.{IsChain}
+use Rattle.slot_order.proofs.Rules.{contains_head, contains_tail, contains_cases, contains_none}
+use Rattle.rule_model.specs.declared.Key.{Key}
 use Rattle.rule_model.specs.declared.Rule.{Rule}
-use Rattle.rule_model.specs.Rule.{HasConditions}
-use Rattle.rule_model.specs.RuleSet.{has_priority, rule_at}
+use Rattle.rule_model.specs.declared.Piece.{Piece}
+use Rattle.rule_model.specs.AddressBlock.{BlocksOverlap}
+use Rattle.rule_model.specs.PortRange.{RangesOverlap}
+use Rattle.rule_model.specs.Key.{IsKey}
+use Rattle.rule_model.specs.Rule.{HasConditions, Overlap, ProtosOverlap, rule_matches}
+use Rattle.rule_model.specs.RuleSet.{IsOverlapChain, BoundsChains}
+use Rattle.rule_model.specs.Piece.{PiecesOverlap, piece_matches, cover_pieces, whole_piece}
 use Rattle.rule_model.specs.Routes.{IsIpv4Route}
-use Rattle.rule_model.specs.Piece.{whole_piece}
-use Rattle.ternary_word.specs.Entry.{RankedPiece, IsEncodable}
-use Rattle.rule_store.specs.declared.Command.{Command}
-use Rattle.rule_store.specs.declared.Mode.TheVariants.{Cover}
-use Rattle.rule_store.specs.Batch.{removes, additions, with_rule, set_after}
-use Rattle.rule_store.specs.Verdict.{pieces_of, added_pieces, added_pieces_over, replaced_rule}
-use Rattle.rule_store.proofs.Members.{set_after-member}
-use Rattle.rule_store.proofs.Sets.{rule_at-none}
-use Rattle.overlap_index.proofs.Listed.{filter_nothing}
-use Rattle.commit_writes.specs.Bits.{no_bits}
-use Rattle.commit_writes.specs.Shape.{ranked_pieces, set_pieces, inserted_pieces, names, common_pieces, dropped_pieces, rewritten_pieces, erased_pieces}
-use Rattle.commit_writes.proofs.Adds.{OnlyAddsRoutes, removes_none, named_absent, added_routes}
+use Rattle.rule_model.proofs.CommonKeys.{overlap_parts, overlap_from}
+use Rattle.rule_model.proofs.Parts.{piece_inside}
+use Rattle.rule_model.proofs.Routes.{ipv4_routes-nested, ipv4_chains-short}
 use Rattle.rule_model.proofs.RuleSets.{AllByRecursion-member}
+use Rattle.rule_store.specs.declared.Mode.TheVariants.{Cover}
+use Rattle.rule_store.specs.declared.Command.{Command}
+use Rattle.rule_store.specs.Batch.{additions}
+use Rattle.rule_store.specs.Verdict.{pieces_of, added_pieces}
+use Rattle.ternary_word.specs.Entry.{RankedPiece}
+use Rattle.rule_store.proofs.Additions.{new_rules, new_rules-member}
+use Rattle.commit_writes.specs.Bits.{no_bits}
+use Rattle.commit_writes.specs.Shape.{set_pieces, inserted_pieces}
+use Rattle.commit_writes.specs.Planned.{AreNested, BoundsPieceChains}
+use Rattle.commit_writes.proofs.SetPieces.{IsChosen, in_chosen, all_chosen}
+use Rattle.commit_writes.proofs.BatchRules.{IsSoundChange, right_added}
+use Rattle.commit_writes.proofs.PieceChanges.{added_chosen}
 
--- the one piece of a route, with its priority and its result
-abbrev pub route_piece : Rule → RankedPiece
-route_piece rule = record { piece = whole_piece rule; rank = rule.priority; result = rule.result }
+-- the pieces of the old set and those that a batch inserts
+abbrev row_pieces : List Rule → List Command → List RankedPiece
+row_pieces rules batch = set_pieces Cover no_bits rules ++ inserted_pieces Cover no_bits rules batch
 
--- the conditions of a route are right
-pub route_conditions : (rule : Rule) → IsIpv4Route rule → HasConditions rule
-route_conditions rule is = subst HasConditions (sym is.route) record {
-  src_right = record { fits = lit< tt; length = omega arith; no_host_bits = refl };
-  dst_right = is.block;
-  proto_right = tt;
-  sport_right = record { ordered = omega arith; fits = lit< tt };
-  dport_right = record { ordered = omega arith; fits = lit< tt };
-}
-
-pub route_encodable : (rule : Rule) → IsIpv4Route rule → IsEncodable (whole_piece rule)
-route_encodable rule route = subst (λ r. IsEncodable (whole_piece r)) (sym route.route) record { sport = refl; dport = refl; srcbit = tt; dstbit = tt }
-
--- a route has one piece
-pub route_pieces : (rule : Rule) → IsIpv4Route rule → ranked_pieces no_bits rule (pieces_of Cover rule) ≡ route_piece rule ∷ []
-route_pieces rule route = subst (λ r. ranked_pieces no_bits r (pieces_of Cover r) ≡ route_piece r ∷ []) (sym route.route) refl
-
--- a set of routes has theirs
-pub set_of_routes : (rules : List Rule) → AllByRecursion IsIpv4Route rules → set_pieces Cover no_bits rules ≡ map route_piece rules
-set_of_routes [] all = refl
-set_of_routes (rule ∷ rules) all = ap₂ (λ first rest. first ++ rest) (route_pieces rule all.0) (set_of_routes rules all.1)
-
--- the rules that a batch adds, by falling priority
-abbrev pub new_rules : List Command → List Rule
-new_rules batch = fold with_rule [] (additions batch)
-
--- they are its additions
-pub new_rules-member : (batch : List Command) (rule : Rule) → Contains (new_rules batch) rule → Contains (additions batch) rule
-new_rules-member batch rule member = elim ((set_after-member [] batch rule).0 member) [
-  | inl new ↦ new
-  | inr kept ↦ absurd (contains_none kept.0 kept.1)
+-- each is of an old rule or of an added one
+row_of : (rules : List Rule) (batch : List Command) (ranked : RankedPiece) → Contains (row_pieces rules batch) ranked → IsChosen (pieces_of Cover) (rules ++ additions batch) ranked
+row_of rules batch ranked member = elim (Contains-append_cases (set_pieces Cover no_bits rules) (inserted_pieces Cover no_bits rules batch) ranked member) [
+  | inl old ↦
+      let is = in_chosen (pieces_of Cover) rules ranked all_chosen old in
+      record { rule = is.rule; member = Contains-append_left rules (additions batch) is.rule is.member; rank_is = is.rank_is; result_is = is.result_is; has = is.has }
+  | inr new ↦
+      let is = in_chosen (added_pieces Cover rules) (new_rules batch) ranked (added_chosen rules) new in
+      record {
+        rule = is.rule;
+        member = Contains-append_right rules (additions batch) is.rule (new_rules-member batch is.rule is.member);
+        rank_is = is.rank_is;
+        result_is = is.result_is;
+        has = added_chosen rules is.rule ranked.piece is.has;
+      }
 ]
 
-fresh_pieces_of : (rules news : List Rule) → AllByRecursion (λ new. IsIpv4Route new × IsFalse (has_priority rules new.priority)) news
-    → flat_map (λ new. ranked_pieces no_bits new (added_pieces Cover rules new)) news ≡ map route_piece news
-fresh_pieces_of rules [] all = refl
-fresh_pieces_of rules (new ∷ news) all =
-    let none : replaced_rule rules new ≡ None = rule_at-none rules new.priority all.0.1 in
-    ap₂ (λ first rest. first ++ rest) (ap (λ old. ranked_pieces no_bits new (added_pieces_over Cover old new)) none ∙ route_pieces new all.0.0) (fresh_pieces_of rules news all.1)
+-- the rule has the piece's rank, and matches all that it matches
+record IsWithin (ranked : RankedPiece) (rule : Rule) : Type 0 where
+  rank_is : ranked.rank ≡ rule.priority
+  inside : (key : Key) → IsKey key → IsTrue (piece_matches ranked.piece key) → IsTrue (rule_matches rule key)
 
--- what holds of each member holds of the whole list
-pub all_members : {X : Type 0} (P : X → Type 0) (xs : List X) → ((x : X) → Contains xs x → P x) → AllByRecursion P xs
-all_members P [] each = tt
-all_members P (x ∷ xs) each = (each x (contains_head x xs), all_members P xs (λ y member. each y (contains_tail x y xs member)))
+within_meet : (a b : RankedPiece) (p q : Rule) → IsWithin a p → IsWithin b q → PiecesOverlap a.piece b.piece → Overlap p q
+within_meet a b p q in_p in_q (key, valid, first, second) = (key, valid, in_p.inside key valid first, in_q.inside key valid second)
 
--- a batch of new routes inserts theirs,
-pub inserted_routes : (rules : List Rule) (batch : List Command) → OnlyAddsRoutes batch → AllByRecursion (λ rule. IsFalse (has_priority rules rule.priority)) (additions batch)
-    → inserted_pieces Cover no_bits rules batch ≡ map route_piece (new_rules batch)
-inserted_routes rules batch adds absent = fresh_pieces_of rules (new_rules batch) (all_members (λ new. IsIpv4Route new × IsFalse (has_priority rules new.priority)) (new_rules batch) (λ new member. (
-  AllByRecursion-member IsIpv4Route (additions batch) new (added_routes batch adds) (new_rules-member batch new member),
-  AllByRecursion-member (λ rule. IsFalse (has_priority rules rule.priority)) (additions batch) new absent (new_rules-member batch new member),
-)))
+-- a chain of pieces is one of rules
+record IsLifted (all : List Rule) (first : RankedPiece) (rest : List RankedPiece) : Type 0 where
+  upper : Rule
+  lower : List Rule
+  within : IsWithin first upper
+  members : (rule : Rule) → Contains (upper ∷ lower) rule → Contains all rule
+  chain : IsOverlapChain (upper ∷ lower)
+  long : length lower ≡ length rest
 
--- rewrites none
-pub rewritten_none : (rules : List Rule) (batch : List Command) → OnlyAddsRoutes batch → AllByRecursion (λ rule. IsFalse (has_priority rules rule.priority)) (additions batch)
-    → rewritten_pieces Cover no_bits rules batch ≡ []
-rewritten_none rules batch adds absent = go (set_after rules batch)
+lifted : (all : List Rule) (first : RankedPiece) (rest : List RankedPiece)
+    → ((ranked : RankedPiece) → Contains (first ∷ rest) ranked → (rule : Rule) × Contains all rule × IsWithin ranked rule)
+    → IsChain (λ a b. PiecesOverlap a.piece b.piece) (λ ranked. ranked.rank) (first ∷ rest) → IsLifted all first rest
+lifted all first [] of chain =
+    let is = of first (contains_head first []) in
+    record {
+      upper = is.0;
+      lower = [];
+      within = is.2;
+      members = λ rule member. elim (contains_cases is.0 rule [] member) [ inl same ↦ subst (Contains all) same is.1 | inr none ↦ absurd (contains_none rule none) ];
+      chain = tt;
+      long = refl;
+    }
+lifted all first (second ∷ rest) of chain =
+    let is = of first (contains_head first (second ∷ rest)) in
+    let later = lifted all second rest (λ ranked member. of ranked (contains_tail first ranked (second ∷ rest) member)) chain.2 in
+    let level = is.2.rank_is in
+    let next = later.within.rank_is in
+    let falls : second.rank < first.rank = chain.1 in
+    let size = later.long in
+    record {
+      upper = is.0;
+      lower = later.upper ∷ later.lower;
+      within = is.2;
+      members = λ rule member. elim (contains_cases is.0 rule (later.upper ∷ later.lower) member) [ inl same ↦ subst (Contains all) same is.1 | inr behind ↦ later.members rule behind ];
+      chain = (within_meet first second is.0 later.upper is.2 later.within chain.0, omega arith, later.chain);
+      long = omega arith;
+    }
+
+-- so the pieces' chains are no longer than the rules'
+pub row_chains : (rules : List Rule) (batch : List Command) → IsSoundChange rules batch → (bound : ℕ) → BoundsChains (rules ++ additions batch) bound
+    → BoundsPieceChains (set_pieces Cover no_bits rules ++ inserted_pieces Cover no_bits rules batch) bound
+row_chains rules batch change bound bounds [] members chain = let some = bounds [] (λ rule none. absurd (contains_none rule none)) tt in some
+row_chains rules batch change bound bounds (first ∷ rest) members chain =
+    let up = lifted (rules ++ additions batch) first rest (λ ranked member. of ranked (members ranked member)) chain in
+    let most = bounds (up.upper ∷ up.lower) up.members up.chain in
+    let size = up.long in
+    omega arith
   where
-    go : (some : List Rule) → flat_map (λ new. ranked_pieces no_bits new (common_pieces Cover (replaced_rule rules new) new)) (filter (names batch) some) ≡ []
-    go [] = refl
-    go (rule ∷ some) = elim (cases_Bool (names batch rule)) [
-      | inl named ↦
-          let none : replaced_rule rules rule ≡ None = rule_at-none rules rule.priority (named_absent rules batch rule adds absent named) in
-          ap (flat_map (λ new. ranked_pieces no_bits new (common_pieces Cover (replaced_rule rules new) new))) (cond-true _ _ _ named)
-          ∙ ap₂ (λ first rest. first ++ rest) (ap (λ old. ranked_pieces no_bits rule (common_pieces Cover old rule)) none) (go some)
-      | inr other ↦ ap (flat_map (λ new. ranked_pieces no_bits new (common_pieces Cover (replaced_rule rules new) new))) (cond-false _ _ _ other) ∙ go some
+    right : (rule : Rule) → Contains (rules ++ additions batch) rule → HasConditions rule
+    right rule member = elim (Contains-append_cases rules (additions batch) rule member) [
+      | inl old ↦ AllByRecursion-member HasConditions rules rule change.right old
+      | inr new ↦ AllByRecursion-member HasConditions (additions batch) rule (right_added batch change.changes) new
     ]
 
--- and erases none
-pub erased_none : (rules : List Rule) (batch : List Command) → OnlyAddsRoutes batch → erased_pieces Cover no_bits rules batch ≡ []
-erased_none rules batch adds =
-    ap (λ some. flat_map (λ old. ranked_pieces no_bits old (dropped_pieces Cover (rule_at (additions batch) old.priority) old)) (reverse some))
-    (filter_nothing (λ rule. removes rule.priority batch) rules (λ rule member. removes_none rule.priority batch adds))
+    of : (ranked : RankedPiece) → Contains (row_pieces rules batch) ranked → (rule : Rule) × Contains (rules ++ additions batch) rule × IsWithin ranked rule
+    of ranked member =
+        let is = row_of rules batch ranked member in
+        (is.rule, is.member, record { rank_is = is.rank_is; inside = λ key valid matched. piece_inside is.rule ranked.piece key (right is.rule is.member) is.has valid matched })
+
+-- the old rules and the added ones are routes
+routes_all : (rules : List Rule) (batch : List Command) → AllByRecursion IsIpv4Route rules → AllByRecursion IsIpv4Route (additions batch) → (rule : Rule) → Contains (rules ++ additions batch) rule → IsIpv4Route rule
+routes_all rules batch routes added rule member = elim (Contains-append_cases rules (additions batch) rule member) [
+  | inl old ↦ AllByRecursion-member IsIpv4Route rules rule routes old
+  | inr new ↦ AllByRecursion-member IsIpv4Route (additions batch) rule added new
+]
+
+-- chains of routes are short
+pub row_short : (rules : List Rule) (batch : List Command) → IsSoundChange rules batch → AllByRecursion IsIpv4Route rules → AllByRecursion IsIpv4Route (additions batch)
+    → BoundsPieceChains (set_pieces Cover no_bits rules ++ inserted_pieces Cover no_bits rules batch) 33
+row_short rules batch change routes added =
+    row_chains rules batch change 33 (λ chain members is. ipv4_chains-short chain (λ rule member. routes_all rules batch routes added rule (members rule member)) is)
+
+-- two routes that overlap a third, one higher and one lower, overlap one another
+routes_nested : (upper middle lower : Rule) → IsIpv4Route upper → IsIpv4Route middle → IsIpv4Route lower → Overlap middle upper → Overlap middle lower
+    → middle.priority < upper.priority → lower.priority < middle.priority → Overlap lower upper
+routes_nested upper middle lower is_upper is_middle is_lower over_upper over_lower more less =
+    let parts = overlap_parts (whole_piece middle) (whole_piece upper) over_upper in
+    let inside = ipv4_routes-nested middle lower is_middle is_lower over_lower less in
+    overlap_from (whole_piece lower) (whole_piece upper)
+    (subst (λ src. BlocksOverlap src upper.src) (ap (λ r. r.src) is_middle.route ∙ sym (ap (λ r. r.src) is_lower.route)) parts.0)
+    (parts.1.0, parts.1.1, inside.within parts.1.0 parts.1.2, parts.1.3)
+    (subst (λ proto. ProtosOverlap proto upper.proto) (ap (λ r. r.proto) is_middle.route ∙ sym (ap (λ r. r.proto) is_lower.route)) parts.2)
+    (subst (λ range. RangesOverlap range upper.sport) (ap (λ r. r.sport) is_middle.route ∙ sym (ap (λ r. r.sport) is_lower.route)) parts.3)
+    (subst (λ range. RangesOverlap range upper.dport) (ap (λ r. r.dport) is_middle.route ∙ sym (ap (λ r. r.dport) is_lower.route)) parts.4)
+
+-- a route has one piece
+route_piece-is : (rule : Rule) (piece : Piece) → IsIpv4Route rule → Contains (cover_pieces rule) piece → piece ≡ whole_piece rule
+route_piece-is rule piece route has = elim (contains_cases (whole_piece rule) piece [] (subst (λ pieces. Contains pieces piece) one has)) [
+  | inl same ↦ sym same
+  | inr none ↦ absurd (contains_none piece none)
+]
+  where
+    one : cover_pieces rule ≡ whole_piece rule ∷ []
+    one = subst (λ r. cover_pieces r ≡ whole_piece r ∷ []) (sym route.route) refl
+
+-- so pieces of routes are nested
+pub row_nested : (rules : List Rule) (batch : List Command) → IsSoundChange rules batch → AllByRecursion IsIpv4Route rules → AllByRecursion IsIpv4Route (additions batch)
+    → AreNested (set_pieces Cover no_bits rules ++ inserted_pieces Cover no_bits rules batch)
+row_nested rules batch change routes added upper one lower in_upper in_one in_lower more less over_upper over_lower =
+    let u = row_of rules batch upper in_upper in
+    let i = row_of rules batch one in_one in
+    let l = row_of rules batch lower in_lower in
+    let piece_u = route_piece-is u.rule upper.piece (route u.rule u.member) u.has in
+    let piece_i = route_piece-is i.rule one.piece (route i.rule i.member) i.has in
+    let piece_l = route_piece-is l.rule lower.piece (route l.rule l.member) l.has in
+    let rank_u = u.rank_is in
+    let rank_i = i.rank_is in
+    let rank_l = l.rank_is in
+    subst (λ p. PiecesOverlap p upper.piece) (sym piece_l) (subst (PiecesOverlap (whole_piece l.rule)) (sym piece_u)
+    (routes_nested u.rule i.rule l.rule (route u.rule u.member) (route i.rule i.member) (route l.rule l.member)
+    (subst (λ p. PiecesOverlap p (whole_piece u.rule)) piece_i (subst (PiecesOverlap one.piece) piece_u over_upper))
+    (subst (λ p. PiecesOverlap p (whole_piece l.rule)) piece_i (subst (PiecesOverlap one.piece) piece_l over_lower))
+    (omega arith) (omega arith)))
+  where
+    route : (rule : Rule) → Contains (rules ++ additions batch) rule → IsIpv4Route rule
+    route = routes_all rules batch routes added

@@ -1,17 +1,17 @@
 -- Insertions that were planned one after the other, made one after the other.
 use Rattle.std.proofs.Common.{◌≡◌, ℕ, zero, suc, ◌+◌, ◌-◌, ◌*◌, ◌<◌, ◌≤◌, true, false, Some, List, [], ◌∷◌, ◌++◌, length, map, take, slice_get, Contains, arith, inl, inr, refl, sym, ◌∙◌, subst, ap, append_assoc, append-nil}
 use Rattle.std.specs.Prelude.{◌↔◌}
-use Rattle.std.specs.List.{AllByRecursion, AllZip}
+use Rattle.std.specs.List.{AllZip}
 use Rattle.std.proofs.lemmas.Bool.{cases_lt}
 use Rattle.std.proofs.lemmas.Option.{none-some, same_Some}
 use Rattle.std.proofs.lemmas.List.{take-append-le, length-map}
 use Rattle.std.proofs.Math.Seq.{take-append-add}
 use Rattle.std.proofs.lemmas.List.Elements.{Contains-append_left, Contains-append_right, Contains-append_cases}
-use Rattle.slot_order.specs.Order.{Ordered}
+use Rattle.slot_order.specs.Order.{slot, Ordered}
 use Rattle.slot_order.specs.Moves.{BoundsChains}
 use Rattle.slot_order.proofs.Images.{entries}
 use Rattle.slot_order.proofs.Once.{AllOnce}
-use Rattle.slot_order.proofs.Rules.{contains_head, contains_cases, contains_none}
+use Rattle.slot_order.proofs.Rules.{contains_head, contains_tail, contains_cases, contains_none}
 use Rattle.slot_order.proofs.Sets.{Ordered_same}
 use Rattle.slot_order.proofs.Turns.{Plus}
 use Rattle.slot_order.proofs.Writes.{slot_inside}
@@ -33,14 +33,17 @@ use Rattle.commit_writes.specs.Planned.{Entries, Planned, ArePlanned, write_for,
 use Rattle.commit_writes.proofs.Mirror.{Pieces, entry_by, over, rank, MatchApart, ordered_state, stands_once, After, hits_after}
 use Rattle.commit_writes.proofs.Bridge.{HaveEntries, IsBridged, bridge}
 
--- what is known of all ids: how they are told apart, their entries, what the index says of any of them, and that of two
--- that overlap a third, one higher and one lower, the first overlaps the second
+-- what is known of all ids: how they are told apart, their entries, and what the index says of any of them
 pub record AreReadable (held : Entries) (piece : ℕ → RankedPiece) (all : List LivePiece) : Type 0 where
   pub apart : MatchApart piece (IsLive all)
   pub have : HaveEntries held piece (IsLive all)
   pub reads : (live : List LivePiece) → ((one : LivePiece) → Contains live one → Contains all one) → Reads (over piece) (rank piece) (IsLive live) (is_above live)
-  pub nested : (upper id lower : ℕ) → IsLive all upper → IsLive all id → IsLive all lower → over piece id upper → over piece id lower
-      → rank piece id < rank piece upper → rank piece lower < rank piece id → over piece lower upper
+
+-- of two ids that overlap a third, one higher and one lower, the first overlaps the second
+abbrev pub AreNestedIds : (ℕ → RankedPiece) → List LivePiece → Type 0
+AreNestedIds piece all =
+    (upper id lower : ℕ) → IsLive all upper → IsLive all id → IsLive all lower → over piece id upper → over piece id lower
+    → rank piece id < rank piece upper → rank piece lower < rank piece id → over piece lower upper
 
 -- live pieces are live among more
 pub live_up : (live all : List LivePiece) → ((one : LivePiece) → Contains live one → Contains all one) → (id : ℕ) → IsLive live id → IsLive all id
@@ -99,7 +102,7 @@ pub record IsAsPlanned (piece : ℕ → RankedPiece) (all : List LivePiece) (pla
   pub span : IsCrossingSpan insertion.before insertion.entry planned.span
   pub size : length insertion.writes ≡ length planned.moves
   pub few : (m : ℕ) → BoundsChains (over piece) (rank piece) (IsLive all) m → length insertion.writes ≤ m * (1 + planned.span)
-  pub uncrossed : planned.span ≡ 0
+  pub uncrossed : AreNestedIds piece all → planned.span ≡ 0
 
 -- what planned insertions do to the device
 pub record AreDone (held : Entries) (piece : ℕ → RankedPiece) (all live : List LivePiece) (slots : Slots) (state : State) (planned : List Planned) : Type 0 where
@@ -107,6 +110,7 @@ pub record AreDone (held : Entries) (piece : ℕ → RankedPiece) (all live : Li
   pub last : IsOrdered (state_after state (planned_writes held planned)) (Pieces piece (IsLive (live_after live planned)))
   pub changed : After piece (slots_after slots planned) state (state_after state (planned_writes held planned))
   pub within : AllKnown (IsLive (live_after live planned)) (slots_after slots planned)
+  pub placed : (id : ℕ) → IsLive (live_after live planned) id → (at : ℕ) × (slot (slots_after slots planned) at ≡ Some id)
   pub alone : AllOnce (slots_after slots planned)
   pub made : Makes state (planned_writes held planned) (made_by held piece state planned)
   pub as_planned : AllZip (IsAsPlanned piece all) planned (made_by held piece state planned)
@@ -129,6 +133,7 @@ done_none held piece all live slots state readable up same o alone =
       last = now';
       changed = record { slots = same; src = refl; dst = refl };
       within = subst (λ some. AllKnown (IsLive some) slots) (sym (append-nil live)) o.within;
+      placed = subst (λ some. (id : ℕ) → IsLive some id → (at : ℕ) × (slot slots at ≡ Some id)) (sym (append-nil live)) o.placed;
       alone = alone;
       made = λ more. refl;
       as_planned = tt;
@@ -150,6 +155,7 @@ done_more held piece all live slots state planned rest readable up o single span
   changed = subst (After piece (slots_after slots (planned ∷ rest)) state) (sym (state_after-append state ours theirs))
       record { slots = h.changed.slots; src = h.changed.src ∙ changed.src; dst = h.changed.dst ∙ changed.dst };
   within = subst (λ some. AllKnown (IsLive some) (slots_after slots (planned ∷ rest))) (regroup rest) h.within;
+  placed = subst (λ some. (id : ℕ) → IsLive some id → (at : ℕ) × (slot (slots_after slots (planned ∷ rest)) at ≡ Some id)) (regroup rest) h.placed;
   alone = h.alone;
   made = Makes-append state ours theirs (insertion ∷ []) (made_by held piece next rest) first h.made;
   as_planned = (
@@ -159,8 +165,8 @@ done_more held piece all live slots state planned rest readable up o single span
       few = λ m bound. subst (λ s. length ours ≤ m * (1 + s)) (sym span)
           (subst (λ ws. length ws ≤ m * (1 + span_of (is_above more) slots planned.one.id)) (sym b.same_writes)
           (b.few m (λ chain each c. bound chain (λ x i. live_up more all up x (each x i)) c)));
-      uncrossed = span ∙ span_none piece (IsLive live) (IsLive more) (is_above more) slots planned.one.id (readable.reads more up) (λ id is. (live_more live planned.one id).0 (inl is)) here o
-          (λ upper lower known_upper known_lower. readable.nested upper planned.one.id lower (live_up more all up upper known_upper) (live_up more all up planned.one.id here) (live_up more all up lower known_lower));
+      uncrossed = λ nested. span ∙ span_none piece (IsLive live) (IsLive more) (is_above more) slots planned.one.id (readable.reads more up) (λ id is. (live_more live planned.one id).0 (inl is)) here o
+          (λ upper lower known_upper known_lower. nested upper planned.one.id lower (live_up more all up upper known_upper) (live_up more all up planned.one.id here) (live_up more all up lower known_lower));
     },
     h.as_planned,
   );
@@ -222,14 +228,14 @@ done_more held piece all live slots state planned rest readable up o single span
     ]
 
 pub done_all : (held : Entries) (piece : ℕ → RankedPiece) (all live : List LivePiece) (slots : Slots) (state : State) (planned : List Planned) → AreReadable held piece all
-    → ((one : LivePiece) → Contains live one → Contains all one) → AllByRecursion (λ insertion. Contains all insertion.one) planned
+    → ((one : LivePiece) → Contains live one → Contains all one) → ((insertion : Planned) → Contains planned insertion → Contains all insertion.one)
     → state.slots ≡ entries (entry_by piece) slots → Ordered (over piece) (rank piece) (IsLive live) slots → AllOnce slots
     → HitAsPieces state (Pieces piece (IsLive all)) → ArePlanned live slots planned → AreDone held piece all live slots state planned
 done_all held piece all live slots state [] readable up ones same o once hits are = done_none held piece all live slots state readable up same o once
 done_all held piece all live slots state (planned ∷ rest) readable up ones same o once hits are =
     let changed = subst (λ ws. After piece (after_moves slots planned.moves) state (state_after state ws)) (sym b.same_writes) b.changed in
     done_more held piece all live slots state planned rest readable up' o single are.2 b
-    (done_all held piece all more (after_moves slots planned.moves) (state_after state (map (write_for held) planned.moves)) rest readable up' ones.1 changed.slots
+    (done_all held piece all more (after_moves slots planned.moves) (state_after state (map (write_for held) planned.moves)) rest readable up' (λ other member. ones other (contains_tail planned other rest member)) changed.slots
     (Ordered_same (over piece) (rank piece) (Plus (IsLive live) planned.one.id) (IsLive more) (after_moves slots planned.moves) (live_more live planned.one) b.ids) b.once_ids
     (hits_after piece (Pieces piece (IsLive all)) (after_moves slots planned.moves) state (state_after state (map (write_for held) planned.moves)) hits changed) are.3)
   where
@@ -239,7 +245,7 @@ done_all held piece all live slots state (planned ∷ rest) readable up ones sam
     up' : (one : LivePiece) → Contains more one → Contains all one
     up' one member = elim (Contains-append_cases live (planned.one ∷ []) one member) [
       | inl old ↦ up one old
-      | inr new ↦ elim (contains_cases planned.one one [] new) [ inl same ↦ subst (Contains all) same ones.0 | inr none ↦ absurd (contains_none one none) ]
+      | inr new ↦ elim (contains_cases planned.one one [] new) [ inl same ↦ subst (Contains all) same (ones planned (contains_head planned rest)) | inr none ↦ absurd (contains_none one none) ]
     ]
 
     single : StandsOnce state (Pieces piece (IsLive live))

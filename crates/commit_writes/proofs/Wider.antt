@@ -1,28 +1,24 @@
 -- A commit's writes are its segment on a device with more slots, too.
-use Rattle.std.proofs.Common.{◌≡◌, ℕ, zero, suc, ◌-◌, Some, List, [], ◌∷◌, ◌++◌, length, take, map, flat_map, slice_get, Contains, refl, sym, ◌∙◌, subst, ap}
+use Rattle.std.proofs.Common.{◌≡◌, ℕ, zero, suc, ◌+◌, ◌≤◌, Some, List, [], ◌∷◌, ◌++◌, length, take, map, flat_map, slice_get, Contains, refl, sym, ◌∙◌, subst, ap}
 use Rattle.std.specs.List.{AllByRecursion, AllZip}
 use Rattle.std.proofs.lemmas.Option.{none-some, same_Some}
-use Rattle.std.proofs.lemmas.List.{length-map}
 use Rattle.slot_order.proofs.Inside.{all_append}
 use Rattle.rule_model.specs.declared.Rule.{Rule}
 use Rattle.rule_store.specs.declared.Mode.{Mode}
 use Rattle.rule_store.specs.declared.Command.{Command}
-use Rattle.slot_pool.specs.Arrangement.{Slots}
-use Rattle.overlap_index.specs.declared.LivePiece.{LivePiece}
+use Rattle.rule_store.specs.Batch.{set_after}
 use Rattle.ternary_word.specs.Entry.{RankedPiece}
 use Rattle.tcam_device.specs.declared.Write.{Write}
-use Rattle.tcam_device.specs.State.{State, IsInUse, state_after, on_device}
+use Rattle.tcam_device.specs.State.{State, IsInUse, state_after}
 use Rattle.tcam_device.specs.Order.{StandsOnce, IsOrdered}
-use Rattle.tcam_device.specs.Insertion.{Insertion, insertions, IsGreatestSpan, AreBoundedBy, IsUncrossed}
-use Rattle.rule_store.specs.Batch.{set_after}
+use Rattle.tcam_device.specs.Insertion.{Insertion, insertions, table_writes, IsGreatestSpan, AreBoundedBy, IsUncrossed}
 use Rattle.tcam_device.proofs.Wider.{padded, all_take, slot-padded, state_after-padded, slots-after, IsHitless-padded, IsOrdered-padded, StandsOnce-padded}
 use Rattle.tcam_device.proofs.WiderInsertions.{widened, insertions-padded, longest-padded, writes-widened, entries-widened, IsGreatestSpan-widened, AreBoundedBy-widened, IsUncrossed-widened}
 use Rattle.commit_writes.specs.declared.Done.{Done}
 use Rattle.commit_writes.specs.Bits.{FieldBits, bits_with}
 use Rattle.commit_writes.specs.Shape.{Stands, Rewrites, Erases, inserted_pieces, rewritten_pieces, erased_pieces, HasCommitShape}
-use Rattle.commit_writes.specs.Commit.{old_pieces, new_pieces, KeepsOrder, IsSegment, AreCounts}
-use Rattle.commit_writes.specs.Planned.{Entries, Planned, ArePlanned, held_entry, contents, plain_state, planned_writes, IsRouteSegment}
-use Rattle.commit_writes.proofs.InUse.{planned_in_use}
+use Rattle.commit_writes.specs.Commit.{old_pieces, new_pieces, insertion_writes, KeepsOrder, IsSegment, AreCounts}
+use Rattle.commit_writes.specs.PlannedBatch.{IsPlannedSegment}
 
 -- writes within the first slots
 abbrev pub AreInUse : State → List Write → Type 0
@@ -108,17 +104,21 @@ map_read f (x ∷ xs) (suc k) y read = map_read f xs k y read
 pub KeepsOrder-padded : (more : ℕ) (mode : Mode) (bits : FieldBits) (rules : List Rule) (batch : List Command) (state : State) (made : List Write)
     → AreInUse state made → KeepsOrder mode bits rules batch state made → KeepsOrder mode bits rules batch (padded more state) made
 KeepsOrder-padded more mode bits rules batch state made inside keeps = record {
-  during = λ n. let w = keeps.during n in (
+  inserting = λ n within. let w = keeps.inserting n (subst (λ count. n ≤ count) as_many within) in (
     w.0,
-    w.1,
-    subst (λ (now : State). IsOrdered now (Contains w.0)) (sym (state_after-padded more state (take n made) (all_take (IsInUse (length state.slots)) n made inside)))
-        (IsOrdered-padded more (state_after state (take n made)) (Contains w.0) w.2),
+    subst (λ (now : State). IsOrdered now (first w.0)) (sym (reached n)) (IsOrdered-padded more (state_after state (take n made)) (first w.0) w.1),
   );
-  after = subst (λ (now : State). IsOrdered now new) (sym (state_after-padded more state made inside)) (IsOrdered-padded more (state_after state made) new keeps.after);
-  once = subst (λ (now : State). StandsOnce now new) (sym (state_after-padded more state made inside)) (StandsOnce-padded more (state_after state made) new keeps.once);
   between = λ k insertion read.
       let w = map_read (widened more) (insertions state made) k insertion (ap (λ (all : List Insertion). slice_get all k) (sym (insertions-padded more state made inside)) ∙ read) in
       subst (λ (begun : Insertion). StandsOnce begun.before (first k)) w.2 (StandsOnce-padded more w.0.before (first k) (keeps.between k w.0 w.1));
+  finishing = λ n past. let w = keeps.finishing n (subst (λ count. count ≤ n) as_many past) in (
+    w.0,
+    w.1,
+    subst (λ (now : State). IsOrdered now (Contains w.0)) (sym (reached n)) (IsOrdered-padded more (state_after state (take n made)) (Contains w.0) w.2),
+    subst (λ (now : State). StandsOnce now (Contains w.0)) (sym (reached n)) (StandsOnce-padded more (state_after state (take n made)) (Contains w.0) w.3),
+  );
+  after = subst (λ (now : State). IsOrdered now new) (sym (state_after-padded more state made inside)) (IsOrdered-padded more (state_after state made) new keeps.after);
+  once = subst (λ (now : State). StandsOnce now new) (sym (state_after-padded more state made inside)) (StandsOnce-padded more (state_after state made) new keeps.once);
 }
   where
     first : ℕ → RankedPiece → Type 0
@@ -126,6 +126,15 @@ KeepsOrder-padded more mode bits rules batch state made inside keeps = record {
 
     new : RankedPiece → Type 0
     new = Contains (new_pieces mode bits rules batch)
+
+    reached : (n : ℕ) → state_after (padded more state) (take n made) ≡ padded more (state_after state (take n made))
+    reached n = state_after-padded more state (take n made) (all_take (IsInUse (length state.slots)) n made inside)
+
+    -- as many writes go to insertions
+    as_many : insertion_writes (padded more state) made ≡ insertion_writes state made
+    as_many = ap (λ (writes : List Write). table_writes made + length writes)
+        (ap (λ (all : List Insertion). flat_map (λ (insertion : Insertion). insertion.writes) all) (insertions-padded more state made inside)
+        ∙ writes-widened more (insertions state made))
 
 pub IsSegment-padded : (more : ℕ) (mode : Mode) (bits : FieldBits) (rules : List Rule) (batch : List Command) (state : State) (made : List Write)
     → AreInUse state made → IsSegment mode bits rules batch state made → IsSegment mode bits rules batch (padded more state) made
@@ -145,19 +154,10 @@ AreCounts-padded more state made counts inside are = record {
   span = subst (λ (all : List Insertion). IsGreatestSpan all counts.span) (sym (insertions-padded more state made inside)) (IsGreatestSpan-widened more (insertions state made) counts.span are.span);
 }
 
-pub IsRouteSegment-padded : (more : ℕ) (rules : List Rule) (batch : List Command) (state : State) (made : List Write) (counts : Done)
-    → AreInUse state made → IsRouteSegment rules batch state made counts → IsRouteSegment rules batch (padded more state) made counts
-IsRouteSegment-padded more rules batch state made counts inside is = record {
+pub IsPlannedSegment-padded : (more : ℕ) (rules : List Rule) (batch : List Command) (state : State) (made : List Write) (counts : Done)
+    → AreInUse state made → IsPlannedSegment rules batch state made counts → IsPlannedSegment rules batch (padded more state) made counts
+IsPlannedSegment-padded more rules batch state made counts inside is = record {
   segment = IsSegment-padded more _ _ rules batch state made inside is.segment;
   numbers = AreCounts-padded more state made counts inside is.numbers;
-  uncrossed = subst (IsUncrossed 33) (sym (insertions-padded more state made inside)) (IsUncrossed-widened more 33 (insertions state made) is.uncrossed);
+  uncrossed = λ routes added. subst (IsUncrossed 33) (sym (insertions-padded more state made inside)) (IsUncrossed-widened more 33 (insertions state made) (is.uncrossed routes added));
 }
-
--- so are planned insertions, which write slots of their arrangement only
-pub wider_planned : (rules : List Rule) (batch : List Command) (live : List LivePiece) (slots : Slots) (entries : Entries) (planned : List Planned) (counts : Done) (device_slots : ℕ)
-    → ArePlanned live slots planned
-    → IsRouteSegment rules batch (plain_state (contents entries slots)) (planned_writes entries planned) counts
-    → IsRouteSegment rules batch (on_device device_slots (plain_state (contents entries slots))) (planned_writes entries planned) counts
-wider_planned rules batch live slots entries planned counts device_slots are is =
-    IsRouteSegment-padded (device_slots - length (contents entries slots)) rules batch (plain_state (contents entries slots)) (planned_writes entries planned) counts
-    (subst (λ n. AllByRecursion (IsInUse n) (planned_writes entries planned)) (sym (length-map slots (held_entry entries))) (planned_in_use live slots entries planned are)) is

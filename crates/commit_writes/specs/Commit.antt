@@ -1,5 +1,5 @@
 -- What an accepted commit writes, and its numbers.
-use Rattle.std.specs.Prelude.{◌≡◌, ℕ, ◌++◌, Some, List, length, take, slice_get, Contains, ◌⊎◌}
+use Rattle.std.specs.Prelude.{◌≡◌, ℕ, ◌+◌, ◌≤◌, ◌++◌, Some, List, length, take, slice_get, flat_map, Contains, ◌⊎◌}
 use Rattle.rule_model.specs.declared.Rule.{Rule}
 use Rattle.rule_model.specs.RuleSet.{BoundsChains}
 use Rattle.rule_store.specs.declared.Mode.{Mode}
@@ -29,23 +29,34 @@ old_pieces mode bits rules batch = set_pieces mode (bits_with mode rules batch b
 abbrev pub new_pieces : Mode → FieldBits → List Rule → List Command → List RankedPiece
 new_pieces mode bits rules batch = set_pieces mode (bits_with mode rules batch bits) (set_after rules batch)
 
--- pieces on the way from some to others: each is one of either, and what both have is among them
+-- pieces on the way from some to others: each is one of either, and of a piece that both have, be it with another result,
+-- one is among them
 pub record AreBetween (old new standing : List RankedPiece) : Type 0 where
   pub known : (ranked : RankedPiece) → Contains standing ranked → Contains old ranked ⊎ Contains new ranked
-  pub kept : (ranked : RankedPiece) → Contains old ranked → Contains new ranked → Contains standing ranked
+  pub kept : (was is : RankedPiece) → Contains old was → Contains new is → was.piece ≡ is.piece → was.rank ≡ is.rank
+      → Contains standing was ⊎ Contains standing is
 
--- The device holds what it must, in order: after every write pieces on the way from the old set's to the new set's, and
--- in the end those of the new set, each in one slot. Where an insertion begins, too, each that must stand does so in one
--- slot. So an entry that others shadow is neither lost nor left twice, not even from one insertion to a later one.
+-- how many writes go to the tables and to insertions, which come before all others
+abbrev pub insertion_writes : State → List Write → ℕ
+insertion_writes state made = table_writes made + length (flat_map (λ insertion. insertion.writes) (insertions state made))
+
+-- The device holds what it must, in order. So an entry that others shadow is neither lost nor left twice, not even from one
+-- insertion to a later one, and no entry has its new result before the insertions are made.
 pub record KeepsOrder (mode : Mode) (bits : FieldBits) (rules : List Rule) (batch : List Command) (state : State) (made : List Write) : Type 0 where
-  pub during : (n : ℕ) → (standing : List RankedPiece)
-      × AreBetween (old_pieces mode bits rules batch) (new_pieces mode bits rules batch) standing
-      × IsOrdered (state_after state (take n made)) (Contains standing)
-  pub after : IsOrdered (state_after state made) (Contains (new_pieces mode bits rules batch))
-  pub once : StandsOnce (state_after state made) (Contains (new_pieces mode bits rules batch))
-  -- where an insertion begins, each piece of the old set and each that was inserted before it stands in one slot
+  -- while table words and insertions are written: the pieces of the old set and the first of the inserted ones,
+  pub inserting : (n : ℕ) → n ≤ insertion_writes state made → (k : ℕ) × IsOrdered (state_after state (take n made))
+      (Contains (old_pieces mode bits rules batch ++ take k (inserted_pieces mode (bits_with mode rules batch bits) rules batch)))
+  -- each of them in one slot where an insertion begins;
   pub between : (k : ℕ) (insertion : Insertion) → slice_get (insertions state made) k ≡ Some insertion
       → StandsOnce insertion.before (Contains (old_pieces mode bits rules batch ++ take k (inserted_pieces mode (bits_with mode rules batch bits) rules batch)))
+  -- from then on pieces on the way from the old set's to the new set's, each in one slot;
+  pub finishing : (n : ℕ) → insertion_writes state made ≤ n → (standing : List RankedPiece)
+      × AreBetween (old_pieces mode bits rules batch) (new_pieces mode bits rules batch) standing
+      × IsOrdered (state_after state (take n made)) (Contains standing)
+      × StandsOnce (state_after state (take n made)) (Contains standing)
+  -- and in the end those of the new set
+  pub after : IsOrdered (state_after state made) (Contains (new_pieces mode bits rules batch))
+  pub once : StandsOnce (state_after state made) (Contains (new_pieces mode bits rules batch))
 
 -- the writes of an accepted commit: hitless, in order, as many of each kind as the rules fix, and within the bounds
 pub record IsSegment (mode : Mode) (bits : FieldBits) (rules : List Rule) (batch : List Command) (state : State) (made : List Write) : Type 0 where

@@ -2,3 +2,4 @@ pub mod Bits
 pub mod Shape
 pub mod Commit
 pub mod Planned
+pub mod PlannedBatch

@@ -1,9 +1,12 @@
 -- Insertions as they are planned, over ids in slots, and what they mean on the device.
-use Rattle.std.specs.Prelude.{◌≡◌, ℕ, ◌≤◌, IsFalse, Option, Some, None, List, [], ◌∷◌, ◌++◌, Contains, length, map, flat_map, fold, max, slice_index_or}
+use Rattle.std.specs.Prelude.{◌≡◌, ℕ, ◌<◌, ◌≤◌, IsFalse, Option, Some, None, List, [], ◌∷◌, ◌++◌, Contains, AllPairs, length, map, flat_map, fold, max, slice_index_or}
 use Rattle.std.specs.List.{AllByRecursion}
+use Rattle.slot_order.specs.Moves.{BoundsChains}
 use Rattle.slot_pool.specs.Arrangement.{Slots}
+use Rattle.rule_model.specs.Rule.{AreConditions}
+use Rattle.rule_model.specs.Piece.{PiecesOverlap}
 use Rattle.ternary_word.specs.declared.Entry.{Entry}
-use Rattle.ternary_word.specs.Entry.{RankedPiece, entry_for}
+use Rattle.ternary_word.specs.Entry.{RankedPiece, IsEncodable, entry_for}
 use Rattle.overlap_index.specs.declared.LivePiece.{LivePiece}
 use Rattle.overlap_index.specs.Live.{AreApart, is_live, is_above}
 use Rattle.move_planner.specs.declared.Move.{Move}
@@ -13,18 +16,6 @@ use Rattle.move_planner.specs.Insertion.{IsLive, StandOnce}
 use Rattle.tcam_device.specs.declared.Write.{Write}
 use Rattle.tcam_device.specs.declared.Write.TheVariants.{Slot}
 use Rattle.tcam_device.specs.State.{State, blank_table}
-use Rattle.tcam_device.specs.Insertion.{insertions, IsUncrossed}
-use Rattle.rule_model.specs.declared.Rule.{Rule}
-use Rattle.rule_model.specs.RuleSet.{IsRuleSet}
-use Rattle.rule_model.specs.Routes.{IsIpv4Route}
-use Rattle.rule_store.specs.declared.Mode.TheVariants.{Cover}
-use Rattle.rule_store.specs.declared.Command.{Command}
-use Rattle.rule_store.specs.declared.Command.TheVariants.{Add, Set, Del}
-use Rattle.rule_store.specs.Batch.{batch_fault}
-use Rattle.commit_writes.specs.declared.Done.{Done}
-use Rattle.commit_writes.specs.Bits.{no_bits}
-use Rattle.commit_writes.specs.Shape.{set_pieces, inserted_pieces}
-use Rattle.commit_writes.specs.Commit.{IsSegment, AreCounts}
 
 -- the entry of each id, if it has one
 abbrev pub Entries : Type 0
@@ -107,35 +98,32 @@ pub record AreArranged (live : List LivePiece) (slots : Slots) : Type 0 where
   pub standing : StandOnce (IsLive live) slots
   pub order : IsInOrder (is_above live) slots
 
--- a change that adds an IPv4 route
-abbrev pub AddsRoute : Command → Type 0
-AddsRoute (Add rule) = IsIpv4Route rule
-AddsRoute (Set priority answer) = ⊥
-AddsRoute (Del priority) = ⊥
+-- a piece as it may stand in an entry: its conditions are right, it has an entry, and no bit of a translation table
+pub record IsPlain (ranked : RankedPiece) : Type 0 where
+  pub right : AreConditions ranked.piece.src ranked.piece.dst ranked.piece.proto ranked.piece.sport ranked.piece.dport
+  pub encodable : IsEncodable ranked.piece
+  pub srcbit : ranked.piece.srcbit ≡ None
+  pub dstbit : ranked.piece.dstbit ≡ None
 
--- A commit that adds routes to a set of routes, as it was planned: before it the set's entries stand in order, each new
--- route is one insertion, by falling priority, and each new id has its route's entry.
-pub record IsPlannedCommit (rules : List Rule) (batch : List Command) (live : List LivePiece) (slots : Slots) (entries : Entries) (planned : List Planned) : Type 0 where
-  pub is_set : IsRuleSet rules
-  pub routes : AllByRecursion IsIpv4Route rules
-  pub adds : AllByRecursion AddsRoute batch
-  pub sound : batch_fault rules batch ≡ None
+-- no chain of these pieces, of falling rank and each overlapping the next, is longer
+abbrev pub BoundsPieceChains : List RankedPiece → ℕ → Type 0
+BoundsPieceChains pieces bound = BoundsChains (λ a b. PiecesOverlap a.piece b.piece) (λ ranked. ranked.rank) (Contains pieces) bound
+
+-- two pieces that overlap a third, one of higher rank and one of lower, overlap too, as of routes
+abbrev pub AreNested : List RankedPiece → Type 0
+AreNested pieces =
+    (upper one lower : RankedPiece) → Contains pieces upper → Contains pieces one → Contains pieces lower
+    → one.rank < upper.rank → lower.rank < one.rank → PiecesOverlap one.piece upper.piece → PiecesOverlap one.piece lower.piece
+    → PiecesOverlap lower.piece upper.piece
+
+-- Insertions of some pieces beside others that stand, as they were planned: before them those that stand have their
+-- entries in order, each new piece is one insertion, in their order, and each new id has its piece's entry.
+pub record IsPlannedRow (standing inserted : List RankedPiece) (live : List LivePiece) (slots : Slots) (entries : Entries) (planned : List Planned) : Type 0 where
+  pub plain : AllByRecursion IsPlain (standing ++ inserted)
+  -- of one rank no two are the same piece
+  pub once : AllPairs (λ a b. a.rank ≡ b.rank → a.piece ≡ b.piece → ⊥) (standing ++ inserted)
   pub arranged : AreArranged live slots
-  pub entries_are : AreEntriesOf (set_pieces Cover no_bits rules) live entries
-  pub inserted : map ranked_of planned ≡ inserted_pieces Cover no_bits rules batch
+  pub entries_are : AreEntriesOf standing live entries
+  pub inserted_are : map ranked_of planned ≡ inserted
   pub have_entries : AllByRecursion (λ insertion. entry_at entries insertion.one.id ≡ Some (entry_for (ranked_of insertion))) planned
   pub are_planned : ArePlanned live slots planned
-
--- From a state on some writes are the segment of a batch that adds routes, with these numbers, and no insertion crosses
--- others or takes more than 33 writes.
-pub record IsRouteSegment (rules : List Rule) (batch : List Command) (state : State) (made : List Write) (counts : Done) : Type 0 where
-  pub segment : IsSegment Cover no_bits rules batch state made
-  pub numbers : AreCounts state made counts
-  pub uncrossed : IsUncrossed 33 (insertions state made)
-
--- the numbers of planned insertions
-pub record AreNumbersOf (entries : Entries) (planned : List Planned) (counts : Done) : Type 0 where
-  pub writes : counts.writes ≡ length (planned_writes entries planned)
-  pub words : counts.words ≡ 0
-  pub most : counts.most ≡ longest_planned planned
-  pub span : counts.span ≡ greatest_planned planned

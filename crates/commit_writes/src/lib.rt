@@ -8,8 +8,11 @@
 //!
 //! `specs/Planned` speaks of a plan: insertions one after the other, each with the moves of its placement. The lemma
 //! that the manager rests on is in `proofs/`: from an arrangement in order, the device writes of such insertions are a
-//! segment. There is no code but the numbers of a commit.
+//! segment; `specs/PlannedBatch` adds the results that change and the entries that go. There is no code but the numbers of
+//! a commit and what a changed result puts.
 #![tactic(auto)]
+
+use ternary_word::Entry;
 
 /// The numbers of a commit: its device writes and those to the translation tables, the writes of its longest insertion,
 /// and the greatest crossing span of one.
@@ -19,4 +22,11 @@ pub struct Done {
     pub words: u32,
     pub most: u32,
     pub span: u32,
+}
+
+/// An id that gets an entry in place of its own: the same but for the result.
+#[derive(Clone, Copy, Debug, PartialEq, Eq)]
+pub struct Rewrite {
+    pub id: u32,
+    pub entry: Entry,
 }

@@ -1,10 +1,8 @@
 -- An ordered device whose tables serve its pieces answers every key as the rules do that the pieces are of.
-use Rattle.std.proofs.Common.{◌≡◌, ℕ, ◌<◌, ◌≤◌, ◌^◌, Bool, List, Option, None, Some, IsTrue, Contains, inl, inr, ◌↔◌, refl, sym, ◌∙◌, subst, ap, arith}
+use Rattle.std.proofs.Common.{◌≡◌, ℕ, ◌<◌, ◌≤◌, ◌^◌, Bool, List, Option, None, Some, IsTrue, Contains, refl, sym, ◌∙◌, subst, ap, arith}
 use Rattle.std.specs.Prelude.{◌&&◌, slice_index, option_map}
 use Rattle.slot_order.specs.Order.{first_hit, IsBest, Distinct}
 use Rattle.slot_order.proofs.Rules.{best_best}
-use Rattle.slot_order.proofs.Between.{IsBetween, between_best}
-use Rattle.tcam_device.specs.Hitless.{ShowsOldOrNew}
 use Rattle.rule_model.specs.declared.Key.{Key}
 use Rattle.rule_model.specs.declared.Rule.{Rule}
 use Rattle.rule_model.specs.Key.{IsKey}
@@ -48,7 +46,7 @@ pub record ArePiecesOf (rules : List Rule) (Member : RankedPiece → Type 0) : T
       → (ranked : RankedPiece) × Member ranked × (ranked.rank ≡ rule.priority) × IsTrue (piece_matches ranked.piece key)
 
 -- the entry of greatest tag tells what the rule of greatest priority answers
-tells : (state : State) (rules : List Rule) (Member : RankedPiece → Type 0) (key : Key) (valid : IsKey key) (found : Option Entry) (best : Option Rule)
+pub tells : (state : State) (rules : List Rule) (Member : RankedPiece → Type 0) (key : Key) (valid : IsKey key) (found : Option Entry) (best : Option Rule)
     → Distinct (λ (rule : Rule). rule.priority) rules → ArePiecesOf rules Member → HitAsPieces state Member
     → IsBest (hits_valid state) (λ entry. entry.tag) (EntriesOf Member) (key, valid) found
     → IsBest rule_matches (λ rule. rule.priority) (Contains rules) key best
@@ -93,37 +91,3 @@ pub served_shows : (slots : ℕ) (state : State) (rules : List Rule) (Member : R
 served_shows slots state rules Member is right distinct are serves ordered =
     ordered_shows state rules Member distinct are
     (hit_as_pieces slots state Member is (λ ranked m. hits-entry_of ranked.piece ranked.rank ranked.result (right ranked m).0 (right ranked m).1) serves) ordered
-
--- as members they are the same pieces
-pub ArePiecesOf-same : (rules : List Rule) (P Q : RankedPiece → Type 0) → ((ranked : RankedPiece) → P ranked ↔ Q ranked) → ArePiecesOf rules P → ArePiecesOf rules Q
-ArePiecesOf-same rules P Q same are = record {
-  of = λ ranked member. are.of ranked ((same ranked).1 member);
-  cover = λ rule key member valid matched. let c = are.cover rule key member valid matched in (c.0, (same c.0).0 c.1, c.2, c.3);
-}
-
-between_entries : (Few Mid Many : RankedPiece → Type 0) → IsBetween (λ (ranked : RankedPiece). ranked.rank) Few Mid Many
-    → IsBetween (λ (entry : Entry). entry.tag) (EntriesOf Few) (EntriesOf Mid) (EntriesOf Many)
-between_entries Few Mid Many between = record {
-  few = λ e f. (f.0, between.few f.0 f.1, f.2);
-  many = λ e m. (m.0, between.many m.0 m.1, m.2);
-  above = λ e m. elim (between.above m.0 m.1) [
-    | inl f ↦ inl (m.0, f, m.2)
-    | inr all ↦ inr (λ g n. elim (all n.0 n.1) [
-      | inl there ↦ inl (n.0, there, n.2)
-      | inr least ↦ inr (let a : n.0.rank ≡ g.tag = ap (λ (x : Entry). x.tag) n.2 in let b : m.0.rank ≡ e.tag = ap (λ (x : Entry). x.tag) m.2 in omega arith)
-    ])
-  ];
-}
-
--- between two sets it answers every key as one of them does
-pub ordered_between : (state : State) (old new : List Rule) (Few Mid Many : RankedPiece → Type 0)
-    → Distinct (λ (rule : Rule). rule.priority) old → Distinct (λ (rule : Rule). rule.priority) new → ArePiecesOf old Few → ArePiecesOf new Many → HitAsPieces state Many
-    → IsBetween (λ (ranked : RankedPiece). ranked.rank) Few Mid Many → IsOrdered state Mid → ShowsOldOrNew state old new
-ordered_between state old new Few Mid Many distinct_old distinct_new of_old of_new hit between ordered key valid =
-    elim (between_best (hits_valid state) (λ (entry : Entry). entry.tag) (EntriesOf Few) (EntriesOf Mid) (EntriesOf Many) (key, valid) (first_hit (hits_key state) state.slots key)
-    (between_entries Few Mid Many between) (lookup_best state Mid key valid (λ ranked at member. hit ranked at (between.many ranked member)) ordered)) [
-      | inl few ↦ inl (tells state old Few key valid (first_hit (hits_key state) state.slots key) (best_rule old key) distinct_old of_old
-          (λ ranked at member. hit ranked at (between.many ranked (between.few ranked member))) few (best_best rule_matches (λ (rule : Rule). rule.priority) old key))
-      | inr many ↦ inr (tells state new Many key valid (first_hit (hits_key state) state.slots key) (best_rule new key) distinct_new of_new
-          hit many (best_best rule_matches (λ (rule : Rule). rule.priority) new key))
-    ]

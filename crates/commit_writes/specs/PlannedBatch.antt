@@ -1,0 +1,98 @@
+-- Commits of changes to a set of rules, as they are planned: insertions first, then new results, then erases.
+use Rattle.std.specs.Prelude.{◌≡◌, ℕ, Some, None, List, ◌++◌, Contains, fold, length, map, slice_set, unwrap_or}
+use Rattle.std.specs.List.{AllByRecursion, AllZip}
+use Rattle.slot_pool.specs.Arrangement.{Slots, home_of}
+use Rattle.rule_model.specs.declared.Rule.{Rule}
+use Rattle.rule_model.specs.Rule.{HasConditions}
+use Rattle.rule_model.specs.RuleSet.{IsRuleSet}
+use Rattle.rule_model.specs.Routes.{IsIpv4Route}
+use Rattle.rule_store.specs.declared.Mode.TheVariants.{Cover}
+use Rattle.rule_store.specs.declared.Command.{Command}
+use Rattle.rule_store.specs.declared.Command.TheVariants.{Add, Set, Del}
+use Rattle.rule_store.specs.Batch.{additions, batch_fault}
+use Rattle.ternary_word.specs.Entry.{RankedPiece, entry_for}
+use Rattle.overlap_index.specs.declared.LivePiece.{LivePiece}
+use Rattle.overlap_index.specs.Live.{without_id}
+use Rattle.tcam_device.specs.declared.Write.{Write}
+use Rattle.tcam_device.specs.declared.Write.TheVariants.{Slot}
+use Rattle.tcam_device.specs.State.{State}
+use Rattle.tcam_device.specs.Insertion.{insertions, IsUncrossed}
+use Rattle.commit_writes.specs.declared.Done.{Done}
+use Rattle.commit_writes.specs.declared.Rewrite.{Rewrite}
+use Rattle.commit_writes.specs.Bits.{no_bits}
+use Rattle.commit_writes.specs.Shape.{set_pieces, inserted_pieces, rewritten_pieces, erased_pieces}
+use Rattle.commit_writes.specs.Commit.{IsSegment, AreCounts}
+use Rattle.commit_writes.specs.Planned.{Entries, Planned, ArePlanned, AreArranged, AreEntriesOf, entry_at, ranked_of, slots_after, planned_writes, longest_planned, greatest_planned}
+
+-- a change of a set of rules: the conditions of what it adds are right
+abbrev pub ChangesRules : Command → Type 0
+ChangesRules (Add rule) = HasConditions rule
+ChangesRules (Set priority answer) = Unit {0}
+ChangesRules (Del priority) = Unit {0}
+
+-- the id is that of this live piece
+abbrev pub IsIdOf : List LivePiece → RankedPiece → ℕ → Type 0
+IsIdOf live ranked id = Contains live (record { id = id; piece = ranked.piece; rank = ranked.rank })
+
+-- a piece's id gets the entry of the piece
+abbrev pub IsRewriteOf : List LivePiece → RankedPiece → Rewrite → Type 0
+IsRewriteOf live ranked rewrite = IsIdOf live ranked rewrite.id × (rewrite.entry ≡ entry_for ranked)
+
+-- the slot where an id stands
+abbrev pub home : Slots → ℕ → ℕ
+home slots id = unwrap_or (home_of slots id) 0
+
+-- the write of an entry in place of another
+abbrev pub rewrite_write : Slots → Rewrite → Write
+rewrite_write slots rewrite = Slot (home slots rewrite.id) (Some rewrite.entry)
+
+-- the write that erases an id
+abbrev pub erase_write : Slots → ℕ → Write
+erase_write slots id = Slot (home slots id) None
+
+-- the entries of the ids after some rewrites
+abbrev pub rewritten_entries : Entries → List Rewrite → Entries
+rewritten_entries entries rewrites = fold (λ now rewrite. slice_set now rewrite.id (Some rewrite.entry)) entries rewrites
+
+-- the arrangement after some ids are erased, one after the other
+abbrev pub erased_slots : Slots → List ℕ → Slots
+erased_slots slots ids = fold (λ now id. slice_set now (home now id) None) slots ids
+
+-- the ids that are live then
+abbrev pub erased_live : List LivePiece → List ℕ → List LivePiece
+erased_live live ids = fold without_id live ids
+
+-- the writes of a commit whose insertions are planned: those of the insertions, then the results, then the erases
+abbrev pub batch_writes : Entries → Slots → List Planned → List Rewrite → List ℕ → List Write
+batch_writes entries slots planned rewrites erased =
+    planned_writes entries planned
+    ++ (map (rewrite_write (slots_after slots planned)) rewrites ++ map (erase_write (slots_after slots planned)) erased)
+
+-- A commit of changes to a set of rules, as it was planned: before it the set's entries stand in order; each piece that is
+-- new is one insertion; each that stays and gets a result has its id with its new entry; and each that goes has its id.
+pub record IsPlannedBatch (rules : List Rule) (batch : List Command) (live : List LivePiece) (slots : Slots) (entries : Entries) (planned : List Planned) (rewrites : List Rewrite) (erased : List ℕ) : Type 0 where
+  pub is_set : IsRuleSet rules
+  pub right : AllByRecursion HasConditions rules
+  pub changes : AllByRecursion ChangesRules batch
+  pub sound : batch_fault rules batch ≡ None
+  pub arranged : AreArranged live slots
+  pub entries_are : AreEntriesOf (set_pieces Cover no_bits rules) live entries
+  pub inserted : map ranked_of planned ≡ inserted_pieces Cover no_bits rules batch
+  pub have_entries : AllByRecursion (λ insertion. entry_at entries insertion.one.id ≡ Some (entry_for (ranked_of insertion))) planned
+  pub are_planned : ArePlanned live slots planned
+  pub rewrites_are : AllZip (IsRewriteOf live) (rewritten_pieces Cover no_bits rules batch) rewrites
+  pub erased_are : AllZip (IsIdOf live) (erased_pieces Cover no_bits rules batch) erased
+
+-- From a state on some writes are the segment of a batch, with these numbers; of routes no insertion crosses others, and
+-- none takes more than 33 writes.
+pub record IsPlannedSegment (rules : List Rule) (batch : List Command) (state : State) (made : List Write) (counts : Done) : Type 0 where
+  pub segment : IsSegment Cover no_bits rules batch state made
+  pub numbers : AreCounts state made counts
+  pub uncrossed : AllByRecursion IsIpv4Route rules → AllByRecursion IsIpv4Route (additions batch) → IsUncrossed 33 (insertions state made)
+
+-- the numbers of a commit whose insertions are planned, and that makes so many writes
+pub record AreNumbersOf (writes : List Write) (planned : List Planned) (counts : Done) : Type 0 where
+  pub writes_are : counts.writes ≡ length writes
+  pub words : counts.words ≡ 0
+  pub most : counts.most ≡ longest_planned planned
+  pub span : counts.span ≡ greatest_planned planned
