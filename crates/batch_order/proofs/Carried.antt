@@ -1,5 +1,5 @@
 -- Carrying out a commit: the writes that are left, and the new rules put in at its end.
-use Rattle.std.proofs.Common.{◌≡◌, ℕ, ◌+◌, ◌-◌, ◌<◌, fold, List, [], ◌∷◌, ◌++◌, length, take, drop, slice_get, replicate, Option, Some, None, IfSome, refl, sym, ap, ap₂, subst, ◌∙◌, arith, length-drop, length-set, get_or, add-one, zero, suc}
+use Rattle.std.proofs.Common.{◌≡◌, ℕ, ◌+◌, ◌-◌, ◌<◌, List, [], ◌∷◌, ◌++◌, length, take, drop, slice_get, replicate, Option, Some, None, IfSome, refl, sym, ap, ap₂, subst, ◌∙◌, arith, length-drop, length-set, get_or, add-one, zero, suc}
 use Rattle.std.specs.Prelude.{option_map}
 use Rattle.std.specs.List.{AllByRecursion}
 use Rattle.std.proofs.lemmas.List.{set-append_left, length-map, length-replicate}
@@ -10,25 +10,28 @@ use Rattle.std.proofs.lemmas.List.{take_all}
 use Rattle.slot_pool.specs.Arrangement.{Slots}
 use Rattle.rule_model.specs.declared.Rule.{Rule}
 use Rattle.rule_model.specs.RuleSet.{IsRuleSet}
-use Rattle.rule_model.specs.Routes.{IsIpv4Route}
+use Rattle.rule_model.specs.Rule.{HasConditions}
 use Rattle.rule_model.specs.declared.Field.TheVariants.{Src, Dst}
 use Rattle.ternary_word.specs.declared.Entry.{Entry}
 use Rattle.rule_store.specs.declared.Mode.{Mode}
 use Rattle.rule_store.specs.Store.{StoredRules}
-use Rattle.rule_store.specs.Batch.{with_rule}
+use Rattle.rule_store.specs.Batch.{set_after}
+use Rattle.rule_store.proofs.After.{set_after-set}
 use Rattle.rule_store.proofs.Sums.{take-read}
+use Rattle.overlap_index.specs.declared.LivePiece.{LivePiece}
 use Rattle.tcam_device.specs.declared.Write.{Write}
 use Rattle.tcam_device.specs.declared.Write.TheVariants.{Slot, Table}
 use Rattle.tcam_device.specs.State.{State, IsInUse, apply, state_after, on_device}
 use Rattle.commit_writes.specs.Bits.{no_bits}
 use Rattle.commit_writes.specs.Planned.{contents, plain_state, held_entry}
-use Rattle.commit_writes.proofs.Adds.{set_with_new}
-use Rattle.batch_order.proofs.News.{all_with_rules}
+use Rattle.commit_writes.specs.PlannedBatch.{erased_live, rewritten_entries}
 use Rattle.batch_order.specs.declared.Step.TheVariants.{Wrote, Finished}
 use Rattle.batch_order.specs.declared.manager.Held.{Held}
-use Rattle.batch_order.specs.Entries.{Entries}
-use Rattle.batch_order.specs.Kept.{IsManaged, IsArranged, held_of, state_of}
+use Rattle.batch_order.specs.Entries.{Entries, KeepEntries}
+use Rattle.batch_order.specs.Kept.{IsManaged, IsArranged, changed_by, held_of, state_of}
 use Rattle.batch_order.specs.Managed.{Managed, HeldCommit, StepsOn, IsOn, fresh, next_of}
+use Rattle.batch_order.proofs.Entered.{contents_kept}
+use Rattle.batch_order.proofs.Unchanged.{arranged_same, settled_live}
 
 -- the view of a manager
 abbrev pub view_of : Mode → StoredRules → Entries → Slots → Option Held → Managed
@@ -62,14 +65,26 @@ none_left (Some held) next = go held.writes next
     go [] read = refl
     go (write ∷ writes) read = absurd (cc)
 
--- with the new rules put in, no commit is under way
-pub managed_after : (mode : Mode) (rules rules' : StoredRules) (kept : Entries) (slots : Slots) (held : Held) → IsManaged mode rules kept slots (Some held)
-    → rules'.rules ≡ fold with_rule rules.rules held.added.items → IsManaged mode rules' kept held.arrangement None
-managed_after mode rules rules' kept slots held managed is = record {
+-- the ids and entries of a commit that has finished: those that are live keep the entries that the commit leads to
+pub record IsFinished (kept kept' : Entries) (held : Held) : Type 0 where
+  pub live : kept'.live ≡ erased_live kept.live held.erased.items
+  pub entries : KeepEntries kept'.live (rewritten_entries kept.entries held.rewrites.items) kept'.entries
+  pub slots : kept'.slots ≡ kept.slots
+
+finished_arranged : (rules : List Rule) (kept kept' : Entries) (held : Held) → IsFinished kept kept' held
+    → IsArranged rules (changed_by kept held.rewrites.items held.erased.items) held.arrangement → IsArranged rules kept' held.arrangement
+finished_arranged rules kept kept' held finished after =
+    arranged_same rules (changed_by kept held.rewrites.items held.erased.items) kept' held.arrangement after finished.live finished.slots
+    (subst (λ (l : List LivePiece). KeepEntries l (rewritten_entries kept.entries held.rewrites.items) kept'.entries) finished.live finished.entries)
+
+-- with the batch applied, no commit is under way
+pub managed_after : (mode : Mode) (rules rules' : StoredRules) (kept kept' : Entries) (slots : Slots) (held : Held) → IsManaged mode rules kept slots (Some held)
+    → rules'.rules ≡ set_after rules.rules held.batch → IsFinished kept kept' held → IsManaged mode rules' kept' held.arrangement None
+managed_after mode rules rules' kept kept' slots held managed is finished = record {
   cover = managed.cover;
-  routes = subst (AllByRecursion IsIpv4Route) (sym is) (all_with_rules IsIpv4Route rules.rules held.added.items managed.routes managed.carried.routes);
-  is_set = subst IsRuleSet (sym is) (set_with_new rules.rules held.added.items managed.is_set managed.carried.new);
-  carried = subst (λ (set : List Rule). IsArranged set kept held.arrangement) (sym is) managed.carried.after;
+  right = subst (AllByRecursion HasConditions) (sym is) managed.carried.right;
+  is_set = subst IsRuleSet (sym is) (set_after-set rules.rules held.batch managed.is_set managed.carried.sound);
+  carried = subst (λ (set : List Rule). IsArranged set kept' held.arrangement) (sym is) (finished_arranged (set_after rules.rules held.batch) kept kept' held finished managed.carried.after);
 }
 
 -- nothing is left to drop where all was made
@@ -77,15 +92,17 @@ all_made : (writes : List Write) (made : ℕ) → drop made writes ≡ [] → ta
 all_made writes made none = take_all made writes (let left : length (drop made writes) ≡ 0 = ap length none in let size : length (drop made writes) ≡ length writes - made = length-drop made writes in omega arith)
 
 -- the state stays where the last write was made, and is that of the entries as they are arranged then
-pub finish_steps : (mode : Mode) (rules rules' : StoredRules) (kept : Entries) (slots : Slots) (held : Held) → IsManaged mode rules kept slots (Some held)
-    → drop held.made held.writes.items ≡ [] → rules'.rules ≡ fold with_rule rules.rules held.added.items
-    → StepsOn (view_of mode rules kept slots (Some held)) (held_of rules.rules held) (drop held.made held.writes.items) (Finished held.counts) (view_of mode rules' kept held.arrangement None)
-finish_steps mode rules rules' kept slots held managed none is =
+pub finish_steps : (mode : Mode) (rules rules' : StoredRules) (kept kept' : Entries) (slots : Slots) (held : Held) → IsManaged mode rules kept slots (Some held)
+    → drop held.made held.writes.items ≡ [] → rules'.rules ≡ set_after rules.rules held.batch → IsFinished kept kept' held
+    → StepsOn (view_of mode rules kept slots (Some held)) (held_of rules.rules held) (drop held.made held.writes.items) (Finished held.counts) (view_of mode rules' kept' held.arrangement None)
+finish_steps mode rules rules' kept kept' slots held managed none is finished =
     let carried = managed.carried in
     let size : length held.arrangement ≡ length slots = carried.after.settled.size ∙ sym carried.old.settled.size in
-    let state : plain_state (contents kept.entries held.arrangement) ≡ state_of kept.entries slots (Some held) =
-    sym carried.leads ∙ ap (state_after (plain_state (contents kept.entries slots))) (sym (all_made held.writes.items held.made none)) in
-    subst (λ (left : List Write). StepsOn (view_of mode rules kept slots (Some held)) (held_of rules.rules held) left (Finished held.counts) (view_of mode rules' kept held.arrangement None)) (sym none)
+    let state : plain_state (contents kept'.entries held.arrangement) ≡ state_of kept.entries slots (Some held) =
+    ap plain_state (contents_kept kept'.live (rewritten_entries kept.entries held.rewrites.items) kept'.entries held.arrangement finished.entries
+    (settled_live kept' held.arrangement (finished_arranged (set_after rules.rules held.batch) kept kept' held finished carried.after).settled))
+    ∙ (sym carried.leads ∙ ap (state_after (plain_state (contents kept.entries slots))) (sym (all_made held.writes.items held.made none))) in
+    subst (λ (left : List Write). StepsOn (view_of mode rules kept slots (Some held)) (held_of rules.rules held) left (Finished held.counts) (view_of mode rules' kept' held.arrangement None)) (sym none)
     (refl, ap₂ (λ (n : ℕ) (rest : List Rule × State). record { slots = n; mode = mode; rules = rest.0; bits = no_bits; state = rest.1; held = None }) size (ap₂ (λ (r : List Rule) (s : State). (r, s)) is state))
 
 -- a write of a plan that is read
@@ -103,7 +120,7 @@ managed_made mode rules kept slots held managed less =
     let carried = managed.carried in
     record {
       cover = managed.cover;
-      routes = managed.routes;
+      right = managed.right;
       is_set = managed.is_set;
       carried = record {
         before = carried.before;
@@ -113,9 +130,12 @@ managed_made mode rules kept slots held managed less =
         hitless = carried.hitless;
         made = omega arith;
         in_use = carried.in_use;
-        routes = carried.routes;
-        new = carried.new;
+        right = carried.right;
+        sound = carried.sound;
         room = carried.room;
+        changed = carried.changed;
+        gone = carried.gone;
+        once = carried.once;
       };
     }
 

@@ -83,7 +83,7 @@ all_others (one ∷ live) id none =
     rw here (ap (λ l. one ∷ l) rest)
 
 -- one fewer is live without a live id
-length_without : (live : List LivePiece) (id : ℕ) → IsDistinct nat_eq (map (λ x. x.id) live) → is_live live id ≡ true → length (without_id live id) + 1 ≡ length live
+pub length_without : (live : List LivePiece) (id : ℕ) → IsDistinct nat_eq (map (λ x. x.id) live) → is_live live id ≡ true → length (without_id live id) + 1 ≡ length live
 unfolding IsDistinct
 length_without [] id d now = let bad : false ≡ true = now in absurd (cc)
 length_without (one ∷ live) id d now = elim (eqb_tells one.id id) [

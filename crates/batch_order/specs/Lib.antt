@@ -1,4 +1,5 @@
 pub mod Entries
 pub mod Planning
+pub mod Changes
 pub mod Managed
 pub mod Kept

@@ -7,7 +7,7 @@ use Rattle.rule_store.specs.declared.Mode.{Mode}
 use Rattle.rule_store.specs.declared.Command.{Command}
 use Rattle.rule_store.specs.declared.BatchFault.{BatchFault}
 use Rattle.rule_store.specs.declared.BatchFault.TheVariants.{Twice, Taken, Absent}
-use Rattle.rule_store.specs.Batch.{set_after}
+use Rattle.rule_store.specs.Batch.{additions, set_after}
 use Rattle.rule_store.specs.Verdict.{Verdict, Accepted, Unsound, OutOfBits, OutOfSlots, verdict}
 use Rattle.tcam_device.specs.declared.Write.{Write}
 use Rattle.tcam_device.specs.State.{State, IsInUse, blank, apply, replay, on_device}
@@ -15,7 +15,6 @@ use Rattle.tcam_device.specs.Insertion.{insertions, IsUncrossed}
 use Rattle.commit_writes.specs.declared.Done.{Done}
 use Rattle.commit_writes.specs.Bits.{FieldBits, no_bits, bits_with, bits_left}
 use Rattle.commit_writes.specs.Commit.{IsSegment, AreCounts}
-use Rattle.commit_writes.specs.Planned.{AddsRoute}
 use Rattle.batch_order.specs.declared.Refusal.{Refusal}
 use Rattle.batch_order.specs.declared.Refusal.TheVariants as refusal
 use Rattle.batch_order.specs.declared.Step.{Step}
@@ -70,9 +69,9 @@ abbrev pub ready_of : Done → Ready
 ready_of counts =
     record { writes = counts.writes; words = counts.words; most = counts.most; span = counts.span }
 
--- the batch adds IPv4 routes and does nothing else
-abbrev pub OnlyAddsRoutes : List Command → Type 0
-OnlyAddsRoutes batch = AllByRecursion AddsRoute batch
+-- the batch changes routes: each rule that it adds is an IPv4 route
+abbrev pub OnlyChangesRoutes : List Command → Type 0
+OnlyChangesRoutes batch = AllByRecursion IsIpv4Route (additions batch)
 
 -- a batch is taken: its writes are held, and they are its segment on a device with so many slots or more
 pub record Holds (old : Managed) (batch : List Command) (ready : Ready) (new : Managed) : Type 0 where
@@ -88,7 +87,7 @@ pub record Holds (old : Managed) (batch : List Command) (ready : Ready) (new : M
       → IsSegment old.mode old.bits old.rules batch (on_device device_slots old.state) held.writes
   pub numbers : (device_slots : ℕ) → old.slots ≤ device_slots → AreCounts (on_device device_slots old.state) held.writes held.counts
   -- of routes no insertion crosses others, and none takes more than 33 writes
-  pub uncrossed : (device_slots : ℕ) → old.slots ≤ device_slots → AllByRecursion IsIpv4Route old.rules → OnlyAddsRoutes batch
+  pub uncrossed : (device_slots : ℕ) → old.slots ≤ device_slots → AllByRecursion IsIpv4Route old.rules → OnlyChangesRoutes batch
       → IsUncrossed 33 (insertions (on_device device_slots old.state) held.writes)
 
 -- the next write to make, if a commit is under way and has one left

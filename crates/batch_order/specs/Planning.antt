@@ -4,9 +4,8 @@ use Rattle.std.specs.List.{AllByRecursion}
 use Rattle.slot_pool.specs.Arrangement.{Slots}
 use Rattle.rule_model.specs.declared.Rule.{Rule}
 use Rattle.rule_model.specs.RuleSet.{has_priority}
-use Rattle.rule_model.specs.Piece.{whole_piece}
 use Rattle.rule_store.specs.Batch.{with_rule}
-use Rattle.ternary_word.specs.Entry.{IsEncodable, RankedPiece, entry_for}
+use Rattle.ternary_word.specs.Entry.{RankedPiece, entry_for}
 use Rattle.overlap_index.specs.declared.LivePiece.{LivePiece}
 use Rattle.overlap_index.specs.Live.{AreApart, is_live, is_above}
 use Rattle.move_planner.specs.declared.Move.{Move}
@@ -23,10 +22,6 @@ use Rattle.batch_order.specs.Entries.{Entries, KeepEntries}
 abbrev pub AreNew : List Rule → List Rule → Type 0
 AreNew rules [] = Unit {0}
 AreNew rules (rule ∷ added) = IsFalse (has_priority rules rule.priority) × AreNew (with_rule rules rule) added
-
--- each rule has one entry: its port ranges are single blocks
-abbrev pub HasPieces : List Rule → Type 0
-HasPieces rules = AllByRecursion (λ rule. IsEncodable (whole_piece rule)) rules
 
 -- the slot of a move is one of so many
 abbrev pub IsInside : ℕ → Move → Type 0
@@ -62,10 +57,6 @@ pub record IsLastLive (kept : Entries) (slots : Slots) (id : ℕ) : Type 0 where
 abbrev pub PutsLive : List LivePiece → Move → Type 0
 PutsLive live (Put slot id) = IsTrue (is_live live id)
 PutsLive live (Erase slot) = Unit {0}
-
--- what a route inserts: its piece with its priority and its result
-abbrev pub route_piece : Rule → RankedPiece
-route_piece rule = record { piece = whole_piece rule; rank = rule.priority; result = rule.result }
 
 -- the insertion of a live id was planned: its moves are those of its placement, and their writes stand behind the others
 pub record IsInserted (kept : Entries) (slots slots' : Slots) (id : ℕ) (plan plan' : Plan) : Type 0 where

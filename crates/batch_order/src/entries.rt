@@ -1,12 +1,16 @@
 //! The entries that are live, each under an id.
 
-ghost use Rattle.std.specs.Prelude.{◌≡◌, ◌<◌, ◌≤◌, ◌+◌, ◌∷◌, ◌++◌, ℕ, IsTrue, IsFalse, IsOk, IfOk, OnOk, OnErr, Some, None, length, replicate, slice_set, slice_index_or, vec_capacity};
+ghost use Rattle.std.specs.Prelude.{◌≡◌, ◌<◌, ◌≤◌, ◌+◌, ◌∷◌, ◌++◌, ℕ, IsTrue, IsFalse, IsNone, IsOk, IfSome, IfOk, OnOk, OnErr, Some, None, Contains, length, nat_eq, replicate, slice_set, slice_index_or, vec_capacity};
+ghost use Rattle.std.specs.List.{AllByRecursion, IsDistinct};
 ghost use Rattle.ternary_word.specs.Entry as words;
 ghost use Rattle.ternary_word.specs.Entry.{IsEncodable};
+ghost use Rattle.overlap_index.specs.declared.LivePiece.{LivePiece};
 ghost use Rattle.overlap_index.specs.Live.{AreApart, is_live, without_id};
 ghost use Rattle.commit_writes.specs.Planned.{entry_at};
-ghost use Rattle.batch_order.specs.Entries.{AreAll};
+ghost use Rattle.commit_writes.specs.PlannedBatch.{rewritten_entries, erased_live};
+ghost use Rattle.batch_order.specs.Entries.{AreAll, KeepEntries};
 
+use commit_writes::Rewrite;
 use overlap_index::Index;
 use rule_model::{Piece, Rank};
 use std::alloc::{AllocError, Global};
@@ -85,6 +89,49 @@ impl LiveEntries {
         self.spare.pop();
         self.entries[id as usize] = Some(entry_of(piece, tag, answer));
         Ok(id)
+    }
+
+    /// The live id of this piece and this tag, if there is one.
+    pub(crate) fn id_of(&self, piece: &Piece, tag: Rank) -> Option<u32>
+        ensures found { IfSome result (λ id. Contains self.now.live (record { id = id; piece = piece.now; rank = tag })) }
+        ensures none { IsNone result → (one : LivePiece) → Contains self.now.live one → one.piece ≡ piece.now → one.rank ≡ tag → ⊥ }
+    {
+        self.index.id_of(piece, tag)
+    }
+
+    /// Each of some live ids gets its new entry.
+    pub(crate) fn rewrite_all(&mut self, rewrites: &[Rewrite])
+        requires { AllByRecursion (λ rewrite. IsTrue (is_live self.old.live rewrite.id)) rewrites.now }
+        ensures live { self.new.live ≡ self.old.live }
+        ensures entries { self.new.entries ≡ rewritten_entries self.old.entries rewrites.now }
+        ensures slots { self.new.slots ≡ self.old.slots }
+    {
+        for rewrite in rewrites {
+            self.rewrite(rewrite);
+        }
+    }
+
+    /// A live id gets its new entry.
+    fn rewrite(&mut self, rewrite: &Rewrite)
+        requires { IsTrue (is_live self.old.live rewrite.now.id) }
+        ensures live { self.new.live ≡ self.old.live }
+        ensures entries { self.new.entries ≡ slice_set self.old.entries rewrite.now.id (Some rewrite.now.entry) }
+        ensures slots { self.new.slots ≡ self.old.slots }
+    {
+        self.entries[rewrite.id as usize] = Some(rewrite.entry);
+    }
+
+    /// Some ids are live no more.
+    pub(crate) fn forget_each(&mut self, ids: &[u32])
+        requires distinct { IsDistinct nat_eq ids.now }
+        requires live { AllByRecursion (λ id. IsTrue (is_live self.old.live id)) ids.now }
+        ensures live { self.new.live ≡ erased_live self.old.live ids.now }
+        ensures kept { KeepEntries self.new.live self.old.entries self.new.entries }
+        ensures slots { self.new.slots ≡ self.old.slots }
+    {
+        for id in ids {
+            self.forget(*id);
+        }
     }
 
     /// An id is live no more.

@@ -6,10 +6,14 @@
 //! still to make, and the arrangement that they lead to.
 //!
 //! **The one hard idea.** Packets are looked up between any two writes, so a commit can't pass through a state
-//! that answers neither as the old set nor as the new one. Additions go in by falling priority, each where every
-//! overlapping entry of higher priority stands before it and every one of lower priority behind it; entries that
-//! are in the way move by a copy to their new slot before their old one is overwritten. Two copies of an entry
+//! that answers neither as the old set nor as the new one. So it first puts the new entries in, then gives those
+//! that stay their new results, and last erases those that go. New entries go in by falling priority, each where
+//! every overlapping entry of higher priority stands before it and every one of lower priority behind it; entries
+//! that are in the way move by a copy to their new slot before their old one is overwritten. Two copies of an entry
 //! are acceptable, none isn't.
+//!
+//! **Port ranges.** A rule takes an entry for each pair of blocks of its ranges' covers. A rule that replaces another
+//! keeps the entries that both have, and only the others are put in and erased.
 //!
 //! **Memory.** `prepare` takes all of it, the device's too; `step` takes none. So want of memory can't come
 //! between two writes of a commit, and a batch that is refused changes nothing.
@@ -18,8 +22,11 @@
 ghost use Rattle.std.specs.Prelude.{◌≡◌};
 ghost use Rattle.batch_order.specs.Managed as managed;
 
+mod changes;
 mod entries;
 mod manager;
+mod parts;
+mod pieces;
 mod plan;
 mod planning;
 #[cfg(test)]

@@ -1,33 +1,40 @@
 //! The manager of one device.
 
 ghost use Rattle.std.specs.Prelude.{◌≡◌, ◌+◌, ◌-◌, ◌++◌, ◌∷◌, [], ◌≤◌, ◌<◌, ◌↔◌, ℕ, List, Option, Some, None, Err, IfSome, IsSome, IfOk, IfErr, OnOk, OnErr, length, option_map, fold};
+ghost use Rattle.std.specs.List.{AllByRecursion};
 ghost use Rattle.script_lines.specs.Cause.{HasCause};
 ghost use Rattle.tcam_device.specs.State.{IsInUse, Shows, on_device};
 ghost use Rattle.tcam_device.specs.Hitless.{ShowsOldOrNew};
 ghost use Rattle.rule_store.specs.Verdict.{entries_of, verdict, Accepted};
-ghost use Rattle.rule_store.specs.Batch.{batch_fault, with_rule};
-ghost use Rattle.batch_order.specs.Planning.{AreNew};
-ghost use Rattle.batch_order.specs.Managed.{Judges, Answers, Holds, Steps, next_of, OnlyAddsRoutes, IsOn, fresh, writes_of};
+ghost use Rattle.rule_store.specs.Batch.{batch_fault};
+ghost use Rattle.commit_writes.specs.PlannedBatch.{ChangesRules};
+ghost use Rattle.batch_order.specs.Managed.{Judges, Answers, Holds, Steps, next_of, IsOn, fresh, writes_of};
 
+use crate::changes::erase_all;
 use crate::entries::LiveEntries;
+use crate::parts::{parts_of, plan_changes};
 use crate::plan::{Plan, ready};
-use crate::planning::{additions, falling, forget_all, plan_additions};
+use crate::planning::{forget_all, plan_additions};
 use crate::{Done, Ready, Refusal, Step, refusal_of};
-use rule_model::Rule;
-use rule_store::{Batch, Mode, Store};
+use commit_writes::Rewrite;
+use rule_model::rule_conditions;
+use rule_store::{Batch, Command, Mode, Store};
 use slot_pool::Arrangement;
 use std::alloc::{AllocError, Global};
 use std::marker::Model;
 use tcam_device::{Device, DeviceFault, Write};
 
-/// A commit under way: its writes and how many of them were made, its numbers, the rules that it adds, and where the
-/// entries stand once its writes are made.
+/// A commit under way: its writes and how many of them were made, its numbers, and what is to be done once its writes
+/// are made: the batch that takes the rules to the new set, the ids that get another entry, the ids that go, by
+/// rising priority, and where the entries stand then.
 #[derive(Drop)]
 pub(crate) struct Held {
     pub(crate) writes: Vec<Write>,
     pub(crate) made: usize,
     pub(crate) counts: Done,
-    pub(crate) added: Vec<Rule>,
+    pub(crate) batch: Batch,
+    pub(crate) rewrites: Vec<Rewrite>,
+    pub(crate) erased: Vec<u32>,
     pub(crate) arrangement: Arrangement,
 }
 
@@ -115,7 +122,7 @@ impl Manager {
         }
     }
 
-    /// Judges a batch of changes that add IPv4 routes, over a device with at least the slots in use. Where the batch is
+    /// Judges a batch of changes to the rules, over a device with at least the slots in use. Where the batch is
     /// taken, all of its writes are planned, and all memory for them is taken, the device's too: then nothing can fail
     /// for memory until the commit has finished. The answer has the numbers of the writes.
     ///
@@ -125,7 +132,6 @@ impl Manager {
     /// nothing, and leaves rules, manager, and the device's journal as they were.
     pub fn prepare<D: Device>(&mut self, batch: &Batch, device: &mut D) -> Result<Ready, Refusal>
         requires slots { self.old.slots ≤ D.slot_count device.old }
-        requires changes { OnlyAddsRoutes batch.now }
         ensures judged { Judges self.old self.old.held batch.now result }
         ensures ready { IfOk result (λ ready. Holds self.old batch.now ready self.new) }
         ensures refused { OnErr result (self.new ≡ self.old) }
@@ -147,6 +153,7 @@ impl Manager {
             Ok(()) => {}
             Err(refusal) => return Err(refusal),
         }
+        rules_are_right(batch);
         match self.plan(batch, device) {
             Ok(ready) => Ok(ready),
             Err(AllocError) => Err(Refusal::Memory),
@@ -157,7 +164,6 @@ impl Manager {
     fn check_slots(&self, batch: &Batch) -> Result<(), Refusal>
         requires idle { self.now.held ≡ None }
         requires sound { batch_fault self.now.rules batch.now ≡ None }
-        requires changes { OnlyAddsRoutes batch.now }
         ensures fits { OnOk result (verdict self.now.slots self.now.mode self.now.rules batch.now ≡ Accepted) }
         ensures short { IfErr result (λ refusal. Answers (verdict self.now.slots self.now.mode self.now.rules batch.now) (Err refusal)) }
     {
@@ -177,7 +183,7 @@ impl Manager {
         requires idle { self.old.held ≡ None }
         requires sound { batch_fault self.old.rules batch.now ≡ None }
         requires fits { verdict self.old.slots self.old.mode self.old.rules batch.now ≡ Accepted }
-        requires changes { OnlyAddsRoutes batch.now }
+        requires changes { AllByRecursion ChangesRules batch.now }
         ensures ready { IfOk result (λ ready. Holds self.old batch.now ready self.new) }
         ensures refused { OnErr result (self.new ≡ self.old) }
         ensures reserved { IfOk result (λ ready. ready.writes ≤ D.spare device.new) }
@@ -186,36 +192,34 @@ impl Manager {
         ensures slot_count { D.slot_count device.new ≡ D.slot_count device.old }
         ensures faults { D.faults device.new ≡ D.faults device.old }
     {
-        let added = additions(self.alloc, batch)?;
-        self.rules.reserve(added.len() as u32)?;
-        let sorted = falling(self.alloc, added.as_slice())?;
+        let parts = parts_of(self.alloc, &self.rules, &self.live, batch)?;
+        let copy = batch.try_copy(self.alloc)?;
+        self.rules.reserve(batch.len())?;
         let mut arrangement = self.arrangement.try_copy(self.alloc)?;
         let mut plan = Plan::new(self.alloc);
         let ids = plan_additions(
             self.alloc,
-            &sorted,
+            &parts.inserted,
             &mut self.live,
             &mut arrangement,
             &mut plan,
         )?;
-        match device.reserve(plan.writes.len() as u64) {
+        match plan_changes(&parts, &arrangement, &mut plan, device) {
             Ok(()) => {}
             Err(fault) => {
                 forget_all(&mut self.live, ids);
                 return Err(fault);
             }
         }
+        erase_all(&mut arrangement, &parts.erased);
         let counts = plan.counts();
-        let Plan {
-            writes,
-            most: _,
-            span: _,
-        } = plan;
         self.held = Some(Held {
-            writes,
+            writes: plan.writes,
             made: 0,
             counts,
-            added,
+            batch: copy,
+            rewrites: parts.rewrites,
+            erased: parts.erased,
             arrangement,
         });
         Ok(ready(&counts))
@@ -288,10 +292,14 @@ impl Manager {
                     writes: _,
                     made: _,
                     counts,
-                    added,
+                    batch,
+                    rewrites,
+                    erased,
                     arrangement,
                 } = held;
-                insert_all(&mut self.rules, added.as_slice());
+                self.rules.apply(&batch);
+                self.live.rewrite_all(&rewrites);
+                self.live.forget_each(&erased);
                 self.arrangement = arrangement;
                 Step::Finished(counts)
             }
@@ -299,13 +307,22 @@ impl Manager {
     }
 }
 
-/// Puts rules into the set.
-fn insert_all(rules: &mut Store, added: &[Rule])
-    requires room { length added.now ≤ rules.old.spare }
-    requires new { AreNew rules.old.rules added.now }
-    ensures rules { rules.new.rules ≡ fold with_rule rules.old.rules added.now }
+/// The conditions of each rule that a batch adds are right, by their types.
+fn rules_are_right(batch: &Batch)
+    ensures { AllByRecursion ChangesRules batch.now }
 {
-    for place in 0..added.len() {
-        rules.insert(added[place]);
+    for place in 0..batch.len() {
+        rule_is_right(&batch.at(place));
+    }
+}
+
+/// The conditions of a rule that a command adds are right, by their types.
+fn rule_is_right(command: &Command)
+    ensures { ChangesRules command.now }
+{
+    match command {
+        Command::Add(rule) => rule_conditions(rule),
+        Command::Set { .. } => {}
+        Command::Del(_) => {}
     }
 }

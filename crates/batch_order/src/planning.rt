@@ -1,44 +1,23 @@
-//! How a plan is made: the additions by falling priority, each an insertion whose moves are device writes.
+//! How a plan is made: one piece after the other, each an insertion whose moves are device writes.
 
 ghost use Rattle.std.specs.Prelude.{◌≡◌, ◌+◌, ◌-◌, ◌<◌, ◌≤◌, ◌^◌, ◌++◌, ◌∷◌, [], IfOk, OnOk, OnErr, IsTrue, IsFalse, length, fold, map, take, drop};
 ghost use Rattle.std.specs.List.{AllByRecursion};
-ghost use Rattle.rule_store.specs.Batch.{additions as added_by, with_rule};
+ghost use Rattle.rule_store.specs.Batch.{with_rule};
+ghost use Rattle.ternary_word.specs.Entry.{IsEncodable};
 ghost use Rattle.overlap_index.specs.Live.{is_live};
 ghost use Rattle.tcam_device.specs.State.{IsInUse};
 ghost use Rattle.commit_writes.specs.Planned.{write_for};
 ghost use Rattle.batch_order.specs.Entries.{AddsIds, AreLast, KeepEntries};
-ghost use Rattle.batch_order.specs.Planning.{AreNew, HasPieces, IsPlannable, IsLastLive, IsInside, IsInserted, ArePlannedSince, route_piece};
+ghost use Rattle.batch_order.specs.Planning.{AreNew, IsPlannable, IsLastLive, IsInside, IsInserted, ArePlannedSince};
 
 use crate::entries::LiveEntries;
+use crate::pieces::Ranked;
 use crate::plan::Plan;
 use move_planner::{Move, Plan as Moves, plan_insert};
-use rule_model::{Piece, Rule};
-use rule_store::{Batch, Command, Store};
+use rule_model::Rule;
+use rule_store::Store;
 use slot_pool::Arrangement;
 use std::alloc::{AllocError, Global};
-
-/// The rules that a batch adds, in its order.
-pub(crate) fn additions(alloc: Global, batch: &Batch) -> Result<Vec<Rule>, AllocError>
-    ensures { IfOk result (λ added. added.items ≡ added_by batch.now) }
-{
-    let mut added = Vec::new(alloc);
-    for place in 0..batch.len() {
-        push_addition(&mut added, batch.at(place))?;
-    }
-    Ok(added)
-}
-
-/// The rule that a command adds, if it adds one, behind the others; want of memory changes nothing.
-fn push_addition(added: &mut Vec<Rule>, command: Command) -> Result<(), AllocError>
-    ensures { OnOk result (added.new.items ≡ added.old.items ++ added_by (command ∷ [])) }
-{
-    match command {
-        Command::Add(rule) => added.push(rule)?,
-        Command::Set { .. } => {}
-        Command::Del(_) => {}
-    }
-    Ok(())
-}
 
 /// Rules of distinct priorities by falling priority.
 pub(crate) fn falling(alloc: Global, rules: &[Rule]) -> Result<Store, AllocError>
@@ -54,29 +33,29 @@ pub(crate) fn falling(alloc: Global, rules: &[Rule]) -> Result<Store, AllocError
     Ok(sorted)
 }
 
-/// Plans an insertion for each rule, in their order, and answers the ids of their entries. On want of memory the live
+/// Plans an insertion for each piece, in their order, and answers the ids of their entries. On want of memory the live
 /// entries are as they were.
 pub(crate) fn plan_additions(
     alloc: Global,
-    added: &Store,
+    pieces: &[Ranked],
     live: &mut LiveEntries,
     arrangement: &mut Arrangement,
     plan: &mut Plan,
 ) -> Result<Vec<u32>, AllocError>
-    requires room { length live.old.live + length added.now.rules ≤ live.old.slots }
-    requires pieces { HasPieces added.now.rules }
+    requires room { length live.old.live + length pieces.now ≤ live.old.slots }
+    requires encodable { AllByRecursion (λ ranked. IsEncodable ranked.piece) pieces.now }
     requires plannable { IsPlannable live.old arrangement.old plan.old.writes.items }
     ensures plannable { OnOk result (IsPlannable live.new arrangement.new plan.new.writes.items) }
-    ensures planned { OnOk result (ArePlannedSince live.old live.new arrangement.old arrangement.new plan.old plan.new (map route_piece added.now.rules)) }
+    ensures planned { OnOk result (ArePlannedSince live.old live.new arrangement.old arrangement.new plan.old plan.new pieces.now) }
     ensures adds { IfOk result (λ ids. AddsIds live.old live.new ids.items) }
-    ensures number { IfOk result (λ ids. length ids.items ≡ length added.now.rules) }
+    ensures number { IfOk result (λ ids. length ids.items ≡ length pieces.now) }
     ensures refused { OnErr result (live.new.live ≡ live.old.live) }
     ensures kept { KeepEntries live.old.live live.old.entries live.new.entries }
     ensures slots { live.new.slots ≡ live.old.slots }
 {
-    let mut ids = Vec::with_capacity(alloc, added.len() as usize)?;
-    for place in 0..added.len() {
-        match plan_rule(alloc, added.at(place), live, arrangement, plan) {
+    let mut ids = Vec::with_capacity(alloc, pieces.len())?;
+    for ranked in pieces {
+        match plan_piece(alloc, ranked, live, arrangement, plan) {
             Ok(id) => ids.push_reserved(id),
             Err(fault) => {
                 forget_all(live, ids);
@@ -99,25 +78,25 @@ pub(crate) fn forget_all(live: &mut LiveEntries, mut ids: Vec<u32>)
     }
 }
 
-/// Makes the entry of a rule live and plans its insertion. On want of memory the live entries are as they were.
-fn plan_rule(
+/// Makes the entry of a piece live and plans its insertion. On want of memory the live entries are as they were.
+fn plan_piece(
     alloc: Global,
-    rule: &Rule,
+    ranked: &Ranked,
     live: &mut LiveEntries,
     arrangement: &mut Arrangement,
     plan: &mut Plan,
 ) -> Result<u32, AllocError>
     requires room { length live.old.live < live.old.slots }
-    requires pieces { HasPieces (rule.now ∷ []) }
+    requires encodable { IsEncodable ranked.now.piece }
     requires plannable { IsPlannable live.old arrangement.old plan.old.writes.items }
     ensures plannable { OnOk result (IsPlannable live.new arrangement.new plan.new.writes.items) }
-    ensures planned { OnOk result (ArePlannedSince live.old live.new arrangement.old arrangement.new plan.old plan.new (route_piece rule.now ∷ [])) }
+    ensures planned { OnOk result (ArePlannedSince live.old live.new arrangement.old arrangement.new plan.old plan.new (ranked.now ∷ [])) }
     ensures adds { IfOk result (λ id. AddsIds live.old live.new (id ∷ [])) }
     ensures refused { OnErr result (live.new.live ≡ live.old.live) }
     ensures kept { KeepEntries live.old.live live.old.entries live.new.entries }
     ensures slots { live.new.slots ≡ live.old.slots }
 {
-    let id = live.add(&Piece::whole(rule), rule.priority, rule.result)?;
+    let id = live.add(&ranked.piece, ranked.rank, ranked.result)?;
     match plan_moves(alloc, id, live, arrangement, plan) {
         Ok(()) => Ok(id),
         Err(fault) => {

@@ -1,9 +1,8 @@
-// Commits of routes into a device of eight slots. The bodies borrow manager and device, so that each proof stays short.
-ghost use Rattle.std.specs.Prelude.{◌≡◌, ◌≤◌, IfOk, IfSome, length};
-ghost use Rattle.batch_order.specs.Managed.{OnlyAddsRoutes};
+// Commits of routes and of an access list's rule into a device of eight slots. The bodies borrow manager and device, so that each proof stays short.
+ghost use Rattle.std.specs.Prelude.{◌≡◌, ◌≤◌, IfSome, length};
 
 use crate::{Done, Manager, Mode, Ready, Refusal, Step};
-use rule_model::{Key, Prefix, Rank, route_rule};
+use rule_model::{Key, Ports, Prefix, Rank, Rule, list_rank, route_rule};
 use rule_store::{Batch, Command};
 use std::alloc::Global;
 use std::process::Abort;
@@ -12,9 +11,14 @@ use tcam_device::{Device, DeviceFault, FlakyTcam, MemTcam, Write};
 
 /// A packet to 10.1.2.3.
 fn packet() -> Key {
+    packet_to(0x0a01_0203)
+}
+
+/// A packet to an address.
+fn packet_to(addr: u32) -> Key {
     Key {
         src: 0,
-        dst: 0x0a01_0203 << 96,
+        dst: u128::from(addr) << 96,
         proto: 0,
         sport: 0,
         dport: 0,
@@ -29,25 +33,26 @@ fn best(manager: &Manager) -> Option<(Rank, u32)> {
     }
 }
 
-/// A batch that adds the route of an IPv4 prefix, with its length as the result.
-fn adding(alloc: Global, addr: u32, len: u8) -> Result<Batch, Fail>
-    ensures { IfOk result (λ batch. OnlyAddsRoutes batch) }
-{
+/// The addition of the route of an IPv4 prefix.
+fn addition(addr: u32, len: u8, answer: u32) -> Result<Command, Fail> {
     let prefix = Prefix::v4(addr, len).ok().ok_or("no prefix")?;
-    let _right = prefix.addr();
+    Ok(Command::Add(route_rule(prefix, answer)))
+}
+
+/// A batch that adds the route of an IPv4 prefix, with its length as the result.
+fn adding(alloc: Global, addr: u32, len: u8) -> Result<Batch, Fail> {
     let mut batch = Batch::new(alloc);
-    batch.push(Command::Add(route_rule(prefix, u32::from(len))))?;
+    batch.push(addition(addr, len, u32::from(len))?)?;
     Ok(batch)
 }
 
-/// Prepares the commit of a batch of routes.
+/// Prepares the commit of a batch.
 fn prepare<D: Device>(
     manager: &mut Manager,
     device: &mut D,
     batch: &Batch,
 ) -> Result<Ready, Refusal>
     requires slots { manager.old.slots ≤ D.slot_count device.old }
-    requires changes { OnlyAddsRoutes batch.now }
     requires room { IfSome manager.old.held (λ held. length held.writes ≤ D.spare device.old) }
     ensures slots { manager.new.slots ≡ manager.old.slots }
     ensures slot_count { D.slot_count device.new ≡ D.slot_count device.old }
@@ -86,7 +91,6 @@ fn commit(
     new: Option<(Rank, u32)>,
 ) -> Result<(), Fail>
     requires slots { manager.old.slots ≤ device.old.slots }
-    requires changes { OnlyAddsRoutes route.now }
     requires room { IfSome manager.old.held (λ held. length held.writes ≤ device.old.spare) }
     ensures slots { manager.new.slots ≡ manager.old.slots }
     ensures slot_count { device.new.slots ≡ device.old.slots }
@@ -259,4 +263,226 @@ fn a_write_that_fails(rt: HostRuntime) -> Result<(), Fail> {
     let mut manager = Manager::new(rt.alloc(), 8, Mode::Cover)?;
     let mut device = FlakyTcam::new(rt.alloc(), 8, &[1])?;
     fails_once(&rt, rt.alloc(), &mut manager, &mut device)
+}
+
+/// The rank of an IPv4 prefix's route.
+fn rank(addr: u128, len: u8) -> Rank {
+    Rank {
+        high: len,
+        low: addr,
+    }
+}
+
+/// A write as its slot and whether it puts an entry there, and the results that packets to 10.1.2.3 and 10.2.0.1 have
+/// behind it.
+type Row = (u32, bool, Option<u32>, Option<u32>);
+
+/// The slot of a write, and whether it puts an entry there.
+fn written(step: &Step) -> Option<(u32, bool)> {
+    match step {
+        Step::Wrote(Write::Slot(slot, entry)) => Some((*slot, entry.is_some())),
+        _ => None,
+    }
+}
+
+/// The result that a packet to an address has.
+fn result_at(device: &MemTcam, addr: u32) -> Option<u32> {
+    match device.look(&packet_to(addr)) {
+        Some((_, answer)) => Some(answer),
+        None => None,
+    }
+}
+
+/// Commits a batch by these writes, with these answers behind each.
+fn commits_by(
+    rt: &impl Abort,
+    manager: &mut Manager,
+    device: &mut MemTcam,
+    batch: &Batch,
+    rows: &[Row],
+) -> Result<(), Fail>
+    requires slots { manager.old.slots ≤ device.old.slots }
+    requires room { IfSome manager.old.held (λ held. length held.writes ≤ device.old.spare) }
+    ensures slots { manager.new.slots ≡ manager.old.slots }
+    ensures slot_count { device.new.slots ≡ device.old.slots }
+    ensures room { IfSome manager.new.held (λ held. length held.writes ≤ device.new.spare) }
+{
+    let ready = prepare(manager, device, batch)?;
+    assert_eq!(rt; ready.writes, rows.len() as u64);
+    for (slot, put, near, far) in rows {
+        let made = step(manager, device)?;
+        assert_eq!(rt; written(&made), Some((*slot, *put)));
+        assert_eq!(rt; result_at(device, 0x0a01_0203), *near);
+        assert_eq!(rt; result_at(device, 0x0a02_0001), *far);
+    }
+    let _finished = step(manager, device)?;
+    Ok(())
+}
+
+/// A batch that adds 10.0.0.0/8.
+fn wide(alloc: Global) -> Result<Batch, Fail> {
+    let mut batch = Batch::new(alloc);
+    batch.push(addition(0x0a00_0000, 8, 7)?)?;
+    Ok(batch)
+}
+
+/// A batch that takes 10.0.0.0/8 out and adds 10.1.0.0/16, the removal first.
+fn narrower(alloc: Global) -> Result<Batch, Fail> {
+    let mut batch = Batch::new(alloc);
+    batch.push(Command::Del(rank(0x0a00_0000, 8)))?;
+    batch.push(addition(0x0a01_0000, 16, 9)?)?;
+    Ok(batch)
+}
+
+/// A batch that replaces 10.1.0.0/16 and adds 10.0.0.0/8 again.
+fn replaced(alloc: Global) -> Result<Batch, Fail> {
+    let mut batch = Batch::new(alloc);
+    batch.push(Command::Del(rank(0x0a01_0000, 16)))?;
+    batch.push(addition(0x0a00_0000, 8, 8)?)?;
+    batch.push(addition(0x0a01_0000, 16, 10)?)?;
+    Ok(batch)
+}
+
+/// A batch that gives 10.0.0.0/8 a result, takes 10.1.0.0/16 out and adds 10.1.2.0/24.
+fn mixed(alloc: Global) -> Result<Batch, Fail> {
+    let mut batch = Batch::new(alloc);
+    batch.push(Command::Del(rank(0x0a01_0000, 16)))?;
+    batch.push(Command::Set {
+        priority: rank(0x0a00_0000, 8),
+        result: 12,
+    })?;
+    batch.push(addition(0x0a01_0200, 24, 24)?)?;
+    Ok(batch)
+}
+
+/// Removals, a replacement and a result that changes, each behind the additions of its batch.
+fn four_batches(
+    rt: &impl Abort,
+    alloc: Global,
+    manager: &mut Manager,
+    device: &mut MemTcam,
+) -> Result<(), Fail>
+    requires slots { manager.old.slots ≤ device.old.slots }
+    requires room { IfSome manager.old.held (λ held. length held.writes ≤ device.old.spare) }
+{
+    commits_by(
+        rt,
+        manager,
+        device,
+        &wide(alloc)?,
+        &[(3, true, Some(7), Some(7))],
+    )?;
+    commits_by(
+        rt,
+        manager,
+        device,
+        &narrower(alloc)?,
+        &[(1, true, Some(9), Some(7)), (3, false, Some(9), None)],
+    )?;
+    commits_by(
+        rt,
+        manager,
+        device,
+        &replaced(alloc)?,
+        &[(4, true, Some(9), Some(8)), (1, true, Some(10), Some(8))],
+    )?;
+    commits_by(
+        rt,
+        manager,
+        device,
+        &mixed(alloc)?,
+        &[
+            (0, true, Some(24), Some(8)),
+            (4, true, Some(24), Some(12)),
+            (1, false, Some(24), Some(12)),
+        ],
+    )?;
+    assert_eq!(rt; best(manager), route(0x0a01_0200, 24));
+    assert_eq!(rt; manager.entries(), 2);
+    Ok(())
+}
+
+#[test]
+fn changes(rt: HostRuntime) -> Result<(), Fail> {
+    let mut manager = Manager::new(rt.alloc(), 8, Mode::Cover)?;
+    let mut device = MemTcam::new(rt.alloc(), 8)?;
+    four_batches(&rt, rt.alloc(), &mut manager, &mut device)
+}
+
+/// The addition of an access list's rule at sequence 10: the packets to a destination port or a higher one.
+fn ports_from(first: u16) -> Result<Command, Fail> {
+    Ok(Command::Add(Rule {
+        priority: list_rank(10),
+        src: Prefix::any(),
+        dst: Prefix::any(),
+        proto: None,
+        sport: Ports::any(),
+        dport: Ports::new(first, 65535).ok_or("no ports")?,
+        result: 1,
+    }))
+}
+
+/// A batch that replaces that rule by one of the packets to ports 2048-65535.
+fn fewer_ports(alloc: Global) -> Result<Batch, Fail> {
+    let mut batch = Batch::new(alloc);
+    batch.push(Command::Del(list_rank(10)))?;
+    batch.push(ports_from(2048)?)?;
+    Ok(batch)
+}
+
+/// Commits a batch, with these numbers.
+fn commits(
+    rt: &impl Abort,
+    manager: &mut Manager,
+    device: &mut MemTcam,
+    batch: &Batch,
+    writes: u64,
+    most: u32,
+) -> Result<(), Fail>
+    requires slots { manager.old.slots ≤ device.old.slots }
+    requires room { IfSome manager.old.held (λ held. length held.writes ≤ device.old.spare) }
+    ensures slots { manager.new.slots ≡ manager.old.slots }
+    ensures slot_count { device.new.slots ≡ device.old.slots }
+    ensures room { IfSome manager.new.held (λ held. length held.writes ≤ device.new.spare) }
+{
+    let ready = prepare(manager, device, batch)?;
+    let numbers = Ready {
+        writes,
+        words: 0,
+        most,
+        span: 0,
+    };
+    assert_eq!(rt; ready, numbers);
+    for _ in 0..writes {
+        let _made = step(manager, device)?;
+    }
+    let _finished = step(manager, device)?;
+    assert_eq!(rt; manager.left(), None);
+    Ok(())
+}
+
+/// Ports 1024-65535 are six blocks. Five of them are those of 2048-65535: they are rewritten, and the other one is
+/// erased.
+fn two_ranges(
+    rt: &impl Abort,
+    alloc: Global,
+    manager: &mut Manager,
+    device: &mut MemTcam,
+) -> Result<(), Fail>
+    requires slots { manager.old.slots ≤ device.old.slots }
+    requires room { IfSome manager.old.held (λ held. length held.writes ≤ device.old.spare) }
+{
+    let mut added = Batch::new(alloc);
+    added.push(ports_from(1024)?)?;
+    commits(rt, manager, device, &added, 6, 1)?;
+    commits(rt, manager, device, &fewer_ports(alloc)?, 6, 0)?;
+    assert_eq!(rt; manager.entries(), 5);
+    Ok(())
+}
+
+#[test]
+fn port_ranges(rt: HostRuntime) -> Result<(), Fail> {
+    let mut manager = Manager::new(rt.alloc(), 8, Mode::Cover)?;
+    let mut device = MemTcam::new(rt.alloc(), 8)?;
+    two_ranges(&rt, rt.alloc(), &mut manager, &mut device)
 }

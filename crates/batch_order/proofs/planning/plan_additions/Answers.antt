@@ -1,13 +1,13 @@
-use Rattle.std.proofs.Common.{rules, ◌≡◌, ◌≤◌, ◌+◌, ◌++◌, [], ◌∷◌, length, map, take, subst, sym, ap, ◌∙◌, arith, List, ℕ, ap₂, append_assoc}
+use Rattle.std.proofs.Common.{rules, ◌≡◌, ◌≤◌, ◌+◌, ◌++◌, [], ◌∷◌, length, take, subst, sym, ap, ◌∙◌, arith, List, ℕ, ap₂, append_assoc}
 use Rattle.std.specs.Prelude.{vec_capacity}
 use Rattle.std.proofs.lemmas.Grind.{common_steps}
 use Rattle.std.proofs.lemmas.List.{map-append}
 use Rattle.ternary_word.specs.Entry.{RankedPiece}
-use Rattle.rule_store.proofs.Sums.{take-read}
 use Rattle.overlap_index.specs.declared.LivePiece.{LivePiece}
 use Rattle.batch_order.specs.Entries.{Entries, AddsIds}
-use Rattle.batch_order.specs.Planning.{ArePlannedSince, IsPlannable, route_piece}
+use Rattle.batch_order.specs.Planning.{ArePlannedSince, IsPlannable}
 use Rattle.batch_order.proofs.Since.{planned_then}
+use Rattle.batch_order.proofs.Walked.{take_next}
 use Rattle.batch_order.proofs.planning.plan_additions.Goals as goal
 
 -- some ids became live after others
@@ -19,19 +19,19 @@ adds_then old mid new first second one two = record {
   slots = two.slots ∙ one.slots;
 }
 
-pub loop-place-preserved : goal.loop-place-preserved
-loop-place-preserved c =
-    let was = c.loop-place.invariant in
-    let rule = c.at.result.now in
-    let some = take c.loop-place.place c.args.added.now.rules in
-    let more : map route_piece (take (c.loop-place.place + 1) c.args.added.now.rules) ≡ map route_piece some ++ route_piece rule ∷ [] =
-    ap (map route_piece) (take-read c.args.added.now.rules c.loop-place.place rule c.at.ensures) ∙ map-append route_piece some (rule ∷ []) in
-    let planned = planned_then c.args.live.now c.loop-place.live c.plan_rule.new.live c.args.arrangement.now c.loop-place.arrangement c.plan_rule.new.arrangement
-    c.args.plan.now c.loop-place.plan c.plan_rule.new.plan (map route_piece some) (route_piece rule ∷ []) was.4 c.in-Ok.ensures.planned in
-    let plannable : IsPlannable c.plan_rule.new.live c.plan_rule.new.arrangement c.plan_rule.new.plan.writes.items = c.in-Ok.ensures.plannable in
-    let items : c.push_reserved.new.self.items ≡ c.loop-place.ids.items ++ c.in-Ok.id ∷ [] = search rules in
-    let adds : AddsIds c.args.live.now c.plan_rule.new.live c.push_reserved.new.self.items =
-    subst (AddsIds c.args.live.now c.plan_rule.new.live) (sym items) (adds_then c.args.live.now c.loop-place.live c.plan_rule.new.live c.loop-place.ids.items (c.in-Ok.id ∷ []) was.1 c.in-Ok.ensures.adds) in
-    let number : length c.push_reserved.new.self.items ≡ c.loop-place.place + 1 = first_of (search rules, grind (arith, common_steps)) in
-    let room : length c.args.added.now.rules ≤ vec_capacity c.push_reserved.new.self = first_of (search rules, grind (arith, common_steps)) in
-    (plannable, adds, number, room, subst (λ (pieces : List RankedPiece). ArePlannedSince c.args.live.now c.plan_rule.new.live c.args.arrangement.now c.plan_rule.new.arrangement c.args.plan.now c.plan_rule.new.plan pieces) (sym more) planned)
+pub loop-ranked-preserved : goal.loop-ranked-preserved
+loop-ranked-preserved c =
+    let was = c.loop-ranked.invariant in
+    let pieces = c.args.pieces.now in
+    let some = take c.loop-ranked.ranked-index pieces in
+    let one = c.ranked-item.result in
+    let more : take (c.loop-ranked.ranked-index + 1) pieces ≡ some ++ one ∷ [] = take_next pieces c.loop-ranked.ranked-index one (omega arith) (sym c.ranked-item.is) in
+    let planned = planned_then c.args.live.now c.loop-ranked.live c.plan_piece.new.live c.args.arrangement.now c.loop-ranked.arrangement c.plan_piece.new.arrangement
+    c.args.plan.now c.loop-ranked.plan c.plan_piece.new.plan some (one ∷ []) was.4 c.in-Ok.ensures.planned in
+    let plannable : IsPlannable c.plan_piece.new.live c.plan_piece.new.arrangement c.plan_piece.new.plan.writes.items = c.in-Ok.ensures.plannable in
+    let items : c.push_reserved.new.self.items ≡ c.loop-ranked.ids.items ++ c.in-Ok.id ∷ [] = search rules in
+    let adds : AddsIds c.args.live.now c.plan_piece.new.live c.push_reserved.new.self.items =
+    subst (AddsIds c.args.live.now c.plan_piece.new.live) (sym items) (adds_then c.args.live.now c.loop-ranked.live c.plan_piece.new.live c.loop-ranked.ids.items (c.in-Ok.id ∷ []) was.1 c.in-Ok.ensures.adds) in
+    let number : length c.push_reserved.new.self.items ≡ c.loop-ranked.ranked-index + 1 = first_of (search rules, grind (arith, common_steps)) in
+    let room : length pieces ≤ vec_capacity c.push_reserved.new.self = first_of (search rules, grind (arith, common_steps)) in
+    (plannable, adds, number, room, subst (λ (pieces : List RankedPiece). ArePlannedSince c.args.live.now c.plan_piece.new.live c.args.arrangement.now c.plan_piece.new.arrangement c.args.plan.now c.plan_piece.new.plan pieces) (sym more) planned)

@@ -1,22 +1,37 @@
-use Rattle.std.proofs.Common.{rules, ◌≡◌, ◌≤◌, ◌+◌, ◌∙◌, fold, List, [], length, IsTrue, Option, Some, None, Ok, Err, OnErr, Result, map, refl, sym, ap, subst, arith}
+use Rattle.std.proofs.Common.{◌≡◌, ℕ, ◌≤◌, ◌+◌, ◌∙◌, List, length, IsTrue, Option, Some, None, Ok, Err, OnErr, Result, refl, sym, ap, subst, arith}
 use Rattle.std.specs.Prelude.{option_map}
+use Rattle.std.specs.List.{AllByRecursion, AllZip}
 use Rattle.slot_pool.specs.Arrangement.{Slots}
 use Rattle.rule_model.specs.declared.Rule.{Rule}
 use Rattle.overlap_index.specs.declared.LivePiece.{LivePiece}
 use Rattle.overlap_index.specs.Live.{is_live}
 use Rattle.rule_store.specs.declared.Mode.{Mode}
+use Rattle.rule_store.specs.declared.Mode.TheVariants.{Cover}
 use Rattle.rule_store.specs.declared.Command.{Command}
 use Rattle.rule_store.specs.Store.{StoredRules}
-use Rattle.rule_store.specs.Batch.{additions, batch_fault, with_rule}
+use Rattle.rule_store.specs.Batch.{batch_fault}
 use Rattle.rule_store.specs.Verdict.{verdict, Accepted}
+use Rattle.ternary_word.specs.Entry.{RankedPiece}
+use Rattle.tcam_device.specs.State.{IsInUse}
+use Rattle.commit_writes.specs.declared.Rewrite.{Rewrite}
+use Rattle.commit_writes.specs.Bits.{no_bits}
+use Rattle.commit_writes.specs.Shape.{set_pieces, inserted_pieces, rewritten_pieces, erased_pieces}
+use Rattle.commit_writes.specs.PlannedBatch.{ChangesRules, IsIdOf, IsRewriteOf, erased_slots}
+use Rattle.commit_writes.proofs.BatchRules.{IsSoundChange}
 use Rattle.batch_order.specs.declared.manager.Held.{Held}
-use Rattle.batch_order.specs.Entries.{Entries, KeepEntries}
+use Rattle.batch_order.specs.Entries.{AddsIds, Entries, KeepEntries}
+use Rattle.batch_order.specs.Changes.{HaveIds}
 use Rattle.batch_order.specs.Kept.{IsManaged, held_of}
-use Rattle.batch_order.specs.Planning.{ArePlannedSince, route_piece}
-use Rattle.batch_order.specs.Managed.{Managed, Holds, OnlyAddsRoutes}
-use Rattle.batch_order.proofs.News.{length-with_rules}
+use Rattle.batch_order.specs.Planning.{ArePlannedSince}
+use Rattle.batch_order.specs.Managed.{Managed, Holds}
+use Rattle.batch_order.proofs.Parted.{inserted_encodable}
+use Rattle.batch_order.proofs.Needed.{rules_entries}
+use Rattle.batch_order.proofs.Judged.{entries_few}
+use Rattle.batch_order.proofs.Cleared.{all_stand}
 use Rattle.batch_order.proofs.Carried.{view_of}
-use Rattle.batch_order.proofs.Taken.{sorted_pieces, sorted_apart, sorted_room, adds_first, managed_same, view_same, plan_made, managed_held, holds_plan}
+use Rattle.batch_order.proofs.Refused.{adds_first, managed_same, view_same}
+use Rattle.batch_order.proofs.Taken.{inserted_room, pieces_have_ids, plan_made, plan_none}
+use Rattle.batch_order.proofs.Holding.{AreLiveParts, changed_stand, holds_plan, live_parts, managed_held}
 use Rattle.batch_order.proofs.manager.Manager.plan.Goals as goal
 
 no_held : (rules : List Rule) (held : Option Held) → option_map (held_of rules) held ≡ None → held ≡ None
@@ -26,57 +41,106 @@ no_held rules (Some held) none = absurd (cc)
 -- what a manager that is to plan a batch knows
 record Taking (mode : Mode) (rules : StoredRules) (kept : Entries) (slots : Slots) (batch : List Command) : Type 0 where
   managed : IsManaged mode rules kept slots None
-  sound : batch_fault rules.rules batch ≡ None
-  room : length kept.live + length (fold with_rule [] (additions batch)) ≤ kept.slots
-  few : length (additions batch) ≤ 4096
+  change : IsSoundChange rules.rules batch
+  room : length kept.live + length (inserted_pieces Cover no_bits rules.rules batch) ≤ kept.slots
   set : length rules.rules ≤ 4096
+  ids : HaveIds kept.live (set_pieces Cover no_bits rules.rules)
 
 taking : (mode : Mode) (rules : StoredRules) (kept : Entries) (slots : Slots) (held : Option Held) (batch : List Command) → IsManaged mode rules kept slots held → held ≡ None
-    → OnlyAddsRoutes batch → batch_fault rules.rules batch ≡ None → verdict (length slots) mode rules.rules batch ≡ Accepted → Taking mode rules kept slots batch
-taking mode rules kept slots held batch is none adds sound fits =
+    → AllByRecursion ChangesRules batch → batch_fault rules.rules batch ≡ None → verdict (length slots) mode rules.rules batch ≡ Accepted → Taking mode rules kept slots batch
+taking mode rules kept slots held batch is none changes sound fits =
     let managed : IsManaged mode rules kept slots None = subst (IsManaged mode rules kept slots) none is in
-    let room = sorted_room mode rules kept slots batch managed adds sound fits in
-    let number : length (fold with_rule [] (additions batch)) ≡ 0 + length (additions batch) = length-with_rules [] (additions batch) in
-    let most : kept.slots ≤ 4096 = managed.carried.settled.few in
-    let live : length kept.live ≡ length rules.rules = managed.carried.number in
-    record { managed = managed; sound = sound; room = room; few = omega arith; set = omega arith }
+    let few = entries_few mode rules kept slots held is in
+    let fewer = rules_entries rules.rules is.right in
+    record {
+      managed = managed;
+      change = record { is_set = is.is_set; right = is.right; changes = changes; sound = sound };
+      room = inserted_room mode rules kept slots batch managed sound fits;
+      set = omega arith;
+      ids = pieces_have_ids (set_pieces Cover no_bits rules.rules) kept.live kept.entries managed.carried.entries_are;
+    }
 
-pub overflow_cast-len : goal.overflow_cast-len
-overflow_cast-len g c =
-    let t = taking c.self.inside.mode c.self.inside.rules c.self.inside.live c.self.inside.arrangement c.self.inside.held c.args.batch.now c.self.invariant
-    (no_held c.self.inside.rules.rules c.self.inside.held (rw (← c.self.view_is) at c.requires.idle)) c.requires.changes (rw (← c.self.view_is) at c.requires.sound) (rw (← c.self.view_is) at c.requires.fits) in
-    let few : length c.in_ok-added.added.items ≤ 4096 = rw c.in_ok-added.ensures t.few in
-    search (rules, few)
+pub parts_of-requires-clause-is_set : goal.parts_of-requires-clause-is_set
+parts_of-requires-clause-is_set g c = c.self.invariant.is_set
+
+pub parts_of-requires-clause-right : goal.parts_of-requires-clause-right
+parts_of-requires-clause-right g c = c.self.invariant.right
+
+pub parts_of-requires-clause-live : goal.parts_of-requires-clause-live
+parts_of-requires-clause-live g c =
+    (taking c.self.inside.mode c.self.inside.rules c.self.inside.live c.self.inside.arrangement c.self.inside.held c.args.batch.now c.self.invariant
+    (no_held c.self.inside.rules.rules c.self.inside.held (rw (← c.self.view_is) at c.requires.idle)) c.requires.changes (rw (← c.self.view_is) at c.requires.sound) (rw (← c.self.view_is) at c.requires.fits)).ids
 
 pub reserve-requires : goal.reserve-requires
 reserve-requires g c =
     let t = taking c.self.inside.mode c.self.inside.rules c.self.inside.live c.self.inside.arrangement c.self.inside.held c.args.batch.now c.self.invariant
     (no_held c.self.inside.rules.rules c.self.inside.held (rw (← c.self.view_is) at c.requires.idle)) c.requires.changes (rw (← c.self.view_is) at c.requires.sound) (rw (← c.self.view_is) at c.requires.fits) in
-    let few : length c.in_ok-added.added.items ≤ 4096 = rw c.in_ok-added.ensures t.few in
     let set : length c.self.inside.rules.rules ≤ 4096 = t.set in
-    let number : c.len.result ≤ 4096 = search (rules, few) in
+    let most : c.len.result ≤ 4096 = c.len.ensures.most in
     omega arith
-
-pub falling-requires-clause-few : goal.falling-requires-clause-few
-falling-requires-clause-few g c =
-    let t = taking c.self.inside.mode c.self.inside.rules c.self.inside.live c.self.inside.arrangement c.self.inside.held c.args.batch.now c.self.invariant
-    (no_held c.self.inside.rules.rules c.self.inside.held (rw (← c.self.view_is) at c.requires.idle)) c.requires.changes (rw (← c.self.view_is) at c.requires.sound) (rw (← c.self.view_is) at c.requires.fits) in
-    rw (c.as_slice.ensures.value, c.in_ok-added.ensures) t.few
-
-pub falling-requires-clause-apart : goal.falling-requires-clause-apart
-falling-requires-clause-apart g c =
-    let sound : batch_fault c.self.inside.rules.rules c.args.batch.now ≡ None = rw (← c.self.view_is) at c.requires.sound in
-    rw (c.as_slice.ensures.value, c.in_ok-added.ensures) (sorted_apart c.self.inside.rules.rules c.args.batch.now c.requires.changes sound)
 
 pub plan_additions-requires-clause-room : goal.plan_additions-requires-clause-room
 plan_additions-requires-clause-room g c =
     let t = taking c.self.inside.mode c.self.inside.rules c.self.inside.live c.self.inside.arrangement c.self.inside.held c.args.batch.now c.self.invariant
     (no_held c.self.inside.rules.rules c.self.inside.held (rw (← c.self.view_is) at c.requires.idle)) c.requires.changes (rw (← c.self.view_is) at c.requires.sound) (rw (← c.self.view_is) at c.requires.fits) in
-    rw (c.in_ok-sorted.ensures, c.as_slice.ensures.value, c.in_ok-added.ensures) t.room
+    rw (c.deref.ensures.value, c.in_ok-parts.ensures.inserted) t.room
 
-pub plan_additions-requires-clause-pieces : goal.plan_additions-requires-clause-pieces
-plan_additions-requires-clause-pieces g c =
-    rw (c.in_ok-sorted.ensures, c.as_slice.ensures.value, c.in_ok-added.ensures) (sorted_pieces c.args.batch.now c.requires.changes)
+pub plan_additions-requires-clause-encodable : goal.plan_additions-requires-clause-encodable
+plan_additions-requires-clause-encodable g c =
+    let t = taking c.self.inside.mode c.self.inside.rules c.self.inside.live c.self.inside.arrangement c.self.inside.held c.args.batch.now c.self.invariant
+    (no_held c.self.inside.rules.rules c.self.inside.held (rw (← c.self.view_is) at c.requires.idle)) c.requires.changes (rw (← c.self.view_is) at c.requires.sound) (rw (← c.self.view_is) at c.requires.fits) in
+    rw (c.deref.ensures.value, c.in_ok-parts.ensures.inserted) (inserted_encodable c.self.inside.rules.rules c.args.batch.now t.change)
+
+pub plan_additions-requires-clause-plannable : goal.plan_additions-requires-clause-plannable
+plan_additions-requires-clause-plannable g c =
+    let t = taking c.self.inside.mode c.self.inside.rules c.self.inside.live c.self.inside.arrangement c.self.inside.held c.args.batch.now c.self.invariant
+    (no_held c.self.inside.rules.rules c.self.inside.held (rw (← c.self.view_is) at c.requires.idle)) c.requires.changes (rw (← c.self.view_is) at c.requires.sound) (rw (← c.self.view_is) at c.requires.fits) in
+    rw (c.in_ok-arrangement.ensures, c.new-plan.ensures.writes) (plan_none c.self.inside.live c.self.inside.arrangement t.managed.carried.settled)
+
+-- with the new ids live, the ids that are rewritten and those that are erased are live
+parts_live : (mode : Mode) (rules : StoredRules) (old new : Entries) (slots : Slots) (batch : List Command) (ids : List ℕ) (rewrites : List Rewrite) (erased : List ℕ) → Taking mode rules old slots batch
+    → AddsIds old new ids → AllZip (IsRewriteOf old.live) (rewritten_pieces Cover no_bits rules.rules batch) rewrites → AllZip (IsIdOf old.live) (erased_pieces Cover no_bits rules.rules batch) erased
+    → AreLiveParts new.live rewrites erased
+parts_live mode rules old new slots batch ids rewrites erased t adds rewrites_are erased_are =
+    subst (λ (l : List LivePiece). AreLiveParts l rewrites erased) (sym adds.live)
+    (live_parts rules.rules batch old.slots old.live adds.made rewrites erased t.managed.carried.settled.apart
+    record { change = t.change; rewrites_are = rewrites_are; erased_are = erased_are })
+
+pub plan_changes-requires-clause-rewritten : goal.plan_changes-requires-clause-rewritten
+plan_changes-requires-clause-rewritten g c =
+    let t = taking c.self.inside.mode c.self.inside.rules c.self.inside.live c.self.inside.arrangement c.self.inside.held c.args.batch.now c.self.invariant
+    (no_held c.self.inside.rules.rules c.self.inside.held (rw (← c.self.view_is) at c.requires.idle)) c.requires.changes (rw (← c.self.view_is) at c.requires.sound) (rw (← c.self.view_is) at c.requires.fits) in
+    let parts = parts_live c.self.inside.mode c.self.inside.rules c.self.inside.live c.plan_additions.new.live c.self.inside.arrangement c.args.batch.now c.in_ok-ids.ids.items c.in_ok-parts.parts.rewrites.items c.in_ok-parts.parts.erased.items t
+    c.in_ok-ids.ensures.adds c.in_ok-parts.ensures.rewrites c.in_ok-parts.ensures.erased in
+    changed_stand c.plan_additions.new.live c.plan_additions.new.arrangement c.in_ok-parts.parts.rewrites.items c.in_ok-ids.ensures.plannable.settled parts.changed
+
+pub plan_changes-requires-clause-erased : goal.plan_changes-requires-clause-erased
+plan_changes-requires-clause-erased g c =
+    let t = taking c.self.inside.mode c.self.inside.rules c.self.inside.live c.self.inside.arrangement c.self.inside.held c.args.batch.now c.self.invariant
+    (no_held c.self.inside.rules.rules c.self.inside.held (rw (← c.self.view_is) at c.requires.idle)) c.requires.changes (rw (← c.self.view_is) at c.requires.sound) (rw (← c.self.view_is) at c.requires.fits) in
+    let parts = parts_live c.self.inside.mode c.self.inside.rules c.self.inside.live c.plan_additions.new.live c.self.inside.arrangement c.args.batch.now c.in_ok-ids.ids.items c.in_ok-parts.parts.rewrites.items c.in_ok-parts.parts.erased.items t
+    c.in_ok-ids.ensures.adds c.in_ok-parts.ensures.rewrites c.in_ok-parts.ensures.erased in
+    all_stand c.plan_additions.new.live c.plan_additions.new.arrangement c.in_ok-parts.parts.erased.items c.in_ok-ids.ensures.plannable.settled parts.gone
+
+pub plan_changes-requires-clause-in_use : goal.plan_changes-requires-clause-in_use
+plan_changes-requires-clause-in_use g c =
+    subst (λ (n : ℕ). AllByRecursion (IsInUse n) c.plan_additions.new.plan.writes.items) (sym c.in_ok-ids.ensures.plannable.settled.size) c.in_ok-ids.ensures.plannable.in_use
+
+pub erase_all-requires-clause-distinct : goal.erase_all-requires-clause-distinct
+erase_all-requires-clause-distinct g c =
+    let t = taking c.self.inside.mode c.self.inside.rules c.self.inside.live c.self.inside.arrangement c.self.inside.held c.args.batch.now c.self.invariant
+    (no_held c.self.inside.rules.rules c.self.inside.held (rw (← c.self.view_is) at c.requires.idle)) c.requires.changes (rw (← c.self.view_is) at c.requires.sound) (rw (← c.self.view_is) at c.requires.fits) in
+    let parts = parts_live c.self.inside.mode c.self.inside.rules c.self.inside.live c.plan_additions.new.live c.self.inside.arrangement c.args.batch.now c.in_ok-ids.ids.items c.in_ok-parts.parts.rewrites.items c.in_ok-parts.parts.erased.items t
+    c.in_ok-ids.ensures.adds c.in_ok-parts.ensures.rewrites c.in_ok-parts.ensures.erased in
+    rw c.deref-2.ensures.value parts.once
+
+pub erase_all-requires-clause-standing : goal.erase_all-requires-clause-standing
+erase_all-requires-clause-standing g c =
+    let t = taking c.self.inside.mode c.self.inside.rules c.self.inside.live c.self.inside.arrangement c.self.inside.held c.args.batch.now c.self.invariant
+    (no_held c.self.inside.rules.rules c.self.inside.held (rw (← c.self.view_is) at c.requires.idle)) c.requires.changes (rw (← c.self.view_is) at c.requires.sound) (rw (← c.self.view_is) at c.requires.fits) in
+    let parts = parts_live c.self.inside.mode c.self.inside.rules c.self.inside.live c.plan_additions.new.live c.self.inside.arrangement c.args.batch.now c.in_ok-ids.ids.items c.in_ok-parts.parts.rewrites.items c.in_ok-parts.parts.erased.items t
+    c.in_ok-ids.ensures.adds c.in_ok-parts.ensures.rewrites c.in_ok-parts.ensures.erased in
+    rw c.deref-2.ensures.value (all_stand c.plan_additions.new.live c.plan_additions.new.arrangement c.in_ok-parts.parts.erased.items c.in_ok-ids.ensures.plannable.settled parts.gone)
 
 -- the entries of the old ids are as they were where the new ones were forgotten
 kept_back : (old mid new : Entries) → KeepEntries old.live old.entries mid.entries → KeepEntries new.live mid.entries new.entries → new.live ≡ old.live → KeepEntries old.live old.entries new.entries
@@ -132,38 +196,40 @@ returns-in-Err-clause-refused g c =
 pub invariant_of-self-2 : goal.invariant_of-self-2
 invariant_of-self-2 g c =
     let i = c.self.inside in
+    let parts = c.in_ok-parts.parts in
     let t = taking i.mode i.rules i.live i.arrangement i.held c.args.batch.now c.self.invariant
     (no_held i.rules.rules i.held (rw (← c.self.view_is) at c.requires.idle)) c.requires.changes (rw (← c.self.view_is) at c.requires.sound) (rw (← c.self.view_is) at c.requires.fits) in
-    let held : Held = record { writes = c.plan_additions.new.plan.writes; made = 0; counts = c.counts-counts.result; added = c.in_ok-added.added; arrangement = c.plan_additions.new.arrangement } in
-    let sorted : c.in_ok-sorted.sorted.rules ≡ fold with_rule [] (additions c.args.batch.now) = c.in_ok-sorted.ensures ∙ ap (fold with_rule []) (c.as_slice.ensures.value ∙ c.in_ok-added.ensures) in
-    let since : ArePlannedSince i.live c.plan_additions.new.live i.arrangement c.plan_additions.new.arrangement c.new-plan.result c.plan_additions.new.plan (map route_piece (fold with_rule [] (additions c.args.batch.now))) =
-    subst (λ (r : List Rule). ArePlannedSince i.live c.plan_additions.new.live i.arrangement c.plan_additions.new.arrangement c.new-plan.result c.plan_additions.new.plan (map route_piece r)) sorted
-    (subst (λ (s : Slots). ArePlannedSince i.live c.plan_additions.new.live s c.plan_additions.new.arrangement c.new-plan.result c.plan_additions.new.plan (map route_piece c.in_ok-sorted.sorted.rules)) c.in_ok-arrangement.ensures c.in_ok-ids.ensures.planned) in
-    let spare : length (additions c.args.batch.now) ≤ c.reserve.new.self.spare = (let n : c.len.result ≡ length c.in_ok-added.added.items = search rules in let e = c.in_ok-reserve.ensures.enough in let k : length c.in_ok-added.added.items ≡ length (additions c.args.batch.now) = ap length c.in_ok-added.ensures in omega arith) in
-    managed_held i.mode i.rules c.reserve.new.self i.live c.plan_additions.new.live i.arrangement c.args.batch.now held
-    (plan_made i.mode i.rules i.live c.plan_additions.new.live i.arrangement c.plan_additions.new.arrangement c.args.batch.now c.new-plan.result c.plan_additions.new.plan c.counts-counts.result
-    t.managed c.requires.changes t.sound c.plan_additions.ensures.slots c.in_ok-ids.ensures.plannable since c.new-plan.ensures.writes c.new-plan.ensures.most c.new-plan.ensures.span
-    c.counts-counts.ensures.writes c.counts-counts.ensures.words c.counts-counts.ensures.most c.counts-counts.ensures.span)
-    c.reserve.ensures.rules spare refl c.in_ok-added.ensures
+    let held : Held = record { writes = c.plan_changes.new.plan.writes; made = 0; counts = c.counts-counts.result; batch = c.in_ok-copy.copy; rewrites = parts.rewrites; erased = parts.erased; arrangement = c.erase_all.new.arrangement } in
+    let since : ArePlannedSince i.live c.plan_additions.new.live i.arrangement c.plan_additions.new.arrangement c.new-plan.result c.plan_additions.new.plan (inserted_pieces Cover no_bits i.rules.rules c.args.batch.now) =
+    subst (λ (pieces : List RankedPiece). ArePlannedSince i.live c.plan_additions.new.live i.arrangement c.plan_additions.new.arrangement c.new-plan.result c.plan_additions.new.plan pieces) (c.deref.ensures.value ∙ c.in_ok-parts.ensures.inserted)
+    (subst (λ (s : Slots). ArePlannedSince i.live c.plan_additions.new.live s c.plan_additions.new.arrangement c.new-plan.result c.plan_additions.new.plan c.deref.result.now) c.in_ok-arrangement.ensures c.in_ok-ids.ensures.planned) in
+    let spare : length c.args.batch.now ≤ c.reserve.new.self.spare = (let n : c.len.result ≡ length c.args.batch.now = c.len.ensures.count in let e : c.len.result ≤ c.reserve.new.self.spare = c.in_ok-reserve.ensures.enough in omega arith) in
+    managed_held i.mode i.rules c.reserve.new.self i.live c.plan_additions.new.live i.arrangement c.plan_additions.new.arrangement c.args.batch.now held
+    (plan_made i.mode i.rules i.live c.plan_additions.new.live i.arrangement c.plan_additions.new.arrangement c.args.batch.now parts.rewrites.items parts.erased.items c.new-plan.result c.plan_additions.new.plan c.plan_changes.new.plan.writes.items c.counts-counts.result
+    t.managed record { change = t.change; rewrites_are = c.in_ok-parts.ensures.rewrites; erased_are = c.in_ok-parts.ensures.erased }
+    c.plan_additions.ensures.slots c.in_ok-ids.ensures.plannable.settled since c.new-plan.ensures.writes c.new-plan.ensures.most c.new-plan.ensures.span c.in-Ok.ensures.in_use c.in-Ok.ensures.writes
+    c.counts-counts.ensures.writes c.counts-counts.ensures.words (c.counts-counts.ensures.most ∙ c.in-Ok.ensures.most) (c.counts-counts.ensures.span ∙ c.in-Ok.ensures.span))
+    c.reserve.ensures.rules spare refl c.in_ok-copy.ensures (c.erase_all.ensures ∙ ap (erased_slots c.plan_additions.new.arrangement) c.deref-2.ensures.value)
 
 pub returns-clause-ready : goal.returns-clause-ready
 returns-clause-ready g c =
     let i = c.self.inside in
+    let parts = c.in_ok-parts.parts in
     let none = no_held i.rules.rules i.held (rw (← c.self.view_is) at c.requires.idle) in
     let t = taking i.mode i.rules i.live i.arrangement i.held c.args.batch.now c.self.invariant
     none c.requires.changes (rw (← c.self.view_is) at c.requires.sound) (rw (← c.self.view_is) at c.requires.fits) in
-    let held : Held = record { writes = c.plan_additions.new.plan.writes; made = 0; counts = c.counts-counts.result; added = c.in_ok-added.added; arrangement = c.plan_additions.new.arrangement } in
-    let sorted : c.in_ok-sorted.sorted.rules ≡ fold with_rule [] (additions c.args.batch.now) = c.in_ok-sorted.ensures ∙ ap (fold with_rule []) (c.as_slice.ensures.value ∙ c.in_ok-added.ensures) in
-    let since : ArePlannedSince i.live c.plan_additions.new.live i.arrangement c.plan_additions.new.arrangement c.new-plan.result c.plan_additions.new.plan (map route_piece (fold with_rule [] (additions c.args.batch.now))) =
-    subst (λ (r : List Rule). ArePlannedSince i.live c.plan_additions.new.live i.arrangement c.plan_additions.new.arrangement c.new-plan.result c.plan_additions.new.plan (map route_piece r)) sorted
-    (subst (λ (s : Slots). ArePlannedSince i.live c.plan_additions.new.live s c.plan_additions.new.arrangement c.new-plan.result c.plan_additions.new.plan (map route_piece c.in_ok-sorted.sorted.rules)) c.in_ok-arrangement.ensures c.in_ok-ids.ensures.planned) in
+    let held : Held = record { writes = c.plan_changes.new.plan.writes; made = 0; counts = c.counts-counts.result; batch = c.in_ok-copy.copy; rewrites = parts.rewrites; erased = parts.erased; arrangement = c.erase_all.new.arrangement } in
+    let since : ArePlannedSince i.live c.plan_additions.new.live i.arrangement c.plan_additions.new.arrangement c.new-plan.result c.plan_additions.new.plan (inserted_pieces Cover no_bits i.rules.rules c.args.batch.now) =
+    subst (λ (pieces : List RankedPiece). ArePlannedSince i.live c.plan_additions.new.live i.arrangement c.plan_additions.new.arrangement c.new-plan.result c.plan_additions.new.plan pieces) (c.deref.ensures.value ∙ c.in_ok-parts.ensures.inserted)
+    (subst (λ (s : Slots). ArePlannedSince i.live c.plan_additions.new.live s c.plan_additions.new.arrangement c.new-plan.result c.plan_additions.new.plan c.deref.result.now) c.in_ok-arrangement.ensures c.in_ok-ids.ensures.planned) in
     let view : view_of i.mode i.rules i.live i.arrangement i.held ≡ c.args.self.now = c.self.view_is in
     let new = view_of i.mode c.reserve.new.self c.plan_additions.new.live i.arrangement (Some held) in
     let holds : Holds (view_of i.mode i.rules i.live i.arrangement None) c.args.batch.now c.ready.result new =
-    holds_plan i.mode i.rules c.reserve.new.self i.live c.plan_additions.new.live i.arrangement c.args.batch.now held c.ready.result
-    (plan_made i.mode i.rules i.live c.plan_additions.new.live i.arrangement c.plan_additions.new.arrangement c.args.batch.now c.new-plan.result c.plan_additions.new.plan c.counts-counts.result
-    t.managed c.requires.changes t.sound c.plan_additions.ensures.slots c.in_ok-ids.ensures.plannable since c.new-plan.ensures.writes c.new-plan.ensures.most c.new-plan.ensures.span
-    c.counts-counts.ensures.writes c.counts-counts.ensures.words c.counts-counts.ensures.most c.counts-counts.ensures.span)
-    c.reserve.ensures.rules refl c.in_ok-added.ensures c.ready.ensures in
+    holds_plan i.mode i.rules c.reserve.new.self i.live c.plan_additions.new.live i.arrangement c.plan_additions.new.arrangement c.args.batch.now held c.ready.result
+    (plan_made i.mode i.rules i.live c.plan_additions.new.live i.arrangement c.plan_additions.new.arrangement c.args.batch.now parts.rewrites.items parts.erased.items c.new-plan.result c.plan_additions.new.plan c.plan_changes.new.plan.writes.items c.counts-counts.result
+    t.managed record { change = t.change; rewrites_are = c.in_ok-parts.ensures.rewrites; erased_are = c.in_ok-parts.ensures.erased }
+    c.plan_additions.ensures.slots c.in_ok-ids.ensures.plannable.settled since c.new-plan.ensures.writes c.new-plan.ensures.most c.new-plan.ensures.span c.in-Ok.ensures.in_use c.in-Ok.ensures.writes
+    c.counts-counts.ensures.writes c.counts-counts.ensures.words (c.counts-counts.ensures.most ∙ c.in-Ok.ensures.most) (c.counts-counts.ensures.span ∙ c.in-Ok.ensures.span))
+    c.reserve.ensures.rules refl c.in_ok-copy.ensures c.ready.ensures in
     subst (λ (old : Managed). Holds old c.args.batch.now c.ready.result new) view
     (subst (λ (h : Option Held). Holds (view_of i.mode i.rules i.live i.arrangement h) c.args.batch.now c.ready.result new) (sym none) holds)

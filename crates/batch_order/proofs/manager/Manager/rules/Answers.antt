@@ -6,7 +6,7 @@ use Rattle.batch_order.specs.declared.manager.Held.{Held}
 use Rattle.batch_order.specs.Kept.{IsManaged}
 use Rattle.batch_order.specs.Managed.{Managed}
 use Rattle.batch_order.proofs.Carried.{view_of}
-use Rattle.batch_order.proofs.Taken.{idle_answers, held_answers}
+use Rattle.batch_order.proofs.Answered.{idle_answers, held_answers}
 use Rattle.batch_order.proofs.manager.Manager.rules.Goals as goal
 
 pub returns-clause-answers : goal.returns-clause-answers

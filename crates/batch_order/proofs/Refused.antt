@@ -1,0 +1,54 @@
+-- A batch that isn't taken after all: the manager is as it was.
+use Rattle.std.proofs.Common.{◌≡◌, ℕ, ◌+◌, ◌-◌, List, length, map, take, drop, None, sym, ap, ap₂, subst, ◌∙◌, arith}
+use Rattle.std.specs.List.{AllByRecursion}
+use Rattle.std.proofs.lemmas.List.{length-append, length-map, take_at, drop_at}
+use Rattle.slot_pool.specs.Arrangement.{Slots}
+use Rattle.rule_model.specs.declared.Rule.{Rule}
+use Rattle.rule_model.specs.RuleSet.{IsRuleSet}
+use Rattle.rule_model.specs.Rule.{HasConditions}
+use Rattle.rule_store.specs.declared.Mode.{Mode}
+use Rattle.rule_store.specs.Store.{StoredRules}
+use Rattle.overlap_index.specs.declared.LivePiece.{LivePiece}
+use Rattle.tcam_device.specs.State.{State}
+use Rattle.commit_writes.specs.Bits.{no_bits}
+use Rattle.commit_writes.specs.Planned.{plain_state}
+use Rattle.batch_order.specs.Entries.{Entries, AddsIds, AreLast, KeepEntries}
+use Rattle.batch_order.specs.Kept.{IsManaged, IsArranged}
+use Rattle.batch_order.proofs.Entered.{contents_kept}
+use Rattle.batch_order.proofs.Carried.{view_of}
+use Rattle.batch_order.proofs.Unchanged.{arranged_same, settled_live}
+
+-- the ids that became live are the last ones
+pub adds_last : (old new : Entries) (ids : List ℕ) → AddsIds old new ids → AreLast new.live ids
+adds_last old new ids adds =
+    let number : length adds.made ≡ length ids = sym (length-map adds.made (λ (one : LivePiece). one.id)) ∙ ap length adds.ids_are in
+    let total : length new.live ≡ length old.live + length adds.made = ap length adds.live ∙ length-append old.live adds.made in
+    let before : length new.live - length ids ≡ length old.live = omega arith in
+    let last : drop (length new.live - length ids) new.live ≡ adds.made =
+    ap (drop (length new.live - length ids)) adds.live ∙ drop_at old.live adds.made (length new.live - length ids) (sym before) in
+    (omega arith, ap (map (λ (one : LivePiece). one.id)) last ∙ adds.ids_are)
+
+-- and the others are those from before
+pub adds_first : (old new : Entries) (ids : List ℕ) → AddsIds old new ids → take (length new.live - length ids) new.live ≡ old.live
+adds_first old new ids adds =
+    let number : length adds.made ≡ length ids = sym (length-map adds.made (λ (one : LivePiece). one.id)) ∙ ap length adds.ids_are in
+    let total : length new.live ≡ length old.live + length adds.made = ap length adds.live ∙ length-append old.live adds.made in
+    let before : length new.live - length ids ≡ length old.live = omega arith in
+    ap (take (length new.live - length ids)) adds.live ∙ take_at old.live adds.made (length new.live - length ids) (sym before)
+
+-- a manager whose batch wasn't taken after all
+pub managed_same : (mode : Mode) (rules rules' : StoredRules) (old new : Entries) (slots : Slots) → IsManaged mode rules old slots None → rules'.rules ≡ rules.rules
+    → new.live ≡ old.live → new.slots ≡ old.slots → KeepEntries old.live old.entries new.entries → IsManaged mode rules' new slots None
+managed_same mode rules rules' old new slots managed same live size kept = record {
+  cover = managed.cover;
+  right = subst (AllByRecursion HasConditions) (sym same) managed.right;
+  is_set = subst IsRuleSet (sym same) managed.is_set;
+  carried = subst (λ (set : List Rule). IsArranged set new slots) (sym same) (arranged_same rules.rules old new slots managed.carried live size kept);
+}
+
+-- and it looks the same
+pub view_same : (mode : Mode) (rules rules' : StoredRules) (old new : Entries) (slots : Slots) → IsManaged mode rules old slots None → rules'.rules ≡ rules.rules
+    → KeepEntries old.live old.entries new.entries → view_of mode rules' new slots None ≡ view_of mode rules old slots None
+view_same mode rules rules' old new slots managed same kept =
+    ap₂ (λ (r : List Rule) (e : State). record { slots = length slots; mode = mode; rules = r; bits = no_bits; state = e; held = None }) same
+    (ap plain_state (contents_kept old.live old.entries new.entries slots kept (settled_live old slots managed.carried.settled)))
