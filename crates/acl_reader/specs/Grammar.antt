@@ -5,10 +5,10 @@ use Rattle.rule_model.specs.Rank.{list_rank}
 use Rattle.line_words.specs.declared.WordFault.{WordFault}
 use Rattle.line_words.specs.declared.WordFault.TheVariants.{UnknownCommand, WordCount}
 use Rattle.line_words.specs.Words.{◌>>=◌}
-use Rattle.line_words.specs.Kinds.{Notation, sequence_of, action_of, side_of, proto_choice, ports_of, key_of}
+use Rattle.line_words.specs.Kinds.{Notation, sequence_of, action_of, side_of, proto_choice, ports_of}
 use Rattle.line_words.specs.Commands.{common_command, line_of}
 use Rattle.acl_reader.specs.declared.AclCommand.{AclCommand}
-use Rattle.acl_reader.specs.declared.AclCommand.TheVariants.{Add, Set, Del, Probe, Packet, Commit}
+use Rattle.acl_reader.specs.declared.AclCommand.TheVariants.{Add, Set, Del, Packet, Commit}
 
 -- acl add SEQ ACTION SIDE SIDE PROTOSPEC PORTSPEC PORTSPEC
 abbrev pub addition : Notation → List (List ℕ) → Result AclCommand WordFault
@@ -55,18 +55,12 @@ acl_words notation (verb ∷ rest) =
     else if bytes_eq verb (codes "del") then removal rest
     else Err UnknownCommand
 
--- a probe, or one of the commands that both kinds of script have
-abbrev pub other_command : Notation → List ℕ → List (List ℕ) → Result AclCommand WordFault
-other_command notation first rest =
-    if bytes_eq first (codes "probe") then (key_of notation rest >>= λ key. Ok (Probe key))
-    else common_command notation Packet Commit first rest
-
 -- the command that the words of a line are
 abbrev pub acl_command : Notation → List (List ℕ) → Result AclCommand WordFault
 acl_command notation [] = Err UnknownCommand
 acl_command notation (first ∷ rest) =
     if bytes_eq first (codes "acl") then acl_words notation rest
-    else other_command notation first rest
+    else common_command notation Packet Commit first rest
 
 -- A line of an access-list script: nothing, a command, or a fault.
 abbrev pub acl_line : Notation → List ℕ → Result (Option AclCommand) WordFault

@@ -3,7 +3,6 @@
 //!     acl add SEQ ACTION SIDE SIDE PROTOSPEC PORTSPEC PORTSPEC
 //!     acl set SEQ ACTION
 //!     acl del SEQ
-//!     probe KEY
 //!     packet KEY
 //!     frame HEX
 //!     commit
@@ -18,11 +17,11 @@
 ghost use Rattle.std.specs.Prelude.{◌≡◌, ◌≤◌, ◌∷◌, length, take};
 ghost use Rattle.line_words.specs.Commands.{common_command};
 ghost use Rattle.line_words.specs.Kinds.{ipv4_notation};
-ghost use Rattle.acl_reader.specs.Grammar.{acl_command, acl_line, acl_words, addition, change, other_command, removal};
+ghost use Rattle.acl_reader.specs.Grammar.{acl_command, acl_line, acl_words, addition, change, removal};
 
 use line_words::{
-    CommonCommand, WordFault, Words, action_of, command_words, common_command, ipv4_side, key_of,
-    ports_of, protocol_choice, sequence_of,
+    CommonCommand, WordFault, Words, action_of, command_words, common_command, ipv4_side, ports_of,
+    protocol_choice, sequence_of,
 };
 use rule_model::{Key, Rule, list_rank};
 use script_lines::{LINE_BYTES, Line};
@@ -36,8 +35,6 @@ pub enum AclCommand {
     Set(u32, u32),
     /// Removes the rule of this sequence number.
     Del(u32),
-    /// Has the answer of a packet asked for after each later write.
-    Probe(Key),
     /// Asks for the answer of a packet.
     Packet(Key),
     /// Carries out the pending batch.
@@ -66,21 +63,11 @@ fn command_of(first: &[u8], rest: Words<'_>) -> Result<AclCommand, WordFault>
 {
     match first {
         b"acl" => acl_words(rest),
-        _ => other_command(first, rest),
-    }
-}
-
-/// A probe, or one of the commands that both kinds of script have.
-fn other_command(first: &[u8], rest: Words<'_>) -> Result<AclCommand, WordFault>
-    ensures { result ≡ other_command ipv4_notation first.now rest.entry }
-{
-    match first {
-        b"probe" => Ok(AclCommand::Probe(key_of(rest)?)),
         _ => packet_or_commit(first, rest),
     }
 }
 
-/// The command of a line that begins with a word of both kinds of script.
+/// The command of a line that begins with none of the words of access lists.
 fn packet_or_commit(first: &[u8], rest: Words<'_>) -> Result<AclCommand, WordFault>
     ensures { result ≡ common_command ipv4_notation AclCommand.Packet AclCommand.Commit first.now rest.entry }
 {
@@ -227,14 +214,10 @@ mod tests {
 
     #[test]
     fn other_commands(rt: HostRuntime) {
-        let table: [(&[u8], Option<AclCommand>); 8] = [
+        let table: [(&[u8], Option<AclCommand>); 7] = [
             (b"acl set 100 deny", Some(AclCommand::Set(100, 0))),
             (b"acl set 100 permit", Some(AclCommand::Set(100, 1))),
             (b"acl del 7", Some(AclCommand::Del(7))),
-            (
-                b"probe 10.1.2.3 10.1.2.4 tcp 1234 80",
-                Some(AclCommand::Probe(web_key())),
-            ),
             (
                 b"packet 10.1.2.3 10.1.2.4 6 1234 80",
                 Some(AclCommand::Packet(web_key())),
@@ -290,8 +273,8 @@ mod tests {
             (b"acl", WordFault::UnknownCommand),
             (b"acl Add", WordFault::UnknownCommand),
             (b"route add 10.0.0.0/8 7", WordFault::UnknownCommand),
-            (b"probe 10.1.2.3 10.1.2 6 0 80", WordFault::BadAddress),
-            (b"probe 10.1.2.3 10.1.2.4 6 0", WordFault::WordCount),
+            (b"packet 10.1.2.3 10.1.2 6 0 80", WordFault::BadAddress),
+            (b"packet 10.1.2.3 10.1.2.4 6 0", WordFault::WordCount),
             (b"frame 4g", WordFault::BadHex),
             (b"frame 65", WordFault::Frame(FrameFault::Version)),
             (b"commit 1", WordFault::WordCount),

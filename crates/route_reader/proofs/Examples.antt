@@ -8,7 +8,7 @@ use Rattle.line_words.specs.declared.WordFault.{WordFault}
 use Rattle.line_words.specs.declared.WordFault.TheVariants.{UnknownCommand, WordCount, BadPrefix, HostBits, BadResult, BadPorts, BadHex, Frame}
 use Rattle.line_words.specs.Kinds.{ipv4_notation}
 use Rattle.route_reader.specs.declared.RouteCommand.{RouteCommand}
-use Rattle.route_reader.specs.declared.RouteCommand.TheVariants.{Add, Packet, Commit}
+use Rattle.route_reader.specs.declared.RouteCommand.TheVariants.{Add, Set, Del, Packet, Commit}
 use Rattle.route_reader.specs.Grammar.{route_line}
 
 abbrev read : List ℕ → Result (Option RouteCommand) WordFault
@@ -44,8 +44,17 @@ bad-result = refl
 other-family : read (codes "acl del 7") ≡ Err UnknownCommand
 other-family = refl
 
-not-yet : read (codes "route del 10.0.0.0/8") ≡ Err UnknownCommand
-not-yet = refl
+set : read (codes "route set 10.0.0.0/8 9") ≡ Ok (Some (Set (ipv4_block 0x0a000000 8) 9))
+set = refl
+
+del : read (codes "route del 10.0.0.0/8") ≡ Ok (Some (Del (ipv4_block 0x0a000000 8)))
+del = refl
+
+del-count : read (codes "route del 10.0.0.1/8 7") ≡ Err WordCount
+del-count = refl
+
+other-verb : read (codes "route delete 10.0.0.0/8") ≡ Err UnknownCommand
+other-verb = refl
 
 lone : read (codes "route") ≡ Err UnknownCommand
 lone = refl

@@ -7,7 +7,7 @@ use Rattle.line_words.specs.Words.{◌>>=◌}
 use Rattle.line_words.specs.Kinds.{Notation, result_of}
 use Rattle.line_words.specs.Commands.{common_command, line_of}
 use Rattle.route_reader.specs.declared.RouteCommand.{RouteCommand}
-use Rattle.route_reader.specs.declared.RouteCommand.TheVariants.{Add, Packet, Commit}
+use Rattle.route_reader.specs.declared.RouteCommand.TheVariants.{Add, Set, Del, Packet, Commit}
 
 -- route add PREFIX RESULT
 abbrev pub addition : Notation → List (List ℕ) → Result RouteCommand WordFault
@@ -17,11 +17,26 @@ addition notation (prefix ∷ answer ∷ []) = do
   Ok (Add block number)
 addition notation words = Err WordCount
 
+-- route set PREFIX RESULT
+abbrev pub change : Notation → List (List ℕ) → Result RouteCommand WordFault
+change notation (prefix ∷ answer ∷ []) = do
+  block ← notation.block prefix
+  number ← result_of answer
+  Ok (Set block number)
+change notation words = Err WordCount
+
+-- route del PREFIX
+abbrev pub removal : Notation → List (List ℕ) → Result RouteCommand WordFault
+removal notation (prefix ∷ []) = notation.block prefix >>= λ block. Ok (Del block)
+removal notation words = Err WordCount
+
 -- what follows the word route
 abbrev pub route_words : Notation → List (List ℕ) → Result RouteCommand WordFault
 route_words notation [] = Err UnknownCommand
 route_words notation (verb ∷ rest) =
     if bytes_eq verb (codes "add") then addition notation rest
+    else if bytes_eq verb (codes "set") then change notation rest
+    else if bytes_eq verb (codes "del") then removal notation rest
     else Err UnknownCommand
 
 -- the command that the words of a line are

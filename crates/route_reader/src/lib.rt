@@ -1,6 +1,8 @@
 //! The commands of a route script.
 //!
 //!     route add PREFIX RESULT
+//!     route set PREFIX RESULT
+//!     route del PREFIX
 //!     packet KEY
 //!     frame HEX
 //!     commit
@@ -14,7 +16,7 @@
 ghost use Rattle.std.specs.Prelude.{◌≡◌, ◌≤◌, ◌∷◌, length, take};
 ghost use Rattle.line_words.specs.Commands.{common_command};
 ghost use Rattle.line_words.specs.Kinds.{ipv4_notation};
-ghost use Rattle.route_reader.specs.Grammar.{addition, route_command, route_line, route_words};
+ghost use Rattle.route_reader.specs.Grammar.{addition, change, removal, route_command, route_line, route_words};
 
 use line_words::{
     CommonCommand, WordFault, Words, command_words, common_command, ipv4_prefix, result_of,
@@ -27,6 +29,10 @@ use script_lines::{LINE_BYTES, Line};
 pub enum RouteCommand {
     /// Adds a route with its result.
     Add(Prefix, u32),
+    /// Gives a route that stands this result.
+    Set(Prefix, u32),
+    /// Removes a route.
+    Del(Prefix),
     /// Asks for the answer of a packet.
     Packet(Key),
     /// Carries out the pending batch.
@@ -76,6 +82,8 @@ fn route_words(mut words: Words<'_>) -> Result<RouteCommand, WordFault>
     let verb = words.next().ok_or(WordFault::UnknownCommand)?;
     match verb {
         b"add" => addition(words),
+        b"set" => change(words),
+        b"del" => removal(words),
         _ => Err(WordFault::UnknownCommand),
     }
 }
@@ -88,6 +96,25 @@ fn addition(mut words: Words<'_>) -> Result<RouteCommand, WordFault>
     let answer = words.required()?;
     words.end()?;
     Ok(RouteCommand::Add(ipv4_prefix(prefix)?, result_of(answer)?))
+}
+
+/// The change of a route's result, from its two words.
+fn change(mut words: Words<'_>) -> Result<RouteCommand, WordFault>
+    ensures { result ≡ change ipv4_notation words.entry }
+{
+    let prefix = words.required()?;
+    let answer = words.required()?;
+    words.end()?;
+    Ok(RouteCommand::Set(ipv4_prefix(prefix)?, result_of(answer)?))
+}
+
+/// The removal of a route, from its one word.
+fn removal(mut words: Words<'_>) -> Result<RouteCommand, WordFault>
+    ensures { result ≡ removal ipv4_notation words.entry }
+{
+    let prefix = words.required()?;
+    words.end()?;
+    Ok(RouteCommand::Del(ipv4_prefix(prefix)?))
 }
 
 #[cfg(test)]
@@ -126,7 +153,7 @@ mod tests {
     fn lines_and_their_commands(rt: HostRuntime) -> Result<(), Fail> {
         let ten = Prefix::v4(0x0a00_0000, 8)?;
         let host = Prefix::v4(0xffff_ffff, 32)?;
-        let table: [(&[u8], Result<Option<RouteCommand>, WordFault>); 42] = [
+        let table: [(&[u8], Result<Option<RouteCommand>, WordFault>); 56] = [
             (
                 b"route add 10.0.0.0/8 7",
                 Ok(Some(RouteCommand::Add(ten, 7))),
@@ -142,6 +169,19 @@ mod tests {
             (
                 b"route add 0.0.0.0/0 0",
                 Ok(Some(RouteCommand::Add(Prefix::any(), 0))),
+            ),
+            (
+                b"route set 10.0.0.0/8 7",
+                Ok(Some(RouteCommand::Set(ten, 7))),
+            ),
+            (
+                b"route\tset 255.255.255.255/32  4294967295",
+                Ok(Some(RouteCommand::Set(host, 4294967295))),
+            ),
+            (b"route del 10.0.0.0/8", Ok(Some(RouteCommand::Del(ten)))),
+            (
+                b"  route del 0.0.0.0/0 \r",
+                Ok(Some(RouteCommand::Del(Prefix::any()))),
             ),
             (
                 b"packet 10.1.2.3 10.1.2.4 tcp 1234 80",
@@ -161,12 +201,17 @@ mod tests {
             (b"# route add", Ok(None)),
             (b"  #commit", Ok(None)),
             (b"route", Err(WordFault::UnknownCommand)),
-            (b"route del 10.0.0.0/8", Err(WordFault::UnknownCommand)),
+            (b"route Del 10.0.0.0/8", Err(WordFault::UnknownCommand)),
+            (b"route sets 10.0.0.0/8 7", Err(WordFault::UnknownCommand)),
             (b"acl del 7", Err(WordFault::UnknownCommand)),
             (b"Commit", Err(WordFault::UnknownCommand)),
             (b"commits", Err(WordFault::UnknownCommand)),
             (b"route add 10.0.0.0/8", Err(WordFault::WordCount)),
             (b"route add 10.0.0.1/8 x 7", Err(WordFault::WordCount)),
+            (b"route set 10.0.0.0/8", Err(WordFault::WordCount)),
+            (b"route set 10.0.0.1/8 7 8", Err(WordFault::WordCount)),
+            (b"route del", Err(WordFault::WordCount)),
+            (b"route del 10.0.0.1/8 7", Err(WordFault::WordCount)),
             (
                 b"packet 10.1.2.3 10.1.2.4 tcp 1234",
                 Err(WordFault::WordCount),
@@ -180,14 +225,19 @@ mod tests {
             (b"route add 10.0.0.0.0/8 7", Err(WordFault::BadPrefix)),
             (b"route add 10.0.0.256/8 7", Err(WordFault::BadPrefix)),
             (b"route add 10.0.0.0/8/8 7", Err(WordFault::BadPrefix)),
+            (b"route set 10.0.0.0/33 x", Err(WordFault::BadPrefix)),
+            (b"route del 10.0.0.0", Err(WordFault::BadPrefix)),
             (b"route add 10.0.0.1/8 7", Err(WordFault::HostBits)),
             (b"route add 10.0.0.1/8 x", Err(WordFault::HostBits)),
+            (b"route set 10.0.0.1/8 x", Err(WordFault::HostBits)),
+            (b"route del 10.0.0.1/8", Err(WordFault::HostBits)),
             (
                 b"route add 10.0.0.0/8 4294967296",
                 Err(WordFault::BadResult),
             ),
             (b"route add 10.0.0.0/8 00", Err(WordFault::BadResult)),
             (b"route add 10.0.0.0/8 +7", Err(WordFault::BadResult)),
+            (b"route set 10.0.0.0/8 07", Err(WordFault::BadResult)),
             (
                 b"packet 10.1.2.3 10.1.2 tcp 1234 80",
                 Err(WordFault::BadAddress),
