@@ -1,11 +1,11 @@
 -- Lines of reports and the ends of scripts, by computation.
-use Rattle.std.proofs.Common.{◌≡◌, [], ◌∷◌, ◌++◌, Ok, Some, None, refl}
+use Rattle.std.proofs.Common.{◌≡◌, [], ◌∷◌, ◌++◌, Ok, Some, refl}
 use Rattle.std.specs.Prelude.{codes}
 use Rattle.std.specs.Fmt.{digits}
 use Rattle.rule_model.specs.AddressBlock.{ipv4_block}
 use Rattle.rule_model.specs.Rank.{ipv4_route_rank, list_rank}
 use Rattle.rule_model.specs.declared.Field.TheVariants.{Dst}
-use Rattle.rule_store.specs.declared.BatchFault.TheVariants.{Twice}
+use Rattle.rule_store.specs.declared.BatchFault.TheVariants.{Twice, Absent}
 use Rattle.rule_store.specs.Verdict.{Unsound, OutOfBits, OutOfSlots}
 use Rattle.replay.specs.declared.Family.TheVariants.{Route, Acl}
 use Rattle.replay.specs.declared.Act.TheVariants.{Commit}
@@ -27,6 +27,10 @@ accepted = refl
 twice : refused_line Acl 3 (Unsound (Twice (list_rank 100))) ≡ codes "commit 3 refused twice 100" ++ 10 ∷ []
 unfolding digits
 twice = refl
+
+absent : refused_line Route 2 (Unsound (Absent (ipv4_route_rank (ipv4_block 0x0a000000 8)))) ≡ codes "commit 2 refused absent 10.0.0.0/8" ++ 10 ∷ []
+unfolding digits
+absent = refl
 
 bits : refused_line Acl 1 (OutOfBits Dst 17 16) ≡ codes "commit 1 refused bits dst 17 16" ++ 10 ∷ []
 unfolding digits

@@ -79,7 +79,7 @@ pub made-run_held : (inside run : Running) (done : Done) (now : Managed) (journa
 made-run_held inside run done now journal_old journal_new same is holds all =
     let is_run = subst IsRun same is in
     subst IsRun (sym (made-manager inside run done now journal_old journal_new same holds all).0)
-    (made-run run holds.0 is_run holds.1 run.pending run.commits run.writes is_run.adds is_run.few)
+    (made-run run holds.0 is_run holds.1 run.pending run.commits run.writes is_run.changes is_run.few)
 
 -- the run after a commit whose writes are made and counted
 pub after-writes : (inside run counted : Running) (done : Done) (now : Managed) (journal_old journal_new : Option (List Write)) → inside ≡ run

@@ -1,7 +1,7 @@
 pub mod Lines
 pub mod Refusals
 pub mod Effects
-pub mod Routes
+pub mod RouteSets
 pub mod Runs
 pub mod Acts
 pub mod Making

@@ -1,5 +1,5 @@
 -- What a run is between two calls, and after an accepted commit.
-use Rattle.std.proofs.Common.{◌≡◌, ℕ, ◌+◌, ◌-◌, ◌*◌, ◌^◌, ◌≤◌, length, List, [], ◌∷◌, ◌++◌, Some, None, refl, sym, ap, ◌∙◌, subst, arith}
+use Rattle.std.proofs.Common.{◌≡◌, ℕ, ◌+◌, ◌-◌, ◌*◌, ◌^◌, ◌≤◌, length, List, [], ◌∷◌, ◌++◌, Some, None, Result, Ok, Err, OnOk, OnErr, refl, sym, ap, ◌∙◌, subst, arith}
 use Rattle.std.specs.List.{AllByRecursion}
 use Rattle.rule_model.specs.declared.Rule.{Rule}
 use Rattle.rule_model.specs.Routes.{IsIpv4Route}
@@ -11,33 +11,44 @@ use Rattle.tcam_device.specs.State.{State, Shows, IsInUse, blank, state_after, o
 use Rattle.tcam_device.specs.Insertion.{Insertion, IsUncrossed}
 use Rattle.commit_writes.specs.Bits.{FieldBits, bits_with, bits_left}
 use Rattle.batch_order.specs.declared.Ready.{Ready}
-use Rattle.batch_order.specs.Managed.{HeldCommit, Holds, OnlyAddsRoutes}
-use Rattle.replay.specs.declared.Family.TheVariants.{Route}
-use Rattle.replay.specs.Run.{Progress, Effect, Prints, Commits, OfFamily, writes_of, after_segment}
+use Rattle.batch_order.specs.Managed.{HeldCommit, Holds, OnlyChangesRoutes}
+use Rattle.replay.specs.declared.Family.{Family}
+use Rattle.replay.specs.declared.Family.TheVariants.{Route, Acl}
+use Rattle.replay.specs.Run.{Progress, Effect, Prints, Commits, OfFamily, IsChangeOf, writes_of, after_segment}
 use Rattle.replay.specs.Text.{accepted_line}
 use Rattle.replay.specs.Running.{Running, IsRun, setting_of, progress_of, begun}
+use Rattle.replay.proofs.RouteSets.{routes_after, changes_more}
 use Rattle.tcam_device.proofs.Wider.{slots-after, state_after-on_device, Shows-padded, blank_shows}
-use Rattle.replay.proofs.Routes.{routes-after}
 use Rattle.std.proofs.lemmas.List.{length-replicate}
 
 -- a run before its first act
-pub begun-run : (slots : ℕ) (mode : Mode) → IsRun (begun slots mode Route)
-begun-run slots mode = record {
-  adds = tt;
-  routes = tt;
-  route = refl;
+pub begun-run : (slots : ℕ) (mode : Mode) (family : Family) → IsRun (begun slots mode family)
+begun-run slots mode family = record {
+  changes = λ route. tt;
+  routes = λ route. tt;
   size = length-replicate slots None;
   few = omega arith;
   shows = λ idle device_slots within. Shows-padded (device_slots - length (blank slots).slots) (blank slots) [] (blank_shows slots);
 }
 
+-- a change joined the pending batch, or it stayed as it was
+pub pushed-run : {E : Type 0} (result : Result (Unit {0}) E) (run : Running) (change : Change) (pending : List Change) → IsRun run → IsChangeOf run.family change
+    → OnOk result (pending ≡ run.pending ++ change ∷ []) → OnErr result (pending ≡ run.pending) → IsRun (record run { pending = pending })
+pushed-run (Ok done) run change pending is change_is pushed same = subst (λ batch. IsRun (record run { pending = batch })) (sym pushed) (record {
+  changes = changes_more run.family run.pending change is.changes change_is;
+  routes = is.routes;
+  size = is.size;
+  few = is.few;
+  shows = is.shows;
+})
+pushed-run (Err fault) run change pending is change_is pushed same = subst (λ batch. IsRun (record run { pending = batch })) (sym same) is
+
 -- while a commit is under way, after some of its writes
 pub held-run : (run : Running) (made : List Write) (held : HeldCommit) → IsRun run
     → IsRun (record run { manager = record run.manager { state = state_after run.manager.state made; held = Some held } })
 held-run run made held is = record {
-  adds = is.adds;
+  changes = is.changes;
   routes = is.routes;
-  route = is.route;
   size = slots-after run.manager.state made ∙ is.size;
   few = is.few;
   shows = λ idle. absurd (let none : Some held ≡ None = idle in cc);
@@ -64,12 +75,11 @@ module _ (run : Running) (ready : Ready) (is : IsRun run) (holds : Holds (record
       (subst (λ size. AllByRecursion (IsInUse size) holds.held.writes) (sym is.size) holds.in_use))
 
   -- the run once the writes are made
-  pub made-run : (pending : List Change) (commits writes : ℕ) → OnlyAddsRoutes pending → writes ≤ commits * 2 ^ 40
+  pub made-run : (pending : List Change) (commits writes : ℕ) → (run.family ≡ Route → OnlyChangesRoutes pending) → writes ≤ commits * 2 ^ 40
       → IsRun (record (run_after run holds.held) { pending = pending; commits = commits; writes = writes })
-  made-run pending commits writes adds few = record {
-    adds = adds;
-    routes = subst (AllByRecursion IsIpv4Route) (sym holds.rules) (routes-after run.manager.rules run.pending is.adds is.routes);
-    route = is.route;
+  made-run pending commits writes changes few = record {
+    changes = changes;
+    routes = λ route. subst (AllByRecursion IsIpv4Route) (sym holds.rules) (routes_after run.manager.rules run.pending (is.routes route) (is.changes route));
     size = slots-after run.manager.state holds.held.writes ∙ is.size;
     few = few;
     shows = λ idle slots within.
@@ -82,7 +92,7 @@ module _ (run : Running) (ready : Ready) (is : IsRun run) (holds : Holds (record
       let few = is.few in
       let more = holds.few in
       let same = (holds.numbers run.manager.slots (omega arith)).writes in
-      made-run [] (run.commits + 1) (run.writes + holds.held.counts.writes) tt (omega arith)
+      made-run [] (run.commits + 1) (run.writes + holds.held.counts.writes) (λ route. tt) (omega arith)
 
   after-progress : (slots : ℕ) → run.manager.slots ≤ slots
       → progress_of slots (run_after run holds.held) ≡ after_segment (setting_of run) (progress_of slots run) holds.held.writes
@@ -105,9 +115,13 @@ module _ (run : Running) (ready : Ready) (is : IsRun run) (holds : Holds (record
       ∙ ap (λ count. at (set_after run.manager.rules run.pending) left (state_after (on_device slots run.manager.state) holds.held.writes) (run.writes + count)) (holds.numbers slots within).writes
 
   of-family : (slots : ℕ) → run.manager.slots ≤ slots → OfFamily run.family (on_device slots run.manager.state) holds.held.writes
-  of-family slots within =
-      let least = holds.uncrossed slots within is.routes is.adds in
-      subst (λ family. OfFamily family (on_device slots run.manager.state) holds.held.writes) (sym is.route) (wider _ least, least)
+  of-family slots within = go run.family refl
+    where
+      go : (family : Family) → run.family ≡ family → OfFamily family (on_device slots run.manager.state) holds.held.writes
+      go Route route =
+          let least = holds.uncrossed slots within (is.routes route) (is.changes route) in
+          (wider _ least, least)
+      go Acl other = tt
 
   -- the commit, as what it writes and prints
   pub commits-with : (slots : ℕ) → run.manager.slots ≤ slots → (effects : List Effect)

@@ -13,7 +13,7 @@ use Rattle.tcam_device.specs.Insertion.{insertions, IsUncrossed}
 use Rattle.commit_writes.specs.declared.Done.{Done}
 use Rattle.commit_writes.specs.Bits.{FieldBits, no_bits, bits_with, bits_left}
 use Rattle.commit_writes.specs.Commit.{AreCounts, IsSegment}
-use Rattle.commit_writes.specs.Planned.{AddsRoute}
+use Rattle.batch_order.specs.Managed.{OnlyChangesRoutes}
 use Rattle.replay.specs.declared.Family.{Family}
 use Rattle.replay.specs.declared.Family.TheVariants.{Route, Acl}
 use Rattle.replay.specs.declared.Act.{Act}
@@ -150,8 +150,13 @@ abbrev pub ending : Setting → Progress → List ℕ
 ending setting progress =
     end_line (length progress.rules) (entries_of setting.mode progress.rules) progress.writes (length progress.batch)
 
--- an act of a script of routes that only adds: the changes that a run takes until others come
-abbrev pub IsRouteAct : Act → Type 0
-IsRouteAct (Command change) = AddsRoute change
-IsRouteAct (Packet key) = Unit {0}
-IsRouteAct Commit = Unit {0}
+-- a change in a script of the family: a route that is added is one of IPv4, and an access list takes any rule
+abbrev pub IsChangeOf : Family → Change → Type 0
+IsChangeOf Route change = OnlyChangesRoutes (change ∷ [])
+IsChangeOf Acl change = Unit {0}
+
+-- an act of a script of the family
+abbrev pub IsActOf : Family → Act → Type 0
+IsActOf family (Command change) = IsChangeOf family change
+IsActOf family (Packet key) = Unit {0}
+IsActOf family Commit = Unit {0}

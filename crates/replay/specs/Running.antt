@@ -9,7 +9,7 @@ use Rattle.tcam_device.specs.declared.Write.{Write}
 use Rattle.tcam_device.specs.State.{Shows, state_after, on_device}
 use Rattle.commit_writes.specs.declared.Done.{Done}
 use Rattle.batch_order.specs.declared.Ready.{Ready}
-use Rattle.batch_order.specs.Managed.{Managed, HeldCommit, Holds, OnlyAddsRoutes, fresh}
+use Rattle.batch_order.specs.Managed.{Managed, HeldCommit, Holds, OnlyChangesRoutes, fresh}
 use Rattle.replay.specs.declared.Act.{Act}
 use Rattle.replay.specs.declared.Family.{Family}
 use Rattle.replay.specs.declared.Family.TheVariants.{Route}
@@ -52,11 +52,11 @@ abbrev pub ShowsRules : Managed → Type 0
 ShowsRules manager =
     manager.held ≡ None → (device_slots : ℕ) → manager.slots ≤ device_slots → Shows (on_device device_slots manager.state) manager.rules
 
--- A run between two calls: its rules are routes and so are the additions that are pending, and each commit made few writes.
+-- A run between two calls: each commit made few writes. In a script of routes the rules are routes, and the pending
+-- changes are changes of routes.
 pub record IsRun (run : Running) : Type 0 where
-  pub adds : OnlyAddsRoutes run.pending
-  pub routes : AllByRecursion IsIpv4Route run.manager.rules
-  pub route : run.family ≡ Route
+  pub changes : run.family ≡ Route → OnlyChangesRoutes run.pending
+  pub routes : run.family ≡ Route → AllByRecursion IsIpv4Route run.manager.rules
   pub size : length run.manager.state.slots ≡ run.manager.slots
   pub few : run.writes ≤ run.commits * 2 ^ 40
   pub shows : ShowsRules run.manager

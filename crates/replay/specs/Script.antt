@@ -1,5 +1,5 @@
 -- The acts of a script, and where it ends.
-use Rattle.std.specs.Prelude.{◌≡◌, ℕ, ◌+◌, ◌==◌, true, false, Result, Ok, Err, Option, Some, None, List, [], ◌∷◌, codes}
+use Rattle.std.specs.Prelude.{ℕ, ◌+◌, ◌==◌, true, false, Result, Ok, Err, Option, Some, None, List, [], ◌∷◌, codes}
 use Rattle.script_lines.specs.declared.LineFault.TheVariants.{Read, ScriptTooLong, TooLong, BadByte}
 use Rattle.script_lines.specs.Lines.{NumberedLine, LinesEnd, EndOfInput, Faulty, lines_of}
 use Rattle.replay.specs.declared.Act.{Act}
@@ -74,8 +74,3 @@ acts_from reading pending (line ∷ lines) last =
 -- The script that some bytes are.
 abbrev pub script_of : Reading → List ℕ → Script
 script_of reading bytes = acts_from reading 0 (lines_of bytes).lines (lines_of bytes).last
-
--- no act finds the batch full, with so many changes pending before them
-abbrev pub HaveRoom : ℕ → List Act → Type 0
-HaveRoom pending [] = Unit {0}
-HaveRoom pending (act ∷ acts) = (limit_fault act pending ≡ None) × HaveRoom (pending_after act pending) acts

@@ -4,9 +4,8 @@ ghost use Rattle.std.specs.Prelude.{◌≡◌, ◌≢◌, ◌+◌, ◌<◌, ◌�
 ghost use Rattle.std.specs.Io.KnownBytes.{Appends};
 ghost use Rattle.script_lines.specs.Cause.{Rose, HasCause};
 ghost use Rattle.rule_store.specs.Verdict.{Accepted};
-ghost use Rattle.commit_writes.specs.Planned.{AddsRoute};
 ghost use Rattle.replay.specs.Text.{verdict_told, refused_line};
-ghost use Rattle.replay.specs.Run.{IsRouteAct, ending};
+ghost use Rattle.replay.specs.Run.{IsActOf, IsChangeOf, ending};
 ghost use Rattle.replay.specs.Script.{limit_fault};
 ghost use Rattle.replay.specs.Carried.{IsAt, Carries, CutsAtLine, CutsAtWrite, Wants, AppendsPart};
 ghost use Rattle.replay.specs.Running.{Running, HoldsPending, CarriesRun, CutsRunAtLine, CutsRunAtWrite, MakesAll, MakesSome, begun, progress_of, setting_of, verdict_of};
@@ -44,12 +43,11 @@ impl Model for Run {
 
 impl Run {
     /// A run before its first act, over a blank device with so many slots in use, 1 to 4,096: no rules, and no change
-    /// pending. The mode is `Cover` and the family `Route` until the others come. It fails only for want of memory.
+    /// pending. The mode is `Cover` until range bits come. It fails only for want of memory.
     pub fn new(alloc: Global, slots: u32, mode: Mode, family: Family) -> Result<Run, AllocError>
         requires least { 1 ≤ slots }
         requires most { slots ≤ 4096 }
         requires cover { mode ≡ Mode.Cover }
-        requires route { family ≡ Family.Route }
         ensures { IfOk result (λ run. run ≡ begun slots mode family) }
     {
         Ok(Run {
@@ -62,9 +60,17 @@ impl Run {
         })
     }
 
-    /// Carries out an act of a script of routes, over a device with at least as many slots as the run uses. The
-    /// device is where the run stands: it was blank before the first act, and nobody else has written it since. The
-    /// run has made fewer than 4,194,304 commits.
+    /// The family of the run's scripts.
+    pub fn family(&self) -> Family
+        ensures { result ≡ self.now.family }
+    {
+        self.family
+    }
+
+    /// Carries out an act of a script of the run's family, over a device with at least as many slots as the run uses.
+    /// In a script of routes each rule that is added is one of an IPv4 prefix. The device is where the run stands: it
+    /// was blank before the first act, and nobody else has written it since. The run has made fewer than 4,194,304
+    /// commits.
     ///
     /// A change joins the pending batch. With 4,096 changes pending the answer is `BatchFull`, and nothing has
     /// changed. A packet is looked up in the device, which answers as the set does, and its line is written.
@@ -87,7 +93,7 @@ impl Run {
         device: &mut D,
     ) -> Result<(), RunFault>
         requires slots { self.old.manager.slots ≤ D.slot_count device.old }
-        requires act { IsRouteAct act.now }
+        requires act { IsActOf self.old.family act.now }
         requires idle { self.old.manager.held ≡ None }
         requires commits { self.old.commits < 2 ^ 22 }
         ensures carries { OnOk result (IsAt (D.slot_count device.old) (D.journal device.old) (progress_of (D.slot_count device.old) self.old)
@@ -123,7 +129,7 @@ impl Run {
 
     // A change joins the pending batch.
     fn push(&mut self, command: Command) -> Result<(), RunFault>
-        requires { AddsRoute command }
+        requires { IsChangeOf self.old.family command }
         ensures pushed { OnOk result (self.new ≡ record self.old { pending = self.old.pending ++ command ∷ [] }) }
         ensures full { (result ≡ Err RunFault.BatchFull) ↔ IsSome (limit_fault (Act.Command command) (length self.old.pending)) }
         ensures unchanged { OnErr result (self.new ≡ self.old) }

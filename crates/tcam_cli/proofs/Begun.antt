@@ -4,7 +4,7 @@ use Rattle.std.proofs.lemmas.List.{length-replicate, replicate-append-replicate}
 use Rattle.ternary_word.specs.declared.Entry.{Entry}
 use Rattle.rule_store.specs.declared.Mode.TheVariants.{Cover}
 use Rattle.tcam_device.specs.State.{blank}
-use Rattle.replay.specs.declared.Family.TheVariants.{Route}
+use Rattle.replay.specs.declared.Family.{Family}
 use Rattle.replay.specs.Run.{Progress, start}
 use Rattle.replay.specs.Running.{begun, progress_of}
 
@@ -16,7 +16,7 @@ blank-more slots device_slots within =
     ap (λ n. blanks ++ replicate (device_slots - n) None) (length-replicate slots None)
     ∙ replicate-append-replicate slots (device_slots - slots) None ∙ ap (λ n. replicate n None) all
 
-pub begins : (slots device_slots : ℕ) → slots ≤ device_slots → progress_of device_slots (begun slots Cover Route) ≡ start device_slots
-begins slots device_slots within =
+pub begins : (family : Family) (slots device_slots : ℕ) → slots ≤ device_slots → progress_of device_slots (begun slots Cover family) ≡ start device_slots
+begins family slots device_slots within =
     let f : List (Option Entry) → Progress = λ s. record (start device_slots) { state = record (blank device_slots) { slots = s } } in
     ap f (blank-more slots device_slots within)

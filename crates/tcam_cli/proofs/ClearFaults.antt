@@ -199,21 +199,26 @@ level-clear s names h words has below off clear =
     (or_else-clear _ _ (settle-clear s.rules s.args_override_self end)
     (or_else-clear _ _ (defaults-clear (settled s.rules end).rows s.rules) (check-clear _ _ _))))
 
-sub-clear : (p : Shape → Bool) (s : Shape) (words : List Text) → s.disable_help_subcommand ≡ true
-    → Clear (option_map_or (λ x. level_fault x [] nothing_held words false []) (find p (s ∷ [])) [])
-sub-clear p s words off = go (p s)
-  where
-    go : (b : Bool) → Clear (option_map_or (λ x. level_fault x [] nothing_held words false []) (cond b (Some s) None) [])
-    go true = level-clear s [] nothing_held words false [] off tt
-    go false = tt
+-- none of some subcommands has a subcommand `help`
+abbrev pub AreOff : List Shape → Type 0
+AreOff [] = ⊤
+AreOff (sub ∷ subs) = (sub.disable_help_subcommand ≡ true) × AreOff subs
 
--- a command with one subcommand
-pub built-clear : (a : App) (sub : Shape) (h : Held) (words : List Text) → a.subs ≡ sub ∷ [] → a.top.disable_help_subcommand ≡ true → sub.disable_help_subcommand ≡ true
-    → Clear (built_fault a h words)
-built-clear a sub h words subs top_off sub_off =
+subs-clear : (p : Shape → Bool) (subs : List Shape) (words : List Text) → AreOff subs
+    → Clear (option_map_or (λ x. level_fault x [] nothing_held words false []) (find p subs) [])
+subs-clear p [] words off = tt
+subs-clear p (sub ∷ subs) words off = go (p sub) (subs-clear p subs words off.1)
+  where
+    go : (b : Bool) → Clear (option_map_or (λ x. level_fault x [] nothing_held words false []) (find p subs) [])
+        → Clear (option_map_or (λ x. level_fault x [] nothing_held words false []) (cond b (Some sub) (find p subs)) [])
+    go true others = level-clear sub [] nothing_held words false [] off.0 tt
+    go false others = others
+
+-- a command with subcommands
+pub built-clear : (a : App) (h : Held) (words : List Text) → a.top.disable_help_subcommand ≡ true → AreOff a.subs → Clear (built_fault a h words)
+built-clear a h words top_off subs_off =
     level-clear a.top (names_of a) h words _ _ top_off (go (walk a.top.rules (names_of a) h words).stopped)
   where
     go : (o : Option (Text × List Text)) → Clear (entered_fault a o)
     go None = tt
-    go (Some p) = subst (λ ss. Clear (option_map_or (λ x. level_fault x [] nothing_held p.1 false []) (find (λ s. answers_to p.0 (label_of s)) ss) [])) (sym subs)
-        (sub-clear (λ s. answers_to p.0 (label_of s)) sub p.1 sub_off)
+    go (Some p) = subs-clear (λ s. answers_to p.0 (label_of s)) a.subs p.1 subs_off

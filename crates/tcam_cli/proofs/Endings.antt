@@ -190,12 +190,12 @@ printed-line effects line =
 -- the last line
 pub ends-closed : (setting : Setting) (slots : ℕ) (bytes taken now : List ℕ) (acts : List NumberedAct) (end : ScriptEnd) (effects : List Effect) (last : Progress) (result : Status)
     (journal : Option (List Write)) (start before after : Option (List ℕ))
-    → script_of reading bytes ≡ record { acts = acts; last = end }
+    → script_of (reading setting.family) bytes ≡ record { acts = acts; last = end }
     → Runs setting slots (acts_only acts) effects last → IfSome journal (λ writes. writes ≡ written effects) → (IsSome journal → Appends start before (printed effects))
     → Closes (last_line setting last end) (status_of last end) result before after → ((result ≡ Done) ⊎ (result ≡ Refused) → now ≡ [])
     → Ends setting slots bytes taken now result journal start after
 ends-closed setting slots bytes taken now acts end effects last result journal start before after is run told report (inl (e, line)) all =
-    let S = script_of reading bytes in
+    let S = script_of (reading setting.family) bytes in
     let P : Script → Type 0 = λ s. Runs setting slots (acts_of s) effects last in
     let f : Script → Status = λ s. status_of last s.last in
     let g : Script → List Effect = λ s. effects ++ Prints (last_line setting last s.last) ∷ [] in
@@ -210,17 +210,17 @@ ends-closed setting slots bytes taken now acts end effects last result journal s
     record {
       effects = more;
       partial = [];
-      outcome = outcome-complete setting slots S (script_so_far reading taken) last end result more e whole;
+      outcome = outcome-complete setting slots S (script_so_far (reading setting.family) taken) last end result more e whole;
       journal_is = journal-same journal _ _ (written-line effects (last_line setting last end)) told;
       report = λ some. subst (Appends start after) (printed-line effects (last_line setting last end))
           (Appends-trans start before after (printed effects) (last_line setting last end) (report some) line);
       all = all;
     }
 ends-closed setting slots bytes taken now acts end effects last result journal start before after is run told report (inr (e, (partial, rest, part, line))) all =
-    let S = script_of reading bytes in
+    let S = script_of (reading setting.family) bytes in
     let P : Script → Type 0 = λ s. Runs setting slots (acts_of s) effects last in
     let g : Script → Effect = λ s. Prints (last_line setting last s.last) in
-    let Q : Status → Type 0 = λ s. IsOutcome setting slots S (script_so_far reading taken) s effects partial in
+    let Q : Status → Type 0 = λ s. IsOutcome setting slots S (script_so_far (reading setting.family) taken) s effects partial in
     record {
       effects = effects;
       partial = partial;
@@ -238,7 +238,7 @@ ends-closed setting slots bytes taken now acts end effects last result journal s
 -- a failed read
 pub ends-read : (setting : Setting) (slots : ℕ) (bytes taken now : List ℕ) (acts : List NumberedAct) (effects : List Effect) (last : Progress)
     (journal : Option (List Write)) (start before : Option (List ℕ))
-    → script_so_far reading taken ≡ record { acts = acts; last = Whole }
+    → script_so_far (reading setting.family) taken ≡ record { acts = acts; last = Whole }
     → Runs setting slots (acts_only acts) effects last → IfSome journal (λ writes. writes ≡ written effects) → (IsSome journal → Appends start before (printed effects))
     → Ends setting slots bytes taken now ReadFault journal start before
 ends-read setting slots bytes taken now acts effects last journal start before is run told report =
@@ -269,10 +269,10 @@ only-more (first ∷ acts) number act = ap (λ l. first.act ∷ l) (only-more ac
 
 pub goes-act : (setting : Setting) (slots : ℕ) (bytes left : List ℕ) (old : Held) (line : NumberedLine) (new : Held) (after : List ℕ) (act : Act) (acts : List NumberedAct)
     (effects : List Effect) (last next : Progress) (journal_old journal_new : Option (List Write)) (start before later : Option (List ℕ))
-    → IsGoing reading bytes old left acts (length last.batch)
+    → IsGoing (reading setting.family) bytes old left acts (length last.batch)
     → HandsOne old left line new after
     → Runs setting slots (acts_only acts) effects last → IfSome journal_old (λ writes. writes ≡ written effects) → (IsSome journal_old → Appends start before (printed effects))
-    → reading line.text ≡ Ok (Some act) → limit_fault act (length last.batch) ≡ None
+    → reading setting.family line.text ≡ Ok (Some act) → limit_fault act (length last.batch) ≡ None
     → Carries setting last act next journal_old journal_new before later
     → SoFar setting slots bytes new after next journal_new start later
 goes-act setting slots bytes left old line new after act acts effects last next journal_old journal_new start before later going hands run told report is room made =
@@ -286,10 +286,10 @@ goes-act setting slots bytes left old line new after act acts effects last next 
       run = subst P (only-more acts line.number act) (run-more setting slots (acts_only acts) effects last act made.effects next run made.step);
       journal_is = does-journal effects made.effects [] journal_old journal_new before later made.does told;
       report = λ some. subst (Appends start later) (append-nil (printed (effects ++ made.effects))) (does-report effects made.effects [] journal_old journal_new start before later made.does report some);
-      read = next-line reading bytes old left line new after acts acts2 p (length next.batch) going hands (λ rest.
-          ap (onto_all acts) (line-act reading p line rest act is room)
-          ∙ onto-more acts line.number act (acts_next reading (pending_after act p) rest)
-          ∙ ap (λ n. onto_all acts2 (acts_next reading n rest)) e);
+      read = next-line (reading setting.family) bytes old left line new after acts acts2 p (length next.batch) going hands (λ rest.
+          ap (onto_all acts) (line-act (reading setting.family) p line rest act is room)
+          ∙ onto-more acts line.number act (acts_next (reading setting.family) (pending_after act p) rest)
+          ∙ ap (λ n. onto_all acts2 (acts_next (reading setting.family) n rest)) e);
     }
 
 -- the acts of the script around this one
@@ -303,7 +303,7 @@ act-here reading bytes old left line new after act acts p going hands is room =
 
 pub ends-line : (setting : Setting) (slots : ℕ) (bytes taken now : List ℕ) (act : Act) (acts : List NumberedAct) (later : List Act) (effects : List Effect) (last : Progress)
     (journal_old journal_new : Option (List Write)) (start before after : Option (List ℕ))
-    → acts_of (script_of reading bytes) ≡ acts_only acts ++ act ∷ later
+    → acts_of (script_of (reading setting.family) bytes) ≡ acts_only acts ++ act ∷ later
     → Runs setting slots (acts_only acts) effects last → IfSome journal_old (λ writes. writes ≡ written effects) → (IsSome journal_old → Appends start before (printed effects))
     → CutsAtLine setting last act journal_old journal_new before after
     → Ends setting slots bytes taken now WriteFault journal_new start after
@@ -323,7 +323,7 @@ ends-line setting slots bytes taken now act acts later effects last journal_old 
 
 pub ends-device : (setting : Setting) (slots : ℕ) (bytes taken now : List ℕ) (act : Act) (acts : List NumberedAct) (later : List Act) (effects : List Effect) (last : Progress)
     (journal_old journal_new : Option (List Write)) (start before after : Option (List ℕ))
-    → acts_of (script_of reading bytes) ≡ acts_only acts ++ act ∷ later
+    → acts_of (script_of (reading setting.family) bytes) ≡ acts_only acts ++ act ∷ later
     → Runs setting slots (acts_only acts) effects last → IfSome journal_old (λ writes. writes ≡ written effects) → (IsSome journal_old → Appends start before (printed effects))
     → CutsAtWrite setting last act journal_old journal_new before after
     → Ends setting slots bytes taken now DeviceFault journal_new start after
@@ -344,7 +344,7 @@ ends-device setting slots bytes taken now act acts later effects last journal_ol
 
 pub ends-memory : (setting : Setting) (slots : ℕ) (bytes taken now : List ℕ) (act : Act) (acts : List NumberedAct) (later : List Act) (effects : List Effect) (last : Progress)
     (journal_old journal_new : Option (List Write)) (start before after : Option (List ℕ))
-    → acts_of (script_of reading bytes) ≡ acts_only acts ++ act ∷ later
+    → acts_of (script_of (reading setting.family) bytes) ≡ acts_only acts ++ act ∷ later
     → Runs setting slots (acts_only acts) effects last → IfSome journal_old (λ writes. writes ≡ written effects) → (IsSome journal_old → Appends start before (printed effects))
     → Wants setting last act journal_old journal_new before after
     → Ends setting slots bytes taken now Memory journal_new start after

@@ -4,12 +4,12 @@ use Rattle.std.specs.Prelude.{codes, ℕ}
 use Rattle.std.specs.Fmt.{digits}
 use Rattle.rule_store.specs.declared.Mode.TheVariants.{Cover}
 use Rattle.rule_store.specs.Verdict.{OutOfSlots}
-use Rattle.replay.specs.declared.Family.TheVariants.{Route}
+use Rattle.replay.specs.declared.Family.TheVariants.{Route, Acl}
 use Rattle.replay.specs.declared.Act.{Act}
 use Rattle.replay.specs.declared.Act.TheVariants.{Command, Commit}
-use Rattle.rule_store.specs.declared.Command.TheVariants.{Add}
+use Rattle.rule_store.specs.declared.Command.TheVariants.{Add, Set, Del}
 use Rattle.rule_model.specs.AddressBlock.{ipv4_block}
-use Rattle.rule_model.specs.Rank.{ipv4_route_rank}
+use Rattle.rule_model.specs.Rank.{ipv4_route_rank, list_rank}
 use Rattle.rule_model.specs.Rule.{route_rule}
 use Rattle.replay.specs.Script.{Whole, script_of}
 use Rattle.replay.specs.Text.{accepted_line, refused_line, fault_line}
@@ -27,11 +27,11 @@ use Rattle.commit_writes.specs.declared.Done.{Done as Counts}
 use Rattle.commit_writes.specs.Bits.{no_bits}
 use Rattle.commit_writes.specs.Commit.{IsSegment}
 use Rattle.tcam_cli.specs.Readings.{reading}
-use Rattle.tcam_cli.specs.CommandLine.{route_setting}
+use Rattle.tcam_cli.specs.CommandLine.{script_setting}
 use Rattle.tcam_cli.specs.Headline.{NoJob, Reads, IsCarriedOut}
 
 abbrev routes : ℕ → Setting
-routes slots = route_setting slots
+routes slots = script_setting Route slots
 
 abbrev feed : List ℕ → List ℕ
 feed line = line ++ 10 ∷ []
@@ -64,8 +64,24 @@ ten = Command (Add (route_rule (ipv4_route_rank (ipv4_block 0x0a000000 8)) (ipv4
 abbrev eleven : Act
 eleven = Command (Add (route_rule (ipv4_route_rank (ipv4_block 0x0b000000 8)) (ipv4_block 0x0b000000 8) 8))
 
-two-routes-acts : script_of reading two-routes ≡ record { acts = record { line = 1; act = ten } ∷ record { line = 2; act = eleven } ∷ record { line = 3; act = Commit } ∷ []; last = Whole }
+two-routes-acts : script_of (reading Route) two-routes ≡ record { acts = record { line = 1; act = ten } ∷ record { line = 2; act = eleven } ∷ record { line = 3; act = Commit } ∷ []; last = Whole }
 two-routes-acts = refl
+
+-- the acts of a change and of a removal, by the priority of a prefix
+changes-acts : script_of (reading Route) (feed (codes "route set 10.0.0.0/8 9") ++ feed (codes "route del 11.0.0.0/8"))
+    ≡ record {
+      acts = record { line = 1; act = Command (Set (ipv4_route_rank (ipv4_block 0x0a000000 8)) 9) } ∷ record { line = 2; act = Command (Del (ipv4_route_rank (ipv4_block 0x0b000000 8))) } ∷ [];
+      last = Whole;
+    }
+changes-acts = refl
+
+-- the same of a line of an access list, by the priority of a sequence number
+list-acts : script_of (reading Acl) (feed (codes "acl set 100 permit") ++ feed (codes "acl del 7"))
+    ≡ record {
+      acts = record { line = 1; act = Command (Set (list_rank 100) 1) } ∷ record { line = 2; act = Command (Del (list_rank 7)) } ∷ [];
+      last = Whole;
+    }
+list-acts = refl
 
 abbrev one-pending : Progress
 one-pending = record (start 8) { batch = Add (route_rule (ipv4_route_rank (ipv4_block 0x0a000000 8)) (ipv4_block 0x0a000000 8) 7) ∷ [] }
@@ -164,10 +180,12 @@ nothing-made =
           };
       order =
           record {
-            during = λ n. (
+            inserting = λ n within. (0, rw take-nil blank-ordered);
+            finishing = λ n past. (
               [],
-              record { known = λ ranked member. absurd (contains_none ranked member); kept = λ ranked old new. absurd (contains_none ranked old) },
+              record { known = λ ranked member. absurd (contains_none ranked member); kept = λ was is old. absurd (contains_none was old) },
               rw take-nil blank-ordered,
+              λ ranked member. absurd (contains_none ranked member),
             );
             after = blank-ordered;
             once = λ ranked member. absurd (contains_none ranked member);

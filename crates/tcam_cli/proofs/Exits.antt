@@ -48,8 +48,8 @@ module _ (setting : Setting) (slots : ℕ) (bytes : List ℕ) (old : Held) (left
   exit-bytes taken now after result found number text end again hands closes =
       let p = length last.batch in
       let other : not-end (Err found) = λ e. cc in
-      let (going, is) = still-going old.over reading bytes old left s.acts p (Err found) other again s.read in
-      let whole = bytes-fault reading bytes old left s.acts p found is (hands going) in
+      let (going, is) = still-going old.over (reading setting.family) bytes old left s.acts p (Err found) other again s.read in
+      let whole = bytes-fault (reading setting.family) bytes old left s.acts p found is (hands going) in
       ends-closed setting slots bytes taken now s.acts (FaultAt number text) s.effects last result journal start before after
       (whole ∙ ap (λ e. record { acts = s.acts; last = e }) end) s.run s.journal_is s.report closes (closes-script (fault_line number text) result before after now closes)
 
@@ -59,7 +59,7 @@ module _ (setting : Setting) (slots : ℕ) (bytes : List ℕ) (old : Held) (left
       → Ends setting slots bytes taken now result journal start after
   exit-end new taken now after result hands rests closes =
       let p = length last.batch in
-      let whole = all-read old.over reading s.acts p s.read hands rests in
+      let whole = all-read old.over (reading setting.family) s.acts p s.read hands rests in
       ends-closed setting slots bytes taken now s.acts Whole s.effects last result journal start before after whole.0 s.run s.journal_is s.report closes (λ _. whole.1)
     where
       all-read : (o : Over) (reading : Reading) (acts : List NumberedAct) (p : ℕ) → IsRead o reading bytes old left acts p
@@ -76,18 +76,18 @@ module _ (setting : Setting) (slots : ℕ) (bytes : List ℕ) (old : Held) (left
   exit-read new taken now again hands parts =
       let p = length last.batch in
       let other : not-end (Err fault.Read) = λ e. cc in
-      let (going, is) = still-going old.over reading bytes old left s.acts p (Err fault.Read) other again s.read in
-      ends-read setting slots bytes taken now s.acts s.effects last journal start before (so-far reading bytes taken old left new now s.acts p is (hands going).0 parts) s.run s.journal_is s.report
+      let (going, is) = still-going old.over (reading setting.family) bytes old left s.acts p (Err fault.Read) other again s.read in
+      ends-read setting slots bytes taken now s.acts s.effects last journal start before (so-far (reading setting.family) bytes taken old left new now s.acts p is (hands going).0 parts) s.run s.journal_is s.report
 
   -- a line came
   module _ (line : Line) (new : Held) (now : List ℕ) (again : Again old.over (Ok (Some line))) (hands : old.over ≡ over.Going → HandsOne old left (numbered line) new now) where
-    going : (old.over ≡ over.Going) × IsGoing reading bytes old left s.acts (length last.batch)
+    going : (old.over ≡ over.Going) × IsGoing (reading setting.family) bytes old left s.acts (length last.batch)
     going =
         let other : not-end (Ok (Some line)) = λ e. cc in
-        still-going old.over reading bytes old left s.acts (length last.batch) (Ok (Some line)) other again s.read
+        still-going old.over (reading setting.family) bytes old left s.acts (length last.batch) (Ok (Some line)) other again s.read
 
     -- it is skipped
-    pub goes-none : reading (numbered line).text ≡ Ok None → SoFar setting slots bytes new now last journal start before
+    pub goes-none : reading setting.family (numbered line).text ≡ Ok None → SoFar setting slots bytes new now last journal start before
     goes-none is =
         let p = length last.batch in
         record {
@@ -96,32 +96,32 @@ module _ (setting : Setting) (slots : ℕ) (bytes : List ℕ) (old : Held) (left
           run = s.run;
           journal_is = s.journal_is;
           report = s.report;
-          read = next-line reading bytes old left (numbered line) new now s.acts s.acts p p going.1 (hands going.0) (λ rest. ap (onto_all s.acts) (line-none reading p (numbered line) rest is));
+          read = next-line (reading setting.family) bytes old left (numbered line) new now s.acts s.acts p p going.1 (hands going.0) (λ rest. ap (onto_all s.acts) (line-none (reading setting.family) p (numbered line) rest is));
         }
 
     -- it has no sense
-    pub exit-word : (taken : List ℕ) (after : Option (List ℕ)) (result : Status) (text : List ℕ) → reading (numbered line).text ≡ Err text → Closes (fault_line line.number text) ScriptFault result before after
+    pub exit-word : (taken : List ℕ) (after : Option (List ℕ)) (result : Status) (text : List ℕ) → reading setting.family (numbered line).text ≡ Err text → Closes (fault_line line.number text) ScriptFault result before after
         → Ends setting slots bytes taken now result journal start after
     exit-word taken after result text is closes =
         let p = length last.batch in
-        let (rest, e) = line-here reading bytes old left (numbered line) new now s.acts p going.1 (hands going.0) in
+        let (rest, e) = line-here (reading setting.family) bytes old left (numbered line) new now s.acts p going.1 (hands going.0) in
         ends-closed setting slots bytes taken now s.acts (FaultAt line.number text) s.effects last result journal start before after
-        (e ∙ ap (onto_all s.acts) (line-fault reading p (numbered line) rest text is) ∙ onto-nil s.acts (FaultAt line.number text)) s.run s.journal_is s.report closes
+        (e ∙ ap (onto_all s.acts) (line-fault (reading setting.family) p (numbered line) rest text is) ∙ onto-nil s.acts (FaultAt line.number text)) s.run s.journal_is s.report closes
         (closes-script (fault_line line.number text) result before after now closes)
 
     -- there is no room for its act
-    pub exit-full : (taken : List ℕ) (after : Option (List ℕ)) (result : Status) (act : Act) (text : List ℕ) → reading (numbered line).text ≡ Ok (Some act)
+    pub exit-full : (taken : List ℕ) (after : Option (List ℕ)) (result : Status) (act : Act) (text : List ℕ) → reading setting.family (numbered line).text ≡ Ok (Some act)
         → limit_fault act (length last.batch) ≡ Some text → Closes (fault_line line.number text) ScriptFault result before after
         → Ends setting slots bytes taken now result journal start after
     exit-full taken after result act text is full closes =
         let p = length last.batch in
-        let (rest, e) = line-here reading bytes old left (numbered line) new now s.acts p going.1 (hands going.0) in
+        let (rest, e) = line-here (reading setting.family) bytes old left (numbered line) new now s.acts p going.1 (hands going.0) in
         ends-closed setting slots bytes taken now s.acts (FaultAt line.number text) s.effects last result journal start before after
-        (e ∙ ap (onto_all s.acts) (line-full reading p (numbered line) rest act text is full) ∙ onto-nil s.acts (FaultAt line.number text)) s.run s.journal_is s.report closes
+        (e ∙ ap (onto_all s.acts) (line-full (reading setting.family) p (numbered line) rest act text is full) ∙ onto-nil s.acts (FaultAt line.number text)) s.run s.journal_is s.report closes
         (closes-script (fault_line line.number text) result before after now closes)
 
     -- its act is carried out, or cut
-    module _ (act : Act) (is : reading (numbered line).text ≡ Ok (Some act)) (room : limit_fault act (length last.batch) ≡ None) (journal_new : Option (List Write)) (after : Option (List ℕ)) where
+    module _ (act : Act) (is : reading setting.family (numbered line).text ≡ Ok (Some act)) (room : limit_fault act (length last.batch) ≡ None) (journal_new : Option (List Write)) (after : Option (List ℕ)) where
       pub goes-on : (next : Progress) → (IsAt slots journal last → Carries setting last act next journal journal_new before after) → SoFar setting slots bytes new now next journal_new start after
       goes-on next carries =
           goes-act setting slots bytes left old (numbered line) new now act s.acts s.effects last next journal journal_new start before after going.1 (hands going.0) s.run s.journal_is s.report is room
@@ -129,17 +129,17 @@ module _ (setting : Setting) (slots : ℕ) (bytes : List ℕ) (old : Held) (left
 
       pub exit-line : (taken : List ℕ) → (IsAt slots journal last → CutsAtLine setting last act journal journal_new before after) → Ends setting slots bytes taken now WriteFault journal_new start after
       exit-line taken cuts =
-          let (later, e) = act-here reading bytes old left (numbered line) new now act s.acts _ going.1 (hands going.0) is room in
+          let (later, e) = act-here (reading setting.family) bytes old left (numbered line) new now act s.acts _ going.1 (hands going.0) is room in
           ends-line setting slots bytes taken now act s.acts later s.effects last journal journal_new start before after e s.run s.journal_is s.report
           (cuts (run-at setting slots _ s.effects last journal s.run s.journal_is))
 
       pub exit-device : (taken : List ℕ) → (IsAt slots journal last → CutsAtWrite setting last act journal journal_new before after) → Ends setting slots bytes taken now DeviceFault journal_new start after
       exit-device taken cuts =
-          let (later, e) = act-here reading bytes old left (numbered line) new now act s.acts _ going.1 (hands going.0) is room in
+          let (later, e) = act-here (reading setting.family) bytes old left (numbered line) new now act s.acts _ going.1 (hands going.0) is room in
           ends-device setting slots bytes taken now act s.acts later s.effects last journal journal_new start before after e s.run s.journal_is s.report
           (cuts (run-at setting slots _ s.effects last journal s.run s.journal_is))
 
       pub exit-memory : (taken : List ℕ) → Wants setting last act journal journal_new before after → Ends setting slots bytes taken now Memory journal_new start after
       exit-memory taken wants =
-          let (later, e) = act-here reading bytes old left (numbered line) new now act s.acts _ going.1 (hands going.0) is room in
+          let (later, e) = act-here (reading setting.family) bytes old left (numbered line) new now act s.acts _ going.1 (hands going.0) is room in
           ends-memory setting slots bytes taken now act s.acts later s.effects last journal journal_new start before after e s.run s.journal_is s.report wants

@@ -135,8 +135,8 @@ hitless-job (Reads setting) slots status (Some old) None taken_old taken_new jou
 hitless-job (Reads setting) slots status (Some old) (Some new) taken_old taken_new None is = tt
 hitless-job (Reads setting) slots status (Some old) (Some new) taken_old taken_new (Some writes) is =
     let n = length old - length new in
-    let came : Script = script_so_far reading (take n old) in
-    let first : came.last ≡ Whole → AreFirstActs (acts_of came) (acts_of (script_of reading old)) =
-    λ sound. subst (λ bytes. AreFirstActs (acts_of came) (acts_of (script_of reading bytes))) (take-append-drop n old) (first-acts reading (take n old) (drop n old) sound) in
-    subst (λ journal. IsHitlessRun setting slots (script_of reading old) came status journal) (sym is.1.journal_is)
-    (outcome_answers setting slots (script_of reading old) came status is.1.effects is.1.partial first is.1.outcome)
+    let came : Script = script_so_far (reading setting.family) (take n old) in
+    let first : came.last ≡ Whole → AreFirstActs (acts_of came) (acts_of (script_of (reading setting.family) old)) =
+    λ sound. subst (λ bytes. AreFirstActs (acts_of came) (acts_of (script_of (reading setting.family) bytes))) (take-append-drop n old) (first-acts (reading setting.family) (take n old) (drop n old) sound) in
+    subst (λ journal. IsHitlessRun setting slots (script_of (reading setting.family) old) came status journal) (sym is.1.journal_is)
+    (outcome_answers setting slots (script_of (reading setting.family) old) came status is.1.effects is.1.partial first is.1.outcome)

@@ -11,6 +11,7 @@ mod Exits
 mod WholeRun
 mod TopCall
 mod ActLines
+mod Ipv4Lines
 mod Limits
 mod Closings
 mod Begun

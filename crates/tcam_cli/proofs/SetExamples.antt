@@ -6,13 +6,13 @@ use Rattle.rule_store.specs.declared.Mode.TheVariants.{Cover}
 use Rattle.tcam_device.specs.declared.Write.{Write}
 use Rattle.tcam_device.specs.State.{State, Shows, state_after}
 use Rattle.tcam_device.specs.Hitless.{ShowsOldOrNew}
-use Rattle.replay.specs.declared.Family.TheVariants.{Route}
+use Rattle.replay.specs.declared.Family.TheVariants.{Route, Acl}
 use Rattle.replay.specs.Script.{script_of}
 use Rattle.tcam_cli.specs.Readings.{reading}
 use Rattle.tcam_cli.specs.AllTheWay.{sets_of, ShowsSetOrNext, AnswersAllTheWay}
 
 abbrev sets : ℕ → List ℕ → List (List Rule)
-sets slots bytes = sets_of (record { slots = slots; mode = Cover; family = Route }) (script_of reading bytes)
+sets slots bytes = sets_of (record { slots = slots; mode = Cover; family = Route }) (script_of (reading Route) bytes)
 
 abbrev two_routes : List ℕ
 two_routes = codes "route add 10.0.0.0/8 7" ++ 10 ∷ codes "route add 11.0.0.0/8 7" ++ 10 ∷ codes "commit" ++ 10 ∷ []
@@ -25,8 +25,32 @@ idle = refl
 accepted : map length (sets 8 (two_routes ++ two_routes)) ≡ 0 ∷ 2 ∷ []
 accepted = refl
 
+-- a result is changed, a route goes, and one takes the place of another
+changed : map (map (λ rule. rule.result)) (sets 8 (two_routes ++ codes "route set 11.0.0.0/8 9" ++ 10 ∷ codes "commit")) ≡ [] ∷ (7 ∷ 7 ∷ []) ∷ (9 ∷ 7 ∷ []) ∷ []
+changed = refl
+
+removed : map length (sets 8 (two_routes ++ codes "route del 10.0.0.0/8" ++ 10 ∷ codes "commit")) ≡ 0 ∷ 2 ∷ 1 ∷ []
+removed = refl
+
+replaced : map (map (λ rule. rule.result)) (sets 2 (two_routes ++ codes "route del 11.0.0.0/8" ++ 10 ∷ codes "route add 11.0.0.0/8 8" ++ 10 ∷ codes "commit")) ≡ [] ∷ (7 ∷ 7 ∷ []) ∷ (8 ∷ 7 ∷ []) ∷ []
+replaced = refl
+
+-- a full memory has no room for a route in place of another one
+swapped : map length (sets 2 (two_routes ++ codes "route del 10.0.0.0/8" ++ 10 ∷ codes "route add 12.0.0.0/8 8" ++ 10 ∷ codes "commit")) ≡ 0 ∷ 2 ∷ []
+swapped = refl
+
 refused : sets 1 two_routes ≡ [] ∷ []
 refused = refl
+
+-- a line of an access list takes 900 entries at most
+abbrev lists : ℕ → List ℕ → List (List Rule)
+lists slots bytes = sets_of (record { slots = slots; mode = Cover; family = Acl }) (script_of (reading Acl) bytes)
+
+six : map length (lists 6 (codes "acl add 10 permit any any any any 1024-65535" ++ 10 ∷ codes "commit")) ≡ 0 ∷ 1 ∷ []
+six = refl
+
+too-many : lists 899 (codes "acl add 10 permit any any any 1-65534 1-65534" ++ 10 ∷ codes "commit") ≡ [] ∷ []
+too-many = refl
 
 -- with one set alone every key has its answer after each write
 shows-one : (state : State) (rules : List Rule) (place : ℕ) → ShowsSetOrNext state (rules ∷ []) place → Shows state rules

@@ -13,7 +13,7 @@ use Rattle.clap.specs.Faults.{bundle_fault, bundle_step_fault, built_fault, ente
 use Rattle.clap.specs.declared.error.kind.ErrorKind.{ErrorKind}
 use Rattle.clap.specs.declared.error.kind.ErrorKind.TheVariants as kind
 use Rattle.clap.specs.declared.parser.matches.ValueSource.TheVariants.{CommandLine, DefaultValue}
-use Rattle.tcam_cli.specs.CommandLine.{route_command, slots_option, tcam_command, text_of}
+use Rattle.tcam_cli.specs.CommandLine.{acl_command, route_command, slots_option, tcam_command, text_of}
 
 abbrev is_ok : Text → Bool
 is_ok = is_unsigned_in 1 4096
@@ -311,36 +311,42 @@ level_ok s rules words none =
     subst (λ rs. is_ok (text_of slots_id (fold with_default (settled s.rules end).rows rs)) ≡ true) (sym rules.0)
     (help_default (with_default (settled s.rules end).rows (filled slots_option)) (slots_default (settled s.rules end).rows kept))
 
-entered_ok : (sub : Shape) → HasRules sub → (words : List Text) (name : Text) (rows : List Row) (p : Shape → Bool)
-    → option_map_or (λ s. level_fault s [] nothing_held words false []) (find p (sub ∷ [])) [] ≡ []
-    → option_map (λ s. rows_at s words) (find p (sub ∷ [])) ≡ Some (name, rows) → is_ok (text_of slots_id rows) ≡ true
-entered_ok sub rules words name rows p = go (p sub)
+-- each of some subcommands has them
+abbrev pub AllHaveRules : List Shape → Type 0
+AllHaveRules [] = ⊤
+AllHaveRules (sub ∷ subs) = HasRules sub × AllHaveRules subs
+
+entered_ok : (subs : List Shape) → AllHaveRules subs → (words : List Text) (name : Text) (rows : List Row) (p : Shape → Bool)
+    → option_map_or (λ s. level_fault s [] nothing_held words false []) (find p subs) [] ≡ []
+    → option_map (λ s. rows_at s words) (find p subs) ≡ Some (name, rows) → is_ok (text_of slots_id rows) ≡ true
+entered_ok [] all words name rows p none are = cc
+entered_ok (sub ∷ subs) all words name rows p none are = go (p sub) (λ none are. entered_ok subs all.1 words name rows p none are) none are
   where
-    go : (b : Bool) → option_map_or (λ s. level_fault s [] nothing_held words false []) (cond b (Some sub) None) [] ≡ []
-        → option_map (λ s. rows_at s words) (cond b (Some sub) None) ≡ Some (name, rows) → is_ok (text_of slots_id rows) ≡ true
-    go true none are =
+    go : (b : Bool)
+        → (option_map_or (λ s. level_fault s [] nothing_held words false []) (find p subs) [] ≡ []
+        → option_map (λ s. rows_at s words) (find p subs) ≡ Some (name, rows) → is_ok (text_of slots_id rows) ≡ true)
+        → option_map_or (λ s. level_fault s [] nothing_held words false []) (cond b (Some sub) (find p subs)) [] ≡ []
+        → option_map (λ s. rows_at s words) (cond b (Some sub) (find p subs)) ≡ Some (name, rows) → is_ok (text_of slots_id rows) ≡ true
+    go true others none are =
         let same : rows_after sub.rules [] words ≡ rows = ap (λ (o : Option (Text × List Row)). unwrap_or (option_map (λ x. x.1) o) rows) are in
-        subst (λ (rs : List Row). is_ok (text_of slots_id rs) ≡ true) same (level_ok sub rules words none)
-    go false none are = cc
+        subst (λ (rs : List Row). is_ok (text_of slots_id rs) ≡ true) same (level_ok sub all.0 words none)
+    go false others none are = others none are
 
-stopped_ok : (a : App) (sub : Shape) → a.subs ≡ sub ∷ [] → HasRules sub → (stop : Option (Text × List Text)) (name : Text) (rows : List Row)
+stopped_ok : (a : App) → AllHaveRules a.subs → (stop : Option (Text × List Text)) (name : Text) (rows : List Row)
     → entered_fault a stop ≡ [] → entered a stop ≡ Some (name, rows) → is_ok (text_of slots_id rows) ≡ true
-stopped_ok a sub subs rules None name rows none are = cc
-stopped_ok a sub subs rules (Some p) name rows none are =
-    entered_ok sub rules p.1 name rows (λ s. answers_to p.0 (label_of s))
-    (subst (λ (ss : List Shape). option_map_or (λ s. level_fault s [] nothing_held p.1 false []) (find (λ s. answers_to p.0 (label_of s)) ss) [] ≡ []) subs none)
-    (subst (λ (ss : List Shape). option_map (λ s. rows_at s p.1) (find (λ s. answers_to p.0 (label_of s)) ss) ≡ Some (name, rows)) subs are)
+stopped_ok a all None name rows none are = cc
+stopped_ok a all (Some p) name rows none are = entered_ok a.subs all p.1 name rows (λ s. answers_to p.0 (label_of s)) none are
 
-built_ok : (a : App) (sub : Shape) → a.subs ≡ sub ∷ [] → HasRules sub → (words : List Text) (name : Text) (rows : List Row)
+built_ok : (a : App) → AllHaveRules a.subs → (words : List Text) (name : Text) (rows : List Row)
     → built_fault a nothing_held words ≡ [] → entered a (walk a.top.rules (names_of a) nothing_held words).stopped ≡ Some (name, rows)
     → is_ok (text_of slots_id rows) ≡ true
-built_ok a sub subs rules words name rows none are =
+built_ok a all words name rows none are =
     let stop = (walk a.top.rules (names_of a) nothing_held words).stopped in
     let past_walk = or_nil (walk_fault a.top (names_of a) (walk_from nothing_held) words) _ none in
-    stopped_ok a sub subs rules stop name rows (or_nil (entered_fault a stop) _ past_walk.1).0 are
+    stopped_ok a all stop name rows (or_nil (entered_fault a stop) _ past_walk.1).0 are
 
 -- where clap finds no fault and a subcommand, its number of slots is in the range
 pub slots_taken : (words : List Text) (name : Text) (rows : List Row) → fault_of tcam_command words ≡ [] → subcommand_of tcam_command words ≡ Some (name, rows)
     → is_unsigned_in 1 4096 (text_of (codes "slots") rows) ≡ true
-unfolding tcam_command route_command slots_option
-slots_taken words name rows none are = built_ok (built tcam_command) _ refl (refl, refl) (argument_words tcam_command words) name rows none are
+unfolding tcam_command route_command acl_command slots_option
+slots_taken words name rows none are = built_ok (built tcam_command) ((refl, refl), ((refl, refl), tt)) (argument_words tcam_command words) name rows none are

@@ -28,7 +28,7 @@ pub starts : (setting : Setting) (slots : ℕ) (bytes : List ℕ) (held : Held) 
     → held ≡ fresh → Some bytes ≡ Some left → progress ≡ start slots → IfSome journal (λ writes. writes ≡ []) → SoFar setting slots bytes held left progress journal taken taken
 starts setting slots bytes held left progress journal taken new all begun blank =
     let same : bytes ≡ left = cc in
-    let read : IsGoing reading bytes fresh left [] 0 = record {
+    let read : IsGoing (reading setting.family) bytes fresh left [] 0 = record {
       done = [];
       parts = same;
       script = λ rest. refl;
@@ -75,10 +75,10 @@ EndsTold setting slots status left_old left_new journal taken_old taken_new =
 
 matches : (setting : Setting) (slots : ℕ) (status : Status) (old taken new : List ℕ) (journal : Option (List Write)) (taken_old taken_new : Option (List ℕ)) → old ≡ taken ++ new
     → Ends setting slots old taken new status journal taken_old taken_new
-    → IfSome journal (λ writes. MatchesOutcome setting slots (script_of reading old) (script_so_far reading (take (length old - length new) old)) status writes taken_old taken_new)
+    → IfSome journal (λ writes. MatchesOutcome setting slots (script_of (reading setting.family) old) (script_so_far (reading setting.family) (take (length old - length new) old)) status writes taken_old taken_new)
 matches setting slots status old taken new None taken_old taken_new parts ends = tt
 matches setting slots status old taken new (Some writes) taken_old taken_new parts ends =
-    let P : List ℕ → Type 0 = λ t. IsOutcome setting slots (script_of reading old) (script_so_far reading t) status ends.effects ends.partial in
+    let P : List ℕ → Type 0 = λ t. IsOutcome setting slots (script_of (reading setting.family) old) (script_so_far (reading setting.family) t) status ends.effects ends.partial in
     record {
       effects = ends.effects;
       partial = ends.partial;
@@ -98,7 +98,7 @@ carried setting slots status (Some old) (Some new) journal taken_old taken_new t
 
 decided-by : (setting : Setting) (slots : ℕ) (status : Status) (left_old left_new : Option (List ℕ)) (journal : Option (List Write)) (taken_old taken_new : Option (List ℕ)) → TakesSome left_old left_new
     → EndsTold setting slots status left_old left_new journal taken_old taken_new
-    → ((left taken now : List ℕ) → (e : Ends setting slots left taken now status journal taken_old taken_new) → status ≡ decided setting (script_of reading left))
+    → ((left taken now : List ℕ) → (e : Ends setting slots left taken now status journal taken_old taken_new) → status ≡ decided setting (script_of (reading setting.family) left))
     → IsDecided status (Reads setting) left_old
 decided-by setting slots status None left_new journal taken_old taken_new takes ends so = tt
 decided-by setting slots status (Some old) None journal taken_old taken_new takes ends so = absurd takes.1

@@ -13,10 +13,12 @@ use Rattle.clap.specs.Matches.{first_value}
 use Rattle.clap.specs.declared.error.kind.ErrorKind.{ErrorKind}
 use Rattle.clap.specs.declared.parser.matches.ArgMatches.{ArgMatches}
 use Rattle.clap.proofs.OnLiterals.{clap_on_literals}
+use Rattle.replay.specs.declared.Family.{Family}
+use Rattle.replay.specs.declared.Family.TheVariants.{Route, Acl}
 use Rattle.tcam_cli.specs.declared.command_line.Asked.{Asked}
-use Rattle.tcam_cli.specs.declared.command_line.Asked.TheVariants.{Route}
+use Rattle.tcam_cli.specs.declared.command_line.Asked.TheVariants.{Script}
 use Rattle.tcam_cli.specs.declared.command_line.WordsFault.{WordsFault}
-use Rattle.tcam_cli.specs.CommandLine.{asked_by, job_by_faults, job_of, job_of_fault, job_of_subcommand, tested_job, number_of, route_setting, route_command, slots_option, tcam_command, text_of}
+use Rattle.tcam_cli.specs.CommandLine.{asked_by, job_by_faults, job_of, job_of_fault, job_of_subcommand, tested_job, number_of, script_setting, acl_command, route_command, slots_option, tcam_command, text_of}
 use Rattle.tcam_cli.specs.Headline.{Job, Reads, NoJob}
 use Rattle.std.specs.Str.{bytes_eq}
 use Rattle.clap.specs.ValueTests.{is_unsigned_in}
@@ -24,16 +26,16 @@ use Rattle.tcam_cli.proofs.TakenSlots.{slots_taken}
 use Rattle.tcam_cli.proofs.ClearFaults.{Clear, built-clear, fault_job}
 
 pub simple_and_free : is_simple_and_free tcam_command ≡ true
-unfolding clap_on_literals tcam_command route_command slots_option
+unfolding clap_on_literals tcam_command route_command acl_command slots_option
 simple_and_free = refl
 
 pub simple : is_simple tcam_command ≡ true
-unfolding clap_on_literals tcam_command route_command slots_option
+unfolding clap_on_literals tcam_command route_command acl_command slots_option
 simple = refl
 
 tcam-clear : (words : List Text) → Clear (fault_of tcam_command words)
-unfolding tcam_command route_command slots_option
-tcam-clear words = built-clear (built tcam_command) _ nothing_held (argument_words tcam_command words) refl refl refl
+unfolding tcam_command route_command acl_command slots_option
+tcam-clear words = built-clear (built tcam_command) nothing_held (argument_words tcam_command words) refl (refl, (refl, tt))
 
 -- where clap takes the words, the test of --slots passes
 tested : (words : List Text) → fault_of tcam_command words ≡ [] → (o : Option (Text × List Row)) → subcommand_of tcam_command words ≡ o
@@ -41,9 +43,12 @@ tested : (words : List Text) → fault_of tcam_command words ≡ [] → (o : Opt
 tested words none None are = refl
 tested words none (Some (name, rows)) are = go (is_unsigned_in 1 4096 (text_of (codes "slots") rows)) (slots_taken words name rows none are)
   where
+    asks : Family → Job
+    asks family = Reads (script_setting family (number_of (codes "slots") rows))
+
     go : (b : Bool) → b ≡ true
-        → cond (bytes_eq name (codes "route")) (Reads (route_setting (number_of (codes "slots") rows))) NoJob
-        ≡ cond (bytes_eq name (codes "route")) (cond b (Reads (route_setting (number_of (codes "slots") rows))) NoJob) NoJob
+        → cond (bytes_eq name (codes "route")) (asks Route) (cond (bytes_eq name (codes "acl")) (asks Acl) NoJob)
+        ≡ cond (bytes_eq name (codes "route")) (cond b (asks Route) NoJob) (cond (bytes_eq name (codes "acl")) (cond b (asks Acl) NoJob) NoJob)
     go b e = rw e refl
 
 pub taken : (a : App) (words : List Text) (m : ArgMatches) → a ≡ tcam_command → fault_of a words ≡ [] → subcommand_rows_of m ≡ subcommand_of a words
@@ -62,9 +67,10 @@ pub then_asked : (r : Result Asked WordsFault) (x y : Job) → y ≡ x → IfOk 
 then_asked (Ok job) x y is h = is ∙ h
 then_asked (Err e) x y is h = tt
 
-pub no_route : (r : Result Asked WordsFault) → IfOk r (λ job. (n : ℕ) → job ≡ Route n → ⊥) → IfOk r (λ job. (n : ℕ) → job ≡ Route n → (1 ≤ n) × (n ≤ 4096))
-no_route (Ok job) h = λ n e. absurd (h n e)
-no_route (Err e) h = tt
+pub no_script : (r : Result Asked WordsFault) → IfOk r (λ job. (family : Family) (n : ℕ) → job ≡ Script family n → ⊥)
+    → IfOk r (λ job. (family : Family) (n : ℕ) → job ≡ Script family n → (1 ≤ n) × (n ≤ 4096))
+no_script (Ok job) h = λ family n e. absurd (h family n e)
+no_script (Err e) h = tt
 
 -- the first text of an argument, where none stands for the empty text
 pub given_text : (f : Found) (id : Text) (o : Option (Bor Text)) (r d : Bor Text) → r ≡ unwrap_or o d → d.now ≡ []

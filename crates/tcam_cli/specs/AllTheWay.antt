@@ -92,4 +92,5 @@ IsHitlessJob NoJob device_slots status left_old left_new journal = IfSome journa
 IsHitlessJob (Tells text) device_slots status left_old left_new journal = IfSome journal (λ writes. writes ≡ [])
 IsHitlessJob (Reads setting) device_slots status left_old left_new journal =
     IfSome left_old (λ old. IfSome left_new (λ new. IfSome journal (λ writes.
-    IsHitlessRun setting device_slots (script_of reading old) (script_so_far reading (take (length old - length new) old)) status writes)))
+    IsHitlessRun setting device_slots (script_of (reading setting.family) old)
+    (script_so_far (reading setting.family) (take (length old - length new) old)) status writes)))

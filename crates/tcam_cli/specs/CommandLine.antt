@@ -12,15 +12,16 @@ use Rattle.clap.specs.declared.error.kind.ErrorKind.TheVariants as kind
 use Rattle.clap.specs.declared.builder.action.ArgAction.TheVariants.{Set}
 use Rattle.clap.specs.declared.builder.value_parser.ValueParser.TheVariants.{Unsigned}
 use Rattle.rule_store.specs.declared.Mode.TheVariants.{Cover}
-use Rattle.replay.specs.declared.Family.TheVariants as Family
+use Rattle.replay.specs.declared.Family.{Family}
+use Rattle.replay.specs.declared.Family.TheVariants.{Route, Acl}
 use Rattle.replay.specs.Run.{Setting}
 use Rattle.tcam_cli.specs.declared.command_line.Asked.{Asked}
 use Rattle.tcam_cli.specs.declared.command_line.Asked.TheVariants as asked
 use Rattle.tcam_cli.specs.Headline.{Job, NoJob, Tells, Reads}
 
--- a script of routes over so many slots in use
-abbrev pub route_setting : ℕ → Setting
-route_setting slots = record { slots = slots; mode = Cover; family = Family.Route }
+-- a script of a family over so many slots in use
+abbrev pub script_setting : Family → ℕ → Setting
+script_setting family slots = record { slots = slots; mode = Cover; family = family }
 
 -- --slots, a number from 1 to 4096, by default 4096
 unfoldable pub slots_option : Rule
@@ -35,13 +36,17 @@ slots_option = record (new_rule (codes "slots")) {
 unfoldable pub route_command : App
 route_command = with_rule (new_app (codes "route")) slots_option
 
+-- the subcommand for access-list scripts
+unfoldable pub acl_command : App
+acl_command = with_rule (new_app (codes "acl")) slots_option
+
 -- tcam with a required subcommand and a version; help is asked for by its flag alone
 unfoldable pub tcam_command : App
-tcam_command = with_subcommand (on_top (λ top. record top {
+tcam_command = with_subcommand (with_subcommand (on_top (λ top. record top {
   has_version = true;
   subcommand_required = true;
   disable_help_subcommand = true;
-}) (new_app (codes "tcam"))) route_command.top
+}) (new_app (codes "tcam"))) route_command.top) acl_command.top
 
 -- the text that an argument was given, or has by default
 abbrev pub text_of : Text → List Row → Text
@@ -55,10 +60,12 @@ number_in text = digits_value 10 (without_leading_plus text)
 abbrev pub number_of : Text → List Row → ℕ
 number_of id rows = number_in (text_of id rows)
 
--- what a subcommand and its arguments ask for: a script of routes over so many slots
+-- what a subcommand and its arguments ask for: a script of its family over so many slots
 abbrev pub job_of_rows : Text → List Row → Job
 job_of_rows name rows =
-    if bytes_eq name (codes "route") then Reads (route_setting (number_of (codes "slots") rows)) else NoJob
+    if bytes_eq name (codes "route") then Reads (script_setting Route (number_of (codes "slots") rows))
+    else if bytes_eq name (codes "acl") then Reads (script_setting Acl (number_of (codes "slots") rows))
+    else NoJob
 
 -- what a subcommand asks for, if there is one
 abbrev pub job_of_subcommand : Option (Text × List Row) → Job
@@ -67,12 +74,15 @@ job_of_subcommand (Some (name, rows)) = job_of_rows name rows
 
 -- the same for rows that may not be clap's, whose text of --slots is tested again; where clap takes
 -- the words the test passes, and the two are one
-abbrev pub job_of_slots : Text → Job
-job_of_slots text = if is_unsigned_in 1 4096 text then Reads (route_setting (number_in text)) else NoJob
+abbrev pub job_of_slots : Family → Text → Job
+job_of_slots family text =
+    if is_unsigned_in 1 4096 text then Reads (script_setting family (number_in text)) else NoJob
 
 abbrev pub tested_job_of_rows : Text → List Row → Job
 tested_job_of_rows name rows =
-    if bytes_eq name (codes "route") then job_of_slots (text_of (codes "slots") rows) else NoJob
+    if bytes_eq name (codes "route") then job_of_slots Route (text_of (codes "slots") rows)
+    else if bytes_eq name (codes "acl") then job_of_slots Acl (text_of (codes "slots") rows)
+    else NoJob
 
 abbrev pub tested_job : Option (Text × List Row) → Job
 tested_job None = NoJob
@@ -84,6 +94,7 @@ help_text = codes "tcam: the table manager of a ternary content-addressable memo
     ++ 10 ∷ codes "It reads a script from standard input, carries its commits out over a modelled"
     ++ 10 ∷ codes "device one write at a time, and writes a report to standard output."
     ++ 10 ∷ 10 ∷ codes "    tcam route [--slots N]    a script of routes; N slots in use, 1 to 4096, by default 4096"
+    ++ 10 ∷ codes "    tcam acl [--slots N]      a script of an access list, likewise"
     ++ 10 ∷ codes "    tcam --help               this text"
     ++ 10 ∷ codes "    tcam --version            name and version"
     ++ 10 ∷ 10 ∷ codes "Example:"
@@ -115,6 +126,6 @@ job_of words = job_by_faults (fault_of tcam_command words) (subcommand_of tcam_c
 
 -- what an answer says that words ask for
 abbrev pub asked_by : Asked → Job
-asked_by (asked.Route slots) = Reads (route_setting slots)
+asked_by (asked.Script family slots) = Reads (script_setting family slots)
 asked_by asked.Help = Tells help_text
 asked_by asked.Version = Tells version_text

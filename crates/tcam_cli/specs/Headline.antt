@@ -168,8 +168,8 @@ IsCarriedOut (Reads setting) device_slots status left_old left_new taken_old tak
     IfSome left_old (λ old. IfSome left_new (λ new.
     TakesFrom status old new
     × IfSome journal (λ writes.
-    MatchesOutcome setting device_slots (script_of reading old)
-    (script_so_far reading (take (length old - length new) old)) status writes taken_old taken_new)))
+    MatchesOutcome setting device_slots (script_of (reading setting.family) old)
+    (script_so_far (reading setting.family) (take (length old - length new) old)) status writes taken_old taken_new)))
 
 -- whether a commit of the acts is refused, by the rule lists alone: the set before them and the batch that is pending
 abbrev pub any_refused : Setting → List Rule → List Change → List Act → Bool
@@ -194,7 +194,7 @@ decided setting script =
 abbrev pub decision : Job → Option (List ℕ) → Option Status
 decision NoJob left = Some Usage
 decision (Tells text) left = Some Done
-decision (Reads setting) left = option_map (λ bytes. decided setting (script_of reading bytes)) left
+decision (Reads setting) left = option_map (λ bytes. decided setting (script_of (reading setting.family) bytes)) left
 
 -- words and script alone decide this status, where the script is told
 abbrev pub IsDecided : Status → Job → Option (List ℕ) → Type 0

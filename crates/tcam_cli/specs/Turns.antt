@@ -17,9 +17,11 @@ use Rattle.script_lines.specs.declared.Over.{Over}
 use Rattle.script_lines.specs.declared.Over.TheVariants as over
 use Rattle.script_lines.specs.Reader.{Held}
 
--- the prefix of a command is one of IPv4
+-- what a command of a route script adds is a route of IPv4
 abbrev pub IsIpv4Command : RouteCommand → Type 0
 IsIpv4Command (route.Add block answer) = IsIpv4Block block
+IsIpv4Command (route.Set block answer) = Unit {0}
+IsIpv4Command (route.Del block) = Unit {0}
 IsIpv4Command (route.Packet key) = Unit {0}
 IsIpv4Command route.Commit = Unit {0}
 
@@ -60,13 +62,13 @@ pub record SoFar (setting : Setting) (slots : ℕ) (bytes : List ℕ) (held : He
   pub run : Runs setting slots (acts_only acts) effects progress
   pub journal_is : IfSome journal (λ writes. writes ≡ written effects)
   pub report : IsSome journal → Appends taken_old taken_new (printed effects)
-  pub read : IsRead held.over reading bytes held left acts (length progress.batch)
+  pub read : IsRead held.over (reading setting.family) bytes held left acts (length progress.batch)
 
 -- a run over a script ends, with these bytes taken of it
 pub record Ends (setting : Setting) (slots : ℕ) (bytes taken left : List ℕ) (status : Status) (journal : Option (List Write)) (taken_old taken_new : Option (List ℕ)) : Type 0 where
   pub effects : List Effect
   pub partial : List ℕ
-  pub outcome : IsOutcome setting slots (script_of reading bytes) (script_so_far reading taken) status effects partial
+  pub outcome : IsOutcome setting slots (script_of (reading setting.family) bytes) (script_so_far (reading setting.family) taken) status effects partial
   pub journal_is : IfSome journal (λ writes. writes ≡ written effects)
   pub report : IsSome journal → Appends taken_old taken_new (printed effects ++ partial)
   pub all : (status ≡ Done) ⊎ (status ≡ Refused) → left ≡ []

@@ -3,12 +3,13 @@
 ghost use Rattle.std.specs.Prelude.{◌≡◌, ◌≤◌, codes, Err, IfOk, IsErrOf, IfSome, IsNone, false, map, string_bytes};
 ghost use Rattle.clap.specs.Words.{app_of, rule_of, rows_of, found_of, subcommand_rows_of, kind_of};
 ghost use Rattle.clap.specs.declared.builder.command.Command.TheViews.{out-Command};
-ghost use Rattle.tcam_cli.specs.CommandLine.{asked_by, job_of, job_of_fault, job_of_slots, route_setting, tested_job};
-ghost use Rattle.tcam_cli.specs.CommandLine.{route_command as route_app, slots_option, tcam_command as tcam_app, text_of};
+ghost use Rattle.tcam_cli.specs.CommandLine.{asked_by, job_of, job_of_fault, job_of_slots, script_setting, tested_job};
+ghost use Rattle.tcam_cli.specs.CommandLine.{acl_command as acl_app, route_command as route_app, slots_option, tcam_command as tcam_app, text_of};
 ghost use Rattle.tcam_cli.specs.Headline.{NoJob, Reads};
 
 use clap::error::ErrorKind;
 use clap::{Arg, ArgAction, ArgMatches, Command, Error};
+use replay::Family;
 use std::alloc::{AllocError, Global};
 
 /// What `--help` prints.
@@ -18,6 +19,7 @@ It reads a script from standard input, carries its commits out over a modelled
 device one write at a time, and writes a report to standard output.
 
     tcam route [--slots N]    a script of routes; N slots in use, 1 to 4096, by default 4096
+    tcam acl [--slots N]      a script of an access list, likewise
     tcam --help               this text
     tcam --version            name and version
 
@@ -32,8 +34,8 @@ pub const VERSION: &str = "tcam 0.1.0\n";
 /// What a command line asks for.
 #[derive(Clone, Copy, Debug, PartialEq, Eq)]
 pub enum Asked {
-    /// A route script from the source, with so many slots in use, 1 to 4,096.
-    Route { slots: u32 },
+    /// A script of this family from the source, with so many slots in use, 1 to 4,096.
+    Script { family: Family, slots: u32 },
     /// The help text.
     Help,
     /// Name and version.
@@ -69,6 +71,14 @@ fn route_command<'a>(alloc: Global) -> Result<Command<'a>, AllocError>
     Ok(Command::new(alloc, "route").arg(slots_arg(alloc))?)
 }
 
+/// The subcommand for access-list scripts.
+fn acl_command<'a>(alloc: Global) -> Result<Command<'a>, AllocError>
+    ensures app { IfOk result (λ c. app_of c ≡ acl_app) }
+    ensures local { IfOk result (λ c. (out-Command c).has_globals ≡ false) }
+{
+    Ok(Command::new(alloc, "acl").arg(slots_arg(alloc))?)
+}
+
 /// The declared command line: a required subcommand, help by its flag alone, and a version.
 fn tcam_command<'a>(alloc: Global) -> Result<Command<'a>, AllocError>
     ensures { IfOk result (λ c. app_of c ≡ tcam_app) }
@@ -78,7 +88,8 @@ fn tcam_command<'a>(alloc: Global) -> Result<Command<'a>, AllocError>
             .version("0.1.0")
             .subcommand_required(true)
             .disable_help_subcommand(true)
-            .subcommand(route_command(alloc)?)?,
+            .subcommand(route_command(alloc)?)?
+            .subcommand(acl_command(alloc)?)?,
     )
 }
 
@@ -88,7 +99,7 @@ fn tcam_command<'a>(alloc: Global) -> Result<Command<'a>, AllocError>
 pub fn read_words(alloc: Global, words: &[String]) -> Result<Asked, WordsFault>
     ensures asked { IfOk result (λ job. job_of (map string_bytes words.now) ≡ asked_by job) }
     ensures usage { IsErrOf result WordsFault.Usage → job_of (map string_bytes words.now) ≡ NoJob }
-    ensures slots { IfOk result (λ job. (n : _) → job ≡ Asked.Route n → (1 ≤ n) × (n ≤ 4096)) }
+    ensures slots { IfOk result (λ job. (family n : _) → job ≡ Asked.Script family n → (1 ≤ n) × (n ≤ 4096)) }
 {
     let command = match tcam_command(alloc) {
         Ok(command) => command,
@@ -104,31 +115,32 @@ pub fn read_words(alloc: Global, words: &[String]) -> Result<Asked, WordsFault>
 fn job_of_matches(matches: &ArgMatches) -> Result<Asked, WordsFault>
     ensures asked { IfOk result (λ job. tested_job (subcommand_rows_of matches.now) ≡ asked_by job) }
     ensures usage { IsErrOf result WordsFault.Usage → tested_job (subcommand_rows_of matches.now) ≡ NoJob }
-    ensures slots { IfOk result (λ job. (n : _) → job ≡ Asked.Route n → (1 ≤ n) × (n ≤ 4096)) }
+    ensures slots { IfOk result (λ job. (family n : _) → job ≡ Asked.Script family n → (1 ≤ n) × (n ≤ 4096)) }
 {
     match matches.subcommand() {
-        Some((name, route)) if name == "route" => job_of_route(route),
+        Some((name, found)) if name == "route" => job_of_script(Family::Route, found),
+        Some((name, found)) if name == "acl" => job_of_script(Family::Acl, found),
         _ => Err(WordsFault::Usage),
     }
 }
 
-/// The job of the arguments of `route`.
-fn job_of_route(route: &ArgMatches) -> Result<Asked, WordsFault>
-    ensures asked { IfOk result (λ job. job_of_slots (text_of (codes "slots") (rows_of (found_of route.now))) ≡ asked_by job) }
-    ensures usage { IsErrOf result WordsFault.Usage → job_of_slots (text_of (codes "slots") (rows_of (found_of route.now))) ≡ NoJob }
-    ensures slots { IfOk result (λ job. (n : _) → job ≡ Asked.Route n → (1 ≤ n) × (n ≤ 4096)) }
+/// The job of the arguments of a subcommand for scripts of a family.
+fn job_of_script(family: Family, found: &ArgMatches) -> Result<Asked, WordsFault>
+    ensures asked { IfOk result (λ job. job_of_slots family (text_of (codes "slots") (rows_of (found_of found.now))) ≡ asked_by job) }
+    ensures usage { IsErrOf result WordsFault.Usage → job_of_slots family (text_of (codes "slots") (rows_of (found_of found.now))) ≡ NoJob }
+    ensures slots { IfOk result (λ job. (family n : _) → job ≡ Asked.Script family n → (1 ≤ n) × (n ≤ 4096)) }
 {
-    match slots_of(route.get_str("slots").unwrap_or("")) {
-        Some(slots) => Ok(Asked::Route { slots }),
+    match slots_of(found.get_str("slots").unwrap_or("")) {
+        Some(slots) => Ok(Asked::Script { family, slots }),
         None => Err(WordsFault::Usage),
     }
 }
 
 /// A number of slots from its text.
 fn slots_of(text: &str) -> Option<u32>
-    ensures some { IfSome result (λ n. job_of_slots text.now ≡ Reads (route_setting n)) }
+    ensures some { IfSome result (λ n. (family : _) → job_of_slots family text.now ≡ Reads (script_setting family n)) }
     ensures range { IfSome result (λ n. (1 ≤ n) × (n ≤ 4096)) }
-    ensures none { IsNone result → job_of_slots text.now ≡ NoJob }
+    ensures none { IsNone result → (family : _) → job_of_slots family text.now ≡ NoJob }
 {
     match text.parse::<u32>() {
         Ok(slots) if 1 <= slots && slots <= 4096 => Some(slots),
@@ -141,7 +153,7 @@ fn job_of_error(error: &Error) -> Result<Asked, WordsFault>
     ensures asked { IfOk result (λ job. job_of_fault (kind_of error.now) ≡ asked_by job) }
     ensures usage { IsErrOf result WordsFault.Usage → job_of_fault (kind_of error.now) ≡ NoJob }
     ensures memory { kind_of error.now ≡ ErrorKind.OutOfMemory → result ≡ Err WordsFault.Memory }
-    ensures slots { IfOk result (λ job. (n : _) → job ≡ Asked.Route n → ⊥) }
+    ensures slots { IfOk result (λ job. (family n : _) → job ≡ Asked.Script family n → ⊥) }
 {
     match error.kind() {
         ErrorKind::DisplayHelp => Ok(Asked::Help),

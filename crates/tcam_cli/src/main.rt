@@ -1,5 +1,5 @@
-//! The program `tcam`: it reads a script of route changes from standard input, carries it out over a modelled
-//! device, and writes the report to standard output.
+//! The program `tcam`: it reads a script of changes to routes or to an access list from standard input, carries it out
+//! over a modelled device, and writes the report to standard output.
 //!
 //! Everything but the few lines of `main` is [`top::run`], over any source, sink and device.
 #![tactic(auto)]
@@ -8,6 +8,8 @@ ghost use Rattle.std.specs.Prelude.{◌≡◌};
 ghost use Rattle.tcam_cli.specs.ExitCodes.{exit_code};
 
 mod command_line;
+#[cfg(test)]
+mod list_tests;
 #[cfg(test)]
 mod tests;
 mod top;

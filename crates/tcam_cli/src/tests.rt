@@ -20,7 +20,7 @@ fn words_of(alloc: Global, line: &str) -> Result<Vec<String>, AllocError> {
 }
 
 /// Runs a script over a blank device of 4,096 slots, and compares status, report and number of writes.
-fn check(
+pub(crate) fn check(
     rt: &(impl Abort + AllocGlobal),
     line: &str,
     script: &str,
@@ -92,13 +92,21 @@ fn faults(rt: HostRuntime) -> Result<(), Fail> {
         0,
     )?;
     let command = "line 1 unknown command\n";
-    check(&rt, EIGHT, "acl del 7", Status::Script, command, 0)
+    check(&rt, EIGHT, "acl del 7", Status::Script, command, 0)?;
+    let count = "line 1 word count\n";
+    check(
+        &rt,
+        EIGHT,
+        "route del 10.0.0.0/8 7",
+        Status::Script,
+        count,
+        0,
+    )
 }
 
 #[test]
 fn usage(rt: HostRuntime) -> Result<(), Fail> {
-    check(&rt, "tcam frob", FIRST, Status::Usage, "usage\n", 0)?;
-    check(&rt, "tcam acl", FIRST, Status::Usage, "usage\n", 0)
+    check(&rt, "tcam frob", FIRST, Status::Usage, "usage\n", 0)
 }
 
 #[test]
@@ -158,6 +166,67 @@ fn named(rt: HostRuntime) -> Result<(), Fail> {
         "route add 10.0.0.0/8 7\ncommit\nroute add 10.0.0.0/8 8\ncommit\nroute add 11.0.0.0/8 1\nroute add 11.0.0.0/8 2\ncommit\n";
     let report =
         "commit 1 ok writes 1 words 0 most 1 span 0\ncommit 2 refused taken 10.0.0.0/8\ncommit 3 refused twice 11.0.0.0/8\nend rules 1 entries 1 writes 1 pending 0\n";
+    check(&rt, EIGHT, script, Status::Refused, report, 1)
+}
+
+#[test]
+fn changed(rt: HostRuntime) -> Result<(), Fail> {
+    let script =
+        "route add 10.0.0.0/8 7\ncommit\nroute set 10.0.0.0/8 9\ncommit\npacket 0.0.0.0 10.1.2.3 0 0 0\n";
+    let report =
+        "commit 1 ok writes 1 words 0 most 1 span 0\ncommit 2 ok writes 1 words 0 most 0 span 0\npacket 10.0.0.0/8 9\nend rules 1 entries 1 writes 2 pending 0\n";
+    check(&rt, EIGHT, script, Status::Done, report, 2)
+}
+
+#[test]
+fn removed(rt: HostRuntime) -> Result<(), Fail> {
+    let script =
+        "route add 10.0.0.0/8 7\ncommit\nroute del 10.0.0.0/8\nroute add 10.1.0.0/16 9\ncommit\npacket 0.0.0.0 10.1.2.3 0 0 0\npacket 0.0.0.0 10.2.0.1 0 0 0\n";
+    let report =
+        "commit 1 ok writes 1 words 0 most 1 span 0\ncommit 2 ok writes 2 words 0 most 1 span 0\npacket 10.1.0.0/16 9\npacket none\nend rules 1 entries 1 writes 3 pending 0\n";
+    check(&rt, EIGHT, script, Status::Done, report, 3)
+}
+
+#[test]
+fn replaced(rt: HostRuntime) -> Result<(), Fail> {
+    let script =
+        "route add 10.0.0.0/8 7\ncommit\nroute del 10.0.0.0/8\nroute add 10.0.0.0/8 8\ncommit\npacket 0.0.0.0 10.1.2.3 0 0 0\n";
+    let report =
+        "commit 1 ok writes 1 words 0 most 1 span 0\ncommit 2 ok writes 1 words 0 most 0 span 0\npacket 10.0.0.0/8 8\nend rules 1 entries 1 writes 2 pending 0\n";
+    check(&rt, "tcam route --slots 1", script, Status::Done, report, 2)
+}
+
+#[test]
+fn swapped(rt: HostRuntime) -> Result<(), Fail> {
+    let script =
+        "route add 10.0.0.0/8 7\ncommit\nroute add 11.0.0.0/8 8\nroute del 10.0.0.0/8\ncommit\n";
+    let report =
+        "commit 1 ok writes 1 words 0 most 1 span 0\ncommit 2 refused slots 1 0\nend rules 1 entries 1 writes 1 pending 0\n";
+    check(
+        &rt,
+        "tcam route --slots 1",
+        script,
+        Status::Refused,
+        report,
+        1,
+    )
+}
+
+#[test]
+fn absent(rt: HostRuntime) -> Result<(), Fail> {
+    let report = "commit 1 refused absent 10.0.0.0/8\nend rules 0 entries 0 writes 0 pending 0\n";
+    let removal = "route del 10.0.0.0/8\ncommit\n";
+    check(&rt, EIGHT, removal, Status::Refused, report, 0)?;
+    let change = "route set 10.0.0.0/8 1\ncommit\n";
+    check(&rt, EIGHT, change, Status::Refused, report, 0)
+}
+
+#[test]
+fn changed_twice(rt: HostRuntime) -> Result<(), Fail> {
+    let script =
+        "route add 10.0.0.0/8 7\ncommit\nroute set 10.0.0.0/8 8\nroute del 10.0.0.0/8\ncommit\n";
+    let report =
+        "commit 1 ok writes 1 words 0 most 1 span 0\ncommit 2 refused twice 10.0.0.0/8\nend rules 1 entries 1 writes 1 pending 0\n";
     check(&rt, EIGHT, script, Status::Refused, report, 1)
 }
 

@@ -5,29 +5,30 @@ ghost use Rattle.std.specs.Io.KnownBytes.{Consumes};
 ghost use Rattle.script_lines.specs.Cause.{Rose};
 ghost use Rattle.script_lines.specs.Lines.{numbered};
 ghost use Rattle.line_words.specs.Texts.{word_fault_text};
-ghost use Rattle.replay.specs.Run.{IsRouteAct, start, ending};
+ghost use Rattle.replay.specs.Run.{IsActOf, start, ending};
 ghost use Rattle.replay.specs.Running.{progress_of, setting_of};
 ghost use Rattle.replay.specs.Script.{Whole};
 ghost use Rattle.replay.specs.Text.{fault_line};
 ghost use Rattle.tcam_cli.specs.AllTheWay.{IsHitlessJob};
-ghost use Rattle.tcam_cli.specs.CommandLine.{job_of, route_setting};
+ghost use Rattle.tcam_cli.specs.CommandLine.{job_of, script_setting};
 ghost use Rattle.tcam_cli.specs.Headline.{IsCarriedOut, HasCauses, Reads, status_of};
-ghost use Rattle.tcam_cli.specs.Readings.{reading, route_act};
+ghost use Rattle.tcam_cli.specs.Readings.{acl_act, reading, route_act};
 ghost use Rattle.tcam_cli.specs.Turns.{SoFar, Ends, Closes, IsIpv4Command};
 
 use crate::Status;
 use crate::command_line::{Asked, HELP, VERSION, WordsFault, read_words};
+use acl_reader::{AclCommand, read_acl};
 use line_words::WordFault;
 use replay::{Act, Family, Mode, Run, RunFault, write_fault, write_text};
 use route_reader::{RouteCommand, read_route};
-use rule_model::{route_rule, rule_conditions};
+use rule_model::{ipv4_route_rank, list_rank, route_rule, rule_conditions};
 use rule_store::Command;
 use script_lines::{Failed, Line, LineFault, Lines, Sink, Source};
 use std::alloc::Global;
 use tcam_device::Device;
 
 /// Runs what the words of a command line ask for, the program's name first, over a blank device of at least 4,096
-/// slots: a script of routes from the source, or one of the product's own texts.
+/// slots: a script of routes or of an access list from the source, or one of the product's own texts.
 ///
 /// After every single device write each packet key has the answer of the set before the commit or of the one after it,
 /// and after a commit's last write that of the one after it; a refused commit writes nothing. The answer is `Done` or
@@ -35,8 +36,8 @@ use tcam_device::Device;
 /// fault, which the last line of the report names. `ReadFault`, `WriteFault` and `DeviceFault` come only where the
 /// count of failures of source, sink or device rose, and then nothing more is read, written or printed. `Memory` comes
 /// for want of memory alone, before a commit's first write. `Usage` comes where the words are no command line, and
-/// there nothing else comes but a failing sink and want of memory. Each line of the report is handed to the sink as
-/// soon as it is known.
+/// there nothing else comes but a failing sink and want of memory. The lines of an act are handed to the sink before the
+/// next act is carried out.
 pub fn run<S: Source, K: Sink, D: Device>(
     alloc: Global,
     words: &[String],
@@ -58,7 +59,9 @@ pub fn run<S: Source, K: Sink, D: Device>(
         (D.faults device.old) (D.faults device.new) }
 {
     match read_words(alloc, words) {
-        Ok(Asked::Route { slots }) => run_route(alloc, slots, source, sink, device),
+        Ok(Asked::Script { family, slots }) => {
+            run_family(alloc, family, slots, source, sink, device)
+        }
         Ok(Asked::Help) => tell(sink, HELP, Status::Done),
         Ok(Asked::Version) => tell(sink, VERSION, Status::Done),
         Err(WordsFault::Usage) => tell(sink, "usage\n", Status::Usage),
@@ -66,9 +69,10 @@ pub fn run<S: Source, K: Sink, D: Device>(
     }
 }
 
-/// Carries out a route script from the source.
-fn run_route<S: Source, K: Sink, D: Device>(
+/// Carries out a script of a family from the source.
+fn run_family<S: Source, K: Sink, D: Device>(
     alloc: Global,
+    family: Family,
     slots: u32,
     source: &mut S,
     sink: &mut K,
@@ -78,16 +82,16 @@ fn run_route<S: Source, K: Sink, D: Device>(
     requires most { slots ≤ 4096 }
     requires device { 4096 ≤ D.slot_count device.old }
     requires blank { IfSome (D.journal device.old) (λ writes. writes ≡ []) }
-    ensures carried_out { IsCarriedOut (Reads (route_setting slots)) (D.slot_count device.old) result
+    ensures carried_out { IsCarriedOut (Reads (script_setting family slots)) (D.slot_count device.old) result
         (S.left source.old) (S.left source.new) (K.taken sink.old) (K.taken sink.new) (D.journal device.new) }
     ensures told { (IsSome (S.left source.old) → IsSome (S.left source.new)) × (IsSome (K.taken sink.old) → IsSome (K.taken sink.new))
         × (IsSome (D.journal device.old) → IsSome (D.journal device.new)) }
     ensures slot_count { D.slot_count device.new ≡ D.slot_count device.old }
-    ensures causes { HasCauses (Reads (route_setting slots)) (S.left source.old) result
+    ensures causes { HasCauses (Reads (script_setting family slots)) (S.left source.old) result
         (S.faults source.old) (S.faults source.new) (K.faults sink.old) (K.faults sink.new)
         (D.faults device.old) (D.faults device.new) }
 {
-    match Run::new(alloc, slots, Mode::Cover, Family::Route) {
+    match Run::new(alloc, slots, Mode::Cover, family) {
         Ok(mut run) => run_script(&mut run, source, sink, device),
         Err(_) => Status::Memory,
     }
@@ -169,7 +173,7 @@ fn turn<S: Source, K: Sink, D: Device>(
         Ok(None) => return Some(finish(run, sink)),
         Ok(Some(line)) => line,
     };
-    let act = match read_act(&line) {
+    let act = match read_act(run, &line) {
         Err(text) => return Some(fault(line.number, text, sink)),
         Ok(None) => return None,
         Ok(Some(act)) => act,
@@ -183,27 +187,75 @@ fn turn<S: Source, K: Sink, D: Device>(
     }
 }
 
-/// What a line of a route script does, or the text of its fault.
-fn read_act(line: &Line) -> Result<Option<Act>, &'static str>
+/// What a line does in a script of the run's family, or the text of its fault.
+fn read_act(run: &Run, line: &Line) -> Result<Option<Act>, &'static str>
     requires { line.now.len ≤ 512 }
-    ensures ok { IfOk result (λ found. reading (numbered line.now).text ≡ Ok found) }
-    ensures err { IfErr result (λ text. reading (numbered line.now).text ≡ Err text.now) }
-    ensures act { IfOk result (λ found. IfSome found IsRouteAct) }
+    ensures ok { IfOk result (λ found. reading run.now.family (numbered line.now).text ≡ Ok found) }
+    ensures err { IfErr result (λ text. reading run.now.family (numbered line.now).text ≡ Err text.now) }
+    ensures act { IfOk result (λ found. IfSome found (IsActOf run.now.family)) }
+    ensures long { IfOk result (λ found. IfSome found (λ _. 5 ≤ line.now.len)) }
+    ensures short { IfErr result (λ text. length text.now ≤ 32) }
+{
+    match run.family() {
+        Family::Route => read_route_act(line),
+        Family::Acl => read_acl_act(line),
+    }
+}
+
+/// What a line of a route script does, or the text of its fault.
+fn read_route_act(line: &Line) -> Result<Option<Act>, &'static str>
+    requires { line.now.len ≤ 512 }
+    ensures ok { IfOk result (λ found. reading Family.Route (numbered line.now).text ≡ Ok found) }
+    ensures err { IfErr result (λ text. reading Family.Route (numbered line.now).text ≡ Err text.now) }
+    ensures act { IfOk result (λ found. IfSome found (IsActOf Family.Route)) }
     ensures long { IfOk result (λ found. IfSome found (λ _. 5 ≤ line.now.len)) }
     ensures short { IfErr result (λ text. length text.now ≤ 32) }
 {
     match read_route(line) {
         Ok(None) => Ok(None),
-        Ok(Some(command)) => Ok(Some(act_of(&command))),
+        Ok(Some(command)) => Ok(Some(route_act(&command))),
         Err(fault) => Err(fault_text(&fault)),
     }
 }
 
-/// The act that a command of a route script is. The prefix of an addition is one of IPv4.
-fn act_of(command: &RouteCommand) -> Act
+/// What a line of an access-list script does, or the text of its fault.
+fn read_acl_act(line: &Line) -> Result<Option<Act>, &'static str>
+    requires { line.now.len ≤ 512 }
+    ensures ok { IfOk result (λ found. reading Family.Acl (numbered line.now).text ≡ Ok found) }
+    ensures err { IfErr result (λ text. reading Family.Acl (numbered line.now).text ≡ Err text.now) }
+    ensures act { IfOk result (λ found. IfSome found (IsActOf Family.Acl)) }
+    ensures long { IfOk result (λ found. IfSome found (λ _. 5 ≤ line.now.len)) }
+    ensures short { IfErr result (λ text. length text.now ≤ 32) }
+{
+    match read_acl(line) {
+        Ok(None) => Ok(None),
+        Ok(Some(command)) => Ok(Some(acl_act(&command))),
+        Err(fault) => Err(fault_text(&fault)),
+    }
+}
+
+/// The act that a command of an access-list script is.
+fn acl_act(command: &AclCommand) -> Act
+    ensures act { result ≡ acl_act command.now }
+    ensures list { IsActOf Family.Acl result }
+{
+    match command {
+        AclCommand::Add(rule) => Act::Command(Command::Add(*rule)),
+        AclCommand::Set(sequence, answer) => Act::Command(Command::Set {
+            priority: list_rank(*sequence),
+            result: *answer,
+        }),
+        AclCommand::Del(sequence) => Act::Command(Command::Del(list_rank(*sequence))),
+        AclCommand::Packet(key) => Act::Packet(*key),
+        AclCommand::Commit => Act::Commit,
+    }
+}
+
+/// The act that a command of a route script is. What it adds is a route of IPv4.
+fn route_act(command: &RouteCommand) -> Act
     requires { IsIpv4Command command.now }
     ensures act { result ≡ route_act command.now }
-    ensures route { IsRouteAct result }
+    ensures route { IsActOf Family.Route result }
 {
     match command {
         RouteCommand::Add(prefix, answer) => {
@@ -211,6 +263,11 @@ fn act_of(command: &RouteCommand) -> Act
             rule_conditions(&rule);
             Act::Command(Command::Add(rule))
         }
+        RouteCommand::Set(prefix, answer) => Act::Command(Command::Set {
+            priority: ipv4_route_rank(prefix),
+            result: *answer,
+        }),
+        RouteCommand::Del(prefix) => Act::Command(Command::Del(ipv4_route_rank(prefix))),
         RouteCommand::Packet(key) => Act::Packet(*key),
         RouteCommand::Commit => Act::Commit,
     }

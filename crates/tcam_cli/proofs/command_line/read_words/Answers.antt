@@ -1,7 +1,7 @@
 use Rattle.std.proofs.Common.{◌∙◌, ap, inl, inr, map, string_bytes}
 use Rattle.clap.specs.Simple.{is_simple}
 use Rattle.clap.specs.Faults.{is_simple_and_free}
-use Rattle.tcam_cli.proofs.Words.{no_route, refused, simple, simple_and_free, taken, then_asked}
+use Rattle.tcam_cli.proofs.Words.{no_script, refused, simple, simple_and_free, taken, then_asked}
 use Rattle.tcam_cli.proofs.command_line.read_words.Goals as goal
 
 pub returns-in-Ok-try_get_matches_from-clause-asked : goal.returns-in-Ok-try_get_matches_from-clause-asked
@@ -37,4 +37,4 @@ returns-in-Err-try_get_matches_from-clause-usage c =
     ]
 
 pub returns-in-Err-try_get_matches_from-clause-slots : goal.returns-in-Err-try_get_matches_from-clause-slots
-returns-in-Err-try_get_matches_from-clause-slots c = no_route c.job_of_error.result c.job_of_error.ensures.slots
+returns-in-Err-try_get_matches_from-clause-slots c = no_script c.job_of_error.result c.job_of_error.ensures.slots

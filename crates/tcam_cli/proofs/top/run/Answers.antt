@@ -19,9 +19,9 @@ returns-in-Ok-Version-clause-carried_out g c =
 pub returns-in-Err-Memory-clause-carried_out : goal.returns-in-Err-Memory-clause-carried_out
 returns-in-Err-Memory-clause-carried_out g c = memory-carried _ _ _ _ _ c.requires.blank
 
-pub returns-in-Ok-Route-clause-hitless : goal.returns-in-Ok-Route-clause-hitless
-returns-in-Ok-Route-clause-hitless g c =
-    let is = rw c.in-Ok-Route.field-0-is at c.in-Ok-Route.ensures.asked in
+pub returns-in-Ok-Script-clause-hitless : goal.returns-in-Ok-Script-clause-hitless
+returns-in-Ok-Script-clause-hitless g c =
+    let is = rw c.in-Ok-Script.field-0-is at c.in-Ok-Script.ensures.asked in
     rw is (search hitless-job)
 
 pub returns-in-Err-Memory-clause-hitless : goal.returns-in-Err-Memory-clause-hitless

@@ -1,0 +1,9 @@
+use Rattle.std.proofs.Common.{◌∙◌, ap₂}
+use Rattle.clap.specs.Words.{with_rule}
+use Rattle.tcam_cli.specs.CommandLine.{acl_command}
+use Rattle.tcam_cli.proofs.command_line.acl_command.Goals as goal
+
+pub returns-clause-app : goal.returns-clause-app
+unfolding acl_command
+returns-clause-app c =
+    c.in_ok-arg.ensures.shape c.slots_arg.ensures.global ∙ ap₂ with_rule c.new.ensures.app c.slots_arg.ensures.rule
