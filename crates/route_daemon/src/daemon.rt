@@ -1,42 +1,63 @@
 //! The daemon's side of a commit.
 
-ghost use Rattle.std.specs.Prelude.{◌≡◌, ◌<◌, ◌≤◌, IfOk, IfSome};
-ghost use Rattle.batch_order.specs.Managed.{OnlyAddsRoutes};
+ghost use Rattle.std.specs.Prelude.{◌≡◌, ◌<◌, ◌≤◌, IfOk, IfSome, OnErr};
 ghost use Rattle.route_daemon.specs.Left.{HasRoom, left_number};
 
 use anyhow::anyhow;
 use batch_order::{Manager, Step};
-use rule_model::{Key, Prefix, PrefixFault, route_rule, rule_conditions};
+use rule_model::{Key, Prefix, PrefixFault, ipv4_route_rank, route_rule};
 use rule_store::{Batch, Command, PushFault};
 use tcam_device::{Device, Write};
+use thiserror::Error;
 
-/// Why a route can't be added to a batch.
-#[derive(Clone, Copy, Debug, PartialEq, Eq)]
+/// Why a change can't join a batch.
+#[derive(Clone, Copy, Debug, PartialEq, Eq, Error)]
 pub enum RouteFault {
     /// The prefix is none of IPv4.
-    Prefix(PrefixFault),
+    #[error(transparent)]
+    Prefix(#[from] PrefixFault),
     /// The batch is full, or memory is wanting.
-    Batch(PushFault),
+    #[error(transparent)]
+    Batch(#[from] PushFault),
 }
 
-/// Adds a route to the pending batch: the prefix `address/length`, whose packets go to `port`.
+/// Adds a route in the pending batch: the prefix `address/length`, whose packets go to `port`. After a refusal the batch
+/// is as before; so it is with the two below.
 pub fn add_route(batch: &mut Batch, address: u32, length: u8, port: u32) -> Result<(), RouteFault>
-    requires { OnlyAddsRoutes batch.old }
-    ensures { OnlyAddsRoutes batch.new }
+    ensures refused { OnErr result (batch.new ≡ batch.old) }
 {
-    let prefix = match Prefix::v4(address, length) {
-        Ok(prefix) => prefix,
-        Err(fault) => return Err(RouteFault::Prefix(fault)),
-    };
-    let route = route_rule(prefix, port);
-    rule_conditions(&route);
-    match batch.push(Command::Add(route)) {
-        Ok(()) => Ok(()),
-        Err(fault) => Err(RouteFault::Batch(fault)),
-    }
+    let route = route_rule(Prefix::v4(address, length)?, port);
+    batch.push(Command::Add(route))?;
+    Ok(())
 }
 
-/// Carries a batch that adds routes out, write by write, and looks one packet up after each. What the manager has
+/// Sends the packets of a route to another port, in the pending batch.
+pub fn change_route(
+    batch: &mut Batch,
+    address: u32,
+    length: u8,
+    port: u32,
+) -> Result<(), RouteFault>
+    ensures refused { OnErr result (batch.new ≡ batch.old) }
+{
+    let prefix = Prefix::v4(address, length)?;
+    batch.push(Command::Set {
+        priority: ipv4_route_rank(&prefix),
+        result: port,
+    })?;
+    Ok(())
+}
+
+/// Withdraws a route, in the pending batch.
+pub fn withdraw_route(batch: &mut Batch, address: u32, length: u8) -> Result<(), RouteFault>
+    ensures refused { OnErr result (batch.new ≡ batch.old) }
+{
+    let prefix = Prefix::v4(address, length)?;
+    batch.push(Command::Del(ipv4_route_rank(&prefix)))?;
+    Ok(())
+}
+
+/// Carries a batch of changes to routes out, write by write, and looks one packet up after each. What the manager has
 /// written then answers it as the old routes or the new ones do (`Manager::rules`, `on_the_way`).
 pub fn commit<D: Device>(
     rt: &HostRuntime,
@@ -45,7 +66,6 @@ pub fn commit<D: Device>(
     device: &mut D,
 ) -> anyhow::Result<()>
     requires slots { manager.old.slots ≤ D.slot_count device.old }
-    requires changes { OnlyAddsRoutes batch.now }
     ensures slots { manager.new.slots ≡ manager.old.slots }
     ensures slot_count { D.slot_count device.new ≡ D.slot_count device.old }
 {
@@ -79,8 +99,10 @@ fn next_write<D: Device>(manager: &mut Manager, device: &mut D) -> anyhow::Resul
 
 /// Prints a write, and where a packet to 10.1.2.3 goes after it.
 fn tell<D: Device>(rt: &HostRuntime, write: &Write, device: &D) -> anyhow::Result<()> {
-    if let Write::Slot(slot, _) = write {
-        println!(rt; "  slot {slot} written")?;
+    match write {
+        Write::Slot(slot, Some(_)) => println!(rt; "  slot {slot} written")?,
+        Write::Slot(slot, None) => println!(rt; "  slot {slot} erased")?,
+        _ => {}
     }
     let key = Key {
         src: 0,

@@ -8,13 +8,14 @@
 mod daemon;
 mod registers;
 
-use anyhow::anyhow;
 use batch_order::{Manager, Mode};
-use daemon::{add_route, commit};
+use daemon::{add_route, change_route, commit, withdraw_route};
 use registers::{Registers, SLOTS};
 use rule_store::Batch;
 
-/// Adds four routes, a commit each. The last goes between two that stand side by side, so one of them moves.
+/// Adds four routes, a commit each. The last goes between two that stand side by side, so one of them moves. Then one
+/// commit withdraws a route and changes the port of the next shorter one: the packet keeps the old answer until the
+/// route is erased.
 fn main(rt: HostRuntime) -> anyhow::Result<()> {
     let mut device = Registers::new();
     let mut manager = Manager::new(rt.alloc(), SLOTS, Mode::Cover)?;
@@ -26,10 +27,12 @@ fn main(rt: HostRuntime) -> anyhow::Result<()> {
         (0x0a01_0000, 20, 5),
     ] {
         batch.clear();
-        if let Err(fault) = add_route(&mut batch, address, length, port) {
-            return Err(anyhow!("{fault:?}"));
-        }
+        add_route(&mut batch, address, length, port)?;
         commit(&rt, &mut manager, &batch, &mut device)?;
     }
+    batch.clear();
+    withdraw_route(&mut batch, 0x0a01_0200, 24)?;
+    change_route(&mut batch, 0x0a01_0000, 20, 6)?;
+    commit(&rt, &mut manager, &batch, &mut device)?;
     Ok(())
 }
