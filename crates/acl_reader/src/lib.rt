@@ -3,6 +3,7 @@
 //!     acl add SEQ ACTION SIDE SIDE PROTOSPEC PORTSPEC PORTSPEC
 //!     acl set SEQ ACTION
 //!     acl del SEQ
+//!     probe KEY
 //!     packet KEY
 //!     frame HEX
 //!     commit
@@ -35,6 +36,8 @@ pub enum AclCommand {
     Set(u32, u32),
     /// Removes the rule of this sequence number.
     Del(u32),
+    /// Has the answer of a packet asked for after each later write.
+    Probe(Key),
     /// Asks for the answer of a packet.
     Packet(Key),
     /// Carries out the pending batch.
@@ -63,15 +66,16 @@ fn command_of(first: &[u8], rest: Words<'_>) -> Result<AclCommand, WordFault>
 {
     match first {
         b"acl" => acl_words(rest),
-        _ => packet_or_commit(first, rest),
+        _ => other_command(first, rest),
     }
 }
 
-/// The command of a line that begins with none of the words of access lists.
-fn packet_or_commit(first: &[u8], rest: Words<'_>) -> Result<AclCommand, WordFault>
-    ensures { result ≡ common_command ipv4_notation AclCommand.Packet AclCommand.Commit first.now rest.entry }
+/// The command of a line that begins with a word of both kinds of script.
+fn other_command(first: &[u8], rest: Words<'_>) -> Result<AclCommand, WordFault>
+    ensures { result ≡ common_command ipv4_notation AclCommand.Probe AclCommand.Packet AclCommand.Commit first.now rest.entry }
 {
     match common_command(first, rest)? {
+        CommonCommand::Probe(key) => Ok(AclCommand::Probe(key)),
         CommonCommand::Packet(key) => Ok(AclCommand::Packet(key)),
         CommonCommand::Commit => Ok(AclCommand::Commit),
     }
@@ -214,10 +218,14 @@ mod tests {
 
     #[test]
     fn other_commands(rt: HostRuntime) {
-        let table: [(&[u8], Option<AclCommand>); 7] = [
+        let table: [(&[u8], Option<AclCommand>); 8] = [
             (b"acl set 100 deny", Some(AclCommand::Set(100, 0))),
             (b"acl set 100 permit", Some(AclCommand::Set(100, 1))),
             (b"acl del 7", Some(AclCommand::Del(7))),
+            (
+                b"probe 10.1.2.3 10.1.2.4 tcp 1234 80",
+                Some(AclCommand::Probe(web_key())),
+            ),
             (
                 b"packet 10.1.2.3 10.1.2.4 6 1234 80",
                 Some(AclCommand::Packet(web_key())),
@@ -273,8 +281,8 @@ mod tests {
             (b"acl", WordFault::UnknownCommand),
             (b"acl Add", WordFault::UnknownCommand),
             (b"route add 10.0.0.0/8 7", WordFault::UnknownCommand),
-            (b"packet 10.1.2.3 10.1.2 6 0 80", WordFault::BadAddress),
-            (b"packet 10.1.2.3 10.1.2.4 6 0", WordFault::WordCount),
+            (b"probe 10.1.2.3 10.1.2 6 0 80", WordFault::BadAddress),
+            (b"probe 10.1.2.3 10.1.2.4 6 0", WordFault::WordCount),
             (b"frame 4g", WordFault::BadHex),
             (b"frame 65", WordFault::Frame(FrameFault::Version)),
             (b"commit 1", WordFault::WordCount),

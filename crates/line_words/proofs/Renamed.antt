@@ -27,10 +27,11 @@ choice-renamed f true chosen other named otherwise same different = same
 choice-renamed f false chosen other named otherwise same different = different
 
 -- Common commands by other names are those commands, renamed.
-pub common_command-renamed : {C D : Type 0} (f : C → D) (notation : Notation) (packet : Key → C) (commit : C) (first : List ℕ) (rest : List (List ℕ))
-    → common_command notation (λ key. f (packet key)) (f commit) first rest
-    ≡ (common_command notation packet commit first rest >>= λ command. Ok (f command))
-common_command-renamed f notation packet commit first rest =
-    choice-renamed f (bytes_eq first (codes "packet")) _ _ _ _ (one-step (key_of notation rest) packet f)
+pub common_command-renamed : {C D : Type 0} (f : C → D) (notation : Notation) (probe packet : Key → C) (commit : C) (first : List ℕ) (rest : List (List ℕ))
+    → common_command notation (λ key. f (probe key)) (λ key. f (packet key)) (f commit) first rest
+    ≡ (common_command notation probe packet commit first rest >>= λ command. Ok (f command))
+common_command-renamed f notation probe packet commit first rest =
+    choice-renamed f (bytes_eq first (codes "probe")) _ _ _ _ (one-step (key_of notation rest) probe f)
+    (choice-renamed f (bytes_eq first (codes "packet")) _ _ _ _ (one-step (key_of notation rest) packet f)
     (choice-renamed f (bytes_eq first (codes "frame")) _ _ _ _ (one-step (frame_of notation rest) packet f)
-    (choice-renamed f (bytes_eq first (codes "commit")) _ _ _ _ (commit_of-renamed f commit rest) refl))
+    (choice-renamed f (bytes_eq first (codes "commit")) _ _ _ _ (commit_of-renamed f commit rest) refl)))

@@ -12,6 +12,8 @@ use rule_model::Key;
 /// A command that both kinds of script have. A frame is read as a packet with its key.
 #[derive(Clone, Copy, Debug, PartialEq, Eq)]
 pub enum CommonCommand {
+    /// Has the answer of a packet asked for after each later write.
+    Probe(Key),
     /// Asks for the answer of a packet.
     Packet(Key),
     /// Carries out the pending batch.
@@ -23,9 +25,10 @@ pub enum CommonCommand {
 /// UnknownCommand where the word begins no common command, then WordCount where there are more or fewer
 /// words than the command has, and else the fault of the leftmost bad one.
 pub fn common_command(first: &[u8], rest: Words<'_>) -> Result<CommonCommand, WordFault>
-    ensures { result ≡ common_command ipv4_notation CommonCommand.Packet CommonCommand.Commit first.now rest.entry }
+    ensures { result ≡ common_command ipv4_notation CommonCommand.Probe CommonCommand.Packet CommonCommand.Commit first.now rest.entry }
 {
     match first {
+        b"probe" => key_of(rest).map(CommonCommand::Probe),
         b"packet" => key_of(rest).map(CommonCommand::Packet),
         b"frame" => frame_of(rest).map(CommonCommand::Packet),
         b"commit" => commit_of(rest),

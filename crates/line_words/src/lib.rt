@@ -6,7 +6,8 @@
 //!
 //!     route add 10.0.0.0/8 7     a reader's own: two words, a prefix and a result
 //!     acl set 10 deny            a reader's own: two words, a sequence number and an action
-//!     packet KEY                 common to both: five words, two addresses, a protocol, two ports
+//!     probe KEY                  common to both: five words, two addresses, a protocol, two ports
+//!     packet KEY                 common to both: the same five words
 //!     frame HEX                  common to both: one word, the bytes of a packet
 //!     commit                     common to both: no word
 //!

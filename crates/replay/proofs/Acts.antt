@@ -1,5 +1,5 @@
 -- Each act, as what it does to the journal and to the report.
-use Rattle.std.proofs.Common.{◌≡◌, ◌≢◌, ℕ, ◌+◌, ◌≤◌, true, false, List, [], ◌∷◌, ◌++◌, Option, Some, None, IfSome, option_map, refl, sym, ap, ◌∙◌, subst}
+use Rattle.std.proofs.Common.{◌≡◌, ◌≢◌, ℕ, ◌+◌, ◌≤◌, true, false, List, [], ◌∷◌, ◌++◌, Option, Some, None, IfSome, option_map, length, append_assoc, refl, sym, ap, ◌∙◌, subst}
 use Rattle.std.specs.Io.KnownBytes.{Appends}
 use Rattle.rule_model.specs.declared.Key.{Key}
 use Rattle.rule_model.specs.Key.{IsKey}
@@ -7,21 +7,26 @@ use Rattle.rule_model.specs.RuleSet.{Answer, answer}
 use Rattle.rule_store.specs.declared.Command.{Command as Change}
 use Rattle.rule_store.specs.Verdict.{Verdict, Accepted, Unsound, OutOfBits, OutOfSlots}
 use Rattle.tcam_device.specs.declared.Write.{Write}
-use Rattle.tcam_device.specs.State.{lookup, replay, on_device}
+use Rattle.tcam_device.specs.State.{State, apply, lookup, replay, state_after, on_device}
 use Rattle.batch_order.specs.declared.Ready.{Ready}
 use Rattle.batch_order.specs.Managed.{Holds}
-use Rattle.replay.specs.declared.Act.TheVariants.{Command, Packet, Commit}
-use Rattle.replay.specs.Run.{Setting, Progress, Effect, Writes, Prints, Refuses, Judged, Step, writes_of}
+use Rattle.replay.specs.declared.Act.TheVariants.{Command, Probe, Packet, Commit}
+use Rattle.replay.specs.Run.{Setting, Progress, Effect, Writes, Prints, Refuses, Judged, Step, printed, lines_of, writes_of}
 use Rattle.replay.specs.Text.{packet_line, accepted_line, refused_line}
-use Rattle.replay.specs.Carried.{AppendsPart}
+use Rattle.replay.specs.Carried.{AppendsPart, CutsEffects}
 use Rattle.replay.specs.Running.{Running, IsRun, ShowsRules, CarriesRun, CutsRunAtLine, CutsRunAtWrite, setting_of, progress_of, verdict_of}
-use Rattle.replay.proofs.Effects.{does-line, does-part, does-nothing, does-writes_line, does-writes_part, does-writes, writes_of-split}
+use Rattle.replay.proofs.Effects.{does-line, does-part, does-nothing, does-writes_line, does-writes_part, does-writes, told-at, writes_of-append}
 use Rattle.replay.proofs.Runs.{run_after, commits-with}
 
 -- a change that joins the batch
 pub push-carries : (slots : ℕ) (run : Running) (change : Change) (journal : Option (List Write)) (taken : Option (List ℕ))
     → CarriesRun slots run (Command change) (record run { pending = run.pending ++ change ∷ [] }) journal journal taken taken
 push-carries slots run change journal taken at = record { effects = []; step = (refl, refl); does = does-nothing journal taken }
+
+-- a key that is probed from now on
+pub probe-carries : (slots : ℕ) (run : Running) (key : Key) (journal : Option (List Write)) (taken : Option (List ℕ))
+    → CarriesRun slots run (Probe key) (record run { probes = run.probes ++ key ∷ [] }) journal journal taken taken
+probe-carries slots run key journal taken at = record { effects = []; step = (refl, refl); does = does-nothing journal taken }
 
 -- what the device tells of a packet is what the set answers
 answered : (slots : ℕ) (run : Running) (key : Key) (writes : List Write) (found : Answer) → ShowsRules run.manager → run.manager.held ≡ None → run.manager.slots ≤ slots
@@ -106,51 +111,99 @@ refuse-cuts slots run reason journal_old journal_new old taken judged other same
 
 module _ (run : Running) (ready : Ready) (is : IsRun run) (holds : Holds (record run.manager { held = None }) run.pending ready run.manager)
     (slots : ℕ) (within : run.manager.slots ≤ slots) (accepted : verdict_of run ≡ Accepted) where
-  commit-step : (effects : List Effect) → effects ≡ writes_of holds.held.writes ++ Prints (accepted_line (run.commits + 1) holds.held.counts) ∷ []
+  -- the state before the commit
+  abbrev before : State
+  before = on_device slots run.manager.state
+
+  -- the effects of some of its writes, and its line
+  abbrev told : List Write → List Effect
+  told made = writes_of (setting_of run) run.probes 1 before made
+
+  abbrev line : List ℕ
+  line = accepted_line (run.commits + 1) holds.held.counts
+
+  commit-step : (effects : List Effect) → effects ≡ told holds.held.writes ++ Prints line ∷ []
       → Step (setting_of run) (progress_of slots run) Commit effects (progress_of slots (run_after run holds.held))
   commit-step effects same =
       subst (λ verdict. Judged (setting_of run) (progress_of slots run) verdict effects (progress_of slots (run_after run holds.held))) (sym accepted)
       (commits-with run ready is holds slots within effects same)
 
   -- a commit that is accepted, with its line
-  pub commit-carries : (new : Running) (journal_old journal_new : Option (List Write)) (old taken : Option (List ℕ)) → new ≡ run_after run holds.held
-      → journal_new ≡ option_map (λ writes. writes ++ holds.held.writes) journal_old → Appends old taken (accepted_line (run.commits + 1) holds.held.counts)
+  pub commit-carries : (new : Running) (journal_old journal_new : Option (List Write)) (old mid taken : Option (List ℕ)) → new ≡ run_after run holds.held
+      → journal_new ≡ option_map (λ writes. writes ++ holds.held.writes) journal_old
+      → IfSome journal_old (λ writes. Appends old mid (printed (writes_of (setting_of run) run.probes 1 (replay slots writes) holds.held.writes))) → Appends mid taken line
       → CarriesRun slots run Commit new journal_old journal_new old taken
-  commit-carries new journal_old journal_new old taken same journal grown =
+  commit-carries new journal_old journal_new old mid taken same journal made grown =
       subst (λ after. CarriesRun slots run Commit after journal_old journal_new old taken) (sym same) (λ at. record {
-        effects = writes_of holds.held.writes ++ Prints (accepted_line (run.commits + 1) holds.held.counts) ∷ [];
-        step = commit-step (writes_of holds.held.writes ++ Prints (accepted_line (run.commits + 1) holds.held.counts) ∷ []) refl;
-        does = does-writes_line holds.held.writes (accepted_line (run.commits + 1) holds.held.counts) journal_old journal_new old taken journal grown;
+        effects = told holds.held.writes ++ Prints line ∷ [];
+        step = commit-step (told holds.held.writes ++ Prints line ∷ []) refl;
+        does = does-writes_line (setting_of run) run.probes before holds.held.writes journal_old journal_new old mid taken journal
+            (told-at (setting_of run) run.probes before slots journal_old holds.held.writes old mid at made) line grown;
       })
 
   -- with a part of it
-  pub commit-cuts : (journal_old journal_new : Option (List Write)) (old taken : Option (List ℕ))
-      → journal_new ≡ option_map (λ writes. writes ++ holds.held.writes) journal_old → AppendsPart old taken (accepted_line (run.commits + 1) holds.held.counts)
+  pub commit-cuts : (journal_old journal_new : Option (List Write)) (old mid taken : Option (List ℕ))
+      → journal_new ≡ option_map (λ writes. writes ++ holds.held.writes) journal_old
+      → IfSome journal_old (λ writes. Appends old mid (printed (writes_of (setting_of run) run.probes 1 (replay slots writes) holds.held.writes))) → AppendsPart mid taken line
       → CutsRunAtLine slots run Commit journal_old journal_new old taken
-  commit-cuts journal_old journal_new old taken journal part at = record {
-    front = writes_of holds.held.writes;
+  commit-cuts journal_old journal_new old mid taken journal made part at = record {
+    front = told holds.held.writes;
     partial = part.0;
     rest = part.1;
     cut = record {
       back = [];
       after = progress_of slots (run_after run holds.held);
-      step = commit-step (writes_of holds.held.writes ++ Prints (part.0 ++ part.1) ∷ []) (ap (λ text. writes_of holds.held.writes ++ Prints text ∷ []) (sym part.2));
+      step = commit-step (told holds.held.writes ++ Prints (part.0 ++ part.1) ∷ []) (ap (λ text. told holds.held.writes ++ Prints text ∷ []) (sym part.2));
     };
-    does = does-writes_part holds.held.writes part.0 journal_old journal_new old taken journal part.3;
+    does = does-writes_part (setting_of run) run.probes before holds.held.writes journal_old journal_new old mid taken journal
+        (told-at (setting_of run) run.probes before slots journal_old holds.held.writes old mid at made) part.0 part.3;
+  }
+
+  -- with a part of the lines of its writes
+  pub commit-halts : (made : List Write) (journal_old journal_new : Option (List Write)) (old taken : Option (List ℕ))
+      → journal_new ≡ option_map (λ writes. writes ++ made) journal_old
+      → IfSome journal_old (λ writes. CutsEffects (writes_of (setting_of run) run.probes 1 (replay slots writes) holds.held.writes) journal_old journal_new old taken)
+      → CutsRunAtLine slots run Commit journal_old journal_new old taken
+  commit-halts made None journal_new old taken journal cuts at = record {
+    front = told holds.held.writes;
+    partial = [];
+    rest = line;
+    cut = record { back = []; after = progress_of slots (run_after run holds.held); step = commit-step (told holds.held.writes ++ Prints line ∷ []) refl };
+    does = record { journal = journal; report = λ some. absurd (let none : false ≡ true = some in cc) };
+  }
+  commit-halts made (Some writes) journal_new old taken journal cuts at = record {
+    front = cuts.front;
+    partial = cuts.partial;
+    rest = cuts.rest;
+    cut = record {
+      back = cuts.back ++ Prints line ∷ [];
+      after = progress_of slots (run_after run holds.held);
+      step = commit-step (cuts.front ++ Prints (cuts.partial ++ cuts.rest) ∷ (cuts.back ++ Prints line ∷ []))
+          (sym (ap (λ effects. effects ++ Prints line ∷ []) (ap (λ state. writes_of (setting_of run) run.probes 1 state holds.held.writes) at ∙ cuts.cut)
+          ∙ append_assoc cuts.front (Prints (cuts.partial ++ cuts.rest) ∷ cuts.back) (Prints line ∷ [])));
+    };
+    does = cuts.does;
   }
 
   -- and with a part of its writes
-  pub commit-stops : (made left : List Write) (due : Write) (journal_old journal_new : Option (List Write)) (taken : Option (List ℕ)) → holds.held.writes ≡ made ++ due ∷ left
-      → journal_new ≡ option_map (λ writes. writes ++ made) journal_old → CutsRunAtWrite slots run Commit journal_old journal_new taken taken
-  commit-stops made left due journal_old journal_new taken whole journal at = record {
-    front = writes_of made;
-    write = due;
-    cut = record {
-      back = writes_of left ++ Prints (accepted_line (run.commits + 1) holds.held.counts) ∷ [];
-      after = progress_of slots (run_after run holds.held);
-      step = commit-step (writes_of made ++ Writes due ∷ (writes_of left ++ Prints (accepted_line (run.commits + 1) holds.held.counts) ∷ []))
-          (sym (ap (λ writes. writes_of writes ++ Prints (accepted_line (run.commits + 1) holds.held.counts) ∷ []) whole
-          ∙ writes_of-split made due left (Prints (accepted_line (run.commits + 1) holds.held.counts) ∷ [])));
-    };
-    does = does-writes made journal_old journal_new taken journal;
-  }
+  pub commit-stops : (made left : List Write) (due : Write) (journal_old journal_new : Option (List Write)) (old taken : Option (List ℕ)) → holds.held.writes ≡ made ++ due ∷ left
+      → journal_new ≡ option_map (λ writes. writes ++ made) journal_old
+      → IfSome journal_old (λ writes. Appends old taken (printed (writes_of (setting_of run) run.probes 1 (replay slots writes) made)))
+      → CutsRunAtWrite slots run Commit journal_old journal_new old taken
+  commit-stops made left due journal_old journal_new old taken whole journal told_made at =
+      let next = state_after before made in
+      let number = 1 + length made in
+      let lines = lines_of (setting_of run) run.probes number (apply next due) due in
+      let later = writes_of (setting_of run) run.probes (number + 1) (apply next due) left in record {
+        front = told made;
+        write = due;
+        cut = record {
+          back = (lines ++ later) ++ Prints line ∷ [];
+          after = progress_of slots (run_after run holds.held);
+          step = commit-step (told made ++ Writes due ∷ ((lines ++ later) ++ Prints line ∷ []))
+              (sym (ap (λ effects. effects ++ Prints line ∷ []) (ap told whole ∙ writes_of-append (setting_of run) run.probes 1 before made (due ∷ left))
+              ∙ append_assoc (told made) (Writes due ∷ (lines ++ later)) (Prints line ∷ [])));
+        };
+        does = does-writes (setting_of run) run.probes before made journal_old journal_new old taken taken journal
+            (told-at (setting_of run) run.probes before slots journal_old made old taken at told_made);
+      }

@@ -1,10 +1,13 @@
 -- What effects leave in the journal and in the report.
-use Rattle.std.proofs.Common.{◌≡◌, ℕ, List, [], ◌∷◌, ◌++◌, Option, Some, None, IsSome, option_map, take, drop, refl, sym, ap, ◌∙◌, subst, append_assoc, take-append-drop}
+use Rattle.std.proofs.Common.{Bool, true, false, ◌+◌, length, IfSome, arith, ◌≡◌, ℕ, List, [], ◌∷◌, ◌++◌, Option, Some, None, IsSome, option_map, take, drop, refl, sym, ap, ◌∙◌, subst, append_assoc, take-append-drop}
 use Rattle.std.proofs.lemmas.List.{append-nil}
 use Rattle.std.specs.Io.KnownBytes.{Appends}
-use Rattle.std.proofs.KnownBytes.{Appends-nil}
+use Rattle.std.proofs.KnownBytes.{Appends-nil, Appends-trans}
+use Rattle.rule_model.specs.declared.Key.{Key}
 use Rattle.tcam_device.specs.declared.Write.{Write}
-use Rattle.replay.specs.Run.{Effect, Writes, Prints, written, printed, writes_of}
+use Rattle.tcam_device.specs.State.{State, apply, state_after, replay}
+use Rattle.replay.specs.declared.Family.{Family}
+use Rattle.replay.specs.Run.{Setting, Effect, Writes, Prints, written, printed, trace_of, probes_of, lines_of, writes_of}
 use Rattle.replay.specs.Carried.{Does, AppendsPart}
 
 -- the first bytes of a line, and the rest
@@ -21,21 +24,57 @@ pub grown-more : (journal mid new : Option (List Write)) (made more : List Write
 grown-more None mid new made more first second = second ∙ ap (option_map (λ writes. writes ++ more)) first
 grown-more (Some writes) mid new made more first second = second ∙ ap (option_map (λ writes. writes ++ more)) first ∙ ap Some (append_assoc writes made more)
 
-written-writes : (made : List Write) (rest : List Effect) → written (writes_of made ++ rest) ≡ made ++ written rest
-written-writes [] rest = refl
-written-writes (write ∷ made) rest = ap (λ writes. write ∷ writes) (written-writes made rest)
+pub written-append : (a b : List Effect) → written (a ++ b) ≡ written a ++ written b
+written-append [] b = refl
+written-append (Writes write ∷ a) b = ap (λ writes. write ∷ writes) (written-append a b)
+written-append (Prints line ∷ a) b = written-append a b
 
-printed-writes : (made : List Write) (rest : List Effect) → printed (writes_of made ++ rest) ≡ printed rest
-printed-writes [] rest = refl
-printed-writes (write ∷ made) rest = printed-writes made rest
+pub printed-append : (a b : List Effect) → printed (a ++ b) ≡ printed a ++ printed b
+printed-append [] b = refl
+printed-append (Writes write ∷ a) b = printed-append a b
+printed-append (Prints line ∷ a) b = ap (λ text. line ++ text) (printed-append a b) ∙ sym (append_assoc line (printed a) (printed b))
 
-written-made : (made : List Write) → written (writes_of made) ≡ made
-written-made [] = refl
-written-made (write ∷ made) = ap (λ writes. write ∷ writes) (written-made made)
+-- the lines of a write are no writes
+written-trace : (trace : Bool) (number : ℕ) (write : Write) → written (trace_of trace number write) ≡ []
+written-trace true number write = refl
+written-trace false number write = refl
 
-printed-made : (made : List Write) → printed (writes_of made) ≡ []
-printed-made [] = refl
-printed-made (write ∷ made) = printed-made made
+written-probes : (family : Family) (number : ℕ) (state : State) (probe : ℕ) (keys : List Key) → written (probes_of family number state probe keys) ≡ []
+written-probes family number state probe [] = refl
+written-probes family number state probe (key ∷ keys) = written-probes family number state (probe + 1) keys
+
+pub written-lines : (setting : Setting) (probes : List Key) (number : ℕ) (state : State) (write : Write) → written (lines_of setting probes number state write) ≡ []
+written-lines setting probes number state write =
+    written-append (trace_of setting.trace number write) (probes_of setting.family number state 1 probes)
+    ∙ ap (λ writes. writes ++ written (probes_of setting.family number state 1 probes)) (written-trace setting.trace number write)
+    ∙ written-probes setting.family number state 1 probes
+
+pub written-writes : (setting : Setting) (probes : List Key) (number : ℕ) (state : State) (made : List Write) → written (writes_of setting probes number state made) ≡ made
+written-writes setting probes number state [] = refl
+written-writes setting probes number state (write ∷ made) =
+    ap (λ writes. write ∷ writes)
+    (written-append (lines_of setting probes number (apply state write) write) (writes_of setting probes (number + 1) (apply state write) made)
+    ∙ ap (λ writes. writes ++ written (writes_of setting probes (number + 1) (apply state write) made)) (written-lines setting probes number (apply state write) write)
+    ∙ written-writes setting probes (number + 1) (apply state write) made)
+
+-- where no write is left behind a line, none was before it
+pub written-front : (front : List Effect) (line : List ℕ) (back : List Effect) → written (front ++ Prints line ∷ back) ≡ [] → written front ≡ []
+written-front [] line back none = refl
+written-front (Writes write ∷ front) line back none = absurd (cc)
+written-front (Prints text ∷ front) line back none = written-front front line back none
+
+-- the effects of writes, one part after the other
+pub writes_of-append : (setting : Setting) (probes : List Key) (number : ℕ) (state : State) (made more : List Write)
+    → writes_of setting probes number state (made ++ more) ≡ writes_of setting probes number state made ++ writes_of setting probes (number + length made) (state_after state made) more
+writes_of-append setting probes number state [] more = let same : number ≡ number + 0 = omega arith in ap (λ n. writes_of setting probes n state more) same
+writes_of-append setting probes number state (write ∷ made) more =
+    let next = apply state write in
+    let same : (number + 1) + length made ≡ number + length (write ∷ made) = omega arith in
+    ap (λ effects. Writes write ∷ (lines_of setting probes number next write ++ effects))
+    (writes_of-append setting probes (number + 1) next made more
+    ∙ ap (λ n. writes_of setting probes (number + 1) next made ++ writes_of setting probes n (state_after next made) more) same)
+    ∙ ap (λ effects. Writes write ∷ effects)
+    (sym (append_assoc (lines_of setting probes number next write) (writes_of setting probes (number + 1) next made) (writes_of setting probes (number + length (write ∷ made)) (state_after next made) more)))
 
 -- a line alone
 pub does-line : (line : List ℕ) (journal : Option (List Write)) (old new : Option (List ℕ)) → (IsSome journal → Appends old new line) → Does (Prints line ∷ []) [] journal journal old new
@@ -52,29 +91,39 @@ does-part partial journal old new grown = record { journal = grown-none journal;
 pub does-nothing : (journal : Option (List Write)) (taken : Option (List ℕ)) → Does [] [] journal journal taken taken
 does-nothing journal taken = does-part [] journal taken taken (λ told. Appends-nil taken)
 
--- writes and a line
-pub does-writes_line : (made : List Write) (line : List ℕ) (journal_old journal_new : Option (List Write)) (old new : Option (List ℕ))
-    → journal_new ≡ option_map (λ writes. writes ++ made) journal_old → Appends old new line → Does (writes_of made ++ Prints line ∷ []) [] journal_old journal_new old new
-does-writes_line made line journal_old journal_new old new same grown = record {
-  journal = same ∙ ap (λ more. option_map (λ writes. writes ++ more) journal_old) (sym (written-writes made (Prints line ∷ []) ∙ append-nil made));
-  report = λ told. subst (Appends old new) (sym (append-nil (printed (writes_of made ++ Prints line ∷ [])) ∙ printed-writes made (Prints line ∷ []) ∙ append-nil line)) grown;
-}
+module _ (setting : Setting) (probes : List Key) (state : State) (made : List Write) (journal_old journal_new : Option (List Write)) (old mid new : Option (List ℕ))
+    (journal : journal_new ≡ option_map (λ writes. writes ++ made) journal_old) (told : IsSome journal_old → Appends old mid (printed (writes_of setting probes 1 state made))) where
+  -- writes, each told
+  pub does-writes : Does (writes_of setting probes 1 state made) [] journal_old journal_new old mid
+  does-writes = record {
+    journal = journal ∙ ap (λ more. option_map (λ writes. writes ++ more) journal_old) (sym (written-writes setting probes 1 state made));
+    report = λ some. subst (Appends old mid) (sym (append-nil (printed (writes_of setting probes 1 state made)))) (told some);
+  }
 
--- writes and a part of a line
-pub does-writes_part : (made : List Write) (partial : List ℕ) (journal_old journal_new : Option (List Write)) (old new : Option (List ℕ))
-    → journal_new ≡ option_map (λ writes. writes ++ made) journal_old → Appends old new partial → Does (writes_of made) partial journal_old journal_new old new
-does-writes_part made partial journal_old journal_new old new same grown = record {
-  journal = same ∙ ap (λ more. option_map (λ writes. writes ++ more) journal_old) (sym (written-made made));
-  report = λ told. subst (λ text. Appends old new (text ++ partial)) (sym (printed-made made)) grown;
-}
+  -- and a part of a line
+  pub does-writes_part : (partial : List ℕ) → Appends mid new partial → Does (writes_of setting probes 1 state made) partial journal_old journal_new old new
+  does-writes_part partial grown = record {
+    journal = does-writes.journal;
+    report = λ some. Appends-trans old mid new (printed (writes_of setting probes 1 state made)) partial (told some) grown;
+  }
 
--- writes alone
-pub does-writes : (made : List Write) (journal_old journal_new : Option (List Write)) (taken : Option (List ℕ))
-    → journal_new ≡ option_map (λ writes. writes ++ made) journal_old → Does (writes_of made) [] journal_old journal_new taken taken
-does-writes made journal_old journal_new taken same = does-writes_part made [] journal_old journal_new taken taken same (Appends-nil taken)
+  -- and a line
+  pub does-writes_line : (line : List ℕ) → Appends mid new line → Does (writes_of setting probes 1 state made ++ Prints line ∷ []) [] journal_old journal_new old new
+  does-writes_line line grown = record {
+    journal = journal
+        ∙ ap (λ more. option_map (λ writes. writes ++ more) journal_old)
+        (sym (written-append (writes_of setting probes 1 state made) (Prints line ∷ []) ∙ append-nil (written (writes_of setting probes 1 state made)) ∙ written-writes setting probes 1 state made));
+    report = λ some.
+        subst (Appends old new)
+        (sym (append-nil (printed (writes_of setting probes 1 state made ++ Prints line ∷ []))
+        ∙ printed-append (writes_of setting probes 1 state made) (Prints line ∷ [])
+        ∙ ap (λ text. printed (writes_of setting probes 1 state made) ++ text) (append-nil line)))
+        (Appends-trans old mid new (printed (writes_of setting probes 1 state made)) line (told some) grown);
+  }
 
--- the effects of more writes
-pub writes_of-split : (made : List Write) (due : Write) (left : List Write) (rest : List Effect)
-    → writes_of (made ++ due ∷ left) ++ rest ≡ writes_of made ++ Writes due ∷ (writes_of left ++ rest)
-writes_of-split [] due left rest = refl
-writes_of-split (write ∷ made) due left rest = ap (λ effects. Writes write ∷ effects) (writes_of-split made due left rest)
+-- what is told where the device stands is told where the run stands
+pub told-at : (setting : Setting) (probes : List Key) (state : State) (slots : ℕ) (journal : Option (List Write)) (made : List Write) (old new : Option (List ℕ))
+    → IfSome journal (λ writes. state ≡ replay slots writes) → IfSome journal (λ writes. Appends old new (printed (writes_of setting probes 1 (replay slots writes) made)))
+    → IsSome journal → Appends old new (printed (writes_of setting probes 1 state made))
+told-at setting probes state slots None made old new at told some = absurd (let none : false ≡ true = some in cc)
+told-at setting probes state slots (Some writes) made old new at told some = subst (λ one. Appends old new (printed (writes_of setting probes 1 one made))) (sym at) told

@@ -1,16 +1,18 @@
 -- Lines of reports and the ends of scripts, by computation.
-use Rattle.std.proofs.Common.{◌≡◌, [], ◌∷◌, ◌++◌, Ok, Some, refl}
+use Rattle.std.proofs.Common.{◌≡◌, ℕ, [], ◌∷◌, ◌++◌, Ok, Some, None, refl}
 use Rattle.std.specs.Prelude.{codes}
 use Rattle.std.specs.Fmt.{digits}
 use Rattle.rule_model.specs.AddressBlock.{ipv4_block}
 use Rattle.rule_model.specs.Rank.{ipv4_route_rank, list_rank}
 use Rattle.rule_model.specs.declared.Field.TheVariants.{Dst}
+use Rattle.ternary_word.specs.declared.Word.{Word}
+use Rattle.tcam_device.specs.declared.Write.TheVariants.{Slot, Table}
 use Rattle.rule_store.specs.declared.BatchFault.TheVariants.{Twice, Absent}
 use Rattle.rule_store.specs.Verdict.{Unsound, OutOfBits, OutOfSlots}
 use Rattle.replay.specs.declared.Family.TheVariants.{Route, Acl}
 use Rattle.replay.specs.declared.Act.TheVariants.{Commit}
 use Rattle.replay.specs.Script.{Reading, Whole, FaultAt, script_of}
-use Rattle.replay.specs.Text.{packet_line, accepted_line, refused_line, fault_line, end_line, usage_line}
+use Rattle.replay.specs.Text.{packet_line, probe_line, trace_line, lane_text, tag_text, accepted_line, refused_line, fault_line, end_line, usage_line}
 
 packet : packet_line Route (Some (ipv4_route_rank (ipv4_block 0x0a000000 8), 7)) ≡ codes "packet 10.0.0.0/8 7" ++ 10 ∷ []
 unfolding digits
@@ -39,6 +41,38 @@ bits = refl
 slots : refused_line Route 1 (OutOfSlots 2 1) ≡ codes "commit 1 refused slots 2 1" ++ 10 ∷ []
 unfolding digits
 slots = refl
+
+probed : probe_line Route 2 1 (Some (ipv4_route_rank (ipv4_block 0x0a000000 8), 7)) ≡ codes "w 2 p 1 10.0.0.0/8 7" ++ 10 ∷ []
+unfolding digits
+probed = refl
+
+probed-none : probe_line Acl 1 16 None ≡ codes "w 1 p 16 none" ++ 10 ∷ []
+unfolding digits
+probed-none = refl
+
+lane : lane_text 0x0a01ffff ≡ codes "0a01ffff"
+lane = refl
+
+tag : tag_text (ipv4_route_rank (ipv4_block 0x0a010000 16)) ≡ codes "68887314432"
+unfolding digits
+tag = refl
+
+-- an address of IPv4 in the lanes of a word
+abbrev destination : ℕ → Word
+destination address = record { lane = 0 ∷ 0 ∷ 0 ∷ 0 ∷ address ∷ 0 ∷ 0 ∷ 0 ∷ 0 ∷ 0 ∷ 0 ∷ [] }
+
+set : trace_line 1 (Slot 3 (Some (record { value = destination 0x0a010000; mask = destination 0xffff0000; tag = ipv4_route_rank (ipv4_block 0x0a010000 16); result = 7 })))
+    ≡ codes "w 1 slot 3 set 000000000a010000000000000000000000000000 00000000ffff0000000000000000000000000000 68887314432 7" ++ 10 ∷ []
+unfolding digits
+set = refl
+
+erased : trace_line 2 (Slot 4095 None) ≡ codes "w 2 slot 4095 erase" ++ 10 ∷ []
+unfolding digits
+erased = refl
+
+table : trace_line 3 (Table Dst 80 5) ≡ codes "w 3 table dst 80 5" ++ 10 ∷ []
+unfolding digits
+table = refl
 
 end : end_line 4 4 6 0 ≡ codes "end rules 4 entries 4 writes 6 pending 0" ++ 10 ∷ []
 unfolding digits

@@ -1,6 +1,7 @@
 -- How each call of a run ends, by the values that the code has.
-use Rattle.std.proofs.Common.{◌≡◌, ◌≢◌, ℕ, ◌+◌, ◌≤◌, List, [], ◌∷◌, ◌++◌, Option, Some, None, Result, Ok, Err, OnOk, OnErr, option_map, length, take, sym, ap, ◌∙◌, subst}
+use Rattle.std.proofs.Common.{◌≡◌, ◌≢◌, ◌⊎◌, inl, inr, ℕ, ◌+◌, ◌^◌, ◌≤◌, List, [], ◌∷◌, ◌++◌, Option, Some, None, IfSome, Result, Ok, Err, OnOk, OnErr, option_map, length, take, sym, ap, ◌∙◌, subst}
 use Rattle.std.specs.Io.KnownBytes.{Appends}
+use Rattle.rule_model.specs.declared.Key.{Key}
 use Rattle.rule_store.specs.declared.Command.{Command as Change}
 use Rattle.rule_store.specs.Verdict.{Accepted, entries_of}
 use Rattle.script_lines.specs.declared.Failed.{Failed}
@@ -11,17 +12,17 @@ use Rattle.batch_order.specs.declared.Refusal.{Refusal}
 use Rattle.batch_order.specs.declared.Refusal.TheVariants as refusal
 use Rattle.batch_order.specs.Managed.{Managed, HeldCommit, Holds, Judges, Answers}
 use Rattle.replay.specs.declared.Act.{Act}
-use Rattle.replay.specs.declared.Act.TheVariants.{Command, Commit}
+use Rattle.replay.specs.declared.Act.TheVariants.{Command, Probe, Commit}
 use Rattle.replay.specs.declared.RunFault.{RunFault}
 use Rattle.replay.specs.declared.RunFault.TheVariants as fault
 use Rattle.replay.specs.Run.{Setting, Progress, ending}
 use Rattle.replay.specs.Text.{verdict_told, accepted_line, refused_line, end_line}
-use Rattle.replay.specs.Carried.{IsAt, CutsAtLine, CutsAtWrite, AppendsPart}
-use Rattle.replay.specs.Running.{Running, IsRun, HoldsPending, CarriesRun, CutsRunAtLine, CutsRunAtWrite, MakesAll, MakesSome, setting_of, progress_of, verdict_of}
+use Rattle.replay.specs.Carried.{IsAt, CutsAtLine, CutsAtWrite, CutsEffects, AppendsPart}
+use Rattle.replay.specs.Running.{Running, IsRun, HoldsPending, CarriesRun, CutsRunAtLine, CutsRunAtWrite, MakesAll, MakesSome, StopsAtLine, StopsAtWrite, Tells, effects_on, watching, setting_of, progress_of, verdict_of}
 use Rattle.replay.proofs.Refusals.{told-verdict, told-refused}
 use Rattle.replay.proofs.Effects.{part-of}
 use Rattle.replay.proofs.Runs.{run_after, held-run, made-run, after-run}
-use Rattle.replay.proofs.Acts.{run_refused, push-carries, refuse-carries, refuse-cuts, commit-carries, commit-cuts, commit-stops}
+use Rattle.replay.proofs.Acts.{run_refused, push-carries, probe-carries, refuse-carries, refuse-cuts, commit-carries, commit-cuts, commit-halts, commit-stops}
 
 -- a text that was handed over in part
 pub part-written : (result : Result (Unit {0}) Failed) (old new : Option (List ℕ)) (bytes line : List ℕ) → bytes ≡ line
@@ -35,6 +36,11 @@ pub part-same : (result : Result (Unit {0}) Failed) (old new : Option (List ℕ)
 part-same (Ok done) old new bytes line same part = tt
 part-same (Err fault) old new bytes line same part = subst (AppendsPart old new) same part
 
+pub whole-same : (result : Result (Unit {0}) Failed) (old new : Option (List ℕ)) (bytes line : List ℕ) → bytes ≡ line
+    → OnOk result (Appends old new bytes) → OnOk result (Appends old new line)
+whole-same (Ok done) old new bytes line same whole = subst (Appends old new) same whole
+whole-same (Err fault) old new bytes line same whole = tt
+
 -- a change that joined the batch, or not
 pub pushes : (result : Result (Unit {0}) RunFault) (slots : ℕ) (run new : Running) (act : Act) (change : Change) (journal : Option (List Write)) (taken : Option (List ℕ))
     → act ≡ Command change → OnOk result (new ≡ record run { pending = run.pending ++ change ∷ [] }) → OnOk result (CarriesRun slots run act new journal journal taken taken)
@@ -43,6 +49,14 @@ pushes (Ok done) slots run new act change journal taken is pushed =
     subst (λ one. CarriesRun slots run one new journal journal taken taken) (sym is)
     (subst (λ after. CarriesRun slots run (Command change) after journal journal taken taken) (sym pushed) (push-carries slots run change journal taken))
 
+-- a key that is probed from now on, or not
+pub probes : (result : Result (Unit {0}) RunFault) (slots : ℕ) (run new : Running) (act : Act) (key : Key) (journal : Option (List Write)) (taken : Option (List ℕ))
+    → act ≡ Probe key → OnOk result (new ≡ record run { probes = run.probes ++ key ∷ [] }) → OnOk result (CarriesRun slots run act new journal journal taken taken)
+probes (Err fault) slots run new act key journal taken is probed = tt
+probes (Ok done) slots run new act key journal taken is probed =
+    subst (λ one. CarriesRun slots run one new journal journal taken taken) (sym is)
+    (subst (λ after. CarriesRun slots run (Probe key) after journal journal taken taken) (sym probed) (probe-carries slots run key journal taken))
+
 -- the commit that is held is that of the batch
 held-one : (run : Running) (ready : Ready) (held : HeldCommit) (holds : Holds (record run.manager { held = None }) run.pending ready run.manager)
     → run.manager.held ≡ Some held → held ≡ holds.held
@@ -50,90 +64,99 @@ held-one run ready held holds is =
     let other : run.manager.held ≡ Some holds.held = ap (λ (manager : Managed). manager.held) holds.new_is in
     let both : Some held ≡ Some holds.held = sym is ∙ other in cc
 
+-- it has few writes
+pub held-few : (inside run : Running) → inside ≡ run → HoldsPending run → IfSome inside.manager.held (λ held. length held.writes ≤ 2 ^ 40)
+held-few inside run same holds =
+    let is : inside.manager.held ≡ Some holds.1.held = ap (λ (r : Running). r.manager.held) same ∙ ap (λ (manager : Managed). manager.held) holds.1.new_is in
+    subst (λ held. IfSome held (λ (one : HeldCommit). length one.writes ≤ 2 ^ 40)) (sym is) holds.1.few
+
+cut-held : (run : Running) (now : Managed) → IsRun run → MakesSome run.manager now → IsRun (record run { manager = now })
+cut-held run now is some =
+    subst (λ (manager : Managed). IsRun (record run { manager = manager })) (sym some.now_is) (held-run run some.made (record some.held { writes = some.left }) is)
+
 -- a run whose commit was cut
-pub cut-run : (run : Running) (now : Managed) (journal_old journal_new : Option (List Write)) → IsRun run → MakesSome run.manager now journal_old journal_new → IsRun (record run { manager = now })
-cut-run run now journal_old journal_new is some =
-    subst (λ (manager : Managed). IsRun (record run { manager = manager })) (sym some.now_is) (held-run run some.made (record some.held { writes = some.due ∷ some.left }) is)
+pub cut-run : (why : RunFault) (run : Running) (now : Managed) (slots : ℕ) (journal_old journal_new : Option (List Write)) (old taken : Option (List ℕ)) → IsRun run
+    → (why ≡ fault.Sink) ⊎ (why ≡ fault.Device)
+    → (why ≡ fault.Sink → StopsAtLine run.manager now (watching run) slots journal_old journal_new old taken)
+    → (why ≡ fault.Device → StopsAtWrite run.manager now (watching run) slots journal_old journal_new old taken) → IsRun (record run { manager = now })
+cut-run why run now slots journal_old journal_new old taken is (inl sink) at_line at_write = cut-held run now is (at_line sink).some
+cut-run why run now slots journal_old journal_new old taken is (inr device) at_line at_write = cut-held run now is (at_write device).some
 
-pub cut-stops : (slots : ℕ) (inside run : Running) (now : Managed) (journal_old journal_new : Option (List Write)) (taken : Option (List ℕ)) → inside ≡ run → IsRun inside
-    → HoldsPending run → run.manager.slots ≤ slots → verdict_of run ≡ Accepted → MakesSome inside.manager now journal_old journal_new
-    → CutsRunAtWrite slots run Commit journal_old journal_new taken taken
-cut-stops slots inside run now journal_old journal_new taken same is pending within accepted some =
-    let one = held-one run pending.0 some.held pending.1 (ap (λ (r : Running). r.manager.held) (sym same) ∙ some.held_is) in
-    commit-stops run pending.0 (subst IsRun same is) pending.1 slots within accepted some.made some.left some.due journal_old journal_new taken
-    (ap (λ (held : HeldCommit). held.writes) (sym one) ∙ some.whole) some.journal
+pub cut-stops : (slots : ℕ) (inside run : Running) (now : Managed) (journal_old journal_new : Option (List Write)) (old taken : Option (List ℕ)) → inside ≡ run → IsRun inside
+    → HoldsPending run → run.manager.slots ≤ slots → verdict_of run ≡ Accepted → StopsAtWrite inside.manager now (watching inside) slots journal_old journal_new old taken
+    → CutsRunAtWrite slots run Commit journal_old journal_new old taken
+cut-stops slots inside run now journal_old journal_new old taken same is pending within accepted stops =
+    let one = held-one run pending.0 stops.some.held pending.1 (ap (λ (r : Running). r.manager.held) (sym same) ∙ stops.some.held_is) in
+    commit-stops run pending.0 (subst IsRun same is) pending.1 slots within accepted stops.some.made stops.left stops.due journal_old journal_new old taken
+    (ap (λ (held : HeldCommit). held.writes) (sym one) ∙ stops.some.whole ∙ ap (λ left. stops.some.made ++ left) stops.left_is) stops.journal
+    (subst (λ (r : Running). Tells r.manager (watching r) slots journal_old stops.some.made old taken) same stops.report)
 
--- the manager once the writes of its commit are made
-made-manager : (inside run : Running) (done : Done) (now : Managed) (journal_old journal_new : Option (List Write)) → inside ≡ run → (holds : HoldsPending run)
-    → MakesAll inside.manager done now journal_old journal_new → (record inside { manager = now } ≡ record run { manager = (run_after run holds.1.held).manager }) × (done ≡ holds.1.held.counts)
-made-manager inside run done now journal_old journal_new same holds all =
-    let one = held-one run holds.0 all.held holds.1 (ap (λ (r : Running). r.manager.held) (sym same) ∙ all.held_is) in (
-      ap (λ (manager : Managed). record inside { manager = manager }) all.now_is
-          ∙ ap (λ held. record inside { manager = (run_after inside held).manager }) one
-          ∙ ap (λ (r : Running). record r { manager = (run_after r holds.1.held).manager }) same,
-      all.done_is ∙ ap (λ (held : HeldCommit). held.counts) one,
-    )
-
-pub made-run_held : (inside run : Running) (done : Done) (now : Managed) (journal_old journal_new : Option (List Write)) → inside ≡ run → IsRun inside
-    → HoldsPending run → MakesAll inside.manager done now journal_old journal_new → IsRun (record inside { manager = now })
-made-run_held inside run done now journal_old journal_new same is holds all =
-    let is_run = subst IsRun same is in
-    subst IsRun (sym (made-manager inside run done now journal_old journal_new same holds all).0)
-    (made-run run holds.0 is_run holds.1 run.pending run.commits run.writes is_run.changes is_run.few)
-
--- the run after a commit whose writes are made and counted
-pub after-writes : (inside run counted : Running) (done : Done) (now : Managed) (journal_old journal_new : Option (List Write)) → inside ≡ run
-    → (holds : HoldsPending run) → MakesAll inside.manager done now journal_old journal_new
-    → counted ≡ record inside { manager = now; pending = []; commits = inside.commits + 1 }
-    → ◌≡◌ {A = Running} (record counted { writes = counted.writes + done.writes }) (run_after run holds.1.held)
-after-writes inside run counted done now journal_old journal_new same holds all closed =
-    let made = made-manager inside run done now journal_old journal_new same holds all in
-    ap (λ (r : Running). record r { writes = r.writes + done.writes })
-    (closed ∙ ap (λ (r : Running). record r { pending = []; commits = r.commits + 1 }) made.0)
-    ∙ ap (λ (counts : Done). record (run_after run holds.1.held) { writes = run.writes + counts.writes }) made.1
-
-pub after-writes_run : (inside run counted : Running) (done : Done) (now : Managed) (journal_old journal_new : Option (List Write)) → inside ≡ run → IsRun inside
-    → HoldsPending run → MakesAll inside.manager done now journal_old journal_new → counted ≡ record inside { manager = now; pending = []; commits = inside.commits + 1 }
-    → IsRun (record counted { writes = counted.writes + done.writes })
-after-writes_run inside run counted done now journal_old journal_new same is holds all closed =
-    subst IsRun (sym (after-writes inside run counted done now journal_old journal_new same holds all closed)) (after-run run holds.0 (subst IsRun same is) holds.1)
-
-all-journal : (run : Running) (ready : Ready) (done : Done) (now : Managed) (journal_old journal_new : Option (List Write))
-    (holds : Holds (record run.manager { held = None }) run.pending ready run.manager) → MakesAll run.manager done now journal_old journal_new
-    → (journal_new ≡ option_map (λ writes. writes ++ holds.held.writes) journal_old) × (done ≡ holds.held.counts)
-all-journal run ready done now journal_old journal_new holds all =
-    let one = held-one run ready all.held holds all.held_is in (
-      all.journal ∙ ap (λ (held : HeldCommit). option_map (λ writes. writes ++ held.writes) journal_old) one,
-      all.done_is ∙ ap (λ (held : HeldCommit). held.counts) one,
-    )
-
--- its line is written
-pub all-carries : (slots : ℕ) (inside run counted : Running) (done : Done) (now : Managed) (journal_old journal_new : Option (List Write)) (old taken : Option (List ℕ))
-    → inside ≡ run → IsRun inside → HoldsPending run → run.manager.slots ≤ slots → verdict_of run ≡ Accepted → MakesAll inside.manager done now journal_old journal_new
-    → counted ≡ record inside { manager = now; pending = []; commits = inside.commits + 1 } → Appends old taken (accepted_line counted.commits done)
-    → CarriesRun slots run Commit (record counted { writes = counted.writes + done.writes }) journal_old journal_new old taken
-all-carries slots inside run counted done now journal_old journal_new old taken same is holds within accepted all closed grown =
-    let all_run : MakesAll run.manager done now journal_old journal_new = subst (λ (r : Running). MakesAll r.manager done now journal_old journal_new) same all in
-    let facts = all-journal run holds.0 done now journal_old journal_new holds.1 all_run in
-    let number : counted.commits ≡ run.commits + 1 = ap (λ (r : Running). r.commits) closed ∙ ap (λ (r : Running). r.commits + 1) same in
-    commit-carries run holds.0 (subst IsRun same is) holds.1 slots within accepted
-    (record counted { writes = counted.writes + done.writes }) journal_old journal_new old taken
-    (after-writes inside run counted done now journal_old journal_new same holds all closed) facts.0
-    (subst (λ (counts : Done). Appends old taken (accepted_line (run.commits + 1) counts)) facts.1
-    (subst (λ n. Appends old taken (accepted_line n done)) number grown))
-
--- or a part of it
-pub all-cuts : (slots : ℕ) (inside run counted : Running) (done : Done) (now : Managed) (journal_old journal_new : Option (List Write)) (old taken : Option (List ℕ))
-    → inside ≡ run → IsRun inside → HoldsPending run → run.manager.slots ≤ slots → verdict_of run ≡ Accepted → MakesAll inside.manager done now journal_old journal_new
-    → counted ≡ record inside { manager = now; pending = []; commits = inside.commits + 1 } → AppendsPart old taken (accepted_line counted.commits done)
+pub cut-halts : (slots : ℕ) (inside run : Running) (now : Managed) (journal_old journal_new : Option (List Write)) (old taken : Option (List ℕ)) → inside ≡ run → IsRun inside
+    → HoldsPending run → run.manager.slots ≤ slots → verdict_of run ≡ Accepted → StopsAtLine inside.manager now (watching inside) slots journal_old journal_new old taken
     → CutsRunAtLine slots run Commit journal_old journal_new old taken
-all-cuts slots inside run counted done now journal_old journal_new old taken same is holds within accepted all closed part =
-    let all_run : MakesAll run.manager done now journal_old journal_new = subst (λ (r : Running). MakesAll r.manager done now journal_old journal_new) same all in
-    let facts = all-journal run holds.0 done now journal_old journal_new holds.1 all_run in
-    let number : counted.commits ≡ run.commits + 1 = ap (λ (r : Running). r.commits) closed ∙ ap (λ (r : Running). r.commits + 1) same in
-    commit-cuts run holds.0 (subst IsRun same is) holds.1 slots within accepted journal_old journal_new old taken facts.0
-    (subst (λ (counts : Done). AppendsPart old taken (accepted_line (run.commits + 1) counts)) facts.1
-    (subst (λ n. AppendsPart old taken (accepted_line n done)) number part))
+cut-halts slots inside run now journal_old journal_new old taken same is pending within accepted stops =
+    let one = held-one run pending.0 stops.some.held pending.1 (ap (λ (r : Running). r.manager.held) (sym same) ∙ stops.some.held_is) in
+    commit-halts run pending.0 (subst IsRun same is) pending.1 slots within accepted stops.some.made journal_old journal_new old taken stops.journal
+    (subst (λ (r : Running). IfSome journal_old (λ writes. CutsEffects (effects_on r.manager (watching r) slots writes pending.1.held.writes) journal_old journal_new old taken)) same
+    (subst (λ (held : HeldCommit). IfSome journal_old (λ writes. CutsEffects (effects_on inside.manager (watching inside) slots writes held.writes) journal_old journal_new old taken)) one stops.cuts))
+
+module _ (slots : ℕ) (inside run : Running) (done : Done) (now : Managed) (journal_old journal_new : Option (List Write)) (old mid : Option (List ℕ)) (same : inside ≡ run)
+    (holds : HoldsPending run) (all : MakesAll inside.manager (watching inside) slots done now journal_old journal_new old mid) where
+  one : all.held ≡ holds.1.held
+  one = held-one run holds.0 all.held holds.1 (ap (λ (r : Running). r.manager.held) (sym same) ∙ all.held_is)
+
+  -- the manager once the writes of its commit are made
+  made-manager : (record inside { manager = now } ≡ record run { manager = (run_after run holds.1.held).manager }) × (done ≡ holds.1.held.counts)
+  made-manager = (
+    ap (λ (manager : Managed). record inside { manager = manager }) all.now_is
+        ∙ ap (λ held. record inside { manager = (run_after inside held).manager }) one
+        ∙ ap (λ (r : Running). record r { manager = (run_after r holds.1.held).manager }) same,
+    all.done_is ∙ ap (λ (held : HeldCommit). held.counts) one,
+  )
+
+  pub made-run_held : IsRun inside → IsRun (record inside { manager = now })
+  made-run_held is =
+      let is_run = subst IsRun same is in
+      subst IsRun (sym made-manager.0) (made-run run holds.0 is_run holds.1 run.pending run.commits run.writes is_run.changes is_run.few)
+
+  all-journal : journal_new ≡ option_map (λ writes. writes ++ holds.1.held.writes) journal_old
+  all-journal = all.journal ∙ ap (λ (held : HeldCommit). option_map (λ writes. writes ++ held.writes) journal_old) one
+
+  all-told : Tells run.manager (watching run) slots journal_old holds.1.held.writes old mid
+  all-told =
+      subst (λ (r : Running). Tells r.manager (watching r) slots journal_old holds.1.held.writes old mid) same
+      (subst (λ (held : HeldCommit). Tells inside.manager (watching inside) slots journal_old held.writes old mid) one all.report)
+
+  -- its batch is dropped
+  module _ (counted : Running) (closed : counted ≡ record inside { manager = now; pending = []; commits = inside.commits + 1 }) where
+    -- the run after a commit whose writes are made and counted
+    after-writes : ◌≡◌ {A = Running} (record counted { writes = counted.writes + done.writes }) (run_after run holds.1.held)
+    after-writes =
+        ap (λ (r : Running). record r { writes = r.writes + done.writes })
+        (closed ∙ ap (λ (r : Running). record r { pending = []; commits = r.commits + 1 }) made-manager.0)
+        ∙ ap (λ (counts : Done). record (run_after run holds.1.held) { writes = run.writes + counts.writes }) made-manager.1
+
+    pub after-writes_run : IsRun inside → IsRun (record counted { writes = counted.writes + done.writes })
+    after-writes_run is = subst IsRun (sym after-writes) (after-run run holds.0 (subst IsRun same is) holds.1)
+
+    line-same : accepted_line counted.commits done ≡ accepted_line (run.commits + 1) holds.1.held.counts
+    line-same =
+        let number : counted.commits ≡ run.commits + 1 = ap (λ (r : Running). r.commits) closed ∙ ap (λ (r : Running). r.commits + 1) same in
+        ap (λ n. accepted_line n done) number ∙ ap (λ (counts : Done). accepted_line (run.commits + 1) counts) made-manager.1
+
+    -- its line is written
+    pub all-carries : (taken : Option (List ℕ)) → IsRun inside → run.manager.slots ≤ slots → verdict_of run ≡ Accepted → Appends mid taken (accepted_line counted.commits done)
+        → CarriesRun slots run Commit (record counted { writes = counted.writes + done.writes }) journal_old journal_new old taken
+    all-carries taken is within accepted grown =
+        commit-carries run holds.0 (subst IsRun same is) holds.1 slots within accepted (record counted { writes = counted.writes + done.writes })
+        journal_old journal_new old mid taken after-writes all-journal all-told (subst (Appends mid taken) line-same grown)
+
+    -- or a part of it
+    pub all-cuts : (taken : Option (List ℕ)) → IsRun inside → run.manager.slots ≤ slots → verdict_of run ≡ Accepted → AppendsPart mid taken (accepted_line counted.commits done)
+        → CutsRunAtLine slots run Commit journal_old journal_new old taken
+    all-cuts taken is within accepted part =
+        commit-cuts run holds.0 (subst IsRun same is) holds.1 slots within accepted journal_old journal_new old mid taken all-journal all-told
+        (subst (AppendsPart mid taken) line-same part)
 
 -- a run stands where it stood while a commit is held
 planned-progress : (slots : ℕ) (run : Running) (ready : Ready) (new : Managed) → Holds run.manager run.pending ready new → progress_of slots (record run { manager = new }) ≡ progress_of slots run

@@ -5,5 +5,7 @@ pub mod RouteSets
 pub mod Runs
 pub mod Acts
 pub mod Making
+pub mod Probing
+pub mod Telling
 pub mod Exits
 mod Examples

@@ -1,5 +1,6 @@
 -- A line made word by word is the text of its words.
-use Rattle.std.proofs.Common.{◌≡◌, ℕ, List, [], ◌∷◌, ◌++◌, refl, ap, ◌∙◌, append_assoc}
+use Rattle.std.proofs.Common.{◌≡◌, ℕ, ◌+◌, ◌*◌, ◌/◌, ◌%◌, ◌^◌, ◌<◌, List, [], ◌∷◌, ◌++◌, refl, sym, ap, ◌∙◌, append_assoc, decimal, arith}
+use Rattle.std.proofs.lemmas.Fmt.{decimal_digit, decimal_step_wide}
 use Rattle.replay.specs.Text.{line_text, with_words}
 
 -- what stands before the first word stands before the line
@@ -29,3 +30,28 @@ four_parts line a b c d = rw (onto line a 46 b, onto line (a ++ 46 ∷ b) 46 c, 
 -- an address and a length behind a line and a space
 pub address_and_length : (line address len : List ℕ) → (((line ++ 32 ∷ []) ++ address) ++ 47 ∷ []) ++ len ≡ line ++ 32 ∷ (address ++ 47 ∷ len)
 address_and_length line address len = onto (line ++ 32 ∷ []) address 47 len ∙ append_assoc line (32 ∷ []) (address ++ 47 ∷ len)
+
+-- five texts behind a line and a space
+pub five_parts : (line a b c d e : List ℕ) → (((((line ++ 32 ∷ []) ++ a) ++ b) ++ c) ++ d) ++ e ≡ line ++ 32 ∷ (a ++ (b ++ (c ++ (d ++ e))))
+five_parts line a b c d e =
+    rw (
+      append_assoc (line ++ 32 ∷ []) a b,
+      append_assoc (line ++ 32 ∷ []) (a ++ b) c,
+      append_assoc (line ++ 32 ∷ []) ((a ++ b) ++ c) d,
+      append_assoc (line ++ 32 ∷ []) (((a ++ b) ++ c) ++ d) e,
+      append_assoc line (32 ∷ []) ((((a ++ b) ++ c) ++ d) ++ e),
+      append_assoc ((a ++ b) ++ c) d e,
+      append_assoc (a ++ b) c (d ++ e),
+      append_assoc a b (c ++ (d ++ e)),
+    ) refl
+
+-- a number whose last digit is written apart, behind a line and a space
+pub last_digit : (line : List ℕ) (tens ones number : ℕ) → number ≡ 10 * tens + ones → ones < 10 → 0 < tens → number < 10 ^ 64
+    → ((line ++ 32 ∷ []) ++ decimal tens) ++ decimal ones ≡ line ++ 32 ∷ decimal number
+last_digit line tens ones number is few some small =
+    let front : number / 10 ≡ tens = omega arith in
+    let last : number % 10 ≡ ones = omega arith in
+    let whole : decimal number ≡ decimal tens ++ decimal ones =
+    decimal_step_wide number (omega arith) small ∙ ap (λ n. decimal n ++ (48 + number % 10) ∷ []) front ∙ ap (λ n. decimal tens ++ (48 + n) ∷ []) last
+    ∙ ap (λ text. decimal tens ++ text) (sym (decimal_digit ones few)) in
+    append_assoc (line ++ 32 ∷ []) (decimal tens) (decimal ones) ∙ append_assoc line (32 ∷ []) (decimal tens ++ decimal ones) ∙ ap (λ text. line ++ 32 ∷ text) (sym whole)

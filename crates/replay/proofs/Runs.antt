@@ -1,5 +1,5 @@
 -- What a run is between two calls, and after an accepted commit.
-use Rattle.std.proofs.Common.{◌≡◌, ℕ, ◌+◌, ◌-◌, ◌*◌, ◌^◌, ◌≤◌, length, List, [], ◌∷◌, ◌++◌, Some, None, Result, Ok, Err, OnOk, OnErr, refl, sym, ap, ◌∙◌, subst, arith}
+use Rattle.std.proofs.Common.{Bool, ◌≡◌, ℕ, ◌+◌, ◌-◌, ◌*◌, ◌^◌, ◌≤◌, length, List, [], ◌∷◌, ◌++◌, Some, None, Result, Ok, Err, OnOk, OnErr, refl, sym, ap, ◌∙◌, subst, arith}
 use Rattle.std.specs.List.{AllByRecursion}
 use Rattle.rule_model.specs.declared.Rule.{Rule}
 use Rattle.rule_model.specs.Routes.{IsIpv4Route}
@@ -22,8 +22,8 @@ use Rattle.tcam_device.proofs.Wider.{slots-after, state_after-on_device, Shows-p
 use Rattle.std.proofs.lemmas.List.{length-replicate}
 
 -- a run before its first act
-pub begun-run : (slots : ℕ) (mode : Mode) (family : Family) → IsRun (begun slots mode family)
-begun-run slots mode family = record {
+pub begun-run : (slots : ℕ) (mode : Mode) (family : Family) (trace : Bool) → IsRun (begun slots mode family trace)
+begun-run slots mode family trace = record {
   changes = λ route. tt;
   routes = λ route. tt;
   size = length-replicate slots None;
@@ -100,6 +100,7 @@ module _ (run : Running) (ready : Ready) (is : IsRun run) (holds : Holds (record
       let at : List Rule → FieldBits → State → ℕ → Progress = λ rules bits state writes. record {
         rules = rules;
         batch = [];
+        probes = run.probes;
         bits = bits;
         state = state;
         commits = run.commits + 1;
@@ -125,7 +126,7 @@ module _ (run : Running) (ready : Ready) (is : IsRun run) (holds : Holds (record
 
   -- the commit, as what it writes and prints
   pub commits-with : (slots : ℕ) → run.manager.slots ≤ slots → (effects : List Effect)
-      → effects ≡ writes_of holds.held.writes ++ Prints (accepted_line (run.commits + 1) holds.held.counts) ∷ []
+      → effects ≡ writes_of (setting_of run) run.probes 1 (on_device slots run.manager.state) holds.held.writes ++ Prints (accepted_line (run.commits + 1) holds.held.counts) ∷ []
       → Commits (setting_of run) (progress_of slots run) effects (progress_of slots (run_after run holds.held))
   commits-with slots within effects same = record {
     made = holds.held.writes;

@@ -1,5 +1,5 @@
 -- What a run does by one act, to a device and a sink that may tell or not.
-use Rattle.std.specs.Prelude.{◌≡◌, ℕ, ◌++◌, Option, IfSome, IsSome, option_map, List, []}
+use Rattle.std.specs.Prelude.{◌≡◌, ℕ, ◌++◌, Option, IfSome, IsSome, option_map, List, [], ◌∷◌}
 use Rattle.std.specs.Io.KnownBytes.{Appends}
 use Rattle.tcam_device.specs.declared.Write.{Write}
 use Rattle.tcam_device.specs.State.{replay}
@@ -45,3 +45,21 @@ pub record Wants (setting : Setting) (old : Progress) (act : Act) (journal_old j
 abbrev pub AppendsPart : Option (List ℕ) → Option (List ℕ) → List ℕ → Type 0
 AppendsPart taken_old taken_new line =
     (partial : List ℕ) × (rest : List ℕ) × (line ≡ partial ++ rest) × Appends taken_old taken_new partial
+
+-- some lines came about up to one that the sink didn't take whole
+pub record CutsLines (lines : List Effect) (taken_old taken_new : Option (List ℕ)) : Type 0 where
+  pub front : List Effect
+  pub partial : List ℕ
+  pub rest : List ℕ
+  pub back : List Effect
+  pub cut : lines ≡ front ++ Prints (partial ++ rest) ∷ back
+  pub grown : Appends taken_old taken_new (printed front ++ partial)
+
+-- effects came about up to a line that the sink didn't take whole
+pub record CutsEffects (effects : List Effect) (journal_old journal_new : Option (List Write)) (taken_old taken_new : Option (List ℕ)) : Type 0 where
+  pub front : List Effect
+  pub partial : List ℕ
+  pub rest : List ℕ
+  pub back : List Effect
+  pub cut : effects ≡ front ++ Prints (partial ++ rest) ∷ back
+  pub does : Does front partial journal_old journal_new taken_old taken_new

@@ -1,6 +1,7 @@
 -- Runs: what the acts of a script do to the device and to the report, one after the other.
-use Rattle.std.specs.Prelude.{◌≡◌, ℕ, ◌+◌, Bool, true, false, List, [], ◌∷◌, ◌++◌, length, map}
+use Rattle.std.specs.Prelude.{◌≡◌, ℕ, ◌+◌, Bool, true, false, List, [], ◌∷◌, ◌++◌, length, if◌then◌else◌}
 use Rattle.std.specs.List.{AllByRecursion}
+use Rattle.rule_model.specs.declared.Key.{Key}
 use Rattle.rule_model.specs.declared.Rule.{Rule}
 use Rattle.rule_model.specs.RuleSet.{answer}
 use Rattle.rule_store.specs.declared.Mode.{Mode}
@@ -8,7 +9,7 @@ use Rattle.rule_store.specs.declared.Command.{Command as Change}
 use Rattle.rule_store.specs.Batch.{set_after}
 use Rattle.rule_store.specs.Verdict.{Verdict, Accepted, Unsound, OutOfBits, OutOfSlots, verdict, entries_of}
 use Rattle.tcam_device.specs.declared.Write.{Write}
-use Rattle.tcam_device.specs.State.{State, blank, IsInUse, state_after}
+use Rattle.tcam_device.specs.State.{State, blank, IsInUse, apply, lookup, state_after}
 use Rattle.tcam_device.specs.Insertion.{insertions, IsUncrossed}
 use Rattle.commit_writes.specs.declared.Done.{Done}
 use Rattle.commit_writes.specs.Bits.{FieldBits, no_bits, bits_with, bits_left}
@@ -17,14 +18,15 @@ use Rattle.batch_order.specs.Managed.{OnlyChangesRoutes}
 use Rattle.replay.specs.declared.Family.{Family}
 use Rattle.replay.specs.declared.Family.TheVariants.{Route, Acl}
 use Rattle.replay.specs.declared.Act.{Act}
-use Rattle.replay.specs.declared.Act.TheVariants.{Command, Packet, Commit}
-use Rattle.replay.specs.Text.{packet_line, accepted_line, refused_line, end_line}
+use Rattle.replay.specs.declared.Act.TheVariants.{Command, Probe, Packet, Commit}
+use Rattle.replay.specs.Text.{packet_line, probe_line, trace_line, accepted_line, refused_line, end_line}
 
--- what the words of a command line ask for: the slots in use, the encoding of ranges, and the family
+-- what the words of a command line ask for: the slots in use, the encoding of ranges, the family, and a trace
 pub record Setting : Type 0 where
   pub slots : ℕ
   pub mode : Mode
   pub family : Family
+  pub trace : Bool
 
 -- What a run does to the outside: it writes the device, or it prints a line.
 pub data Effect : Type 0 where
@@ -43,10 +45,11 @@ printed [] = []
 printed (Writes write ∷ effects) = printed effects
 printed (Prints line ∷ effects) = line ++ printed effects
 
--- where a run stands: set, pending batch, live ranges, device, commits, writes, and whether a commit was refused
+-- where a run stands: set, pending batch, probes, live ranges, device, commits, writes, and whether a commit was refused
 pub record Progress : Type 0 where
   pub rules : List Rule
   pub batch : List Change
+  pub probes : List Key
   pub bits : FieldBits
   pub state : State
   pub commits : ℕ
@@ -59,6 +62,7 @@ start slots =
     record {
       rules = [];
       batch = [];
+      probes = [];
       bits = no_bits;
       state = blank slots;
       commits = 0;
@@ -66,9 +70,27 @@ start slots =
       refused = false;
     }
 
--- the writes of a commit, one after the other
-abbrev pub writes_of : List Write → List Effect
-writes_of made = map Writes made
+-- a write's trace line, where a trace is wanted
+abbrev pub trace_of : Bool → ℕ → Write → List Effect
+trace_of trace number write = if trace then Prints (trace_line number write) ∷ [] else []
+
+-- each probe's look-up, in the order of the probes
+abbrev pub probes_of : Family → ℕ → State → ℕ → List Key → List Effect
+probes_of family number state probe [] = []
+probes_of family number state probe (key ∷ keys) =
+    Prints (probe_line family number probe (lookup state key)) ∷ probes_of family number state (probe + 1) keys
+
+-- the lines of a write, which led to this state
+abbrev pub lines_of : Setting → List Key → ℕ → State → Write → List Effect
+lines_of setting probes number state write =
+    trace_of setting.trace number write ++ probes_of setting.family number state 1 probes
+
+-- the writes of a commit from the one of a number on, each with its lines
+abbrev pub writes_of : Setting → List Key → ℕ → State → List Write → List Effect
+writes_of setting probes number state [] = []
+writes_of setting probes number state (write ∷ writes) =
+    Writes write ∷ (lines_of setting probes number (apply state write) write
+    ++ writes_of setting probes (number + 1) (apply state write) writes)
 
 -- where a run stands after an accepted commit
 abbrev pub after_segment : Setting → Progress → List Write → Progress
@@ -99,7 +121,7 @@ pub record Commits (setting : Setting) (old : Progress) (effects : List Effect) 
   pub of_family : OfFamily setting.family old.state made
   pub in_use : AllByRecursion (IsInUse setting.slots) made
   pub numbers : AreCounts old.state made counts
-  pub effects_are : effects ≡ writes_of made ++ Prints (accepted_line (old.commits + 1) counts) ∷ []
+  pub effects_are : effects ≡ writes_of setting old.probes 1 old.state made ++ Prints (accepted_line (old.commits + 1) counts) ∷ []
   pub after : new ≡ after_segment setting old made
 
 -- A refused one writes nothing, and says why.
@@ -117,6 +139,7 @@ Judged setting old (OutOfSlots needed free) effects new = Refuses setting old (O
 -- From where the run stands, an act has these effects, and the run stands there.
 abbrev pub Step : Setting → Progress → Act → List Effect → Progress → Type 0
 Step setting old (Command change) effects new = (effects ≡ []) × (new ≡ record old { batch = old.batch ++ change ∷ [] })
+Step setting old (Probe key) effects new = (effects ≡ []) × (new ≡ record old { probes = old.probes ++ key ∷ [] })
 Step setting old (Packet key) effects new =
     (effects ≡ Prints (packet_line setting.family (answer old.rules key)) ∷ []) × (new ≡ old)
 Step setting old Commit effects new =
@@ -131,6 +154,7 @@ pub record IsCutStep (setting : Setting) (before : Progress) (act : Act) (effect
 -- an act that takes memory: a change, or a commit that is accepted
 abbrev pub TakesMemory : Setting → Progress → Act → Type 0
 TakesMemory setting before (Command change) = Unit {0}
+TakesMemory setting before (Probe key) = ⊥
 TakesMemory setting before (Packet key) = ⊥
 TakesMemory setting before Commit = verdict setting.slots setting.mode before.rules before.batch ≡ Accepted
 
@@ -158,5 +182,6 @@ IsChangeOf Acl change = Unit {0}
 -- an act of a script of the family
 abbrev pub IsActOf : Family → Act → Type 0
 IsActOf family (Command change) = IsChangeOf family change
+IsActOf family (Probe key) = Unit {0}
 IsActOf family (Packet key) = Unit {0}
 IsActOf family Commit = Unit {0}

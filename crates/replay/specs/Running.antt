@@ -1,33 +1,47 @@
 -- What a run keeps, and where it stands by that.
-use Rattle.std.specs.Prelude.{◌≡◌, ℕ, ◌*◌, ◌^◌, ◌≤◌, ◌++◌, ◌∷◌, Bool, false, Option, None, Some, List, [], length, option_map}
+use Rattle.std.specs.Prelude.{◌≡◌, ℕ, ◌*◌, ◌^◌, ◌≤◌, ◌++◌, ◌∷◌, Bool, false, Option, None, Some, IfSome, List, [], length, option_map}
+use Rattle.std.specs.Io.KnownBytes.{Appends}
 use Rattle.std.specs.List.{AllByRecursion}
+use Rattle.rule_model.specs.declared.Key.{Key}
 use Rattle.rule_model.specs.Routes.{IsIpv4Route}
 use Rattle.rule_store.specs.declared.Mode.{Mode}
 use Rattle.rule_store.specs.declared.Command.{Command as Change}
 use Rattle.rule_store.specs.Verdict.{Verdict, verdict}
 use Rattle.tcam_device.specs.declared.Write.{Write}
-use Rattle.tcam_device.specs.State.{Shows, state_after, on_device}
+use Rattle.tcam_device.specs.State.{Shows, replay, state_after, on_device}
 use Rattle.commit_writes.specs.declared.Done.{Done}
 use Rattle.batch_order.specs.declared.Ready.{Ready}
 use Rattle.batch_order.specs.Managed.{Managed, HeldCommit, Holds, OnlyChangesRoutes, fresh}
 use Rattle.replay.specs.declared.Act.{Act}
 use Rattle.replay.specs.declared.Family.{Family}
 use Rattle.replay.specs.declared.Family.TheVariants.{Route}
-use Rattle.replay.specs.Run.{Setting, Progress}
-use Rattle.replay.specs.Carried.{IsAt, Carries, CutsAtLine, CutsAtWrite}
+use Rattle.replay.specs.Run.{Setting, Effect, Progress, printed, writes_of}
+use Rattle.replay.specs.Carried.{IsAt, Carries, CutsAtLine, CutsAtWrite, CutsEffects}
 
--- the manager, how rules are named, the pending batch, and what the report counts
+-- what is told of each write: how rules are named, whether a trace is wanted, and the keys that are probed
+pub record Watching : Type 0 where
+  pub family : Family
+  pub trace : Bool
+  pub probes : List Key
+
+-- the manager, what is told of each write, the pending batch, and what the report counts
 pub record Running : Type 0 where
   pub manager : Managed
   pub family : Family
+  pub trace : Bool
+  pub probes : List Key
   pub pending : List Change
   pub commits : ℕ
   pub writes : ℕ
   pub refused : Bool
 
+-- what a run tells of each write
+abbrev pub watching : Running → Watching
+watching run = record { family = run.family; trace = run.trace; probes = run.probes }
+
 -- what the words of a command line asked for
 abbrev pub setting_of : Running → Setting
-setting_of run = record { slots = run.manager.slots; mode = run.manager.mode; family = run.family }
+setting_of run = record { slots = run.manager.slots; mode = run.manager.mode; family = run.family; trace = run.trace }
 
 -- where the run stands, over a device of so many slots
 abbrev pub progress_of : ℕ → Running → Progress
@@ -35,6 +49,7 @@ progress_of device_slots run =
     record {
       rules = run.manager.rules;
       batch = run.pending;
+      probes = run.probes;
       bits = run.manager.bits;
       state = on_device device_slots run.manager.state;
       commits = run.commits;
@@ -43,9 +58,18 @@ progress_of device_slots run =
     }
 
 -- a run before its first act
-abbrev pub begun : ℕ → Mode → Family → Running
-begun slots mode family =
-    record { manager = fresh slots mode; family = family; pending = []; commits = 0; writes = 0; refused = false }
+abbrev pub begun : ℕ → Mode → Family → Bool → Running
+begun slots mode family trace =
+    record {
+      manager = fresh slots mode;
+      family = family;
+      trace = trace;
+      probes = [];
+      pending = [];
+      commits = 0;
+      writes = 0;
+      refused = false;
+    }
 
 -- while no commit is under way the slots show the rules, whatever more slots the device has
 abbrev pub ShowsRules : Managed → Type 0
@@ -87,8 +111,22 @@ CutsRunAtWrite device_slots old act journal_old journal_new taken_old taken_new 
     IsAt device_slots journal_old (progress_of device_slots old)
     → CutsAtWrite (setting_of old) (progress_of device_slots old) act journal_old journal_new taken_old taken_new
 
+-- what is told while a manager makes the writes of its commit
+abbrev pub telling : Managed → Watching → Setting
+telling manager watch = record { slots = manager.slots; mode = manager.mode; family = watch.family; trace = watch.trace }
+
+-- the effects of a commit's writes over a device of so many slots that these writes were made to
+abbrev pub effects_on : Managed → Watching → ℕ → List Write → List Write → List Effect
+effects_on manager watch device_slots before made =
+    writes_of (telling manager watch) watch.probes 1 (replay device_slots before) made
+
+-- these writes are told, where the device tells
+abbrev pub Tells : Managed → Watching → ℕ → Option (List Write) → List Write → Option (List ℕ) → Option (List ℕ) → Type 0
+Tells manager watch device_slots journal made taken_old taken_new =
+    IfSome journal (λ before. Appends taken_old taken_new (printed (effects_on manager watch device_slots before made)))
+
 -- writes of a commit under way are being made: so many are made, and the device has room for those left
-pub record IsMaking (begun now : Managed) (journal_begun journal_now : Option (List Write)) (spare : ℕ) : Type 0 where
+pub record IsMaking (begun now : Managed) (watch : Watching) (device_slots : ℕ) (journal_begun journal_now : Option (List Write)) (taken_begun taken_now : Option (List ℕ)) (number spare : ℕ) : Type 0 where
   pub held : HeldCommit
   pub made : List Write
   pub left : List Write
@@ -96,26 +134,42 @@ pub record IsMaking (begun now : Managed) (journal_begun journal_now : Option (L
   pub whole : held.writes ≡ made ++ left
   pub now_is : now ≡ record begun { state = state_after begun.state made; held = Some (record held { writes = left }) }
   pub journal : journal_now ≡ option_map (λ writes. writes ++ made) journal_begun
+  pub report : Tells begun watch device_slots journal_begun made taken_begun taken_now
+  pub count : number ≡ length made
   pub room : length left ≤ spare
 
 -- all of them are made
-pub record MakesAll (begun : Managed) (done : Done) (now : Managed) (journal_begun journal_now : Option (List Write)) : Type 0 where
+pub record MakesAll (begun : Managed) (watch : Watching) (device_slots : ℕ) (done : Done) (now : Managed) (journal_begun journal_now : Option (List Write)) (taken_begun taken_now : Option (List ℕ)) : Type 0 where
   pub held : HeldCommit
   pub held_is : begun.held ≡ Some held
   pub done_is : done ≡ held.counts
   pub now_is : now ≡ record begun { state = state_after begun.state held.writes; rules = held.rules; bits = held.bits; held = None }
   pub journal : journal_now ≡ option_map (λ writes. writes ++ held.writes) journal_begun
+  pub report : Tells begun watch device_slots journal_begun held.writes taken_begun taken_now
 
--- some of them are made, and the next one isn't
-pub record MakesSome (begun now : Managed) (journal_begun journal_now : Option (List Write)) : Type 0 where
+-- some of them are made
+pub record MakesSome (begun now : Managed) : Type 0 where
   pub held : HeldCommit
   pub made : List Write
-  pub due : Write
   pub left : List Write
   pub held_is : begun.held ≡ Some held
-  pub whole : held.writes ≡ made ++ due ∷ left
-  pub now_is : now ≡ record begun { state = state_after begun.state made; held = Some (record held { writes = due ∷ left }) }
-  pub journal : journal_now ≡ option_map (λ writes. writes ++ made) journal_begun
+  pub whole : held.writes ≡ made ++ left
+  pub now_is : now ≡ record begun { state = state_after begun.state made; held = Some (record held { writes = left }) }
+
+-- some of them are made and told, and the next one isn't made
+pub record StopsAtWrite (begun now : Managed) (watch : Watching) (device_slots : ℕ) (journal_begun journal_now : Option (List Write)) (taken_begun taken_now : Option (List ℕ)) : Type 0 where
+  pub some : MakesSome begun now
+  pub due : Write
+  pub left : List Write
+  pub left_is : some.left ≡ due ∷ left
+  pub journal : journal_now ≡ option_map (λ writes. writes ++ some.made) journal_begun
+  pub report : Tells begun watch device_slots journal_begun some.made taken_begun taken_now
+
+-- some of them are made, and the last one of these isn't told whole
+pub record StopsAtLine (begun now : Managed) (watch : Watching) (device_slots : ℕ) (journal_begun journal_now : Option (List Write)) (taken_begun taken_now : Option (List ℕ)) : Type 0 where
+  pub some : MakesSome begun now
+  pub journal : journal_now ≡ option_map (λ writes. writes ++ some.made) journal_begun
+  pub cuts : IfSome journal_begun (λ before. CutsEffects (effects_on begun watch device_slots before some.held.writes) journal_begun journal_now taken_begun taken_now)
 
 -- how many writes are left
 abbrev pub left_number : Option HeldCommit → ℕ

@@ -1,5 +1,5 @@
 -- The lines of a report.
-use Rattle.std.specs.Prelude.{ℕ, ◌-◌, ◌/◌, ◌%◌, ◌^◌, ◌==◌, Some, None, List, [], ◌∷◌, ◌++◌, codes, decimal, if◌then◌else◌}
+use Rattle.std.specs.Prelude.{ℕ, ◌+◌, ◌-◌, ◌*◌, ◌/◌, ◌%◌, ◌^◌, ◌==◌, nat_lt, Some, None, List, [], ◌∷◌, ◌++◌, codes, decimal, map, flat_map, slice_index, if◌then◌else◌}
 use Rattle.rule_model.specs.Rank.{high_of, low_of}
 use Rattle.rule_model.specs.declared.Field.{Field}
 use Rattle.rule_model.specs.declared.Field.TheVariants.{Src, Dst}
@@ -7,6 +7,9 @@ use Rattle.rule_model.specs.RuleSet.{Answer}
 use Rattle.rule_store.specs.declared.BatchFault.{BatchFault}
 use Rattle.rule_store.specs.declared.BatchFault.TheVariants.{Twice, Taken, Absent}
 use Rattle.rule_store.specs.Verdict.{Verdict, Accepted, Unsound, OutOfBits, OutOfSlots}
+use Rattle.ternary_word.specs.declared.Word.{Word}
+use Rattle.tcam_device.specs.declared.Write.{Write}
+use Rattle.tcam_device.specs.declared.Write.TheVariants.{Slot, Table}
 use Rattle.batch_order.specs.declared.Done.{Done}
 use Rattle.batch_order.specs.declared.Refusal.{Refusal}
 use Rattle.batch_order.specs.declared.Refusal.TheVariants as refusal
@@ -30,12 +33,12 @@ dotted address =
     decimal (address / 2 ^ 24) ++ 46 ∷ decimal (address / 2 ^ 16 % 256) ++ 46 ∷ decimal (address / 2 ^ 8 % 256)
     ++ 46 ∷ decimal (address % 256)
 
--- a rule's name: the prefix of a route, or the sequence number of a line
+-- a rule's name: the prefix of a route, or the sequence number of a rule of an access list
 abbrev pub rule_name : Family → ℕ → List ℕ
 rule_name Route rank = dotted (low_of rank) ++ 47 ∷ decimal (high_of rank)
 rule_name Acl rank = decimal (2 ^ 32 - low_of rank)
 
--- a result: the number of a route, or the action of a line
+-- a result: the number of a route, or the action of a rule of an access list
 abbrev pub result_name : Family → ℕ → List ℕ
 result_name Route answer = decimal answer
 result_name Acl answer = if answer == 1 then codes "permit" else codes "deny"
@@ -49,10 +52,44 @@ answer_words family (Some found) = rule_name family found.0 ∷ result_name fami
 abbrev pub packet_line : Family → Answer → List ℕ
 packet_line family found = line_text (codes "packet" ∷ answer_words family found)
 
+-- a probe's answer after a write of the commit
+abbrev pub probe_line : Family → ℕ → ℕ → Answer → List ℕ
+probe_line family write probe found =
+    line_text (codes "w" ∷ decimal write ∷ codes "p" ∷ decimal probe ∷ answer_words family found)
+
+-- the code of a lower hexadecimal digit
+abbrev pub hex_digit : ℕ → ℕ
+hex_digit digit = if nat_lt digit 10 then digit + 48 else digit + 87
+
+-- a lane in eight lower hexadecimal digits
+abbrev pub lane_text : ℕ → List ℕ
+lane_text lane =
+    map (λ place. hex_digit (lane / 16 ^ place % 16)) (7 ∷ 6 ∷ 5 ∷ 4 ∷ 3 ∷ 2 ∷ 1 ∷ 0 ∷ [])
+
+-- the lanes that IPv4 has: the first of each address, ports, protocol, and bits
+abbrev pub word_text : Word → List ℕ
+word_text word = flat_map (λ lane. lane_text (slice_index word.lane lane)) (0 ∷ 4 ∷ 8 ∷ 9 ∷ 10 ∷ [])
+
+-- a tag as one number of its two parts
+abbrev pub tag_text : ℕ → List ℕ
+tag_text tag = decimal (high_of tag * 2 ^ 32 + low_of tag)
+
 -- the name of a field of ports
 abbrev pub field_text : Field → List ℕ
 field_text Src = codes "src"
 field_text Dst = codes "dst"
+
+-- a device write, as words
+abbrev pub write_words : Write → List (List ℕ)
+write_words (Slot slot (Some entry)) =
+    codes "slot" ∷ decimal slot ∷ codes "set" ∷ word_text entry.value ∷ word_text entry.mask ∷ tag_text entry.tag
+    ∷ decimal entry.result ∷ []
+write_words (Slot slot None) = codes "slot" ∷ decimal slot ∷ codes "erase" ∷ []
+write_words (Table field port word) = codes "table" ∷ field_text field ∷ decimal port ∷ decimal word ∷ []
+
+-- one write of a commit, by its number
+abbrev pub trace_line : ℕ → Write → List ℕ
+trace_line write made = line_text (codes "w" ∷ decimal write ∷ write_words made)
 
 -- an accepted commit, by its number and its counts
 abbrev pub accepted_line : ℕ → Done → List ℕ

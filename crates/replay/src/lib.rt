@@ -2,11 +2,13 @@
 //!
 //! A [`Run`] takes the acts of a script one at a time. A change joins the pending batch; a packet is looked up in
 //! the device as it stands; a commit is judged by the manager and, where it is taken, carried out write by write.
+//! Where a trace is wanted each write has its line, and each probe is looked up again after each write.
 //! Each line of the report is handed to the sink as one piece, with its line feed, as soon as it is known.
 #![tactic(auto)]
 
 mod report;
 mod run;
+mod watch;
 
 pub use batch_order::Mode;
 pub use report::{write_fault, write_text};
@@ -16,12 +18,13 @@ pub use run::Run;
 use std::alloc::AllocError;
 use thiserror::Error;
 
-/// How the rules of a script are named in its report.
+/// What the rules of a script are. It decides how lines are read, how the report names rules, and which bounds hold:
+/// among routes nothing is crossed, and an insertion takes at most 33 writes.
 #[derive(Clone, Copy, Debug, PartialEq, Eq)]
 pub enum Family {
-    /// By their prefix.
+    /// Routes, named by their prefix.
     Route,
-    /// By their sequence number.
+    /// Rules of an access list, named by their sequence number.
     Acl,
 }
 
@@ -30,6 +33,8 @@ pub enum Family {
 pub enum Act {
     /// A change joins the pending batch.
     Command(Command),
+    /// A key is looked up after each later write of a commit.
+    Probe(Key),
     /// A packet is looked up.
     Packet(Key),
     /// The pending batch is committed.
@@ -42,6 +47,9 @@ pub enum RunFault {
     /// 4,096 changes are pending.
     #[error("batch full")]
     BatchFull,
+    /// 16 keys are probed.
+    #[error("too many probes")]
+    ProbesFull,
     /// The sink failed.
     #[error("the report can't be written")]
     Sink,

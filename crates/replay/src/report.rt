@@ -1,9 +1,9 @@
 //! The lines of a report. A line stands in fixed room, so that none takes memory.
-ghost use Rattle.std.specs.Prelude.{◌≡◌, ◌≢◌, ℕ, ◌+◌, ◌<◌, ◌≤◌, [], ◌∷◌, ◌++◌, codes, decimal, length, IsSome, OnOk, OnErr};
+ghost use Rattle.std.specs.Prelude.{◌≡◌, ◌≢◌, ℕ, ◌+◌, ◌<◌, ◌≤◌, ◌%◌, [], ◌∷◌, ◌++◌, codes, decimal, length, IsSome, OnOk, OnErr};
 ghost use Rattle.std.specs.Io.KnownBytes.{Appends};
 ghost use Rattle.script_lines.specs.Cause.{HasCause};
 ghost use Rattle.rule_store.specs.Verdict.{Accepted};
-ghost use Rattle.replay.specs.Text.{with_words, dotted, answer_words, result_name, rule_name, reason_words, field_text, verdict_told, packet_line, accepted_line, refused_line, fault_line, end_line};
+ghost use Rattle.replay.specs.Text.{with_words, dotted, answer_words, result_name, rule_name, reason_words, field_text, verdict_told, hex_digit, lane_text, word_text, tag_text, write_words, packet_line, probe_line, trace_line, accepted_line, refused_line, fault_line, end_line};
 ghost use Rattle.replay.specs.Carried.{AppendsPart};
 ghost use Rattle.replay.specs.declared.Family.TheVariants as family_is;
 
@@ -14,6 +14,8 @@ use itoa::{Buffer, Integer};
 use rule_model::{Field, Rank};
 use script_lines::{Failed, Sink, write_all};
 use std::marker::Model;
+use tcam_device::Write;
+use ternary_word::{Entry, Word};
 
 /// More bytes than any line has.
 const LINE_ROOM: usize = 256;
@@ -145,7 +147,7 @@ impl ReportLine {
 
     // The line with an answer's name and result, or `none`, behind a space.
     fn answer(self, family: Family, found: Option<(Rank, u32)>) -> ReportLine
-        requires { length self < 10 }
+        requires { length self < 50 }
         ensures text { result ≡ with_words self (answer_words family found) }
         ensures len { length result < 256 }
     {
@@ -164,6 +166,103 @@ impl ReportLine {
         match field {
             Field::Src => self.word("src"),
             Field::Dst => self.word("dst"),
+        }
+    }
+
+    // The line with the last hexadecimal digit of a number.
+    fn hex_digit(mut self, number: u32) -> ReportLine
+        requires { length self < 256 }
+        ensures text { result ≡ self ++ hex_digit (number % 16) ∷ [] }
+        ensures len { length result ≡ length self + 1 }
+    {
+        let digit = (number % 16) as u8;
+        let code = if digit < 10 {
+            b'0' + digit
+        } else {
+            b'a' - 10 + digit
+        };
+        self.text.push(char::from(code));
+        self
+    }
+
+    // The line with a lane more, in eight hexadecimal digits.
+    fn lane(self, lane: u32) -> ReportLine
+        requires { length self + 8 ≤ 256 }
+        ensures text { result ≡ self ++ lane_text lane }
+        ensures len { length result ≡ length self + 8 }
+    {
+        self.hex_digit(lane >> 28)
+            .hex_digit(lane >> 24)
+            .hex_digit(lane >> 20)
+            .hex_digit(lane >> 16)
+            .hex_digit(lane >> 12)
+            .hex_digit(lane >> 8)
+            .hex_digit(lane >> 4)
+            .hex_digit(lane)
+    }
+
+    // The line with the lanes of IPv4 of a word, behind a space.
+    fn lanes(self, word: &Word) -> ReportLine
+        requires { length self + 41 ≤ 256 }
+        ensures text { result ≡ self ++ 32 ∷ word_text word.now }
+        ensures len { length result ≡ length self + 41 }
+    {
+        self.text(" ")
+            .lane(word.lane[0])
+            .lane(word.lane[4])
+            .lane(word.lane[8])
+            .lane(word.lane[9])
+            .lane(word.lane[10])
+    }
+
+    // The line with a tag as one number, behind a space. The number may have a bit more than its low part, so its last
+    // digit is reckoned apart.
+    fn tag(self, tag: Rank) -> ReportLine
+        requires { length self + 81 ≤ 256 }
+        ensures text { result ≡ self ++ 32 ∷ tag_text tag }
+        ensures len { length result ≤ length self + 81 }
+    {
+        let high = u128::from(tag.high) << 32;
+        let ones = high % 10 + tag.low % 10;
+        let tens = high / 10 + tag.low / 10 + ones / 10;
+        let line = self.text(" ");
+        if tens == 0 {
+            line.digits(ones % 10)
+        } else {
+            line.digits(tens).digits(ones % 10)
+        }
+    }
+
+    // The line with an entry's value, mask, tag and result, each behind a space.
+    fn entry(self, entry: &Entry) -> ReportLine
+        requires { length self + 184 < 256 }
+        ensures text { result ≡ with_words self (word_text entry.now.value ∷ word_text entry.now.mask ∷ tag_text entry.now.tag ∷ decimal entry.now.result ∷ []) }
+        ensures len { length result < 256 }
+    {
+        self.lanes(&entry.value)
+            .lanes(&entry.mask)
+            .tag(entry.tag)
+            .number(u64::from(entry.result))
+    }
+
+    // The line with a device write, behind a space.
+    fn device_write(self, write: &Write) -> ReportLine
+        requires { length self < 30 }
+        ensures text { result ≡ with_words self (write_words write.now) }
+        ensures len { length result < 256 }
+    {
+        match *write {
+            Write::Slot(slot, Some(entry)) => self
+                .word("slot")
+                .number(u64::from(slot))
+                .word("set")
+                .entry(&entry),
+            Write::Slot(slot, None) => self.word("slot").number(u64::from(slot)).word("erase"),
+            Write::Table(field, port, word) => self
+                .word("table")
+                .field(field)
+                .number(u64::from(port))
+                .number(u64::from(word)),
         }
     }
 
@@ -271,6 +370,42 @@ pub fn write_packet<K: Sink>(
     ensures cause { HasCause (K.faults sink.old) (K.faults sink.new) result }
 {
     ReportLine::new("packet").answer(family, found).write(sink)
+}
+
+/// Writes what the device answers a probe after a write of a commit, by the numbers of write and probe, each from 1.
+/// Takes no memory. Where the sink fails, a part of the line was taken, perhaps none or all of it.
+pub fn write_probe<K: Sink>(
+    sink: &mut K,
+    family: Family,
+    number: u64,
+    probe: u32,
+    found: Option<(Rank, u32)>,
+) -> Result<(), Failed>
+    ensures whole { OnOk result (Appends (K.taken sink.old) (K.taken sink.new) (probe_line family number probe found)) }
+    ensures part { OnErr result (AppendsPart (K.taken sink.old) (K.taken sink.new) (probe_line family number probe found)) }
+    ensures told { IsSome (K.taken sink.old) → IsSome (K.taken sink.new) }
+    ensures cause { HasCause (K.faults sink.old) (K.faults sink.new) result }
+{
+    ReportLine::new("w")
+        .number(number)
+        .word("p")
+        .number(u64::from(probe))
+        .answer(family, found)
+        .write(sink)
+}
+
+/// Writes the trace line of a write of a commit, by its number, from 1. Takes no memory. Where the sink fails, a part
+/// of the line was taken, perhaps none or all of it.
+pub fn write_trace<K: Sink>(sink: &mut K, number: u64, write: &Write) -> Result<(), Failed>
+    ensures whole { OnOk result (Appends (K.taken sink.old) (K.taken sink.new) (trace_line number write.now)) }
+    ensures part { OnErr result (AppendsPart (K.taken sink.old) (K.taken sink.new) (trace_line number write.now)) }
+    ensures told { IsSome (K.taken sink.old) → IsSome (K.taken sink.new) }
+    ensures cause { HasCause (K.faults sink.old) (K.faults sink.new) result }
+{
+    ReportLine::new("w")
+        .number(number)
+        .device_write(write)
+        .write(sink)
 }
 
 /// Writes the line of an accepted commit, by its number, from 1, and the numbers of what it did. Takes no memory.

@@ -1,16 +1,17 @@
 //! A run of acts over one device.
 
-ghost use Rattle.std.specs.Prelude.{◌≡◌, ◌≢◌, ◌+◌, ◌<◌, ◌≤◌, ◌^◌, ◌↔◌, ◌++◌, ◌∷◌, [], ℕ, Ok, Err, None, IsSome, IfOk, IfErr, IfSome, OnOk, OnErr, ◌⊎◌, length, true};
+ghost use Rattle.std.specs.Prelude.{◌≡◌, ◌≢◌, ◌+◌, ◌<◌, ◌≤◌, ◌^◌, ◌↔◌, ◌++◌, ◌∷◌, [], ℕ, Ok, Err, None, Some, IsSome, IfOk, IfErr, IfSome, OnOk, OnErr, ◌⊎◌, codes, length, true};
 ghost use Rattle.std.specs.Io.KnownBytes.{Appends};
 ghost use Rattle.script_lines.specs.Cause.{Rose, HasCause};
 ghost use Rattle.rule_store.specs.Verdict.{Accepted};
 ghost use Rattle.replay.specs.Text.{verdict_told, refused_line};
 ghost use Rattle.replay.specs.Run.{IsActOf, IsChangeOf, ending};
-ghost use Rattle.replay.specs.Script.{limit_fault};
+ghost use Rattle.replay.specs.Script.{limit_fault, most_pending, most_probes};
 ghost use Rattle.replay.specs.Carried.{IsAt, Carries, CutsAtLine, CutsAtWrite, Wants, AppendsPart};
-ghost use Rattle.replay.specs.Running.{Running, HoldsPending, CarriesRun, CutsRunAtLine, CutsRunAtWrite, MakesAll, MakesSome, begun, progress_of, setting_of, verdict_of};
+ghost use Rattle.replay.specs.Running.{Running, HoldsPending, CarriesRun, CutsRunAtLine, CutsRunAtWrite, MakesAll, StopsAtLine, StopsAtWrite, begun, progress_of, setting_of, verdict_of};
 
 use crate::report::{Totals, write_accepted, write_end, write_packet, write_refused};
+use crate::watch::Watch;
 use crate::{Act, Family, RunFault};
 use batch_order::{Done, Manager, Mode, Refusal, Step};
 use rule_model::{Key, key_fields};
@@ -20,11 +21,11 @@ use std::alloc::{AllocError, Global};
 use std::marker::Model;
 use tcam_device::{Device, DeviceFault};
 
-/// A run of acts: its manager, the pending batch, and what the report counts.
+/// A run of acts: its manager, what is told of each write, the pending batch, and what the report counts.
 #[derive(Drop)]
 pub struct Run {
-    family: Family,
     manager: Manager,
+    watch: Watch,
     pending: Batch,
     commits: u32,
     writes: u64,
@@ -36,23 +37,30 @@ impl Model for Run {
 
     ghost Value = { Running };
 
-    ghost view = { λ r. record { manager = r.manager; family = r.family; pending = r.pending; commits = r.commits; writes = r.writes; refused = r.refused } };
+    ghost view = { λ r. record { manager = r.manager; family = r.watch.family; trace = r.watch.trace; probes = r.watch.probes; pending = r.pending; commits = r.commits; writes = r.writes; refused = r.refused } };
 
-    ghost invariant = { λ r. IsRun (record { manager = r.manager; family = r.family; pending = r.pending; commits = r.commits; writes = r.writes; refused = r.refused }) };
+    ghost invariant = { λ r. IsRun (record { manager = r.manager; family = r.watch.family; trace = r.watch.trace; probes = r.watch.probes; pending = r.pending; commits = r.commits; writes = r.writes; refused = r.refused }) };
 }
 
 impl Run {
-    /// A run before its first act, over a blank device with so many slots in use, 1 to 4,096: no rules, and no change
-    /// pending. The mode is `Cover` until range bits come. It fails only for want of memory.
-    pub fn new(alloc: Global, slots: u32, mode: Mode, family: Family) -> Result<Run, AllocError>
+    /// A run before its first act, over a blank device with so many slots in use, 1 to 4,096: no rules, no probe, and
+    /// no change pending. With a trace each write of a commit has its line. The mode is `Cover` until range bits come.
+    /// It fails only for want of memory.
+    pub fn new(
+        alloc: Global,
+        slots: u32,
+        mode: Mode,
+        family: Family,
+        trace: bool,
+    ) -> Result<Run, AllocError>
         requires least { 1 ≤ slots }
         requires most { slots ≤ 4096 }
         requires cover { mode ≡ Mode.Cover }
-        ensures { IfOk result (λ run. run ≡ begun slots mode family) }
+        ensures { IfOk result (λ run. run ≡ begun slots mode family trace) }
     {
         Ok(Run {
-            family,
             manager: Manager::new(alloc, slots, mode)?,
+            watch: Watch::new(alloc, family, trace)?,
             pending: Batch::new(alloc),
             commits: 0,
             writes: 0,
@@ -64,7 +72,7 @@ impl Run {
     pub fn family(&self) -> Family
         ensures { result ≡ self.now.family }
     {
-        self.family
+        self.watch.family()
     }
 
     /// Carries out an act of a script of the run's family, over a device with at least as many slots as the run uses.
@@ -73,19 +81,21 @@ impl Run {
     /// commits.
     ///
     /// A change joins the pending batch. With 4,096 changes pending the answer is `BatchFull`, and nothing has
+    /// changed. A probe is looked up after each later write. With 16 probes the answer is `ProbesFull`, and nothing has
     /// changed. A packet is looked up in the device, which answers as the set does, and its line is written.
     ///
     /// A commit is judged by the set, the batch and the slots alone. A refused one writes nothing to the device: its
     /// line is written, with the first reason, and the set stays. An accepted one makes its writes one at a time, and
-    /// none of them leaves a state in which a packet gets another answer than the old set's or the new one's; then the
-    /// set is the one after the batch, and its line is written, with its numbers. Either is counted, and drops the
-    /// batch.
+    /// none of them leaves a state in which a packet gets another answer than the old set's or the new one's. After
+    /// each write its line is written, where a trace is wanted, and then for each probe what the device answers it.
+    /// Then the set is the one after the batch, and the commit's line is written, with its numbers. Either is counted,
+    /// and drops the batch.
     ///
     /// `Memory` comes at a change, or at a commit that would be accepted. Nothing was done then, and the run is as
     /// before. `Sink` comes only where the sink's count of failures rose: all that comes before the line was done, and
     /// a part of the line was taken, perhaps none or all of it. `Device` comes only where the device's count of
-    /// failures rose: the writes of the commit before the failed one were made, and its line wasn't written. No act
-    /// may follow one that answered `Device`, since its commit is still under way.
+    /// failures rose: the writes of the commit before the failed one were made and told, and its line wasn't written.
+    /// No act may follow one that answered `Device` or `Sink`, since its commit may still be under way.
     pub fn apply<K: Sink, D: Device>(
         &mut self,
         act: &Act,
@@ -107,10 +117,11 @@ impl Run {
             (D.journal device.old) (D.journal device.new) (K.taken sink.old) (K.taken sink.new) }
         ensures memory { (result ≡ Err RunFault.Memory) → Wants (setting_of self.old) (progress_of (D.slot_count device.old) self.old) act.now
             (D.journal device.old) (D.journal device.new) (K.taken sink.old) (K.taken sink.new) }
-        ensures full { (result ≡ Err RunFault.BatchFull) ↔ IsSome (limit_fault act.now (length self.old.pending)) }
-        ensures untouched { (result ≡ Err RunFault.BatchFull) ⊎ (result ≡ Err RunFault.Memory) → (D.journal device.new ≡ D.journal device.old) × (K.taken sink.new ≡ K.taken sink.old) }
-        ensures unchanged { (result ≡ Err RunFault.BatchFull) ⊎ (result ≡ Err RunFault.Memory) → self.new ≡ self.old }
-        ensures idle { (result ≢ Err RunFault.Device) → self.new.manager.held ≡ None }
+        ensures full { (result ≡ Err RunFault.BatchFull) ↔ (limit_fault act.now (length self.old.pending) (length self.old.probes) ≡ Some (codes "batch full")) }
+        ensures probes_full { (result ≡ Err RunFault.ProbesFull) ↔ (limit_fault act.now (length self.old.pending) (length self.old.probes) ≡ Some (codes "too many probes")) }
+        ensures untouched { (result ≡ Err RunFault.BatchFull) ⊎ ((result ≡ Err RunFault.ProbesFull) ⊎ (result ≡ Err RunFault.Memory)) → (D.journal device.new ≡ D.journal device.old) × (K.taken sink.new ≡ K.taken sink.old) }
+        ensures unchanged { (result ≡ Err RunFault.BatchFull) ⊎ ((result ≡ Err RunFault.ProbesFull) ⊎ (result ≡ Err RunFault.Memory)) → self.new ≡ self.old }
+        ensures idle { (result ≢ Err RunFault.Device) → (result ≢ Err RunFault.Sink) → self.new.manager.held ≡ None }
         ensures setting { setting_of self.new ≡ setting_of self.old }
         ensures commits { self.new.commits ≤ self.old.commits + 1 }
         ensures slot_count { D.slot_count device.new ≡ D.slot_count device.old }
@@ -122,6 +133,7 @@ impl Run {
     {
         match *act {
             Act::Command(command) => self.push(command),
+            Act::Probe(key) => self.probe(key),
             Act::Packet(key) => self.packet(&key, sink, device),
             Act::Commit => self.commit(sink, device),
         }
@@ -131,15 +143,29 @@ impl Run {
     fn push(&mut self, command: Command) -> Result<(), RunFault>
         requires { IsChangeOf self.old.family command }
         ensures pushed { OnOk result (self.new ≡ record self.old { pending = self.old.pending ++ command ∷ [] }) }
-        ensures full { (result ≡ Err RunFault.BatchFull) ↔ IsSome (limit_fault (Act.Command command) (length self.old.pending)) }
+        ensures full { (result ≡ Err RunFault.BatchFull) ↔ (length self.old.pending ≡ most_pending) }
         ensures unchanged { OnErr result (self.new ≡ self.old) }
-        ensures kind { (result ≢ Err RunFault.Sink) × (result ≢ Err RunFault.Device) }
+        ensures kind { (result ≢ Err RunFault.Sink) × ((result ≢ Err RunFault.Device) × (result ≢ Err RunFault.ProbesFull)) }
     {
         match self.pending.push(command) {
             Ok(()) => Ok(()),
             Err(PushFault::Full) => Err(RunFault::BatchFull),
             Err(PushFault::Memory) => Err(RunFault::Memory),
         }
+    }
+
+    // A key is probed from now on.
+    fn probe(&mut self, key: Key) -> Result<(), RunFault>
+        ensures probed { OnOk result (self.new ≡ record self.old { probes = self.old.probes ++ key ∷ [] }) }
+        ensures full { (result ≡ Err RunFault.ProbesFull) ↔ (length self.old.probes ≡ most_probes) }
+        ensures unchanged { OnErr result (self.new ≡ self.old) }
+        ensures kind { IfErr result (λ fault. fault ≡ RunFault.ProbesFull) }
+    {
+        if self.watch.is_full() {
+            return Err(RunFault::ProbesFull);
+        }
+        self.watch.probe(key);
+        Ok(())
     }
 
     // Looks a packet up, and writes what it finds.
@@ -158,7 +184,7 @@ impl Run {
         ensures cause { HasCause (K.faults sink.old) (K.faults sink.new) result }
     {
         key_fields(key);
-        match write_packet(sink, self.family, device.look(key)) {
+        match write_packet(sink, self.watch.family(), device.look(key)) {
             Ok(()) => Ok(()),
             Err(Failed) => Err(RunFault::Sink),
         }
@@ -175,8 +201,8 @@ impl Run {
         ensures accepted { (result ≡ Err RunFault.Memory) → verdict_of self.old ≡ Accepted }
         ensures unchanged { (result ≡ Err RunFault.Memory) → self.new ≡ self.old }
         ensures untouched { (result ≡ Err RunFault.Memory) → (D.journal device.new ≡ D.journal device.old) × (K.taken sink.new ≡ K.taken sink.old) }
-        ensures not_full { result ≢ Err RunFault.BatchFull }
-        ensures idle { (result ≢ Err RunFault.Device) → self.new.manager.held ≡ None }
+        ensures not_full { (result ≢ Err RunFault.BatchFull) × (result ≢ Err RunFault.ProbesFull) }
+        ensures idle { (result ≢ Err RunFault.Device) → (result ≢ Err RunFault.Sink) → self.new.manager.held ≡ None }
         ensures setting { setting_of self.new ≡ setting_of self.old }
         ensures commits { self.new.commits ≤ self.old.commits + 1 }
         ensures slot_count { D.slot_count device.new ≡ D.slot_count device.old }
@@ -215,13 +241,13 @@ impl Run {
     {
         self.count_commit();
         self.refused = true;
-        match write_refused(sink, self.commits, self.family, refusal) {
+        match write_refused(sink, self.commits, self.watch.family(), refusal) {
             Ok(()) => Ok(()),
             Err(Failed) => Err(RunFault::Sink),
         }
     }
 
-    // Makes the writes of the commit under way, counts it, drops its batch, and writes its line.
+    // Makes and tells the writes of the commit under way, counts it, drops its batch, and writes its line.
     fn carry_out<K: Sink, D: Device>(
         &mut self,
         sink: &mut K,
@@ -235,8 +261,8 @@ impl Run {
         ensures carries { OnOk result (CarriesRun (D.slot_count device.old) self.old Act.Commit self.new (D.journal device.old) (D.journal device.new) (K.taken sink.old) (K.taken sink.new)) }
         ensures at_line { (result ≡ Err RunFault.Sink) → CutsRunAtLine (D.slot_count device.old) self.old Act.Commit (D.journal device.old) (D.journal device.new) (K.taken sink.old) (K.taken sink.new) }
         ensures at_write { (result ≡ Err RunFault.Device) → CutsRunAtWrite (D.slot_count device.old) self.old Act.Commit (D.journal device.old) (D.journal device.new) (K.taken sink.old) (K.taken sink.new) }
-        ensures kind { (result ≢ Err RunFault.Memory) × (result ≢ Err RunFault.BatchFull) }
-        ensures idle { (result ≢ Err RunFault.Device) → self.new.manager.held ≡ None }
+        ensures kind { (result ≢ Err RunFault.Memory) × ((result ≢ Err RunFault.BatchFull) × (result ≢ Err RunFault.ProbesFull)) }
+        ensures idle { OnOk result (self.new.manager.held ≡ None) }
         ensures setting { setting_of self.new ≡ setting_of self.old }
         ensures commits { self.new.commits ≤ self.old.commits + 1 }
         ensures slot_count { D.slot_count device.new ≡ D.slot_count device.old }
@@ -246,9 +272,9 @@ impl Run {
         ensures device_later { D.faults device.old ≤ D.faults device.new }
         ensures device_cause { (result ≡ Err RunFault.Device) → Rose (D.faults device.old) (D.faults device.new) }
     {
-        let done = match make_writes(&mut self.manager, device) {
+        let done = match make_writes(&mut self.manager, &self.watch, sink, device) {
             Ok(done) => done,
-            Err(DeviceFault) => return Err(RunFault::Device),
+            Err(fault) => return Err(fault),
         };
         self.count_commit();
         self.writes += done.writes;
@@ -258,9 +284,10 @@ impl Run {
         }
     }
 
-    /// Writes the last line of a run that came to its end: the rules of the set, their entries, the writes of its
-    /// accepted commits, and the changes that are pending. Answers whether a commit was refused. Where the sink fails,
-    /// a part of the line was taken, perhaps none or all of it. The run stays as it was.
+    /// Writes the last line of a run that came to its end: the rules of the set, their entries, the device writes of
+    /// its finished commits, and the changes that are pending. The writes of a commit that `apply` left under way aren't
+    /// among them. Answers whether a commit was refused. Where the sink fails, a part of the line was taken, perhaps
+    /// none or all of it. The run stays as it was.
     pub fn finish<K: Sink>(&mut self, sink: &mut K) -> Result<bool, Failed>
         ensures refused { IfOk result (λ refused. refused ≡ self.old.refused) }
         ensures unchanged { self.new ≡ self.old }
@@ -283,22 +310,45 @@ impl Run {
     }
 }
 
-// Makes the writes of the commit under way, one at a time.
-fn make_writes<D: Device>(manager: &mut Manager, device: &mut D) -> Result<Done, DeviceFault>
+// Makes the writes of the commit under way, one at a time, and tells each of them. `Sink` comes where the lines of a
+// write can't be written, and `Device` where a write isn't made.
+fn make_writes<K: Sink, D: Device>(
+    manager: &mut Manager,
+    watch: &Watch,
+    sink: &mut K,
+    device: &mut D,
+) -> Result<Done, RunFault>
     requires slots { manager.old.slots ≤ D.slot_count device.old }
     requires held { IsSome manager.old.held }
     requires room { IfSome manager.old.held (λ held. length held.writes ≤ D.spare device.old) }
-    ensures made { IfOk result (λ done. MakesAll manager.old done manager.new (D.journal device.old) (D.journal device.new)) }
-    ensures cut { OnErr result (MakesSome manager.old manager.new (D.journal device.old) (D.journal device.new)) }
+    requires few { IfSome manager.old.held (λ held. length held.writes ≤ 2 ^ 40) }
+    ensures made { IfOk result (λ done. MakesAll manager.old watch.now (D.slot_count device.old) done manager.new
+        (D.journal device.old) (D.journal device.new) (K.taken sink.old) (K.taken sink.new)) }
+    ensures at_line { IfErr result (λ fault. fault ≡ RunFault.Sink → StopsAtLine manager.old manager.new watch.now (D.slot_count device.old)
+        (D.journal device.old) (D.journal device.new) (K.taken sink.old) (K.taken sink.new)) }
+    ensures at_write { IfErr result (λ fault. fault ≡ RunFault.Device → StopsAtWrite manager.old manager.new watch.now (D.slot_count device.old)
+        (D.journal device.old) (D.journal device.new) (K.taken sink.old) (K.taken sink.new)) }
+    ensures kind { IfErr result (λ fault. (fault ≡ RunFault.Sink) ⊎ (fault ≡ RunFault.Device)) }
     ensures slot_count { D.slot_count device.new ≡ D.slot_count device.old }
-    ensures cause { HasCause (D.faults device.old) (D.faults device.new) result }
+    ensures told { IsSome (K.taken sink.old) → IsSome (K.taken sink.new) }
+    ensures sink_later { K.faults sink.old ≤ K.faults sink.new }
+    ensures sink_cause { IfErr result (λ fault. fault ≡ RunFault.Sink → Rose (K.faults sink.old) (K.faults sink.new)) }
+    ensures device_later { D.faults device.old ≤ D.faults device.new }
+    ensures device_cause { IfErr result (λ fault. fault ≡ RunFault.Device → Rose (D.faults device.old) (D.faults device.new)) }
 {
+    let mut number = 0u64;
     'making: loop {
         match manager.step(device) {
-            Ok(Step::Wrote(_)) => {}
+            Ok(Step::Wrote(write)) => {
+                number += 1;
+                match watch.tell(number, &write, sink, device) {
+                    Ok(()) => {}
+                    Err(Failed) => return Err(RunFault::Sink),
+                }
+            }
             Ok(Step::Finished(done)) => return Ok(done),
             Ok(Step::Idle) => unreachable!(),
-            Err(fault) => return Err(fault),
+            Err(DeviceFault) => return Err(RunFault::Device),
         }
     }
 }

@@ -8,7 +8,7 @@ use Rattle.line_words.specs.declared.WordFault.{WordFault}
 use Rattle.line_words.specs.declared.WordFault.TheVariants.{UnknownCommand, WordCount, BadPrefix, HostBits, BadResult, BadPorts, BadHex, Frame}
 use Rattle.line_words.specs.Kinds.{ipv4_notation}
 use Rattle.route_reader.specs.declared.RouteCommand.{RouteCommand}
-use Rattle.route_reader.specs.declared.RouteCommand.TheVariants.{Add, Set, Del, Packet, Commit}
+use Rattle.route_reader.specs.declared.RouteCommand.TheVariants.{Add, Set, Del, Probe, Packet, Commit}
 use Rattle.route_reader.specs.Grammar.{route_line}
 
 abbrev read : List ℕ → Result (Option RouteCommand) WordFault
@@ -67,6 +67,9 @@ commit = refl
 
 packet : read (codes "packet 0.0.0.0 10.1.2.3 tcp 0 80") ≡ Ok (Some (Packet (record { src = 0; dst = ipv4_address 0x0a010203; proto = 6; sport = 0; dport = 80 })))
 packet = refl
+
+probe : read (codes "probe 0.0.0.0 10.1.2.3 tcp 0 80") ≡ Ok (Some (Probe (record { src = 0; dst = ipv4_address 0x0a010203; proto = 6; sport = 0; dport = 80 })))
+probe = refl
 
 bad-port : read (codes "packet 0.0.0.0 10.1.2.3 0 0 65536") ≡ Err BadPorts
 bad-port = refl

@@ -3,6 +3,7 @@
 //!     route add PREFIX RESULT
 //!     route set PREFIX RESULT
 //!     route del PREFIX
+//!     probe KEY
 //!     packet KEY
 //!     frame HEX
 //!     commit
@@ -33,6 +34,8 @@ pub enum RouteCommand {
     Set(Prefix, u32),
     /// Removes a route.
     Del(Prefix),
+    /// Has the answer of a packet asked for after each later write.
+    Probe(Key),
     /// Asks for the answer of a packet.
     Packet(Key),
     /// Carries out the pending batch.
@@ -61,15 +64,16 @@ fn command_of(first: &[u8], rest: Words<'_>) -> Result<RouteCommand, WordFault>
 {
     match first {
         b"route" => route_words(rest),
-        _ => packet_or_commit(first, rest),
+        _ => other_command(first, rest),
     }
 }
 
 /// The command of a line that begins with none of the words of routes.
-fn packet_or_commit(first: &[u8], rest: Words<'_>) -> Result<RouteCommand, WordFault>
-    ensures { result ≡ common_command ipv4_notation RouteCommand.Packet RouteCommand.Commit first.now rest.entry }
+fn other_command(first: &[u8], rest: Words<'_>) -> Result<RouteCommand, WordFault>
+    ensures { result ≡ common_command ipv4_notation RouteCommand.Probe RouteCommand.Packet RouteCommand.Commit first.now rest.entry }
 {
     match common_command(first, rest)? {
+        CommonCommand::Probe(key) => Ok(RouteCommand::Probe(key)),
         CommonCommand::Packet(key) => Ok(RouteCommand::Packet(key)),
         CommonCommand::Commit => Ok(RouteCommand::Commit),
     }
@@ -153,7 +157,7 @@ mod tests {
     fn lines_and_their_commands(rt: HostRuntime) -> Result<(), Fail> {
         let ten = Prefix::v4(0x0a00_0000, 8)?;
         let host = Prefix::v4(0xffff_ffff, 32)?;
-        let table: [(&[u8], Result<Option<RouteCommand>, WordFault>); 56] = [
+        let table: [(&[u8], Result<Option<RouteCommand>, WordFault>); 57] = [
             (
                 b"route add 10.0.0.0/8 7",
                 Ok(Some(RouteCommand::Add(ten, 7))),
@@ -186,6 +190,10 @@ mod tests {
             (
                 b"packet 10.1.2.3 10.1.2.4 tcp 1234 80",
                 Ok(Some(RouteCommand::Packet(web_key()))),
+            ),
+            (
+                b"probe 10.1.2.3 10.1.2.4 tcp 1234 80",
+                Ok(Some(RouteCommand::Probe(web_key()))),
             ),
             (
                 b"packet 10.1.2.3 10.1.2.4 6 1234 80",

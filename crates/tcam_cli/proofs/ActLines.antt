@@ -62,18 +62,21 @@ comes (Err fault) next found e = let bad = e in absurd (cc)
 named : (first word : List ℕ) (least : ℕ) → bytes_eq first word ≡ true → least ≤ length word → least ≤ length first
 named first word least same long = subst (λ w. least ≤ length w) (sym ((bytes_eq-Decides first word).0 same)) long
 
-common-long : {C : Type 0} (packet : Key → C) (commit : C) (first : List ℕ) (rest : List (List ℕ)) (command : C) → common_command ipv4_notation packet commit first rest ≡ Ok command
-    → 5 ≤ length first
-common-long packet commit first rest command is =
-    elim (cases_Bool (bytes_eq first (codes "packet"))) [
-      | inl same ↦ named first (codes "packet") 5 same (lit≤ tt)
-      | inr other ↦ elim (cases_Bool (bytes_eq first (codes "frame"))) [
-        | inl same ↦ named first (codes "frame") 5 same (lit≤ tt)
-        | inr also ↦ elim (cases_Bool (bytes_eq first (codes "commit"))) [
-          | inl same ↦ named first (codes "commit") 5 same (lit≤ tt)
-          | inr neither ↦
-              let bad = rw (other, also, neither) at is in
-              absurd (cc)
+common-long : {C : Type 0} (probe packet : Key → C) (commit : C) (first : List ℕ) (rest : List (List ℕ)) (command : C)
+    → common_command ipv4_notation probe packet commit first rest ≡ Ok command → 5 ≤ length first
+common-long probe packet commit first rest command is =
+    elim (cases_Bool (bytes_eq first (codes "probe"))) [
+      | inl same ↦ named first (codes "probe") 5 same (lit≤ tt)
+      | inr first_other ↦ elim (cases_Bool (bytes_eq first (codes "packet"))) [
+        | inl same ↦ named first (codes "packet") 5 same (lit≤ tt)
+        | inr other ↦ elim (cases_Bool (bytes_eq first (codes "frame"))) [
+          | inl same ↦ named first (codes "frame") 5 same (lit≤ tt)
+          | inr also ↦ elim (cases_Bool (bytes_eq first (codes "commit"))) [
+            | inl same ↦ named first (codes "commit") 5 same (lit≤ tt)
+            | inr neither ↦
+                let bad = rw (first_other, other, also, neither) at is in
+                absurd (cc)
+          ]
         ]
       ]
     ]
@@ -83,7 +86,7 @@ route-long [] command is = let bad = is in absurd (cc)
 route-long (first ∷ rest) command is =
     let long : 5 ≤ length first = elim (cases_Bool (bytes_eq first (codes "route"))) [
       | inl same ↦ named first (codes "route") 5 same (lit≤ tt)
-      | inr other ↦ common-long route.Packet route.Commit first rest command (rw other at is)
+      | inr other ↦ common-long route.Probe route.Packet route.Commit first rest command (rw other at is)
     ] in
     omega arith
 
@@ -113,7 +116,7 @@ acl-long (first ∷ rest) command is = elim (cases_Bool (bytes_eq first (codes "
       let more : 3 ≤ total rest = verb-long rest command (rw same at is) in
       omega arith
   | inr other ↦
-      let long : 5 ≤ length first = common-long acl.Packet acl.Commit first rest command (rw other at is) in
+      let long : 5 ≤ length first = common-long acl.Probe acl.Packet acl.Commit first rest command (rw other at is) in
       omega arith
 ]
 

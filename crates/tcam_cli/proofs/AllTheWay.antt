@@ -1,5 +1,5 @@
 -- After each write of a run every key has the answer of one of the script's sets or of the next one.
-use Rattle.std.proofs.Common.{◌≡◌, inl, inr, ℕ, zero, suc, ◌+◌, ◌≤◌, min, le_trans, Option, Some, None, List, [], ◌∷◌, ◌++◌, length, take, slice_get, refl, ap, sym, ◌∙◌, subst, arith, append_assoc}
+use Rattle.std.proofs.Common.{◌≡◌, inl, inr, ℕ, zero, suc, ◌+◌, ◌≤◌, min, le_trans, Option, Some, None, List, [], ◌∷◌, ◌++◌, length, take, slice_get, refl, ap, sym, ◌∙◌, subst, arith, append_assoc, append-nil}
 use Rattle.std.proofs.Math.Seq.{take-nil}
 use Rattle.std.proofs.Math.Nat.{min-le_left, min-le_right, le-min}
 use Rattle.std.proofs.lemmas.List.{take_min, take-append-le}
@@ -13,10 +13,11 @@ use Rattle.tcam_device.specs.Hitless.{ShowsOldOrNew}
 use Rattle.tcam_device.proofs.Spans.{state_after-append}
 use Rattle.tcam_device.proofs.Wider.{blank_shows}
 use Rattle.replay.specs.declared.Act.{Act}
-use Rattle.replay.specs.declared.Act.TheVariants.{Command, Packet, Commit}
+use Rattle.replay.specs.declared.Act.TheVariants.{Command, Probe, Packet, Commit}
 use Rattle.replay.specs.Run.{Setting, Effect, Prints, written, Progress, start, writes_of, IsCutStep, Judged, Step, Run, Runs}
 use Rattle.tcam_cli.specs.AllTheWay.{sets_through, ShowsSetOrNext, AnswersAllTheWay, EndsAtLast}
 use Rattle.tcam_cli.proofs.OneMore.{written-append, run-more}
+use Rattle.replay.proofs.Effects.{written-writes}
 
 -- ---- lists of sets
 
@@ -42,6 +43,7 @@ starts-judged setting rules batch acts (OutOfSlots needed free) more = more
 starts : (setting : Setting) (rules : List Rule) (batch : List Change) (acts : List Act) → StartsAt rules (sets_through setting rules batch acts)
 starts setting rules batch [] = ([], refl)
 starts setting rules batch (Command change ∷ acts) = starts setting rules (batch ++ change ∷ []) acts
+starts setting rules batch (Probe key ∷ acts) = starts setting rules batch acts
 starts setting rules batch (Packet key ∷ acts) = starts setting rules batch acts
 starts setting rules batch (Commit ∷ acts) =
     starts-judged setting rules batch acts (verdict setting.slots setting.mode rules batch) (starts setting rules [] acts)
@@ -66,6 +68,7 @@ pub more-sets : (setting : Setting) (rules : List Rule) (batch : List Change) (a
     → Continues (sets_through setting rules batch acts) (sets_through setting rules batch (acts ++ later))
 more-sets setting rules batch [] later = starts setting rules batch later
 more-sets setting rules batch (Command change ∷ acts) later = more-sets setting rules (batch ++ change ∷ []) acts later
+more-sets setting rules batch (Probe key ∷ acts) later = more-sets setting rules batch acts later
 more-sets setting rules batch (Packet key ∷ acts) later = more-sets setting rules batch acts later
 more-sets setting rules batch (Commit ∷ acts) later =
     more-judged setting rules batch acts later (verdict setting.slots setting.mode rules batch)
@@ -171,9 +174,10 @@ IsShown progress = Shows progress.state progress.rules
 abbrev GoesOn : Setting → Progress → List Act → List Write → Type 0
 GoesOn setting old acts writes = Goes old.state (sets_through setting old.rules old.batch acts) writes
 
-written-commit : (made : List Write) (line : List ℕ) → written (writes_of made ++ Prints line ∷ []) ≡ made
-written-commit [] line = refl
-written-commit (write ∷ made) line = ap (λ writes. write ∷ writes) (written-commit made line)
+written-commit : (setting : Setting) (old : Progress) (made : List Write) (line : List ℕ) → written (writes_of setting old.probes 1 old.state made ++ Prints line ∷ []) ≡ made
+written-commit setting old made line =
+    written-append (writes_of setting old.probes 1 old.state made) (Prints line ∷ [])
+    ∙ append-nil (written (writes_of setting old.probes 1 old.state made)) ∙ written-writes setting old.probes 1 old.state made
 
 goes-judged : (setting : Setting) (old : Progress) (is : Verdict) (front : List Effect) (mid : Progress) (acts : List Act) (back : List Write)
     → IsShown old → Judged setting old is front mid → (IsShown mid → GoesOn setting mid acts back)
@@ -184,7 +188,7 @@ goes-judged setting old Accepted front mid acts back shown step more =
     let P : Progress → Type 0 = λ p. IsShown p → GoesOn setting p acts back in
     let rest = subst P step.after more step.segment.hitless.after in
     let made : step.made ++ back ≡ written front ++ back =
-    sym (ap (λ writes. writes ++ back) (ap written step.effects_are ∙ written-commit step.made _)) in
+    sym (ap (λ writes. writes ++ back) (ap written step.effects_are ∙ written-commit setting old step.made _)) in
     let ends : EndsAtLast old.state (old.rules ∷ sets) (step.made ++ back) = record {
       front = old.rules ∷ rest.1.front;
       rules = rest.1.rules;
@@ -209,6 +213,9 @@ goes-step : (setting : Setting) (old : Progress) (act : Act) (front : List Effec
 goes-step setting old (Command change) front mid acts back shown step more =
     let P : Progress → Type 0 = λ p. IsShown p → GoesOn setting p acts back in
     subst (λ writes. GoesOn setting old (Command change ∷ acts) writes) (sym (ap (λ effects. written effects ++ back) step.0)) (subst P step.1 more shown)
+goes-step setting old (Probe key) front mid acts back shown step more =
+    let P : Progress → Type 0 = λ p. IsShown p → GoesOn setting p acts back in
+    subst (λ writes. GoesOn setting old (Probe key ∷ acts) writes) (sym (ap (λ effects. written effects ++ back) step.0)) (subst P step.1 more shown)
 goes-step setting old (Packet key) front mid acts back shown step more =
     let P : Progress → Type 0 = λ p. IsShown p → GoesOn setting p acts back in
     subst (λ writes. GoesOn setting old (Packet key ∷ acts) writes) (sym (ap (λ effects. written effects ++ back) step.0)) (subst P step.1 more shown)

@@ -1,5 +1,5 @@
 -- A run over a blank device stands at the start.
-use Rattle.std.proofs.Common.{◌≡◌, ℕ, ◌+◌, ◌-◌, ◌≤◌, ◌++◌, None, Option, List, length, replicate, ap, ◌∙◌, arith}
+use Rattle.std.proofs.Common.{◌≡◌, Bool, ℕ, ◌+◌, ◌-◌, ◌≤◌, ◌++◌, None, Option, List, length, replicate, ap, ◌∙◌, arith}
 use Rattle.std.proofs.lemmas.List.{length-replicate, replicate-append-replicate}
 use Rattle.ternary_word.specs.declared.Entry.{Entry}
 use Rattle.rule_store.specs.declared.Mode.TheVariants.{Cover}
@@ -16,7 +16,7 @@ blank-more slots device_slots within =
     ap (λ n. blanks ++ replicate (device_slots - n) None) (length-replicate slots None)
     ∙ replicate-append-replicate slots (device_slots - slots) None ∙ ap (λ n. replicate n None) all
 
-pub begins : (family : Family) (slots device_slots : ℕ) → slots ≤ device_slots → progress_of device_slots (begun slots Cover family) ≡ start device_slots
-begins family slots device_slots within =
+pub begins : (family : Family) (slots device_slots : ℕ) (trace : Bool) → slots ≤ device_slots → progress_of device_slots (begun slots Cover family trace) ≡ start device_slots
+begins family slots device_slots trace within =
     let f : List (Option Entry) → Progress = λ s. record (start device_slots) { state = record (blank device_slots) { slots = s } } in
     ap f (blank-more slots device_slots within)

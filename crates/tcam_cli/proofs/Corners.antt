@@ -1,5 +1,5 @@
 -- Corners of where a script ends.
-use Rattle.std.proofs.Common.{◌≡◌, ℕ, List, [], ◌∷◌, ◌++◌, replicate, length, refl}
+use Rattle.std.proofs.Common.{◌≡◌, ℕ, zero, suc, List, [], ◌∷◌, ◌++◌, replicate, length, refl}
 use Rattle.std.specs.Prelude.{codes}
 use Rattle.replay.specs.declared.Family.TheVariants.{Route, Acl}
 use Rattle.replay.specs.Script.{ScriptEnd, Whole, FaultAt, script_of}
@@ -47,3 +47,14 @@ come = refl
 
 come-byte : (script_so_far (reading Route) (codes "commit" ++ 10 ∷ codes "com" ++ 200 ∷ [])).last ≡ FaultAt 2 (codes "bad byte")
 come-byte = refl
+
+-- so many probes
+abbrev probes : ℕ → List ℕ
+probes zero = []
+probes (suc n) = codes "probe 0.0.0.0 10.1.2.3 0 0 0" ++ 10 ∷ probes n
+
+sixteen : end-of (probes 16) ≡ Whole
+sixteen = refl
+
+seventeen : end-of (probes 17) ≡ FaultAt 17 (codes "too many probes")
+seventeen = refl

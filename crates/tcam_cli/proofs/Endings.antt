@@ -7,7 +7,7 @@ use Rattle.script_lines.specs.declared.LineFault.{LineFault}
 use Rattle.script_lines.specs.Lines.{limits, NumberedLine, ScriptLines, LinesEnd, EndOfInput, Faulty, ends_at, onto_lines, lines_from, lines_of}
 use Rattle.tcam_device.specs.declared.Write.{Write}
 use Rattle.replay.specs.declared.Act.{Act}
-use Rattle.replay.specs.Script.{Script, ScriptEnd, Whole, FaultAt, Reading, NumberedAct, stops_at, onto_acts, byte_end, acts_from, script_of, pending_after, limit_fault}
+use Rattle.replay.specs.Script.{Script, ScriptEnd, Whole, FaultAt, Reading, NumberedAct, stops_at, onto_acts, byte_end, acts_from, script_of, pending_after, probes_after, limit_fault}
 use Rattle.replay.specs.Run.{Setting, Effect, Prints, written, printed, Progress, Runs}
 use Rattle.tcam_cli.specs.declared.Status.{Status}
 use Rattle.tcam_cli.specs.declared.Status.TheVariants.{Done, Refused, ReadFault, WriteFault, DeviceFault, Memory}
@@ -18,19 +18,19 @@ use Rattle.replay.specs.Carried.{Carries, CutsAtLine, CutsAtWrite, Wants}
 use Rattle.tcam_cli.specs.Turns.{onto_all, acts_next, IsGoing, IsAllRead, IsRead, acts_only, SoFar, Ends, Closes}
 use Rattle.script_lines.proofs.FirstLines.{lines-whole, lines-pending, lines-last}
 use Rattle.tcam_cli.proofs.WholeLines.{whole-line, whole-none}
-use Rattle.tcam_cli.proofs.OneMore.{run-more, does-journal, does-report, step-pending, written-append, printed-append}
+use Rattle.tcam_cli.proofs.OneMore.{run-more, does-journal, does-report, step-pending, step-probes, written-append, printed-append}
 
 -- ---- what a line does to the script
 
-abbrev read_as : Reading → ℕ → ℕ → List NumberedLine → LinesEnd → Result (Option Act) (List ℕ) → Script
-read_as reading p number lines last r =
+abbrev read_as : Reading → ℕ → ℕ → ℕ → List NumberedLine → LinesEnd → Result (Option Act) (List ℕ) → Script
+read_as reading p q number lines last r =
     elim r [
       | Err text ↦ stops_at number text
       | Ok found ↦ elim found [
-        | None ↦ acts_from reading p lines last
-        | Some act ↦ elim (limit_fault act p) [
+        | None ↦ acts_from reading p q lines last
+        | Some act ↦ elim (limit_fault act p q) [
           | Some text ↦ stops_at number text
-          | None ↦ onto_acts number act (acts_from reading (pending_after act p) lines last)
+          | None ↦ onto_acts number act (acts_from reading (pending_after act p) (probes_after act q) lines last)
         ]
       ]
     ]
@@ -38,25 +38,25 @@ read_as reading p number lines last r =
 abbrev limited : ℕ → Script → Option (List ℕ) → Script
 limited number rest found = elim found [ Some text ↦ stops_at number text | None ↦ rest ]
 
-pub line-none : (reading : Reading) (p : ℕ) (line : NumberedLine) (rest : ScriptLines) → reading line.text ≡ Ok None
-    → acts_from reading p (line ∷ rest.lines) rest.last ≡ acts_next reading p rest
-line-none reading p line rest e = ap (read_as reading p line.number rest.lines rest.last) e
+pub line-none : (reading : Reading) (p q : ℕ) (line : NumberedLine) (rest : ScriptLines) → reading line.text ≡ Ok None
+    → acts_from reading p q (line ∷ rest.lines) rest.last ≡ acts_next reading p q rest
+line-none reading p q line rest e = ap (read_as reading p q line.number rest.lines rest.last) e
 
-pub line-fault : (reading : Reading) (p : ℕ) (line : NumberedLine) (rest : ScriptLines) (text : List ℕ) → reading line.text ≡ Err text
-    → acts_from reading p (line ∷ rest.lines) rest.last ≡ stops_at line.number text
-line-fault reading p line rest text e = ap (read_as reading p line.number rest.lines rest.last) e
+pub line-fault : (reading : Reading) (p q : ℕ) (line : NumberedLine) (rest : ScriptLines) (text : List ℕ) → reading line.text ≡ Err text
+    → acts_from reading p q (line ∷ rest.lines) rest.last ≡ stops_at line.number text
+line-fault reading p q line rest text e = ap (read_as reading p q line.number rest.lines rest.last) e
 
-pub line-full : (reading : Reading) (p : ℕ) (line : NumberedLine) (rest : ScriptLines) (act : Act) (text : List ℕ) → reading line.text ≡ Ok (Some act) → limit_fault act p ≡ Some text
-    → acts_from reading p (line ∷ rest.lines) rest.last ≡ stops_at line.number text
-line-full reading p line rest act text e l =
-    ap (read_as reading p line.number rest.lines rest.last) e
-    ∙ ap (limited line.number (onto_acts line.number act (acts_next reading (pending_after act p) rest))) l
+pub line-full : (reading : Reading) (p q : ℕ) (line : NumberedLine) (rest : ScriptLines) (act : Act) (text : List ℕ) → reading line.text ≡ Ok (Some act) → limit_fault act p q ≡ Some text
+    → acts_from reading p q (line ∷ rest.lines) rest.last ≡ stops_at line.number text
+line-full reading p q line rest act text e l =
+    ap (read_as reading p q line.number rest.lines rest.last) e
+    ∙ ap (limited line.number (onto_acts line.number act (acts_next reading (pending_after act p) (probes_after act q) rest))) l
 
-pub line-act : (reading : Reading) (p : ℕ) (line : NumberedLine) (rest : ScriptLines) (act : Act) → reading line.text ≡ Ok (Some act) → limit_fault act p ≡ None
-    → acts_from reading p (line ∷ rest.lines) rest.last ≡ onto_acts line.number act (acts_next reading (pending_after act p) rest)
-line-act reading p line rest act e l =
-    ap (read_as reading p line.number rest.lines rest.last) e
-    ∙ ap (limited line.number (onto_acts line.number act (acts_next reading (pending_after act p) rest))) l
+pub line-act : (reading : Reading) (p q : ℕ) (line : NumberedLine) (rest : ScriptLines) (act : Act) → reading line.text ≡ Ok (Some act) → limit_fault act p q ≡ None
+    → acts_from reading p q (line ∷ rest.lines) rest.last ≡ onto_acts line.number act (acts_next reading (pending_after act p) (probes_after act q) rest)
+line-act reading p q line rest act e l =
+    ap (read_as reading p q line.number rest.lines rest.last) e
+    ∙ ap (limited line.number (onto_acts line.number act (acts_next reading (pending_after act p) (probes_after act q) rest))) l
 
 -- ---- one line more
 
@@ -83,17 +83,17 @@ shift done text rest = append_assoc done (text ++ 10 ∷ []) rest ∙ ap (λ x. 
 pub onto-nil : (acts : List NumberedAct) (last : ScriptEnd) → onto_all acts (record { acts = []; last = last }) ≡ record { acts = acts; last = last }
 onto-nil acts last = let f : List NumberedAct → Script = λ a. record { acts = a; last = last } in ap f (append-nil acts)
 
-pub next-line : (reading : Reading) (bytes : List ℕ) (old : Held) (left : List ℕ) (line : NumberedLine) (new : Held) (after : List ℕ) (acts acts2 : List NumberedAct) (p p2 : ℕ)
-    → IsGoing reading bytes old left acts p → HandsOne old left line new after
-    → ((rest : ScriptLines) → onto_all acts (acts_from reading p (line ∷ rest.lines) rest.last) ≡ onto_all acts2 (acts_next reading p2 rest))
-    → IsRead new.over reading bytes new after acts2 p2
-next-line reading bytes old left line new after acts acts2 p p2 going (inl h) effect =
-    let is : IsGoing reading bytes new after acts2 p2 = record {
+pub next-line : (reading : Reading) (bytes : List ℕ) (old : Held) (left : List ℕ) (line : NumberedLine) (new : Held) (after : List ℕ) (acts acts2 : List NumberedAct) (p q p2 q2 : ℕ)
+    → IsGoing reading bytes old left acts p q → HandsOne old left line new after
+    → ((rest : ScriptLines) → onto_all acts (acts_from reading p q (line ∷ rest.lines) rest.last) ≡ onto_all acts2 (acts_next reading p2 q2 rest))
+    → IsRead new.over reading bytes new after acts2 p2 q2
+next-line reading bytes old left line new after acts acts2 p q p2 q2 going (inl h) effect =
+    let is : IsGoing reading bytes new after acts2 p2 q2 = record {
       done = going.done ++ (line.text ++ 10 ∷ []);
       parts = going.parts ∙ ap (λ x. going.done ++ x) h.bytes ∙ sym (shift going.done line.text (new.pending ++ after));
       script = λ rest.
           ap (script_of reading) (shift going.done line.text rest) ∙ going.script (line.text ++ 10 ∷ rest)
-          ∙ ap (λ l. onto_all acts (acts_next reading p l)) (whole-at old left line new after rest h) ∙ effect (lines_from limits new.before new.number [] rest);
+          ∙ ap (λ l. onto_all acts (acts_next reading p q l)) (whole-at old left line new after rest h) ∙ effect (lines_from limits new.before new.number [] rest);
       last = λ rest.
           ap (λ b. (lines_of b).last) (shift going.done line.text rest) ∙ going.last (line.text ++ 10 ∷ rest)
           ∙ ap (λ l. l.last) (whole-at old left line new after rest h);
@@ -101,48 +101,48 @@ next-line reading bytes old left line new after acts acts2 p p2 going (inl h) ef
           ap whole_lines (shift going.done line.text rest) ∙ going.whole (line.text ++ 10 ∷ rest)
           ∙ ap (λ x. going.done ++ x) (whole-line old.before line.text rest h.one_line) ∙ sym (shift going.done line.text (whole_lines rest));
     } in
-    subst (λ o. IsRead o reading bytes new after acts2 p2) (sym h.going) is
-next-line reading bytes old left line new after acts acts2 p p2 going (inr h) effect =
+    subst (λ o. IsRead o reading bytes new after acts2 p2 q2) (sym h.going) is
+next-line reading bytes old left line new after acts acts2 p q p2 q2 going (inr h) effect =
     let is : IsAllRead reading bytes after acts2 = (
       ap (script_of reading) (going.parts ∙ ap (λ x. going.done ++ x) h.bytes) ∙ going.script line.text
-          ∙ ap (λ l. onto_all acts (acts_next reading p l)) (last-at old left line new after h) ∙ effect (ends_at EndOfInput) ∙ onto-nil acts2 Whole,
+          ∙ ap (λ l. onto_all acts (acts_next reading p q l)) (last-at old left line new after h) ∙ effect (ends_at EndOfInput) ∙ onto-nil acts2 Whole,
       h.none,
     ) in
-    subst (λ o. IsRead o reading bytes new after acts2 p2) (sym h.ended) is
+    subst (λ o. IsRead o reading bytes new after acts2 p2 q2) (sym h.ended) is
 
-pub line-here : (reading : Reading) (bytes : List ℕ) (old : Held) (left : List ℕ) (line : NumberedLine) (new : Held) (after : List ℕ) (acts : List NumberedAct) (p : ℕ)
-    → IsGoing reading bytes old left acts p → HandsOne old left line new after
-    → (rest : ScriptLines) × (script_of reading bytes ≡ onto_all acts (acts_from reading p (line ∷ rest.lines) rest.last))
-line-here reading bytes old left line new after acts p going (inl h) = (
+pub line-here : (reading : Reading) (bytes : List ℕ) (old : Held) (left : List ℕ) (line : NumberedLine) (new : Held) (after : List ℕ) (acts : List NumberedAct) (p q : ℕ)
+    → IsGoing reading bytes old left acts p q → HandsOne old left line new after
+    → (rest : ScriptLines) × (script_of reading bytes ≡ onto_all acts (acts_from reading p q (line ∷ rest.lines) rest.last))
+line-here reading bytes old left line new after acts p q going (inl h) = (
   lines_from limits new.before new.number [] (new.pending ++ after),
   ap (script_of reading) (going.parts ∙ ap (λ x. going.done ++ x) h.bytes) ∙ going.script (line.text ++ 10 ∷ (new.pending ++ after))
-      ∙ ap (λ l. onto_all acts (acts_next reading p l)) (whole-at old left line new after (new.pending ++ after) h),
+      ∙ ap (λ l. onto_all acts (acts_next reading p q l)) (whole-at old left line new after (new.pending ++ after) h),
 )
-line-here reading bytes old left line new after acts p going (inr h) = (
+line-here reading bytes old left line new after acts p q going (inr h) = (
   ends_at EndOfInput,
   ap (script_of reading) (going.parts ∙ ap (λ x. going.done ++ x) h.bytes) ∙ going.script line.text
-      ∙ ap (λ l. onto_all acts (acts_next reading p l)) (last-at old left line new after h),
+      ∙ ap (λ l. onto_all acts (acts_next reading p q l)) (last-at old left line new after h),
 )
 
 -- the fault of a byte
-pub bytes-fault : (reading : Reading) (bytes : List ℕ) (old : Held) (left : List ℕ) (acts : List NumberedAct) (p : ℕ) (fault : LineFault)
-    → IsGoing reading bytes old left acts p → lines_from limits old.before old.number [] (old.pending ++ left) ≡ ends_at (Faulty fault)
+pub bytes-fault : (reading : Reading) (bytes : List ℕ) (old : Held) (left : List ℕ) (acts : List NumberedAct) (p q : ℕ) (fault : LineFault)
+    → IsGoing reading bytes old left acts p q → lines_from limits old.before old.number [] (old.pending ++ left) ≡ ends_at (Faulty fault)
     → script_of reading bytes ≡ record { acts = acts; last = byte_end (Faulty fault) }
-bytes-fault reading bytes old left acts p fault going e =
-    ap (script_of reading) going.parts ∙ going.script (old.pending ++ left) ∙ ap (λ l. onto_all acts (acts_next reading p l)) e
+bytes-fault reading bytes old left acts p q fault going e =
+    ap (script_of reading) going.parts ∙ going.script (old.pending ++ left) ∙ ap (λ l. onto_all acts (acts_next reading p q l)) e
     ∙ onto-nil acts (byte_end (Faulty fault))
 
 -- the end of the input
-pub bytes-end : (reading : Reading) (bytes : List ℕ) (old : Held) (left : List ℕ) (acts : List NumberedAct) (p : ℕ)
-    → IsGoing reading bytes old left acts p → old.pending ++ left ≡ [] → script_of reading bytes ≡ record { acts = acts; last = Whole }
-bytes-end reading bytes old left acts p going e =
+pub bytes-end : (reading : Reading) (bytes : List ℕ) (old : Held) (left : List ℕ) (acts : List NumberedAct) (p q : ℕ)
+    → IsGoing reading bytes old left acts p q → old.pending ++ left ≡ [] → script_of reading bytes ≡ record { acts = acts; last = Whole }
+bytes-end reading bytes old left acts p q going e =
     ap (script_of reading) (going.parts ∙ ap (λ x. going.done ++ x) e) ∙ going.script [] ∙ onto-nil acts Whole
 
 -- a failed read: what was taken is the whole lines and a part of one
-pub so-far : (reading : Reading) (bytes taken : List ℕ) (old : Held) (left : List ℕ) (new : Held) (after : List ℕ) (acts : List NumberedAct) (p : ℕ)
-    → IsGoing reading bytes old left acts p → KeepsAll old left new after → bytes ≡ taken ++ after
+pub so-far : (reading : Reading) (bytes taken : List ℕ) (old : Held) (left : List ℕ) (new : Held) (after : List ℕ) (acts : List NumberedAct) (p q : ℕ)
+    → IsGoing reading bytes old left acts p q → KeepsAll old left new after → bytes ≡ taken ++ after
     → script_so_far reading taken ≡ record { acts = acts; last = Whole }
-so-far reading bytes taken old left new after acts p going kept parts =
+so-far reading bytes taken old left new after acts p q going kept parts =
     let is : taken ≡ going.done ++ new.pending =
     append_cancel_right taken (going.done ++ new.pending) after
     (sym parts ∙ going.parts ∙ ap (λ x. going.done ++ x) kept.bytes ∙ sym (append_assoc going.done new.pending after)) in
@@ -150,8 +150,8 @@ so-far reading bytes taken old left new after acts p going kept parts =
     ap whole_lines is ∙ going.whole new.pending ∙ ap (λ x. going.done ++ x) (whole-none old.before new.pending kept.one_line) in
     let last : (lines_of taken).last ≡ (lines_of (going.done ++ [])).last =
     ap (λ b. (lines_of b).last) is ∙ going.last new.pending ∙ lines-pending old.before old.number new.pending kept.one_line ∙ sym (going.last []) in
-    ap (λ b. acts_from reading 0 (lines_of b).lines (lines_of taken).last) whole
-    ∙ ap (λ l. acts_from reading 0 (lines_of (going.done ++ [])).lines l) last
+    ap (λ b. acts_from reading 0 0 (lines_of b).lines (lines_of taken).last) whole
+    ∙ ap (λ l. acts_from reading 0 0 (lines_of (going.done ++ [])).lines l) last
     ∙ going.script [] ∙ onto-nil acts Whole
 
 -- ---- the ends
@@ -269,37 +269,40 @@ only-more (first ∷ acts) number act = ap (λ l. first.act ∷ l) (only-more ac
 
 pub goes-act : (setting : Setting) (slots : ℕ) (bytes left : List ℕ) (old : Held) (line : NumberedLine) (new : Held) (after : List ℕ) (act : Act) (acts : List NumberedAct)
     (effects : List Effect) (last next : Progress) (journal_old journal_new : Option (List Write)) (start before later : Option (List ℕ))
-    → IsGoing (reading setting.family) bytes old left acts (length last.batch)
+    → IsGoing (reading setting.family) bytes old left acts (length last.batch) (length last.probes)
     → HandsOne old left line new after
     → Runs setting slots (acts_only acts) effects last → IfSome journal_old (λ writes. writes ≡ written effects) → (IsSome journal_old → Appends start before (printed effects))
-    → reading setting.family line.text ≡ Ok (Some act) → limit_fault act (length last.batch) ≡ None
+    → reading setting.family line.text ≡ Ok (Some act) → limit_fault act (length last.batch) (length last.probes) ≡ None
     → Carries setting last act next journal_old journal_new before later
     → SoFar setting slots bytes new after next journal_new start later
 goes-act setting slots bytes left old line new after act acts effects last next journal_old journal_new start before later going hands run told report is room made =
     let p = length last.batch in
+    let q = length last.probes in
     let acts2 : List NumberedAct = acts ++ record { line = line.number; act = act } ∷ [] in
     let P : List Act → Type 0 = λ a. Runs setting slots a (effects ++ made.effects) next in
     let e : pending_after act p ≡ length next.batch = sym (step-pending setting last act made.effects next made.step) in
+    let f : probes_after act q ≡ length next.probes = sym (step-probes setting last act made.effects next made.step) in
     record {
       acts = acts2;
       effects = effects ++ made.effects;
       run = subst P (only-more acts line.number act) (run-more setting slots (acts_only acts) effects last act made.effects next run made.step);
       journal_is = does-journal effects made.effects [] journal_old journal_new before later made.does told;
       report = λ some. subst (Appends start later) (append-nil (printed (effects ++ made.effects))) (does-report effects made.effects [] journal_old journal_new start before later made.does report some);
-      read = next-line (reading setting.family) bytes old left line new after acts acts2 p (length next.batch) going hands (λ rest.
-          ap (onto_all acts) (line-act (reading setting.family) p line rest act is room)
-          ∙ onto-more acts line.number act (acts_next (reading setting.family) (pending_after act p) rest)
-          ∙ ap (λ n. onto_all acts2 (acts_next (reading setting.family) n rest)) e);
+      read = next-line (reading setting.family) bytes old left line new after acts acts2 p q (length next.batch) (length next.probes) going hands (λ rest.
+          ap (onto_all acts) (line-act (reading setting.family) p q line rest act is room)
+          ∙ onto-more acts line.number act (acts_next (reading setting.family) (pending_after act p) (probes_after act q) rest)
+          ∙ ap (λ n. onto_all acts2 (acts_next (reading setting.family) n (probes_after act q) rest)) e
+          ∙ ap (λ n. onto_all acts2 (acts_next (reading setting.family) (length next.batch) n rest)) f);
     }
 
 -- the acts of the script around this one
-pub act-here : (reading : Reading) (bytes : List ℕ) (old : Held) (left : List ℕ) (line : NumberedLine) (new : Held) (after : List ℕ) (act : Act) (acts : List NumberedAct) (p : ℕ)
-    → IsGoing reading bytes old left acts p → HandsOne old left line new after → reading line.text ≡ Ok (Some act) → limit_fault act p ≡ None
+pub act-here : (reading : Reading) (bytes : List ℕ) (old : Held) (left : List ℕ) (line : NumberedLine) (new : Held) (after : List ℕ) (act : Act) (acts : List NumberedAct) (p q : ℕ)
+    → IsGoing reading bytes old left acts p q → HandsOne old left line new after → reading line.text ≡ Ok (Some act) → limit_fault act p q ≡ None
     → (later : List Act) × (acts_of (script_of reading bytes) ≡ acts_only acts ++ act ∷ later)
-act-here reading bytes old left line new after act acts p going hands is room =
-    let (rest, e) = line-here reading bytes old left line new after acts p going hands in
-    let next = acts_next reading (pending_after act p) rest in
-    (acts_of next, ap acts_of (e ∙ ap (onto_all acts) (line-act reading p line rest act is room)) ∙ acts-more acts line.number act next)
+act-here reading bytes old left line new after act acts p q going hands is room =
+    let (rest, e) = line-here reading bytes old left line new after acts p q going hands in
+    let next = acts_next reading (pending_after act p) (probes_after act q) rest in
+    (acts_of next, ap acts_of (e ∙ ap (onto_all acts) (line-act reading p q line rest act is room)) ∙ acts-more acts line.number act next)
 
 pub ends-line : (setting : Setting) (slots : ℕ) (bytes taken now : List ℕ) (act : Act) (acts : List NumberedAct) (later : List Act) (effects : List Effect) (last : Progress)
     (journal_old journal_new : Option (List Write)) (start before after : Option (List ℕ))

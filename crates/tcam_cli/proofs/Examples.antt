@@ -1,5 +1,5 @@
 -- The promise of the top call at some small scripts, each with its whole report.
-use Rattle.std.proofs.Common.{◌≡◌, ℕ, ◌∙◌, Contains, List, [], ◌∷◌, ◌++◌, Some, None, refl, sym, inl, inr}
+use Rattle.std.proofs.Common.{◌≡◌, false, ℕ, ◌∙◌, Contains, List, [], ◌∷◌, ◌++◌, Some, None, refl, sym, inl, inr}
 use Rattle.std.specs.Prelude.{codes, ℕ}
 use Rattle.std.specs.Fmt.{digits}
 use Rattle.rule_store.specs.declared.Mode.TheVariants.{Cover}
@@ -31,7 +31,7 @@ use Rattle.tcam_cli.specs.CommandLine.{script_setting}
 use Rattle.tcam_cli.specs.Headline.{NoJob, Reads, IsCarriedOut}
 
 abbrev routes : ℕ → Setting
-routes slots = script_setting Route slots
+routes slots = script_setting Route slots false
 
 abbrev feed : List ℕ → List ℕ
 feed line = line ++ 10 ∷ []

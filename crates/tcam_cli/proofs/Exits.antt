@@ -28,11 +28,11 @@ abbrev not-end : Result (Option Line) LineFault → Type 0
 not-end r = r ≢ Ok None
 
 -- where something else than the end came, the lines went on
-still-going : (o : Over) (reading : Reading) (bytes : List ℕ) (old : Held) (left : List ℕ) (acts : List NumberedAct) (p : ℕ) (r : Result (Option Line) LineFault)
-    → r ≢ Ok None → Again o r → IsRead o reading bytes old left acts p → (o ≡ over.Going) × IsGoing reading bytes old left acts p
-still-going over.Going reads bytes old left acts p r other again read = (refl, read)
-still-going over.Ended reads bytes old left acts p r other again read = absurd (other again)
-still-going (over.Stopped stopped) reads bytes old left acts p r other again read = absurd read
+still-going : (o : Over) (reading : Reading) (bytes : List ℕ) (old : Held) (left : List ℕ) (acts : List NumberedAct) (p q : ℕ) (r : Result (Option Line) LineFault)
+    → r ≢ Ok None → Again o r → IsRead o reading bytes old left acts p q → (o ≡ over.Going) × IsGoing reading bytes old left acts p q
+still-going over.Going reads bytes old left acts p q r other again read = (refl, read)
+still-going over.Ended reads bytes old left acts p q r other again read = absurd (other again)
+still-going (over.Stopped stopped) reads bytes old left acts p q r other again read = absurd read
 
 closes-script : (line : List ℕ) (result : Status) (before after : Option (List ℕ)) (now : List ℕ) → Closes line ScriptFault result before after → (result ≡ Done) ⊎ (result ≡ Refused) → now ≡ []
 closes-script line result before after now (inl c) (inl d) = let e : ScriptFault ≡ Done = sym c.0 ∙ d in absurd (cc)
@@ -47,9 +47,10 @@ module _ (setting : Setting) (slots : ℕ) (bytes : List ℕ) (old : Held) (left
       → Ends setting slots bytes taken now result journal start after
   exit-bytes taken now after result found number text end again hands closes =
       let p = length last.batch in
+      let q = length last.probes in
       let other : not-end (Err found) = λ e. cc in
-      let (going, is) = still-going old.over (reading setting.family) bytes old left s.acts p (Err found) other again s.read in
-      let whole = bytes-fault (reading setting.family) bytes old left s.acts p found is (hands going) in
+      let (going, is) = still-going old.over (reading setting.family) bytes old left s.acts p q (Err found) other again s.read in
+      let whole = bytes-fault (reading setting.family) bytes old left s.acts p q found is (hands going) in
       ends-closed setting slots bytes taken now s.acts (FaultAt number text) s.effects last result journal start before after
       (whole ∙ ap (λ e. record { acts = s.acts; last = e }) end) s.run s.journal_is s.report closes (closes-script (fault_line number text) result before after now closes)
 
@@ -59,44 +60,47 @@ module _ (setting : Setting) (slots : ℕ) (bytes : List ℕ) (old : Held) (left
       → Ends setting slots bytes taken now result journal start after
   exit-end new taken now after result hands rests closes =
       let p = length last.batch in
-      let whole = all-read old.over (reading setting.family) s.acts p s.read hands rests in
+      let q = length last.probes in
+      let whole = all-read old.over (reading setting.family) s.acts p q s.read hands rests in
       ends-closed setting slots bytes taken now s.acts Whole s.effects last result journal start before after whole.0 s.run s.journal_is s.report closes (λ _. whole.1)
     where
-      all-read : (o : Over) (reading : Reading) (acts : List NumberedAct) (p : ℕ) → IsRead o reading bytes old left acts p
+      all-read : (o : Over) (reading : Reading) (acts : List NumberedAct) (p q : ℕ) → IsRead o reading bytes old left acts p q
           → (o ≡ over.Going → Hands old left (Ok None) new now) → (o ≢ over.Going → left ≡ now) → IsAllRead reading bytes now acts
-      all-read over.Going reading acts p read hands rests = let h = hands refl in (bytes-end reading bytes old left acts p read h.0, h.1)
-      all-read over.Ended reading acts p read hands rests =
+      all-read over.Going reading acts p q read hands rests = let h = hands refl in (bytes-end reading bytes old left acts p q read h.0, h.1)
+      all-read over.Ended reading acts p q read hands rests =
           let other : over.Ended ≢ over.Going = λ e. cc in
           (read.0, sym (rests other) ∙ read.1)
-      all-read (over.Stopped stopped) reading acts p read hands rests = absurd read
+      all-read (over.Stopped stopped) reading acts p q read hands rests = absurd read
 
   -- a failed read
   pub exit-read : (new : Held) (taken now : List ℕ) → Again old.over (Err fault.Read) → (old.over ≡ over.Going → Hands old left (Err fault.Read) new now) → bytes ≡ taken ++ now
       → Ends setting slots bytes taken now ReadFault journal start before
   exit-read new taken now again hands parts =
       let p = length last.batch in
+      let q = length last.probes in
       let other : not-end (Err fault.Read) = λ e. cc in
-      let (going, is) = still-going old.over (reading setting.family) bytes old left s.acts p (Err fault.Read) other again s.read in
-      ends-read setting slots bytes taken now s.acts s.effects last journal start before (so-far (reading setting.family) bytes taken old left new now s.acts p is (hands going).0 parts) s.run s.journal_is s.report
+      let (going, is) = still-going old.over (reading setting.family) bytes old left s.acts p q (Err fault.Read) other again s.read in
+      ends-read setting slots bytes taken now s.acts s.effects last journal start before (so-far (reading setting.family) bytes taken old left new now s.acts p q is (hands going).0 parts) s.run s.journal_is s.report
 
   -- a line came
   module _ (line : Line) (new : Held) (now : List ℕ) (again : Again old.over (Ok (Some line))) (hands : old.over ≡ over.Going → HandsOne old left (numbered line) new now) where
-    going : (old.over ≡ over.Going) × IsGoing (reading setting.family) bytes old left s.acts (length last.batch)
+    going : (old.over ≡ over.Going) × IsGoing (reading setting.family) bytes old left s.acts (length last.batch) (length last.probes)
     going =
         let other : not-end (Ok (Some line)) = λ e. cc in
-        still-going old.over (reading setting.family) bytes old left s.acts (length last.batch) (Ok (Some line)) other again s.read
+        still-going old.over (reading setting.family) bytes old left s.acts (length last.batch) (length last.probes) (Ok (Some line)) other again s.read
 
     -- it is skipped
     pub goes-none : reading setting.family (numbered line).text ≡ Ok None → SoFar setting slots bytes new now last journal start before
     goes-none is =
         let p = length last.batch in
+        let q = length last.probes in
         record {
           acts = s.acts;
           effects = s.effects;
           run = s.run;
           journal_is = s.journal_is;
           report = s.report;
-          read = next-line (reading setting.family) bytes old left (numbered line) new now s.acts s.acts p p going.1 (hands going.0) (λ rest. ap (onto_all s.acts) (line-none (reading setting.family) p (numbered line) rest is));
+          read = next-line (reading setting.family) bytes old left (numbered line) new now s.acts s.acts p q p q going.1 (hands going.0) (λ rest. ap (onto_all s.acts) (line-none (reading setting.family) p q (numbered line) rest is));
         }
 
     -- it has no sense
@@ -104,24 +108,26 @@ module _ (setting : Setting) (slots : ℕ) (bytes : List ℕ) (old : Held) (left
         → Ends setting slots bytes taken now result journal start after
     exit-word taken after result text is closes =
         let p = length last.batch in
-        let (rest, e) = line-here (reading setting.family) bytes old left (numbered line) new now s.acts p going.1 (hands going.0) in
+        let q = length last.probes in
+        let (rest, e) = line-here (reading setting.family) bytes old left (numbered line) new now s.acts p q going.1 (hands going.0) in
         ends-closed setting slots bytes taken now s.acts (FaultAt line.number text) s.effects last result journal start before after
-        (e ∙ ap (onto_all s.acts) (line-fault (reading setting.family) p (numbered line) rest text is) ∙ onto-nil s.acts (FaultAt line.number text)) s.run s.journal_is s.report closes
+        (e ∙ ap (onto_all s.acts) (line-fault (reading setting.family) p q (numbered line) rest text is) ∙ onto-nil s.acts (FaultAt line.number text)) s.run s.journal_is s.report closes
         (closes-script (fault_line line.number text) result before after now closes)
 
     -- there is no room for its act
     pub exit-full : (taken : List ℕ) (after : Option (List ℕ)) (result : Status) (act : Act) (text : List ℕ) → reading setting.family (numbered line).text ≡ Ok (Some act)
-        → limit_fault act (length last.batch) ≡ Some text → Closes (fault_line line.number text) ScriptFault result before after
+        → limit_fault act (length last.batch) (length last.probes) ≡ Some text → Closes (fault_line line.number text) ScriptFault result before after
         → Ends setting slots bytes taken now result journal start after
     exit-full taken after result act text is full closes =
         let p = length last.batch in
-        let (rest, e) = line-here (reading setting.family) bytes old left (numbered line) new now s.acts p going.1 (hands going.0) in
+        let q = length last.probes in
+        let (rest, e) = line-here (reading setting.family) bytes old left (numbered line) new now s.acts p q going.1 (hands going.0) in
         ends-closed setting slots bytes taken now s.acts (FaultAt line.number text) s.effects last result journal start before after
-        (e ∙ ap (onto_all s.acts) (line-full (reading setting.family) p (numbered line) rest act text is full) ∙ onto-nil s.acts (FaultAt line.number text)) s.run s.journal_is s.report closes
+        (e ∙ ap (onto_all s.acts) (line-full (reading setting.family) p q (numbered line) rest act text is full) ∙ onto-nil s.acts (FaultAt line.number text)) s.run s.journal_is s.report closes
         (closes-script (fault_line line.number text) result before after now closes)
 
     -- its act is carried out, or cut
-    module _ (act : Act) (is : reading setting.family (numbered line).text ≡ Ok (Some act)) (room : limit_fault act (length last.batch) ≡ None) (journal_new : Option (List Write)) (after : Option (List ℕ)) where
+    module _ (act : Act) (is : reading setting.family (numbered line).text ≡ Ok (Some act)) (room : limit_fault act (length last.batch) (length last.probes) ≡ None) (journal_new : Option (List Write)) (after : Option (List ℕ)) where
       pub goes-on : (next : Progress) → (IsAt slots journal last → Carries setting last act next journal journal_new before after) → SoFar setting slots bytes new now next journal_new start after
       goes-on next carries =
           goes-act setting slots bytes left old (numbered line) new now act s.acts s.effects last next journal journal_new start before after going.1 (hands going.0) s.run s.journal_is s.report is room
@@ -129,17 +135,17 @@ module _ (setting : Setting) (slots : ℕ) (bytes : List ℕ) (old : Held) (left
 
       pub exit-line : (taken : List ℕ) → (IsAt slots journal last → CutsAtLine setting last act journal journal_new before after) → Ends setting slots bytes taken now WriteFault journal_new start after
       exit-line taken cuts =
-          let (later, e) = act-here (reading setting.family) bytes old left (numbered line) new now act s.acts _ going.1 (hands going.0) is room in
+          let (later, e) = act-here (reading setting.family) bytes old left (numbered line) new now act s.acts _ _ going.1 (hands going.0) is room in
           ends-line setting slots bytes taken now act s.acts later s.effects last journal journal_new start before after e s.run s.journal_is s.report
           (cuts (run-at setting slots _ s.effects last journal s.run s.journal_is))
 
       pub exit-device : (taken : List ℕ) → (IsAt slots journal last → CutsAtWrite setting last act journal journal_new before after) → Ends setting slots bytes taken now DeviceFault journal_new start after
       exit-device taken cuts =
-          let (later, e) = act-here (reading setting.family) bytes old left (numbered line) new now act s.acts _ going.1 (hands going.0) is room in
+          let (later, e) = act-here (reading setting.family) bytes old left (numbered line) new now act s.acts _ _ going.1 (hands going.0) is room in
           ends-device setting slots bytes taken now act s.acts later s.effects last journal journal_new start before after e s.run s.journal_is s.report
           (cuts (run-at setting slots _ s.effects last journal s.run s.journal_is))
 
       pub exit-memory : (taken : List ℕ) → Wants setting last act journal journal_new before after → Ends setting slots bytes taken now Memory journal_new start after
       exit-memory taken wants =
-          let (later, e) = act-here (reading setting.family) bytes old left (numbered line) new now act s.acts _ going.1 (hands going.0) is room in
+          let (later, e) = act-here (reading setting.family) bytes old left (numbered line) new now act s.acts _ _ going.1 (hands going.0) is room in
           ends-memory setting slots bytes taken now act s.acts later s.effects last journal journal_new start before after e s.run s.journal_is s.report wants

@@ -8,7 +8,7 @@ use Rattle.script_lines.specs.Lines.{limits, NumberedLine, ScriptLines, LinesEnd
 use Rattle.script_lines.specs.Reader.{is_of_line, IsOpenLine}
 use Rattle.script_lines.proofs.FirstLines.{picks, lines-whole}
 use Rattle.replay.specs.declared.Act.{Act}
-use Rattle.replay.specs.Script.{Script, Whole, Reading, stops_at, onto_acts, byte_end, acts_from, script_of, pending_after, limit_fault}
+use Rattle.replay.specs.Script.{Script, Whole, Reading, stops_at, onto_acts, byte_end, acts_from, script_of, pending_after, probes_after, limit_fault}
 use Rattle.tcam_cli.specs.Headline.{acts_of, whole_lines_from, whole_lines, script_so_far}
 
 -- ---- the lines of the bytes that came are the first lines
@@ -97,15 +97,15 @@ abbrev pub AreFirstActs : List Act → List Act → Type 0
 AreFirstActs acts all = (later : List Act) × (all ≡ acts ++ later)
 
 -- what one line does to the acts behind it
-abbrev read_act : ℕ → ℕ → Result (Option Act) (List ℕ) → (ℕ → Script) → Script
-read_act pending number read behind =
+abbrev read_act : ℕ → ℕ → ℕ → Result (Option Act) (List ℕ) → (ℕ → ℕ → Script) → Script
+read_act pending probes number read behind =
     elim read [
       | Err text ↦ stops_at number text
       | Ok found ↦ elim found [
-        | None ↦ behind pending
-        | Some act ↦ elim (limit_fault act pending) [
+        | None ↦ behind pending probes
+        | Some act ↦ elim (limit_fault act pending probes) [
           | Some text ↦ stops_at number text
-          | None ↦ onto_acts number act (behind (pending_after act pending))
+          | None ↦ onto_acts number act (behind (pending_after act pending) (probes_after act probes))
         ]
       ]
     ]
@@ -117,39 +117,39 @@ first-limit : (number : ℕ) (act : Act) (full : Option (List ℕ)) (some all : 
 first-limit number act (Some text) some all first = ([], refl)
 first-limit number act None some all first = (first.0, ap (λ acts. act ∷ acts) first.1)
 
-first-read : (pending number : ℕ) (read : Result (Option Act) (List ℕ)) (some all : ℕ → Script) → ((n : ℕ) → AreFirstActs (acts_of (some n)) (acts_of (all n)))
-    → AreFirstActs (acts_of (read_act pending number read some)) (acts_of (read_act pending number read all))
-first-read pending number (Err text) some all first = ([], refl)
-first-read pending number (Ok None) some all first = first pending
-first-read pending number (Ok (Some act)) some all first =
-    first-limit number act (limit_fault act pending) (some (pending_after act pending)) (all (pending_after act pending)) (first (pending_after act pending))
+first-read : (pending probes number : ℕ) (read : Result (Option Act) (List ℕ)) (some all : ℕ → ℕ → Script) → ((n m : ℕ) → AreFirstActs (acts_of (some n m)) (acts_of (all n m)))
+    → AreFirstActs (acts_of (read_act pending probes number read some)) (acts_of (read_act pending probes number read all))
+first-read pending probes number (Err text) some all first = ([], refl)
+first-read pending probes number (Ok None) some all first = first pending probes
+first-read pending probes number (Ok (Some act)) some all first =
+    first-limit number act (limit_fault act pending probes) (some (pending_after act pending) (probes_after act probes)) (all (pending_after act pending) (probes_after act probes)) (first (pending_after act pending) (probes_after act probes))
 
-first-of : (reading : Reading) (pending : ℕ) (lines behind : List NumberedLine) (last end : LinesEnd) → AreFirstActs (acts_of (acts_from reading pending lines last)) (acts_of (acts_from reading pending (lines ++ behind) end))
-first-of reading pending [] behind last end = (acts_of (acts_from reading pending behind end), refl)
-first-of reading pending (line ∷ lines) behind last end =
-    first-read pending line.number (reading line.text) (λ n. acts_from reading n lines last) (λ n. acts_from reading n (lines ++ behind) end) (λ n. first-of reading n lines behind last end)
+first-of : (reading : Reading) (pending probes : ℕ) (lines behind : List NumberedLine) (last end : LinesEnd) → AreFirstActs (acts_of (acts_from reading pending probes lines last)) (acts_of (acts_from reading pending probes (lines ++ behind) end))
+first-of reading pending probes [] behind last end = (acts_of (acts_from reading pending probes behind end), refl)
+first-of reading pending probes (line ∷ lines) behind last end =
+    first-read pending probes line.number (reading line.text) (λ n m. acts_from reading n m lines last) (λ n m. acts_from reading n m (lines ++ behind) end) (λ n m. first-of reading n m lines behind last end)
 
 -- lines without a fault end as their bytes do
 whole-limit : (number : ℕ) (act : Act) (full : Option (List ℕ)) (behind : Script) (last : LinesEnd) → (behind.last ≡ Whole → byte_end last ≡ Whole) → (limit_act number act full behind).last ≡ Whole → byte_end last ≡ Whole
 whole-limit number act (Some text) behind last more is = absurd (cc)
 whole-limit number act None behind last more is = more is
 
-whole-read : (pending number : ℕ) (read : Result (Option Act) (List ℕ)) (behind : ℕ → Script) (last : LinesEnd) → ((n : ℕ) → (behind n).last ≡ Whole → byte_end last ≡ Whole)
-    → (read_act pending number read behind).last ≡ Whole → byte_end last ≡ Whole
-whole-read pending number (Err text) behind last more is = absurd (cc)
-whole-read pending number (Ok None) behind last more is = more pending is
-whole-read pending number (Ok (Some act)) behind last more is =
-    whole-limit number act (limit_fault act pending) (behind (pending_after act pending)) last (more (pending_after act pending)) is
+whole-read : (pending probes number : ℕ) (read : Result (Option Act) (List ℕ)) (behind : ℕ → ℕ → Script) (last : LinesEnd) → ((n m : ℕ) → (behind n m).last ≡ Whole → byte_end last ≡ Whole)
+    → (read_act pending probes number read behind).last ≡ Whole → byte_end last ≡ Whole
+whole-read pending probes number (Err text) behind last more is = absurd (cc)
+whole-read pending probes number (Ok None) behind last more is = more pending probes is
+whole-read pending probes number (Ok (Some act)) behind last more is =
+    whole-limit number act (limit_fault act pending probes) (behind (pending_after act pending) (probes_after act probes)) last (more (pending_after act pending) (probes_after act probes)) is
 
-whole-end : (reading : Reading) (pending : ℕ) (lines : List NumberedLine) (last : LinesEnd) → (acts_from reading pending lines last).last ≡ Whole → byte_end last ≡ Whole
-whole-end reading pending [] last is = is
-whole-end reading pending (line ∷ lines) last is =
-    whole-read pending line.number (reading line.text) (λ n. acts_from reading n lines last) last (λ n. whole-end reading n lines last) is
+whole-end : (reading : Reading) (pending probes : ℕ) (lines : List NumberedLine) (last : LinesEnd) → (acts_from reading pending probes lines last).last ≡ Whole → byte_end last ≡ Whole
+whole-end reading pending probes [] last is = is
+whole-end reading pending probes (line ∷ lines) last is =
+    whole-read pending probes line.number (reading line.text) (λ n m. acts_from reading n m lines last) last (λ n m. whole-end reading n m lines last) is
 
 pub first-acts : (reading : Reading) (bytes rest : List ℕ) → (script_so_far reading bytes).last ≡ Whole → AreFirstActs (acts_of (script_so_far reading bytes)) (acts_of (script_of reading (bytes ++ rest)))
 first-acts reading bytes rest sound =
     let came : List NumberedLine = (lines_of (whole_lines bytes)).lines in
     let end : LinesEnd = (lines_of (bytes ++ rest)).last in
-    let first = first-lines 0 0 1 [] bytes rest refl (record { plain = tt; fits = omega arith; within = omega arith }) (whole-end reading 0 came (lines_of bytes).last sound) in
-    subst (λ lines. AreFirstActs (acts_of (script_so_far reading bytes)) (acts_of (acts_from reading 0 lines end))) (sym first.1)
-    (first-of reading 0 came first.0 (lines_of bytes).last end)
+    let first = first-lines 0 0 1 [] bytes rest refl (record { plain = tt; fits = omega arith; within = omega arith }) (whole-end reading 0 0 came (lines_of bytes).last sound) in
+    subst (λ lines. AreFirstActs (acts_of (script_so_far reading bytes)) (acts_of (acts_from reading 0 0 lines end))) (sym first.1)
+    (first-of reading 0 0 came first.0 (lines_of bytes).last end)

@@ -1,18 +1,20 @@
 -- What packets see of each outcome of a run.
-use Rattle.std.proofs.Common.{◌≡◌, inl, inr, ℕ, ◌-◌, Option, Some, None, List, [], ◌∷◌, ◌++◌, length, take, drop, refl, ap, sym, ◌∙◌, subst, append_assoc, append-nil, take-append-drop}
+use Rattle.std.proofs.Common.{◌≡◌, inl, inr, ℕ, ◌+◌, ◌-◌, false, map, Option, Some, None, List, [], ◌∷◌, ◌++◌, length, take, drop, refl, ap, sym, ◌∙◌, subst, append_assoc, append-nil, take-append-drop}
+use Rattle.std.specs.List.{AllByRecursion}
 use Rattle.rule_store.specs.Verdict.{Verdict, Accepted, Unsound, OutOfBits, OutOfSlots, verdict}
 use Rattle.tcam_device.specs.declared.Write.{Write}
-use Rattle.tcam_device.specs.State.{blank}
+use Rattle.tcam_device.specs.State.{State, apply, blank}
 use Rattle.replay.specs.declared.Act.{Act}
-use Rattle.replay.specs.declared.Act.TheVariants.{Command, Packet, Commit}
+use Rattle.replay.specs.declared.Act.TheVariants.{Command, Probe, Packet, Commit}
 use Rattle.replay.specs.Script.{Script, Whole, script_of}
-use Rattle.replay.specs.Run.{Setting, Effect, Prints, written, Progress, start, writes_of, Judged, Step, Runs}
+use Rattle.replay.specs.Run.{Setting, Effect, Writes, Prints, written, Progress, start, trace_of, writes_of, Judged, Step, Runs}
+use Rattle.replay.specs.Text.{accepted_line}
 use Rattle.tcam_cli.specs.declared.Status.{Status}
 use Rattle.tcam_cli.specs.declared.Status.TheVariants.{Done, Refused, Script as ScriptFault, ReadFault, WriteFault, DeviceFault, Memory, Usage}
 use Rattle.tcam_cli.specs.Headline.{Job, NoJob, Tells, Reads, acts_of, script_so_far, IsComplete, IsDue, IsOutcome, IsOutOfMemory, IsCarriedOut}
 use Rattle.tcam_cli.specs.Readings.{reading}
-use Rattle.tcam_cli.specs.AllTheWay.{sets_through, sets_of, AnswersAllTheWay, EndsAtLast, EndsAfter, EndsAfterSome, IsHitlessRun, IsHitlessJob}
-use Rattle.tcam_cli.proofs.OneMore.{written-append, run-more}
+use Rattle.tcam_cli.specs.AllTheWay.{sets_through, sets_of, AnswersAllTheWay, EndsAtLast, EndsAfter, EndsAfterSome, IsNoProbe, TellsNoWrite, IsHitlessRun, IsHitlessJob}
+use Rattle.tcam_cli.proofs.OneMore.{written-append, run-more, none-probed}
 use Rattle.tcam_cli.proofs.AllTheWay.{more-sets, run-goes, run-cut, wider}
 use Rattle.tcam_cli.proofs.FirstActs.{AreFirstActs, first-acts}
 
@@ -54,38 +56,56 @@ for-memory : (setting : Setting) (slots : ℕ) (script : Script) (effects : List
 for-memory setting slots script effects (inl none) = ([], after-acts setting slots script [] (acts_of script) effects (start slots) refl (none, refl))
 for-memory setting slots script effects (inr at) = (at.done, after-acts setting slots script at.done (at.act ∷ at.later) effects at.before at.acts at.run)
 
--- ---- a line is the last effect of its act
+-- ---- where no write has a line, a line is the last effect of its act
+
+-- the writes of a commit without a trace and without probes
+quiet-writes : (setting : Setting) (number : ℕ) (state : State) (made : List Write) → setting.trace ≡ false → writes_of setting [] number state made ≡ map Writes made
+quiet-writes setting number state [] quiet = refl
+quiet-writes setting number state (write ∷ made) quiet =
+    ap (λ trace. Writes write ∷ ((trace_of trace number write ++ []) ++ writes_of setting [] (number + 1) (apply state write) made)) quiet
+    ∙ ap (λ effects. Writes write ∷ effects) (quiet-writes setting (number + 1) (apply state write) made quiet)
 
 not-none : (front : List Effect) (effect : Effect) (back : List Effect) → front ++ effect ∷ back ≡ [] → ⊥
 not-none [] effect back is = cc
 not-none (first ∷ front) effect back is = cc
 
-last-line : (made : List Write) (front back : List Effect) (line text : List ℕ) → front ++ Prints line ∷ back ≡ writes_of made ++ Prints text ∷ [] → back ≡ []
+last-line : (made : List Write) (front back : List Effect) (line text : List ℕ) → front ++ Prints line ∷ back ≡ map Writes made ++ Prints text ∷ [] → back ≡ []
 last-line [] [] back line text is = cc
 last-line [] (effect ∷ front) back line text is = let none : front ++ Prints line ∷ back ≡ [] = cc in absurd (not-none front (Prints line) back none)
 last-line (write ∷ made) [] back line text is = absurd (cc)
 last-line (write ∷ made) (effect ∷ front) back line text is =
-    let more : front ++ Prints line ∷ back ≡ writes_of made ++ Prints text ∷ [] = cc in last-line made front back line text more
+    let more : front ++ Prints line ∷ back ≡ map Writes made ++ Prints text ∷ [] = cc in last-line made front back line text more
 
 last-judged : (setting : Setting) (before : Progress) (is : Verdict) (front back : List Effect) (line : List ℕ) (after : Progress)
-    → Judged setting before is (front ++ Prints line ∷ back) after → back ≡ []
-last-judged setting before Accepted front back line after step = last-line step.made front back line _ step.effects_are
-last-judged setting before (Unsound fault) front back line after step = last-line [] front back line _ step.0
-last-judged setting before (OutOfBits field needed free) front back line after step = last-line [] front back line _ step.0
-last-judged setting before (OutOfSlots needed free) front back line after step = last-line [] front back line _ step.0
+    → setting.trace ≡ false → before.probes ≡ [] → Judged setting before is (front ++ Prints line ∷ back) after → back ≡ []
+last-judged setting before Accepted front back line after quiet none step =
+    last-line step.made front back line (accepted_line (before.commits + 1) step.counts)
+    (step.effects_are ∙ ap (λ effects. effects ++ Prints (accepted_line (before.commits + 1) step.counts) ∷ [])
+    (ap (λ probes. writes_of setting probes 1 before.state step.made) none ∙ quiet-writes setting 1 before.state step.made quiet))
+last-judged setting before (Unsound fault) front back line after quiet none step = last-line [] front back line _ step.0
+last-judged setting before (OutOfBits field needed free) front back line after quiet none step = last-line [] front back line _ step.0
+last-judged setting before (OutOfSlots needed free) front back line after quiet none step = last-line [] front back line _ step.0
 
 last-step : (setting : Setting) (before : Progress) (act : Act) (front back : List Effect) (line : List ℕ) (after : Progress)
-    → Step setting before act (front ++ Prints line ∷ back) after → back ≡ []
-last-step setting before (Command change) front back line after step = absurd (not-none front (Prints line) back step.0)
-last-step setting before (Packet key) front back line after step = last-line [] front back line _ step.0
-last-step setting before Commit front back line after step =
-    last-judged setting before (verdict setting.slots setting.mode before.rules before.batch) front back line after step
+    → setting.trace ≡ false → before.probes ≡ [] → Step setting before act (front ++ Prints line ∷ back) after → back ≡ []
+last-step setting before (Command change) front back line after quiet none step = absurd (not-none front (Prints line) back step.0)
+last-step setting before (Probe key) front back line after quiet none step = absurd (not-none front (Prints line) back step.0)
+last-step setting before (Packet key) front back line after quiet none step = last-line [] front back line _ step.0
+last-step setting before Commit front back line after quiet none step =
+    last-judged setting before (verdict setting.slots setting.mode before.rules before.batch) front back line after quiet none step
+
+-- the first of some acts are no probes either
+none-first : (done later : List Act) → AllByRecursion IsNoProbe (done ++ later) → AllByRecursion IsNoProbe done
+none-first [] later none = tt
+none-first (act ∷ done) later none = (none.0, none-first done later none.1)
 
 -- so where a line fails the writes of its act are all made
-at-line : (setting : Setting) (slots : ℕ) (script : Script) (effects : List Effect) (line : List ℕ) → IsDue setting slots script effects (Prints line)
+at-line : (setting : Setting) (slots : ℕ) (script : Script) (effects : List Effect) (line : List ℕ) → IsDue setting slots script effects (Prints line) → TellsNoWrite setting script
     → EndsAfterSome (blank slots) setting script (written effects)
-at-line setting slots script effects line (inl at) =
-    let none = last-step setting at.before at.act at.front at.cut.back line at.cut.after at.cut.step in
+at-line setting slots script effects line (inl at) quiet =
+    let done_none = none-first at.done (at.act ∷ at.later) (subst (AllByRecursion IsNoProbe) at.acts quiet.1) in
+    let probes : at.before.probes ≡ [] = none-probed setting (start slots) at.done at.body at.before done_none at.run in
+    let none = last-step setting at.before at.act at.front at.cut.back line at.cut.after quiet.0 probes at.cut.step in
     let whole : List Effect = at.body ++ (at.front ++ Prints line ∷ at.cut.back) in
     let same : written whole ≡ written effects =
     ap (λ back. written (at.body ++ (at.front ++ Prints line ∷ back))) none
@@ -97,7 +117,7 @@ at-line setting slots script effects line (inl at) =
           (after-acts setting slots script done at.later whole at.cut.after (at.acts ∙ sym (append_assoc at.done (at.act ∷ []) at.later))
           (run-more setting slots at.done at.body at.before at.act (at.front ++ Prints line ∷ at.cut.back) at.cut.after at.run at.cut.step)),
     )
-at-line setting slots script effects line (inr end) =
+at-line setting slots script effects line (inr end) quiet =
     (acts_of script, after-acts setting slots script (acts_of script) [] effects end.last (sym (append-nil (acts_of script))) end.run)
 
 -- ---- each outcome
@@ -117,8 +137,7 @@ outcome_answers setting slots script came ReadFault effects partial first is =
     let ends = after-acts setting slots script (acts_of came) some.0 effects is.0.last some.1 is.0.run in
     record { answers = whole-acts setting slots script (acts_of came) (written effects) ends; ends = ends }
 outcome_answers setting slots script came WriteFault effects partial first is =
-    let ends = at-line setting slots script effects is.line is.due in
-    record { answers = whole-acts setting slots script ends.0 (written effects) ends.1; ends = ends }
+    record { answers = at-due setting slots script effects _ is.due; ends = at-line setting slots script effects is.line is.due }
 outcome_answers setting slots script came DeviceFault effects partial first is = record { answers = at-due setting slots script effects _ is.0.due; ends = tt }
 outcome_answers setting slots script came Memory effects partial first is =
     let ends = for-memory setting slots script effects is.0 in

@@ -1,6 +1,7 @@
 mod ClearFaults
 mod CommandLines
 mod Slots
+mod SlotsUses
 mod TakenSlots
 mod Words
 mod WholeLines

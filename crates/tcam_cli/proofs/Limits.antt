@@ -1,40 +1,63 @@
 -- Whether an act has room.
-use Rattle.std.proofs.Common.{◌≡◌, ◌≢◌, ◌↔◌, ℕ, ◌==◌, Bool, true, false, Option, Some, None, IsSome, Result, Ok, Err, codes, refl, sym, ◌∙◌}
+use Rattle.std.proofs.Common.{◌≡◌, ◌≢◌, ◌↔◌, ◌⊎◌, inl, inr, ℕ, ◌==◌, Bool, true, false, Some, None, Result, Ok, Err, codes, refl, sym, ◌∙◌}
 use Rattle.replay.specs.declared.Act.{Act}
-use Rattle.replay.specs.declared.Act.TheVariants.{Command, Packet, Commit}
+use Rattle.replay.specs.declared.Act.TheVariants.{Command, Probe, Packet, Commit}
 use Rattle.replay.specs.declared.RunFault.{RunFault}
-use Rattle.replay.specs.declared.RunFault.TheVariants.{BatchFull, Sink, Device, Memory}
-use Rattle.replay.specs.Script.{limit_fault, most_pending}
+use Rattle.replay.specs.declared.RunFault.TheVariants.{BatchFull, ProbesFull, Sink, Device, Memory}
+use Rattle.replay.specs.Script.{limit_fault, most_pending, most_probes}
 
 -- by an answer, the act was refused for want of room just where it has none
-abbrev IsFull : {T : Type 0} → Result T RunFault → Act → ℕ → Type 0
-IsFull result act pending = (result ≡ Err BatchFull) ↔ IsSome (limit_fault act pending)
+abbrev IsFull : {T : Type 0} → Result T RunFault → Act → ℕ → ℕ → Type 0
+IsFull result act pending probes =
+    ((result ≡ Err BatchFull) ↔ (limit_fault act pending probes ≡ Some (codes "batch full")))
+    × ((result ≡ Err ProbesFull) ↔ (limit_fault act pending probes ≡ Some (codes "too many probes")))
 
-none-left : {A : Type 0} (found : Option A) → (IsSome found → ⊥) → found ≡ None
-none-left None empty = refl
-none-left (Some x) empty = absurd (empty refl)
+-- an act has room, or one of two texts
+abbrev HasLimit : Act → ℕ → ℕ → Type 0
+HasLimit act pending probes =
+    (limit_fault act pending probes ≡ None)
+    ⊎ ((limit_fault act pending probes ≡ Some (codes "batch full")) ⊎ (limit_fault act pending probes ≡ Some (codes "too many probes")))
 
-pub room-ok : {T : Type 0} (value : T) (act : Act) (pending : ℕ) → IsFull (Ok value) act pending → limit_fault act pending ≡ None
-room-ok value act pending full = none-left (limit_fault act pending) (λ some. let bad = full.1 some in cc)
+batch-limit : (full : Bool) → ((elim full [ true ↦ Some (codes "batch full") | false ↦ None ]) ≡ None)
+    ⊎ (((elim full [ true ↦ Some (codes "batch full") | false ↦ None ]) ≡ Some (codes "batch full"))
+    ⊎ ((elim full [ true ↦ Some (codes "batch full") | false ↦ None ]) ≡ Some (codes "too many probes")))
+batch-limit true = inr (inl refl)
+batch-limit false = inl refl
 
-room-other : {T : Type 0} (fault : RunFault) (act : Act) (pending : ℕ) → fault ≢ BatchFull → IsFull {T = T} (Err fault) act pending → limit_fault act pending ≡ None
-room-other fault act pending other full = none-left (limit_fault act pending) (λ some. let bad = full.1 some in other (cc))
+probe-limit : (full : Bool) → ((elim full [ true ↦ Some (codes "too many probes") | false ↦ None ]) ≡ None)
+    ⊎ (((elim full [ true ↦ Some (codes "too many probes") | false ↦ None ]) ≡ Some (codes "batch full"))
+    ⊎ ((elim full [ true ↦ Some (codes "too many probes") | false ↦ None ]) ≡ Some (codes "too many probes")))
+probe-limit true = inr (inr refl)
+probe-limit false = inl refl
 
-pub room-sink : {T : Type 0} (fault : RunFault) (act : Act) (pending : ℕ) → fault ≡ Sink → IsFull {T = T} (Err fault) act pending → limit_fault act pending ≡ None
-room-sink {T = T} fault act pending is = room-other {T = T} fault act pending (λ e. let bad : Sink ≡ BatchFull = sym is ∙ e in cc)
+limits : (act : Act) (pending probes : ℕ) → HasLimit act pending probes
+limits (Command change) pending probes = batch-limit (pending == most_pending)
+limits (Probe key) pending probes = probe-limit (probes == most_probes)
+limits (Packet key) pending probes = inl refl
+limits Commit pending probes = inl refl
 
-pub room-device : {T : Type 0} (fault : RunFault) (act : Act) (pending : ℕ) → fault ≡ Device → IsFull {T = T} (Err fault) act pending → limit_fault act pending ≡ None
-room-device {T = T} fault act pending is = room-other {T = T} fault act pending (λ e. let bad : Device ≡ BatchFull = sym is ∙ e in cc)
+none-left : (act : Act) (pending probes : ℕ) → limit_fault act pending probes ≢ Some (codes "batch full") → limit_fault act pending probes ≢ Some (codes "too many probes")
+    → limit_fault act pending probes ≡ None
+none-left act pending probes batch_room probe_room =
+    elim (limits act pending probes) [ inl none ↦ none | inr full ↦ elim full [ inl batch ↦ absurd (batch_room batch) | inr probe ↦ absurd (probe_room probe) ] ]
 
-pub room-memory : {T : Type 0} (fault : RunFault) (act : Act) (pending : ℕ) → fault ≡ Memory → IsFull {T = T} (Err fault) act pending → limit_fault act pending ≡ None
-room-memory {T = T} fault act pending is = room-other {T = T} fault act pending (λ e. let bad : Memory ≡ BatchFull = sym is ∙ e in cc)
+pub room-ok : {T : Type 0} (value : T) (act : Act) (pending probes : ℕ) → IsFull (Ok value) act pending probes → limit_fault act pending probes ≡ None
+room-ok value act pending probes full =
+    none-left act pending probes (λ some. let bad = full.0.1 some in cc) (λ some. let bad = full.1.1 some in cc)
 
-text-at : (full : Bool) → IsSome (elim full [ true ↦ Some (codes "batch full") | false ↦ None ]) → (elim full [ true ↦ Some (codes "batch full") | false ↦ None ]) ≡ Some (codes "batch full")
-text-at true some = refl
-text-at false some = absurd (cc)
+room-other : {T : Type 0} (fault : RunFault) (act : Act) (pending probes : ℕ) → fault ≢ BatchFull → fault ≢ ProbesFull → IsFull {T = T} (Err fault) act pending probes
+    → limit_fault act pending probes ≡ None
+room-other fault act pending probes other neither full =
+    none-left act pending probes (λ some. let bad = full.0.1 some in other (cc)) (λ some. let bad = full.1.1 some in neither (cc))
 
--- the one text of an act without room
-pub full-text : (act : Act) (pending : ℕ) → IsSome (limit_fault act pending) → limit_fault act pending ≡ Some (codes "batch full")
-full-text (Command change) pending some = text-at (pending == most_pending) some
-full-text (Packet key) pending some = absurd (cc)
-full-text Commit pending some = absurd (cc)
+pub room-sink : {T : Type 0} (fault : RunFault) (act : Act) (pending probes : ℕ) → fault ≡ Sink → IsFull {T = T} (Err fault) act pending probes → limit_fault act pending probes ≡ None
+room-sink {T = T} fault act pending probes is =
+    room-other {T = T} fault act pending probes (λ e. let bad : Sink ≡ BatchFull = sym is ∙ e in cc) (λ e. let bad : Sink ≡ ProbesFull = sym is ∙ e in cc)
+
+pub room-device : {T : Type 0} (fault : RunFault) (act : Act) (pending probes : ℕ) → fault ≡ Device → IsFull {T = T} (Err fault) act pending probes → limit_fault act pending probes ≡ None
+room-device {T = T} fault act pending probes is =
+    room-other {T = T} fault act pending probes (λ e. let bad : Device ≡ BatchFull = sym is ∙ e in cc) (λ e. let bad : Device ≡ ProbesFull = sym is ∙ e in cc)
+
+pub room-memory : {T : Type 0} (fault : RunFault) (act : Act) (pending probes : ℕ) → fault ≡ Memory → IsFull {T = T} (Err fault) act pending probes → limit_fault act pending probes ≡ None
+room-memory {T = T} fault act pending probes is =
+    room-other {T = T} fault act pending probes (λ e. let bad : Memory ≡ BatchFull = sym is ∙ e in cc) (λ e. let bad : Memory ≡ ProbesFull = sym is ∙ e in cc)

@@ -6,10 +6,13 @@ use Rattle.rule_store.specs.Verdict.{Verdict, Accepted, Unsound, OutOfBits, OutO
 use Rattle.tcam_device.specs.declared.Write.{Write}
 use Rattle.tcam_device.specs.State.{State, apply, state_after, replay}
 use Rattle.replay.specs.declared.Act.{Act}
-use Rattle.replay.specs.declared.Act.TheVariants.{Command, Packet, Commit}
-use Rattle.replay.specs.Script.{pending_after}
+use Rattle.replay.specs.declared.Act.TheVariants.{Command, Probe, Packet, Commit}
+use Rattle.replay.specs.Script.{pending_after, probes_after}
 use Rattle.replay.specs.Run.{Setting, Effect, Writes, Prints, written, printed, Progress, start, writes_of, Judged, Step, Run, Runs}
 use Rattle.replay.specs.Carried.{IsAt, Does}
+use Rattle.replay.proofs.Effects.{written-writes}
+use Rattle.std.specs.List.{AllByRecursion}
+use Rattle.tcam_cli.specs.AllTheWay.{IsNoProbe}
 
 pub written-append : (a b : List Effect) → written (a ++ b) ≡ written a ++ written b
 written-append [] b = refl
@@ -21,10 +24,6 @@ printed-append [] b = refl
 printed-append (Writes write ∷ a) b = printed-append a b
 printed-append (Prints line ∷ a) b = ap (λ p. line ++ p) (printed-append a b) ∙ sym (append_assoc line (printed a) (printed b))
 
-written-writes : (made : List Write) → written (writes_of made) ≡ made
-written-writes [] = refl
-written-writes (write ∷ made) = ap (λ w. write ∷ w) (written-writes made)
-
 fold-append : (state : State) (a b : List Write) → state_after state (a ++ b) ≡ state_after (state_after state a) b
 fold-append state [] b = refl
 fold-append state (w ∷ a) b = fold-append (apply state w) a b
@@ -32,13 +31,14 @@ fold-append state (w ∷ a) b = fold-append (apply state w) a b
 judged-state : (setting : Setting) (old : Progress) (v : Verdict) (effects : List Effect) (new : Progress) → Judged setting old v effects new → new.state ≡ state_after old.state (written effects)
 judged-state setting old Accepted effects new step =
     ap (λ p. p.state) step.after
-    ∙ ap (state_after old.state) (sym (written-writes step.made) ∙ sym (append-nil _) ∙ sym (written-append (writes_of step.made) _) ∙ sym (ap written step.effects_are))
+    ∙ ap (state_after old.state) (sym (written-writes setting old.probes 1 old.state step.made) ∙ sym (append-nil _) ∙ sym (written-append (writes_of setting old.probes 1 old.state step.made) _) ∙ sym (ap written step.effects_are))
 judged-state setting old (Unsound fault) effects new step = ap (λ p. p.state) step.1 ∙ ap (state_after old.state) (sym (ap written step.0))
 judged-state setting old (OutOfBits field needed free) effects new step = ap (λ p. p.state) step.1 ∙ ap (state_after old.state) (sym (ap written step.0))
 judged-state setting old (OutOfSlots needed free) effects new step = ap (λ p. p.state) step.1 ∙ ap (state_after old.state) (sym (ap written step.0))
 
 pub step-state : (setting : Setting) (old : Progress) (act : Act) (effects : List Effect) (new : Progress) → Step setting old act effects new → new.state ≡ state_after old.state (written effects)
 step-state setting old (Command change) effects new step = ap (λ p. p.state) step.1 ∙ ap (state_after old.state) (sym (ap written step.0))
+step-state setting old (Probe key) effects new step = ap (λ p. p.state) step.1 ∙ ap (state_after old.state) (sym (ap written step.0))
 step-state setting old (Packet key) effects new step = ap (λ p. p.state) step.1 ∙ ap (state_after old.state) (sym (ap written step.0))
 step-state setting old Commit effects new step = judged-state setting old (verdict setting.slots setting.mode old.rules old.batch) effects new step
 
@@ -82,8 +82,31 @@ judged-batch setting old (OutOfSlots needed free) effects new step = ap (λ p. l
 
 pub step-pending : (setting : Setting) (old : Progress) (act : Act) (effects : List Effect) (new : Progress) → Step setting old act effects new → length new.batch ≡ pending_after act (length old.batch)
 step-pending setting old (Command change) effects new step = ap (λ p. length p.batch) step.1 ∙ length-append old.batch (change ∷ [])
+step-pending setting old (Probe key) effects new step = ap (λ p. length p.batch) step.1
 step-pending setting old (Packet key) effects new step = ap (λ p. length p.batch) step.1
 step-pending setting old Commit effects new step = judged-batch setting old (verdict setting.slots setting.mode old.rules old.batch) effects new step
+
+-- how many probes there are after an act
+judged-probes : (setting : Setting) (old : Progress) (v : Verdict) (effects : List Effect) (new : Progress) → Judged setting old v effects new → new.probes ≡ old.probes
+judged-probes setting old Accepted effects new step = ap (λ p. p.probes) step.after
+judged-probes setting old (Unsound fault) effects new step = ap (λ p. p.probes) step.1
+judged-probes setting old (OutOfBits field needed free) effects new step = ap (λ p. p.probes) step.1
+judged-probes setting old (OutOfSlots needed free) effects new step = ap (λ p. p.probes) step.1
+
+pub step-probes : (setting : Setting) (old : Progress) (act : Act) (effects : List Effect) (new : Progress) → Step setting old act effects new → length new.probes ≡ probes_after act (length old.probes)
+step-probes setting old (Command change) effects new step = ap (λ p. length p.probes) step.1
+step-probes setting old (Probe key) effects new step = ap (λ p. length p.probes) step.1 ∙ length-append old.probes (key ∷ [])
+step-probes setting old (Packet key) effects new step = ap (λ p. length p.probes) step.1
+step-probes setting old Commit effects new step = ap length (judged-probes setting old (verdict setting.slots setting.mode old.rules old.batch) effects new step)
+
+-- acts without a probe leave the probes
+pub none-probed : (setting : Setting) (old : Progress) (acts : List Act) (effects : List Effect) (new : Progress) → AllByRecursion IsNoProbe acts → Run setting old acts effects new → new.probes ≡ old.probes
+none-probed setting old [] effects new none run = ap (λ p. p.probes) run.1
+none-probed setting old (Command change ∷ acts) effects new none (front, mid, back, step, rest, whole) = none-probed setting mid acts back new none.1 rest ∙ ap (λ p. p.probes) step.1
+none-probed setting old (Probe key ∷ acts) effects new none (front, mid, back, step, rest, whole) = absurd none.0
+none-probed setting old (Packet key ∷ acts) effects new none (front, mid, back, step, rest, whole) = none-probed setting mid acts back new none.1 rest ∙ ap (λ p. p.probes) step.1
+none-probed setting old (Commit ∷ acts) effects new none (front, mid, back, step, rest, whole) =
+    none-probed setting mid acts back new none.1 rest ∙ judged-probes setting old (verdict setting.slots setting.mode old.rules old.batch) front mid step
 
 -- journal and report after more effects
 pub does-journal : (effects more : List Effect) (partial : List ℕ) (journal_old journal_new : Option (List Write)) (taken_old taken_new : Option (List ℕ))

@@ -13,17 +13,18 @@ use Rattle.tcam_cli.specs.Headline.{NoJob, Reads}
 abbrev IsU32 : Text → Type 0
 IsU32 text = IsNumeral 10 (without_leading_plus text) × (digits_value 10 (without_leading_plus text) < 2 ^ 32)
 
-pub slots_read : (text : Text) (n : ℕ) → IsU32 text × (n ≡ number_in text) → 1 ≤ n → n ≤ 4096 → (family : Family) → job_of_slots family text ≡ Reads (script_setting family n)
-slots_read text n read low high family =
+pub slots_read : (text : Text) (n : ℕ) → IsU32 text × (n ≡ number_in text) → 1 ≤ n → n ≤ 4096 → (family : Family) (trace : Bool)
+    → job_of_slots family text trace ≡ Reads (script_setting family n trace)
+slots_read text n read low high family trace =
     let is = read.1 in
     let passes : is_unsigned_in 1 4096 text ≡ true = Accepts-accepts false (vp.Unsigned 1 4096) text
     (read.0.0, omega arith, omega arith, omega arith) in
-    rw passes (ap (λ k. Reads (script_setting family k)) (sym is))
+    rw passes (ap (λ k. Reads (script_setting family k trace)) (sym is))
 
-pub no_slots : (text : Text) → (IsU32 text → ⊥) → (family : Family) → job_of_slots family text ≡ NoJob
-no_slots text unread family = go (is_unsigned_in 1 4096 text) refl
+pub no_slots : (text : Text) → (IsU32 text → ⊥) → (family : Family) (trace : Bool) → job_of_slots family text trace ≡ NoJob
+no_slots text unread family trace = go (is_unsigned_in 1 4096 text) refl
   where
-    go : (b : Bool) → is_unsigned_in 1 4096 text ≡ b → job_of_slots family text ≡ NoJob
+    go : (b : Bool) → is_unsigned_in 1 4096 text ≡ b → job_of_slots family text trace ≡ NoJob
     go false t = rw t refl
     go true t =
         let passed = accepts-Accepts false (vp.Unsigned 1 4096) text t in

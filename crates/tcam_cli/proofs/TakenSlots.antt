@@ -1,135 +1,18 @@
 -- Where clap finds no fault, the text of --slots is a number from 1 to 4096.
-use Rattle.std.proofs.Common.{◌≡◌, ◌⊎◌, ◌∙◌, ◌&&◌, ◌||◌, ℕ, Bool, cond, true, false, not, zero, suc, refl, sym, subst, ap, List, [], ◌∷◌, length, drop, codes, Option, Some, None, is_some, inl, inr}
+use Rattle.std.proofs.Common.{◌≡◌, ◌&&◌, ℕ, Bool, cond, true, false, zero, suc, refl, sym, subst, ap, List, [], ◌∷◌, length, drop, codes, Option, Some, None, is_some, inl, inr}
 use Rattle.std.specs.Prelude.{⊤, encode_utf8, slice_get, unwrap_or, find, fold, option_and_then, option_map}
 use Rattle.std.specs.Option.{option_map_or}
 use Rattle.std.specs.Str.{bytes_eq, chars}
 use Rattle.clap.specs.Lexer.{long_of, short_of}
 use Rattle.clap.specs.ValueTests.{is_unsigned_in}
-use Rattle.clap.specs.Facts.{parser_of_value}
-use Rattle.clap.specs.Walk.{Held, Names, Outcome, Row, Rule, Step, Text, Waiting, Walk, after_flag, after_step, arg_by_id, arg_by_index, arg_by_long, arg_by_short, at_row, attached_value, bundle, bundle_met, bundle_step, done, flag_met, default_rows, has_row, idle, more_values, nothing_held, reading_by, rows_after, settled_rows, used_by_id, is_pending, long_met, long_or_other, next, option, option_met, option_word, plain, plain_word, positional, positional_held, reacted, refused, settled, short_met, short_or_plain, subcommand, subcommand_met, subcommand_or_other, takes_several, takes_values, to_positional, trailing, used, value, waits, walk, walk_from, walked, walked_from, answers_to, with_default, word_met}
+use Rattle.clap.specs.Walk.{Held, Names, Outcome, Row, Rule, Step, Text, Waiting, Walk, after_flag, after_step, arg_by_id, arg_by_index, arg_by_long, arg_by_short, attached_value, bundle, bundle_met, bundle_step, done, flag_met, default_rows, has_row, idle, more_values, nothing_held, reading_by, rows_after, settled_rows, used_by_id, is_pending, long_met, long_or_other, next, option, option_met, option_word, plain, plain_word, positional, positional_held, reacted, refused, settled, short_met, short_or_plain, subcommand, subcommand_met, subcommand_or_other, takes_several, takes_values, to_positional, trailing, value, waits, walk, walk_from, walked, walked_from, answers_to, with_default, word_met}
 use Rattle.clap.specs.Simple.{App, Shape, argument_words, built, entered, filled, help_rule, label_of, names_of, rows_at, subcommand_of}
-use Rattle.clap.specs.Kinds.{Kinds, or_else, values_kinds}
+use Rattle.clap.specs.Kinds.{Kinds, or_else}
 use Rattle.clap.specs.Faults.{bundle_fault, bundle_step_fault, built_fault, entered_fault, fault_of, level_fault, flag_word_fault, flags_fault, long_fault, option_fault, other_fault, positional_fault, react_fault, settle_fault, short_fault, step_fault, stray_fault, turn_fault, use_fault, walk_fault, word_fault}
-use Rattle.clap.specs.declared.error.kind.ErrorKind.{ErrorKind}
 use Rattle.clap.specs.declared.error.kind.ErrorKind.TheVariants as kind
-use Rattle.clap.specs.declared.parser.matches.ValueSource.TheVariants.{CommandLine, DefaultValue}
-use Rattle.tcam_cli.specs.CommandLine.{acl_command, route_command, slots_option, tcam_command, text_of}
-
-abbrev is_ok : Text → Bool
-is_ok = is_unsigned_in 1 4096
-
-abbrev slots_id : Text
-slots_id = codes "slots"
-
--- the first row of --slots, if there is one, begins with a number in the range
-abbrev GoodIn : Option Row → Type 0
-GoodIn None = ⊤
-GoodIn (Some r) = is_ok (unwrap_or (slice_get r.values 0) []) ≡ true
-
-abbrev pub Good : List Row → Type 0
-Good rows = GoodIn (find (λ r. bytes_eq r.id slots_id) rows)
-
--- an argument of the subcommand, as clap fills it in
-abbrev pub IsRule : Rule → Type 0
-IsRule a = (a ≡ filled slots_option) ⊎ (a ≡ filled help_rule)
-
-abbrev pub AllRules : List Rule → Type 0
-AllRules [] = ⊤
-AllRules (a ∷ rest) = IsRule a × AllRules rest
-
-abbrev FoundOk : Option Rule → Type 0
-FoundOk None = ⊤
-FoundOk (Some a) = IsRule a
-
--- ---- small parts
-
-or_nil : (a b : Kinds) → or_else a b ≡ [] → (a ≡ []) × (b ≡ [])
-or_nil [] b e = (refl, e)
-or_nil (k ∷ ks) b e = cc
-
-some_kind : (k : ErrorKind) (ks : Kinds) → (k ∷ ks) ≡ [] → ⊥
-some_kind k ks e = cc
-
-cond_nil : (t : Bool) (k : ErrorKind) (b : Kinds) → cond t (k ∷ []) b ≡ [] → (t ≡ false) × (b ≡ [])
-cond_nil true k b e = absurd (some_kind k [] e)
-cond_nil false k b e = (refl, e)
-
-else_nil : (t : Bool) (k : ErrorKind) → cond t [] (k ∷ []) ≡ [] → t ≡ true
-else_nil true k e = refl
-else_nil false k e = absurd (some_kind k [] e)
-
-found : (p : Rule → Bool) (xs : List Rule) → AllRules xs → FoundOk (find p xs)
-found p [] all = tt
-found p (x ∷ xs) all = go (p x) (found p xs all.1)
-  where
-    go : (b : Bool) → FoundOk (find p xs) → FoundOk (cond b (Some x) (find p xs))
-    go true rest = all.0
-    go false rest = rest
-
-or_no : (a b : Bool) → (a || b) ≡ false → (a ≡ false) × (b ≡ false)
-or_no false b e = (refl, e)
-or_no true b e = cc
-
--- a row that joins where there was none is the one found
-fresh : (change : Row → List Row) (new : Row) → bytes_eq new.id slots_id ≡ true → (rows : List Row) → has_row slots_id rows ≡ false
-    → find (λ r. bytes_eq r.id slots_id) (at_row slots_id change (new ∷ []) rows) ≡ Some new
-fresh change new is [] none = rw is refl
-fresh change new is (r ∷ rs) none =
-    let parts = or_no (bytes_eq r.id slots_id) (has_row slots_id rs) none in
-    rw parts.0 (rw parts.0 (fresh change new is rs parts.1))
-
-unchanged : (rows : List Row) → has_row slots_id rows ≡ false → at_row slots_id (λ _. []) [] rows ≡ rows
-unchanged [] none = refl
-unchanged (r ∷ rs) none =
-    let parts = or_no (bytes_eq r.id slots_id) (has_row slots_id rs) none in
-    rw parts.0 (ap (λ xs. r ∷ xs) (unchanged rs parts.1))
-
-fresh_again : (change : Row → List Row) (new : Row) → bytes_eq new.id slots_id ≡ true → (rows : List Row) → has_row slots_id rows ≡ false
-    → find (λ r. bytes_eq r.id slots_id) (at_row slots_id change (new ∷ []) (at_row slots_id (λ _. []) [] rows)) ≡ Some new
-fresh_again change new is rows none =
-    ap (λ xs. find (λ r. bytes_eq r.id slots_id) (at_row slots_id change (new ∷ []) xs)) (unchanged rows none) ∙ fresh change new is rows none
-
-row_read : (rows : List Row) → has_row slots_id rows ≡ true → Good rows → is_ok (text_of slots_id rows) ≡ true
-row_read [] has good = cc
-row_read (r ∷ rs) has good = go (bytes_eq r.id slots_id) refl (λ h g. row_read rs h g)
-  where
-    go : (b : Bool) → bytes_eq r.id slots_id ≡ b → (has_row slots_id rs ≡ true → Good rs → is_ok (text_of slots_id rs) ≡ true)
-        → is_ok (text_of slots_id (r ∷ rs)) ≡ true
-    go true e rest =
-        let here = rw e at good in
-        rw e here
-    go false e rest =
-        let later = rw e at good in
-        let has_later = rw e at has in
-        rw e (rest has_later later)
-
--- ---- one use of an argument
-
-first_ok : (v : Text) (ws : List Text) → values_kinds false (parser_of_value (filled slots_option).parser) (v ∷ ws) ≡ [] → is_ok v ≡ true
-unfolding slots_option
-first_ok v ws none = else_nil (is_ok v) kind.ValueValidation (or_nil _ (values_kinds false (parser_of_value (filled slots_option).parser) ws) none).0
-
-slots_used : (vs : List Text) (rows : List Row) → use_fault false (filled slots_option) vs rows ≡ [] → Good (used (filled slots_option) vs rows)
-unfolding slots_option
-slots_used [] rows none = absurd (some_kind _ _ none)
-slots_used (v ∷ ws) rows none =
-    let parts = or_nil _ _ none in
-    let inner = or_nil (cond (has_row slots_id rows && not false) (kind.ArgumentConflict ∷ []) []) (values_kinds false (parser_of_value (filled slots_option).parser) (v ∷ ws)) parts.1 in
-    let new : has_row slots_id rows ≡ false = go (has_row slots_id rows) inner.0 in
-    subst GoodIn (sym (fresh_again (more_values CommandLine (v ∷ ws)) _ refl rows new)) (first_ok v ws inner.1)
-  where
-    go : (b : Bool) → cond (b && not false) (kind.ArgumentConflict ∷ []) [] ≡ [] → b ≡ false
-    go true e = absurd (some_kind _ _ e)
-    go false e = refl
-
-help_used : (again : Bool) (vs : List Text) (rows : List Row) → use_fault again (filled help_rule) vs rows ≡ [] → ⊥
-help_used again vs rows none = some_kind kind.DisplayHelp [] (or_nil _ (kind.DisplayHelp ∷ []) none).1
-
-use_keeps : (again : Bool) → again ≡ false → (a : Rule) → IsRule a → (vs : List Text) (rows : List Row) → use_fault again a vs rows ≡ [] → Good (used a vs rows)
-use_keeps again once a (inl is) vs rows none =
-    let first = subst (λ (b : Bool). use_fault b a vs rows ≡ []) once none in
-    subst (λ (x : Rule). Good (used x vs rows)) (sym is) (slots_used vs rows (subst (λ (x : Rule). use_fault false x vs rows ≡ []) is first))
-use_keeps again once a (inr is) vs rows none = absurd (help_used again vs rows (subst (λ (x : Rule). use_fault again x vs rows ≡ []) is none))
+use Rattle.clap.specs.declared.parser.matches.ValueSource.TheVariants.{DefaultValue}
+use Rattle.tcam_cli.specs.CommandLine.{acl_command, route_command, slots_option, tcam_command, text_of, trace_flag}
+use Rattle.tcam_cli.proofs.SlotsUses.{is_ok, slots_id, Good, IsRule, AllRules, FoundOk, trace_id, or_nil, found, fresh, row_read, elsewhere_values, use_keeps}
 
 -- ---- the walk
 
@@ -140,18 +23,20 @@ module _ (c : List Rule) (all : AllRules c) (again : Bool) (once : again ≡ fal
       one : (o : Option Rule) → FoundOk o → (vs : List Text) → option_map_or (λ a. use_fault again a vs h.rows) o [] ≡ []
           → Good (used_by_id o vs h.rows)
       one None is vs e = good
-      one (Some a) is vs e = use_keeps again once a is vs h.rows e
+      one (Some a) is vs e = use_keeps again once a is vs h.rows e good
 
       go : (o : Option (Text × List Text)) → option_map_or (λ p. option_map_or (λ a. use_fault again a p.1 h.rows) (arg_by_id c p.0) []) o [] ≡ []
           → Good (settled_rows c o h.rows)
       go None e = good
       go (Some p) e = one (arg_by_id c p.0) (found _ c all) p.1 e
 
-  react_keeps : (a : Rule) → IsRule a → (vs : List Text) (h : Held) → react_fault c again a vs h ≡ [] → Good (reacted c a vs h).rows
-  react_keeps a is vs h none = use_keeps again once a is vs (settled c h).rows (or_nil (settle_fault c again h) _ none).1
+  react_keeps : (a : Rule) → IsRule a → (vs : List Text) (h : Held) → react_fault c again a vs h ≡ [] → Good h.rows → Good (reacted c a vs h).rows
+  react_keeps a is vs h none good =
+      let parts = or_nil (settle_fault c again h) _ none in
+      use_keeps again once a is vs (settled c h).rows parts.1 (settled_keeps h parts.0 good)
 
   option_keeps : (a : Rule) → IsRule a → (v : Option Text) (h : Held) → option_fault c again a v h ≡ [] → Good h.rows → Good (option_met c a v h).0.rows
-  option_keeps a is (Some v) h none good = react_keeps a is (v ∷ []) h none
+  option_keeps a is (Some v) h none good = react_keeps a is (v ∷ []) h none good
   option_keeps a is None h none good = settled_keeps h none good
 
   long_keeps : (o : Option Rule) → FoundOk o → (v : Option Text) (h : Held) → long_fault c again o v h ≡ [] → Good h.rows → Good (long_met c o v h).0.rows
@@ -160,7 +45,7 @@ module _ (c : List Rule) (all : AllRules c) (again : Bool) (once : again ≡ fal
     where
       flag : (o : Option Text) → cond (is_some o) (kind.TooManyValues ∷ []) (react_fault c again a [] h) ≡ [] → Good (flag_met c a o h).0.rows
       flag (Some x) e = good
-      flag None e = react_keeps a is [] h e
+      flag None e = react_keeps a is [] h e good
 
       go : (b : Bool) → cond b (option_fault c again a v h) (cond (is_some v) (kind.TooManyValues ∷ []) (react_fault c again a [] h)) ≡ []
           → Good (cond b (option_met c a v h) (flag_met c a v h)).0.rows
@@ -178,7 +63,7 @@ module _ (c : List Rule) (all : AllRules c) (again : Bool) (once : again ≡ fal
       go true e = option_keeps a is (attached_value rest) h e good
       go false e =
           let parts = or_nil _ _ e in
-          keeps (reacted c a [] h) parts.1 (react_keeps a is [] h parts.0)
+          keeps (reacted c a [] h) parts.1 (react_keeps a is [] h parts.0 good)
 
   step_keeps : (o : Option ℕ) (flags : Text) (skip : ℕ) (so_far : Outcome) (h : Held) (faults : Text → ℕ → Held → Kinds)
       (then : Text → ℕ → Outcome → Held → Held × Outcome)
@@ -296,20 +181,30 @@ slots_default rows good = go (has_row slots_id rows) refl
     go false e = subst (λ (o : Option Row). is_ok (unwrap_or (option_and_then (λ r. slice_get r.values 0) o) []) ≡ true)
         (sym (fresh (more_values DefaultValue (codes "4096" ∷ [])) _ refl rows e)) refl
 
+trace_default : (rows : List Row) → is_ok (text_of slots_id rows) ≡ true → is_ok (text_of slots_id (with_default rows (filled trace_flag))) ≡ true
+unfolding trace_flag
+trace_default rows ok = go (has_row trace_id rows)
+  where
+    go : (b : Bool) → is_ok (text_of slots_id (cond b rows (default_rows trace_id (reading_by (filled trace_flag)) (filled trace_flag).defaults rows))) ≡ true
+    go true = ok
+    go false = subst (λ (o : Option Row). is_ok (unwrap_or (option_and_then (λ r. slice_get r.values 0) o) []) ≡ true)
+        (sym (elsewhere_values DefaultValue (codes "false" ∷ []) _ refl rows)) ok
+
 -- the arguments of the subcommand, as clap fills them in
 abbrev pub HasRules : Shape → Type 0
-HasRules s = (s.rules ≡ filled slots_option ∷ filled help_rule ∷ []) × (s.args_override_self ≡ false)
+HasRules s = (s.rules ≡ filled slots_option ∷ filled trace_flag ∷ filled help_rule ∷ []) × (s.args_override_self ≡ false)
 
 level_ok : (s : Shape) → HasRules s → (words : List Text) → level_fault s [] nothing_held words false [] ≡ [] → is_ok (text_of slots_id (rows_after s.rules [] words)) ≡ true
 level_ok s rules words none =
-    let all : AllRules s.rules = subst AllRules (sym rules.0) (inl refl, (inr refl, tt)) in
+    let all : AllRules s.rules = subst AllRules (sym rules.0) (inl refl, (inr (inl refl), (inr (inr refl), tt))) in
     let end = (walk s.rules [] nothing_held words).held in
     let walked_by = or_nil (walk_fault s [] (walk_from nothing_held) words) _ none in
     let settled_by = or_nil (settle_fault s.rules s.args_override_self end) _ walked_by.1 in
     let good : Good end.rows = walk_keeps s all rules.1 [] words (walk_from nothing_held) walked_by.0 tt in
     let kept = settled_keeps s.rules all s.args_override_self rules.1 end settled_by.0 good in
     subst (λ rs. is_ok (text_of slots_id (fold with_default (settled s.rules end).rows rs)) ≡ true) (sym rules.0)
-    (help_default (with_default (settled s.rules end).rows (filled slots_option)) (slots_default (settled s.rules end).rows kept))
+    (help_default (with_default (with_default (settled s.rules end).rows (filled slots_option)) (filled trace_flag))
+    (trace_default (with_default (settled s.rules end).rows (filled slots_option)) (slots_default (settled s.rules end).rows kept)))
 
 -- each of some subcommands has them
 abbrev pub AllHaveRules : List Shape → Type 0
@@ -348,5 +243,5 @@ built_ok a all words name rows none are =
 -- where clap finds no fault and a subcommand, its number of slots is in the range
 pub slots_taken : (words : List Text) (name : Text) (rows : List Row) → fault_of tcam_command words ≡ [] → subcommand_of tcam_command words ≡ Some (name, rows)
     → is_unsigned_in 1 4096 (text_of (codes "slots") rows) ≡ true
-unfolding tcam_command route_command acl_command slots_option
+unfolding tcam_command route_command acl_command slots_option trace_flag
 slots_taken words name rows none are = built_ok (built tcam_command) ((refl, refl), ((refl, refl), tt)) (argument_words tcam_command words) name rows none are

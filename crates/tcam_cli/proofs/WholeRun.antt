@@ -28,7 +28,7 @@ pub starts : (setting : Setting) (slots : ℕ) (bytes : List ℕ) (held : Held) 
     → held ≡ fresh → Some bytes ≡ Some left → progress ≡ start slots → IfSome journal (λ writes. writes ≡ []) → SoFar setting slots bytes held left progress journal taken taken
 starts setting slots bytes held left progress journal taken new all begun blank =
     let same : bytes ≡ left = cc in
-    let read : IsGoing (reading setting.family) bytes fresh left [] 0 = record {
+    let read : IsGoing (reading setting.family) bytes fresh left [] 0 0 = record {
       done = [];
       parts = same;
       script = λ rest. refl;

@@ -1,5 +1,5 @@
 -- Outcomes that are wrong, and that the promise refuses.
-use Rattle.std.proofs.Common.{◌≡◌, List, [], ◌∷◌, ◌++◌, Some, None, refl, inl, inr, ◌∙◌, ap}
+use Rattle.std.proofs.Common.{◌≡◌, false, List, [], ◌∷◌, ◌++◌, Some, None, refl, inl, inr, ◌∙◌, ap}
 use Rattle.std.specs.Prelude.{codes}
 use Rattle.rule_store.specs.declared.Mode.TheVariants.{Cover}
 use Rattle.replay.specs.declared.Family.TheVariants.{Route}
@@ -10,7 +10,7 @@ use Rattle.tcam_cli.specs.declared.Status.TheVariants.{Done, Refused, Script as 
 use Rattle.tcam_cli.specs.Headline.{NoJob, Reads, IsCarriedOut, MayEnd}
 
 abbrev setting : Setting
-setting = record { slots = 8; mode = Cover; family = Route }
+setting = record { slots = 8; mode = Cover; family = Route; trace = false }
 
 -- a line at fault was taken, and then a read failed: nothing is printed, status 3
 passed-over : IsCarriedOut (Reads setting) 8 ReadFault (Some (codes "frob" ++ 10 ∷ codes "more")) (Some (codes "more")) (Some []) (Some []) (Some []) → ⊥

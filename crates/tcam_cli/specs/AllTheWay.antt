@@ -1,6 +1,7 @@
 -- What packets see of a run, in the words of rule sets: the acts lead from set to set, and after each device write
 -- every packet key has the answer of one of these sets or of the next one.
-use Rattle.std.specs.Prelude.{◌≡◌, ℕ, ◌+◌, ◌-◌, ◌≤◌, ◌⊎◌, Option, Some, IfSome, List, [], ◌∷◌, ◌++◌, length, take, slice_get}
+use Rattle.std.specs.Prelude.{◌≡◌, ℕ, ◌+◌, ◌-◌, ◌≤◌, ◌⊎◌, false, Option, Some, IfSome, List, [], ◌∷◌, ◌++◌, length, take, slice_get}
+use Rattle.std.specs.List.{AllByRecursion}
 use Rattle.rule_model.specs.declared.Rule.{Rule}
 use Rattle.rule_store.specs.declared.Command.{Command as Change}
 use Rattle.rule_store.specs.Batch.{set_after}
@@ -9,7 +10,7 @@ use Rattle.tcam_device.specs.declared.Write.{Write}
 use Rattle.tcam_device.specs.State.{State, blank, Shows, state_after}
 use Rattle.tcam_device.specs.Hitless.{ShowsOldOrNew}
 use Rattle.replay.specs.declared.Act.{Act}
-use Rattle.replay.specs.declared.Act.TheVariants.{Command, Packet, Commit}
+use Rattle.replay.specs.declared.Act.TheVariants.{Command, Probe, Packet, Commit}
 use Rattle.replay.specs.Script.{Script, script_of}
 use Rattle.replay.specs.Run.{Setting}
 use Rattle.tcam_cli.specs.declared.Status.{Status}
@@ -21,6 +22,7 @@ use Rattle.tcam_cli.specs.Readings.{reading}
 abbrev pub sets_through : Setting → List Rule → List Change → List Act → List (List Rule)
 sets_through setting rules batch [] = rules ∷ []
 sets_through setting rules batch (Command change ∷ acts) = sets_through setting rules (batch ++ change ∷ []) acts
+sets_through setting rules batch (Probe key ∷ acts) = sets_through setting rules batch acts
 sets_through setting rules batch (Packet key ∷ acts) = sets_through setting rules batch acts
 sets_through setting rules batch (Commit ∷ acts) =
     elim (verdict setting.slots setting.mode rules batch) [
@@ -39,7 +41,8 @@ ShowsSetOrNext state sets place =
     × ((slice_get sets (place + 1) ≡ Some new) ⊎ (new ≡ old)) × ShowsOldOrNew state old new
 
 -- Before the first and after each of the writes every key has the answer of one of the sets or of the next one, and
--- the sets come in their order: none comes again once it is left.
+-- the places of these sets come in their order: none is gone back to. A key's answer may come again all the same, from
+-- a later place, or within a commit that replaces a rule.
 pub record AnswersAllTheWay (state : State) (sets : List (List Rule)) (writes : List Write) : Type 0 where
   pub place : ℕ → ℕ
   pub rises : (n m : ℕ) → n ≤ m → place n ≤ place m
@@ -66,17 +69,28 @@ pub record EndsAfter (state : State) (setting : Setting) (script : Script) (done
 abbrev pub EndsAfterSome : State → Setting → Script → List Write → Type 0
 EndsAfterSome state setting script writes = (done : List Act) × EndsAfter state setting script done writes
 
+-- an act that has no line written after a write
+abbrev pub IsNoProbe : Act → Type 0
+IsNoProbe (Command change) = Unit {0}
+IsNoProbe (Probe key) = ⊥
+IsNoProbe (Packet key) = Unit {0}
+IsNoProbe Commit = Unit {0}
+
+-- no write has a line of its own: no trace is wanted, and the script has no probe
+abbrev pub TellsNoWrite : Setting → Script → Type 0
+TellsNoWrite setting script = (setting.trace ≡ false) × AllByRecursion IsNoProbe (acts_of script)
+
 -- Where the writes of a run end, by its status: at the last set of the script, of what came of it, or of some first
 -- acts. Memory is wanting only before a commit's first write, and a commit prints its line after its last one, so
--- neither want of memory nor a line that fails leaves a commit half made. A device write that fails may: the writes
--- then end within a commit, where each key has the answer of the set before it or of the one after it (`answers` of
--- IsHitlessRun), and nothing more can be said.
+-- want of memory leaves no commit half made, nor does a line that fails where no write has a line of its own. A device
+-- write that fails may, and so may the line of a write: the writes then end within a commit, where each key has the
+-- answer of the set before it or of the one after it (`answers` of IsHitlessRun), and nothing more can be said.
 abbrev pub EndsAs : State → Setting → Script → Script → Status → List Write → Type 0
 EndsAs state setting script came Done writes = EndsAtLast state (sets_of setting script) writes
 EndsAs state setting script came Refused writes = EndsAtLast state (sets_of setting script) writes
 EndsAs state setting script came ScriptFault writes = EndsAtLast state (sets_of setting script) writes
 EndsAs state setting script came ReadFault writes = EndsAfter state setting script (acts_of came) writes
-EndsAs state setting script came WriteFault writes = EndsAfterSome state setting script writes
+EndsAs state setting script came WriteFault writes = TellsNoWrite setting script → EndsAfterSome state setting script writes
 EndsAs state setting script came DeviceFault writes = Unit {0}
 EndsAs state setting script came Memory writes = EndsAfterSome state setting script writes
 EndsAs state setting script came Usage writes = ⊥

@@ -1,5 +1,5 @@
 -- The command lines, by the declaration that clap is given, and what each asks for.
-use Rattle.std.specs.Prelude.{ℕ, Option, Some, None, unwrap_or, List, [], ◌∷◌, ◌++◌, true, codes, if◌then◌else◌}
+use Rattle.std.specs.Prelude.{ℕ, Bool, Option, Some, None, unwrap_or, List, [], ◌∷◌, ◌++◌, true, codes, if◌then◌else◌}
 use Rattle.std.specs.Str.{bytes_eq}
 use Rattle.std.specs.Str.Parse.{digits_value, without_leading_plus}
 use Rattle.clap.specs.Walk.{Rule, Row, Text, first_of}
@@ -9,7 +9,7 @@ use Rattle.clap.specs.Faults.{fault_of}
 use Rattle.clap.specs.Kinds.{Kinds}
 use Rattle.clap.specs.declared.error.kind.ErrorKind.{ErrorKind}
 use Rattle.clap.specs.declared.error.kind.ErrorKind.TheVariants as kind
-use Rattle.clap.specs.declared.builder.action.ArgAction.TheVariants.{Set}
+use Rattle.clap.specs.declared.builder.action.ArgAction.TheVariants.{Set, SetTrue}
 use Rattle.clap.specs.declared.builder.value_parser.ValueParser.TheVariants.{Unsigned}
 use Rattle.rule_store.specs.declared.Mode.TheVariants.{Cover}
 use Rattle.replay.specs.declared.Family.{Family}
@@ -19,9 +19,9 @@ use Rattle.tcam_cli.specs.declared.command_line.Asked.{Asked}
 use Rattle.tcam_cli.specs.declared.command_line.Asked.TheVariants as asked
 use Rattle.tcam_cli.specs.Headline.{Job, NoJob, Tells, Reads}
 
--- a script of a family over so many slots in use
-abbrev pub script_setting : Family → ℕ → Setting
-script_setting family slots = record { slots = slots; mode = Cover; family = family }
+-- a script of a family over so many slots in use, with a trace or without
+abbrev pub script_setting : Family → ℕ → Bool → Setting
+script_setting family slots trace = record { slots = slots; mode = Cover; family = family; trace = trace }
 
 -- --slots, a number from 1 to 4096, by default 4096
 unfoldable pub slots_option : Rule
@@ -32,13 +32,17 @@ slots_option = record (new_rule (codes "slots")) {
   defaults = codes "4096" ∷ [];
 }
 
+-- --trace, a flag
+unfoldable pub trace_flag : Rule
+trace_flag = record (new_rule (codes "trace")) { long = Some (codes "trace"); action = Some SetTrue }
+
 -- the subcommand for route scripts
 unfoldable pub route_command : App
-route_command = with_rule (new_app (codes "route")) slots_option
+route_command = with_rule (with_rule (new_app (codes "route")) slots_option) trace_flag
 
 -- the subcommand for access-list scripts
 unfoldable pub acl_command : App
-acl_command = with_rule (new_app (codes "acl")) slots_option
+acl_command = with_rule (with_rule (new_app (codes "acl")) slots_option) trace_flag
 
 -- tcam with a required subcommand and a version; help is asked for by its flag alone
 unfoldable pub tcam_command : App
@@ -60,11 +64,19 @@ number_in text = digits_value 10 (without_leading_plus text)
 abbrev pub number_of : Text → List Row → ℕ
 number_of id rows = number_in (text_of id rows)
 
+-- whether an argument was given this text, or has it by default
+abbrev pub has_text : Text → Text → List Row → Bool
+has_text id text rows = bytes_eq (text_of id rows) text
+
+-- whether a trace is wanted
+abbrev pub is_traced : List Row → Bool
+is_traced rows = has_text (codes "trace") (codes "true") rows
+
 -- what a subcommand and its arguments ask for: a script of its family over so many slots
 abbrev pub job_of_rows : Text → List Row → Job
 job_of_rows name rows =
-    if bytes_eq name (codes "route") then Reads (script_setting Route (number_of (codes "slots") rows))
-    else if bytes_eq name (codes "acl") then Reads (script_setting Acl (number_of (codes "slots") rows))
+    if bytes_eq name (codes "route") then Reads (script_setting Route (number_of (codes "slots") rows) (is_traced rows))
+    else if bytes_eq name (codes "acl") then Reads (script_setting Acl (number_of (codes "slots") rows) (is_traced rows))
     else NoJob
 
 -- what a subcommand asks for, if there is one
@@ -74,14 +86,14 @@ job_of_subcommand (Some (name, rows)) = job_of_rows name rows
 
 -- the same for rows that may not be clap's, whose text of --slots is tested again; where clap takes
 -- the words the test passes, and the two are one
-abbrev pub job_of_slots : Family → Text → Job
-job_of_slots family text =
-    if is_unsigned_in 1 4096 text then Reads (script_setting family (number_in text)) else NoJob
+abbrev pub job_of_slots : Family → Text → Bool → Job
+job_of_slots family text trace =
+    if is_unsigned_in 1 4096 text then Reads (script_setting family (number_in text) trace) else NoJob
 
 abbrev pub tested_job_of_rows : Text → List Row → Job
 tested_job_of_rows name rows =
-    if bytes_eq name (codes "route") then job_of_slots Route (text_of (codes "slots") rows)
-    else if bytes_eq name (codes "acl") then job_of_slots Acl (text_of (codes "slots") rows)
+    if bytes_eq name (codes "route") then job_of_slots Route (text_of (codes "slots") rows) (is_traced rows)
+    else if bytes_eq name (codes "acl") then job_of_slots Acl (text_of (codes "slots") rows) (is_traced rows)
     else NoJob
 
 abbrev pub tested_job : Option (Text × List Row) → Job
@@ -93,10 +105,11 @@ unfoldable pub help_text : List ℕ
 help_text = codes "tcam: the table manager of a ternary content-addressable memory."
     ++ 10 ∷ codes "It reads a script from standard input, carries its commits out over a modelled"
     ++ 10 ∷ codes "device one write at a time, and writes a report to standard output."
-    ++ 10 ∷ 10 ∷ codes "    tcam route [--slots N]    a script of routes; N slots in use, 1 to 4096, by default 4096"
-    ++ 10 ∷ codes "    tcam acl [--slots N]      a script of an access list, likewise"
-    ++ 10 ∷ codes "    tcam --help               this text"
-    ++ 10 ∷ codes "    tcam --version            name and version"
+    ++ 10 ∷ 10 ∷ codes "    tcam route [--slots N] [--trace]    a script of routes; N slots in use, 1 to 4096, by default"
+    ++ 10 ∷ codes "                                        4096; --trace writes a line for each device write"
+    ++ 10 ∷ codes "    tcam acl [--slots N] [--trace]      a script of an access list, likewise"
+    ++ 10 ∷ codes "    tcam --help                         this text"
+    ++ 10 ∷ codes "    tcam --version                      name and version"
     ++ 10 ∷ 10 ∷ codes "Example:"
     ++ 10 ∷ 10 ∷ codes "    printf 'route add 10.0.0.0/8 7"
     ++ 92 ∷ codes "ncommit"
@@ -126,6 +139,6 @@ job_of words = job_by_faults (fault_of tcam_command words) (subcommand_of tcam_c
 
 -- what an answer says that words ask for
 abbrev pub asked_by : Asked → Job
-asked_by (asked.Script family slots) = Reads (script_setting family slots)
+asked_by (asked.Script family slots trace) = Reads (script_setting family slots trace)
 asked_by asked.Help = Tells help_text
 asked_by asked.Version = Tells version_text

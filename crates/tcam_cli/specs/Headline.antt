@@ -11,7 +11,7 @@ use Rattle.rule_store.specs.Batch.{set_after}
 use Rattle.rule_store.specs.Verdict.{Accepted, verdict}
 use Rattle.tcam_device.specs.declared.Write.{Write}
 use Rattle.replay.specs.declared.Act.{Act}
-use Rattle.replay.specs.declared.Act.TheVariants.{Command, Packet, Commit}
+use Rattle.replay.specs.declared.Act.TheVariants.{Command, Probe, Packet, Commit}
 use Rattle.replay.specs.Script.{Script, ScriptEnd, Whole, FaultAt, Reading, acts_from, script_of}
 use Rattle.replay.specs.Text.{fault_line, usage_line}
 use Rattle.replay.specs.Run.{Setting, Effect, Writes, Prints, written, printed, Progress, IsCutStep, TakesMemory, Runs, ending}
@@ -118,7 +118,7 @@ whole_lines bytes = whole_lines_from [] bytes
 
 -- what some first bytes of a script are so far: the acts of their whole lines, and a fault where they have one
 abbrev pub script_so_far : Reading → List ℕ → Script
-script_so_far reading bytes = acts_from reading 0 (lines_of (whole_lines bytes)).lines (lines_of bytes).last
+script_so_far reading bytes = acts_from reading 0 0 (lines_of (whole_lines bytes)).lines (lines_of bytes).last
 
 -- what a run did by its status: its effects and part of a further line; came is what the bytes taken are of the script
 abbrev pub IsOutcome : Setting → ℕ → Script → Script → Status → List Effect → List ℕ → Type 0
@@ -175,6 +175,7 @@ IsCarriedOut (Reads setting) device_slots status left_old left_new taken_old tak
 abbrev pub any_refused : Setting → List Rule → List Change → List Act → Bool
 any_refused setting rules batch [] = false
 any_refused setting rules batch (Command change ∷ acts) = any_refused setting rules (batch ++ change ∷ []) acts
+any_refused setting rules batch (Probe key ∷ acts) = any_refused setting rules batch acts
 any_refused setting rules batch (Packet key ∷ acts) = any_refused setting rules batch acts
 any_refused setting rules batch (Commit ∷ acts) =
     elim (verdict setting.slots setting.mode rules batch) [

@@ -13,7 +13,7 @@ use Rattle.acl_reader.specs.declared.AclCommand.{AclCommand}
 use Rattle.acl_reader.specs.declared.AclCommand.TheVariants as acl
 use Rattle.acl_reader.specs.Grammar.{acl_line}
 use Rattle.replay.specs.declared.Act.{Act}
-use Rattle.replay.specs.declared.Act.TheVariants.{Command, Packet, Commit}
+use Rattle.replay.specs.declared.Act.TheVariants.{Command, Probe, Packet, Commit}
 use Rattle.replay.specs.declared.Family.{Family}
 use Rattle.replay.specs.declared.Family.TheVariants.{Route, Acl}
 use Rattle.replay.specs.Script.{Reading}
@@ -23,14 +23,16 @@ abbrev pub route_act : RouteCommand → Act
 route_act (route.Add block answer) = Command (Adds (route_rule (ipv4_route_rank block) block answer))
 route_act (route.Set block answer) = Command (Sets (ipv4_route_rank block) answer)
 route_act (route.Del block) = Command (Dels (ipv4_route_rank block))
+route_act (route.Probe key) = Probe key
 route_act (route.Packet key) = Packet key
 route_act route.Commit = Commit
 
--- a line's rule has its sequence number as its priority
+-- a rule of an access list has its sequence number as its priority
 abbrev pub acl_act : AclCommand → Act
 acl_act (acl.Add rule) = Command (Adds rule)
 acl_act (acl.Set sequence answer) = Command (Sets (list_rank sequence) answer)
 acl_act (acl.Del sequence) = Command (Dels (list_rank sequence))
+acl_act (acl.Probe key) = Probe key
 acl_act (acl.Packet key) = Packet key
 acl_act acl.Commit = Commit
 

@@ -22,6 +22,7 @@ abbrev pub IsIpv4Command : RouteCommand → Type 0
 IsIpv4Command (route.Add block answer) = IsIpv4Block block
 IsIpv4Command (route.Set block answer) = Unit {0}
 IsIpv4Command (route.Del block) = Unit {0}
+IsIpv4Command (route.Probe key) = Unit {0}
 IsIpv4Command (route.Packet key) = Unit {0}
 IsIpv4Command route.Commit = Unit {0}
 
@@ -29,15 +30,15 @@ IsIpv4Command route.Commit = Unit {0}
 abbrev pub onto_all : List NumberedAct → Script → Script
 onto_all acts rest = record rest { acts = acts ++ rest.acts }
 
--- the acts of some lines, with so many changes pending
-abbrev pub acts_next : Reading → ℕ → ScriptLines → Script
-acts_next reading pending lines = acts_from reading pending lines.lines lines.last
+-- the acts of some lines, with so many changes pending and so many probes
+abbrev pub acts_next : Reading → ℕ → ℕ → ScriptLines → Script
+acts_next reading pending probes lines = acts_from reading pending probes lines.lines lines.last
 
 -- bytes of whole lines gave these acts, and more lines may come
-pub record IsGoing (reading : Reading) (bytes : List ℕ) (held : Held) (left : List ℕ) (acts : List NumberedAct) (pending : ℕ) : Type 0 where
+pub record IsGoing (reading : Reading) (bytes : List ℕ) (held : Held) (left : List ℕ) (acts : List NumberedAct) (pending probes : ℕ) : Type 0 where
   pub done : List ℕ
   pub parts : bytes ≡ done ++ (held.pending ++ left)
-  pub script : (rest : List ℕ) → script_of reading (done ++ rest) ≡ onto_all acts (acts_next reading pending (lines_from limits held.before held.number [] rest))
+  pub script : (rest : List ℕ) → script_of reading (done ++ rest) ≡ onto_all acts (acts_next reading pending probes (lines_from limits held.before held.number [] rest))
   pub last : (rest : List ℕ) → (lines_of (done ++ rest)).last ≡ (lines_from limits held.before held.number [] rest).last
   pub whole : (rest : List ℕ) → whole_lines (done ++ rest) ≡ done ++ whole_lines rest
 
@@ -46,10 +47,10 @@ abbrev pub IsAllRead : Reading → List ℕ → List ℕ → List NumberedAct �
 IsAllRead reading bytes left acts = (script_of reading bytes ≡ record { acts = acts; last = Whole }) × (left ≡ [])
 
 -- what of the script is read
-abbrev pub IsRead : Over → Reading → List ℕ → Held → List ℕ → List NumberedAct → ℕ → Type 0
-IsRead over.Going reads bytes held left acts pending = IsGoing reads bytes held left acts pending
-IsRead over.Ended reads bytes held left acts pending = IsAllRead reads bytes left acts
-IsRead (over.Stopped fault) reads bytes held left acts pending = ⊥
+abbrev pub IsRead : Over → Reading → List ℕ → Held → List ℕ → List NumberedAct → ℕ → ℕ → Type 0
+IsRead over.Going reads bytes held left acts pending probes = IsGoing reads bytes held left acts pending probes
+IsRead over.Ended reads bytes held left acts pending probes = IsAllRead reads bytes left acts
+IsRead (over.Stopped fault) reads bytes held left acts pending probes = ⊥
 
 -- the acts alone
 abbrev pub acts_only : List NumberedAct → List Act
@@ -62,7 +63,7 @@ pub record SoFar (setting : Setting) (slots : ℕ) (bytes : List ℕ) (held : He
   pub run : Runs setting slots (acts_only acts) effects progress
   pub journal_is : IfSome journal (λ writes. writes ≡ written effects)
   pub report : IsSome journal → Appends taken_old taken_new (printed effects)
-  pub read : IsRead held.over (reading setting.family) bytes held left acts (length progress.batch)
+  pub read : IsRead held.over (reading setting.family) bytes held left acts (length progress.batch) (length progress.probes)
 
 -- a run over a script ends, with these bytes taken of it
 pub record Ends (setting : Setting) (slots : ℕ) (bytes taken left : List ℕ) (status : Status) (journal : Option (List Write)) (taken_old taken_new : Option (List ℕ)) : Type 0 where

@@ -3,8 +3,8 @@
 ghost use Rattle.std.specs.Prelude.{◌≡◌, ◌≤◌, codes, Err, IfOk, IsErrOf, IfSome, IsNone, false, map, string_bytes};
 ghost use Rattle.clap.specs.Words.{app_of, rule_of, rows_of, found_of, subcommand_rows_of, kind_of};
 ghost use Rattle.clap.specs.declared.builder.command.Command.TheViews.{out-Command};
-ghost use Rattle.tcam_cli.specs.CommandLine.{asked_by, job_of, job_of_fault, job_of_slots, script_setting, tested_job};
-ghost use Rattle.tcam_cli.specs.CommandLine.{acl_command as acl_app, route_command as route_app, slots_option, tcam_command as tcam_app, text_of};
+ghost use Rattle.tcam_cli.specs.CommandLine.{asked_by, is_traced, job_of, job_of_fault, job_of_slots, script_setting, tested_job};
+ghost use Rattle.tcam_cli.specs.CommandLine.{acl_command as acl_app, route_command as route_app, slots_option, tcam_command as tcam_app, text_of, trace_flag};
 ghost use Rattle.tcam_cli.specs.Headline.{NoJob, Reads};
 
 use clap::error::ErrorKind;
@@ -18,10 +18,11 @@ tcam: the table manager of a ternary content-addressable memory.
 It reads a script from standard input, carries its commits out over a modelled
 device one write at a time, and writes a report to standard output.
 
-    tcam route [--slots N]    a script of routes; N slots in use, 1 to 4096, by default 4096
-    tcam acl [--slots N]      a script of an access list, likewise
-    tcam --help               this text
-    tcam --version            name and version
+    tcam route [--slots N] [--trace]    a script of routes; N slots in use, 1 to 4096, by default
+                                        4096; --trace writes a line for each device write
+    tcam acl [--slots N] [--trace]      a script of an access list, likewise
+    tcam --help                         this text
+    tcam --version                      name and version
 
 Example:
 
@@ -34,8 +35,12 @@ pub const VERSION: &str = "tcam 0.1.0\n";
 /// What a command line asks for.
 #[derive(Clone, Copy, Debug, PartialEq, Eq)]
 pub enum Asked {
-    /// A script of this family from the source, with so many slots in use, 1 to 4,096.
-    Script { family: Family, slots: u32 },
+    /// A script of this family from the source, with so many slots in use, 1 to 4,096, and with a trace or without.
+    Script {
+        family: Family,
+        slots: u32,
+        trace: bool,
+    },
     /// The help text.
     Help,
     /// Name and version.
@@ -63,12 +68,26 @@ fn slots_arg<'a>(alloc: Global) -> Arg<'a>
         .default_value("4096")
 }
 
+/// Whether each device write has its line.
+fn trace_arg<'a>(alloc: Global) -> Arg<'a>
+    ensures rule { rule_of result ≡ trace_flag }
+    ensures global { result.global ≡ false }
+{
+    Arg::new(alloc, "trace")
+        .long("trace")
+        .action(ArgAction::SetTrue)
+}
+
 /// The subcommand for route scripts.
 fn route_command<'a>(alloc: Global) -> Result<Command<'a>, AllocError>
     ensures app { IfOk result (λ c. app_of c ≡ route_app) }
     ensures local { IfOk result (λ c. (out-Command c).has_globals ≡ false) }
 {
-    Ok(Command::new(alloc, "route").arg(slots_arg(alloc))?)
+    Ok(
+        Command::new(alloc, "route")
+            .arg(slots_arg(alloc))?
+            .arg(trace_arg(alloc))?,
+    )
 }
 
 /// The subcommand for access-list scripts.
@@ -76,7 +95,11 @@ fn acl_command<'a>(alloc: Global) -> Result<Command<'a>, AllocError>
     ensures app { IfOk result (λ c. app_of c ≡ acl_app) }
     ensures local { IfOk result (λ c. (out-Command c).has_globals ≡ false) }
 {
-    Ok(Command::new(alloc, "acl").arg(slots_arg(alloc))?)
+    Ok(
+        Command::new(alloc, "acl")
+            .arg(slots_arg(alloc))?
+            .arg(trace_arg(alloc))?,
+    )
 }
 
 /// The declared command line: a required subcommand, help by its flag alone, and a version.
@@ -99,7 +122,7 @@ fn tcam_command<'a>(alloc: Global) -> Result<Command<'a>, AllocError>
 pub fn read_words(alloc: Global, words: &[String]) -> Result<Asked, WordsFault>
     ensures asked { IfOk result (λ job. job_of (map string_bytes words.now) ≡ asked_by job) }
     ensures usage { IsErrOf result WordsFault.Usage → job_of (map string_bytes words.now) ≡ NoJob }
-    ensures slots { IfOk result (λ job. (family n : _) → job ≡ Asked.Script family n → (1 ≤ n) × (n ≤ 4096)) }
+    ensures slots { IfOk result (λ job. (family n trace : _) → job ≡ Asked.Script family n trace → (1 ≤ n) × (n ≤ 4096)) }
 {
     let command = match tcam_command(alloc) {
         Ok(command) => command,
@@ -115,7 +138,7 @@ pub fn read_words(alloc: Global, words: &[String]) -> Result<Asked, WordsFault>
 fn job_of_matches(matches: &ArgMatches) -> Result<Asked, WordsFault>
     ensures asked { IfOk result (λ job. tested_job (subcommand_rows_of matches.now) ≡ asked_by job) }
     ensures usage { IsErrOf result WordsFault.Usage → tested_job (subcommand_rows_of matches.now) ≡ NoJob }
-    ensures slots { IfOk result (λ job. (family n : _) → job ≡ Asked.Script family n → (1 ≤ n) × (n ≤ 4096)) }
+    ensures slots { IfOk result (λ job. (family n trace : _) → job ≡ Asked.Script family n trace → (1 ≤ n) × (n ≤ 4096)) }
 {
     match matches.subcommand() {
         Some((name, found)) if name == "route" => job_of_script(Family::Route, found),
@@ -126,21 +149,26 @@ fn job_of_matches(matches: &ArgMatches) -> Result<Asked, WordsFault>
 
 /// The job of the arguments of a subcommand for scripts of a family.
 fn job_of_script(family: Family, found: &ArgMatches) -> Result<Asked, WordsFault>
-    ensures asked { IfOk result (λ job. job_of_slots family (text_of (codes "slots") (rows_of (found_of found.now))) ≡ asked_by job) }
-    ensures usage { IsErrOf result WordsFault.Usage → job_of_slots family (text_of (codes "slots") (rows_of (found_of found.now))) ≡ NoJob }
-    ensures slots { IfOk result (λ job. (family n : _) → job ≡ Asked.Script family n → (1 ≤ n) × (n ≤ 4096)) }
+    ensures asked { IfOk result (λ job. job_of_slots family (text_of (codes "slots") (rows_of (found_of found.now))) (is_traced (rows_of (found_of found.now))) ≡ asked_by job) }
+    ensures usage { IsErrOf result WordsFault.Usage → job_of_slots family (text_of (codes "slots") (rows_of (found_of found.now))) (is_traced (rows_of (found_of found.now))) ≡ NoJob }
+    ensures slots { IfOk result (λ job. (family n trace : _) → job ≡ Asked.Script family n trace → (1 ≤ n) × (n ≤ 4096)) }
 {
+    let trace = found.get_str("trace").unwrap_or("") == "true";
     match slots_of(found.get_str("slots").unwrap_or("")) {
-        Some(slots) => Ok(Asked::Script { family, slots }),
+        Some(slots) => Ok(Asked::Script {
+            family,
+            slots,
+            trace,
+        }),
         None => Err(WordsFault::Usage),
     }
 }
 
 /// A number of slots from its text.
 fn slots_of(text: &str) -> Option<u32>
-    ensures some { IfSome result (λ n. (family : _) → job_of_slots family text.now ≡ Reads (script_setting family n)) }
+    ensures some { IfSome result (λ n. (family trace : _) → job_of_slots family text.now trace ≡ Reads (script_setting family n trace)) }
     ensures range { IfSome result (λ n. (1 ≤ n) × (n ≤ 4096)) }
-    ensures none { IsNone result → (family : _) → job_of_slots family text.now ≡ NoJob }
+    ensures none { IsNone result → (family trace : _) → job_of_slots family text.now trace ≡ NoJob }
 {
     match text.parse::<u32>() {
         Ok(slots) if 1 <= slots && slots <= 4096 => Some(slots),
@@ -153,7 +181,7 @@ fn job_of_error(error: &Error) -> Result<Asked, WordsFault>
     ensures asked { IfOk result (λ job. job_of_fault (kind_of error.now) ≡ asked_by job) }
     ensures usage { IsErrOf result WordsFault.Usage → job_of_fault (kind_of error.now) ≡ NoJob }
     ensures memory { kind_of error.now ≡ ErrorKind.OutOfMemory → result ≡ Err WordsFault.Memory }
-    ensures slots { IfOk result (λ job. (family n : _) → job ≡ Asked.Script family n → ⊥) }
+    ensures slots { IfOk result (λ job. (family n trace : _) → job ≡ Asked.Script family n trace → ⊥) }
 {
     match error.kind() {
         ErrorKind::DisplayHelp => Ok(Asked::Help),

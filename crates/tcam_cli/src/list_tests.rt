@@ -76,7 +76,25 @@ fn replaced(rt: HostRuntime) -> Result<(), Fail> {
         "acl add 10 permit any any any any 1-2\ncommit\nacl del 10\nacl add 10 deny any any any any 2\ncommit\n";
     let report =
         "commit 1 ok writes 2 words 0 most 1 span 0\ncommit 2 ok writes 2 words 0 most 0 span 0\nend rules 1 entries 1 writes 4 pending 0\n";
-    check(&rt, "tcam acl --slots 2", script, Status::Done, report, 4)
+    check(&rt, "tcam acl --slots 2", script, Status::Done, report, 4)?;
+    let result =
+        "acl add 100 permit any any any any 80\ncommit\nacl del 100\nacl add 100 deny any any any any 80\ncommit\n";
+    let report =
+        "commit 1 ok writes 1 words 0 most 1 span 0\ncommit 2 ok writes 1 words 0 most 0 span 0\nend rules 1 entries 1 writes 2 pending 0\n";
+    check(&rt, "tcam acl --slots 1", result, Status::Done, report, 2)
+}
+
+const WIDENED: &str =
+    "acl add 100 permit any any any any 80-443\ncommit\nacl del 100\nacl add 100 permit any any any any 80-447\ncommit\n";
+
+#[test]
+fn widened(rt: HostRuntime) -> Result<(), Fail> {
+    let report =
+        "commit 1 ok writes 8 words 0 most 1 span 0\ncommit 2 ok writes 9 words 0 most 1 span 0\nend rules 1 entries 5 writes 17 pending 0\n";
+    check(&rt, "tcam acl --slots 9", WIDENED, Status::Done, report, 17)?;
+    let full =
+        "commit 1 ok writes 8 words 0 most 1 span 0\ncommit 2 refused slots 1 0\nend rules 1 entries 8 writes 8 pending 0\n";
+    check(&rt, EIGHT, WIDENED, Status::Refused, full, 8)
 }
 
 #[test]

@@ -11,6 +11,8 @@ mod command_line;
 #[cfg(test)]
 mod list_tests;
 #[cfg(test)]
+mod probe_tests;
+#[cfg(test)]
 mod tests;
 mod top;
 

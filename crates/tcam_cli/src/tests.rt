@@ -11,7 +11,7 @@ use std::test::Fail;
 use tcam_device::{Device, FlakyTcam, MemTcam};
 
 /// The words of a command line that blanks part.
-fn words_of(alloc: Global, line: &str) -> Result<Vec<String>, AllocError> {
+pub(crate) fn words_of(alloc: Global, line: &str) -> Result<Vec<String>, AllocError> {
     let mut words = Vec::new(alloc);
     for word in line.split(' ') {
         words.push(String::from_str(alloc, word)?)?;
@@ -266,19 +266,19 @@ fn failing_source(rt: HostRuntime) -> Result<(), Fail> {
 const NESTED: &str =
     "route add 10.0.0.0/8 7\ncommit\nroute add 10.1.2.0/24 8\ncommit\nroute add 10.1.0.0/16 9\ncommit\nroute add 10.1.0.0/20 5\ncommit\n";
 
-const ONE: &str = "commit 1 ok writes 1 words 0 most 1 span 0\n";
+pub(crate) const ONE: &str = "commit 1 ok writes 1 words 0 most 1 span 0\n";
 
-const TWO: &str =
+pub(crate) const TWO: &str =
     "commit 1 ok writes 1 words 0 most 1 span 0\ncommit 2 ok writes 1 words 0 most 1 span 0\n";
 
-const THREE: &str =
+pub(crate) const THREE: &str =
     "commit 1 ok writes 1 words 0 most 1 span 0\ncommit 2 ok writes 1 words 0 most 1 span 0\ncommit 3 ok writes 1 words 0 most 1 span 0\n";
 
 const FOUR: &str =
     "commit 1 ok writes 1 words 0 most 1 span 0\ncommit 2 ok writes 1 words 0 most 1 span 0\ncommit 3 ok writes 1 words 0 most 1 span 0\ncommit 4 ok writes 2 words 0 most 2 span 0\n";
 
 /// A device over which a script was carried out, with nothing that fails.
-fn carried_out(alloc: Global, script: &str) -> Result<MemTcam, AllocError> {
+pub(crate) fn carried_out(alloc: Global, script: &str) -> Result<MemTcam, AllocError> {
     let words = words_of(alloc, EIGHT)?;
     let mut source = MemSource::new(script.as_bytes());
     let mut sink = MemSink::new(alloc)?;
@@ -337,10 +337,11 @@ fn each_device_write(rt: HostRuntime) -> Result<(), Fail> {
     check_call(&rt, 5, THREE, 4, (Some(8), Some(8), Some(9), Some(7)))
 }
 
-/// Runs the nested commits with one report write that fails, and compares report, number of device writes, and the
-/// journal with the first writes of the whole run.
-fn check_line(
+/// Runs a script with one report write that fails, and compares report, number of device writes, and the journal with
+/// the first writes of the whole run.
+pub(crate) fn check_line(
     rt: &(impl Abort + AllocGlobal),
+    script: &str,
     call: u64,
     report: &str,
     writes: usize,
@@ -349,25 +350,25 @@ fn check_line(
     let words = words_of(alloc, EIGHT)?;
     let calls = [call];
     let mut device = MemTcam::new(alloc, 4096)?;
-    let mut source = MemSource::new(NESTED.as_bytes());
+    let mut source = MemSource::new(script.as_bytes());
     let mut sink = FailSink::new(alloc, &calls)?;
     sink.reserve(4096)?;
     let ended = run(alloc, words.as_slice(), &mut source, &mut sink, &mut device);
     assert_eq!(rt; ended, Status::WriteFault);
     assert_eq!(rt; sink.bytes(), report.as_bytes());
     assert_eq!(rt; device.journal().len(), writes);
-    let whole = carried_out(alloc, NESTED)?;
+    let whole = carried_out(alloc, script)?;
     assert_eq!(rt; whole.journal().get(..writes), Some(device.journal()));
     Ok(())
 }
 
 #[test]
 fn each_report_write(rt: HostRuntime) -> Result<(), Fail> {
-    check_line(&rt, 1, "", 1)?;
-    check_line(&rt, 2, ONE, 2)?;
-    check_line(&rt, 3, TWO, 3)?;
-    check_line(&rt, 4, THREE, 5)?;
-    check_line(&rt, 5, FOUR, 5)
+    check_line(&rt, NESTED, 1, "", 1)?;
+    check_line(&rt, NESTED, 2, ONE, 2)?;
+    check_line(&rt, NESTED, 3, TWO, 3)?;
+    check_line(&rt, NESTED, 4, THREE, 5)?;
+    check_line(&rt, NESTED, 5, FOUR, 5)
 }
 
 /// Runs the first script in reads of 23 bytes, the length of its first line, of which one fails, and compares report,

@@ -59,9 +59,13 @@ pub fn run<S: Source, K: Sink, D: Device>(
         (D.faults device.old) (D.faults device.new) }
 {
     match read_words(alloc, words) {
-        Ok(Asked::Script { family, slots }) => {
-            run_family(alloc, family, slots, source, sink, device)
-        }
+        Ok(
+            Asked::Script {
+                family,
+                slots,
+                trace,
+            },
+        ) => run_family(alloc, family, slots, trace, source, sink, device),
         Ok(Asked::Help) => tell(sink, HELP, Status::Done),
         Ok(Asked::Version) => tell(sink, VERSION, Status::Done),
         Err(WordsFault::Usage) => tell(sink, "usage\n", Status::Usage),
@@ -74,6 +78,7 @@ fn run_family<S: Source, K: Sink, D: Device>(
     alloc: Global,
     family: Family,
     slots: u32,
+    trace: bool,
     source: &mut S,
     sink: &mut K,
     device: &mut D,
@@ -82,16 +87,16 @@ fn run_family<S: Source, K: Sink, D: Device>(
     requires most { slots ≤ 4096 }
     requires device { 4096 ≤ D.slot_count device.old }
     requires blank { IfSome (D.journal device.old) (λ writes. writes ≡ []) }
-    ensures carried_out { IsCarriedOut (Reads (script_setting family slots)) (D.slot_count device.old) result
+    ensures carried_out { IsCarriedOut (Reads (script_setting family slots trace)) (D.slot_count device.old) result
         (S.left source.old) (S.left source.new) (K.taken sink.old) (K.taken sink.new) (D.journal device.new) }
     ensures told { (IsSome (S.left source.old) → IsSome (S.left source.new)) × (IsSome (K.taken sink.old) → IsSome (K.taken sink.new))
         × (IsSome (D.journal device.old) → IsSome (D.journal device.new)) }
     ensures slot_count { D.slot_count device.new ≡ D.slot_count device.old }
-    ensures causes { HasCauses (Reads (script_setting family slots)) (S.left source.old) result
+    ensures causes { HasCauses (Reads (script_setting family slots trace)) (S.left source.old) result
         (S.faults source.old) (S.faults source.new) (K.faults sink.old) (K.faults sink.new)
         (D.faults device.old) (D.faults device.new) }
 {
-    match Run::new(alloc, slots, Mode::Cover, family) {
+    match Run::new(alloc, slots, Mode::Cover, family, trace) {
         Ok(mut run) => run_script(&mut run, source, sink, device),
         Err(_) => Status::Memory,
     }
@@ -181,6 +186,7 @@ fn turn<S: Source, K: Sink, D: Device>(
     match run.apply(&act, sink, device) {
         Ok(()) => None,
         Err(RunFault::BatchFull) => Some(fault(line.number, "batch full", sink)),
+        Err(RunFault::ProbesFull) => Some(fault(line.number, "too many probes", sink)),
         Err(RunFault::Sink) => Some(Status::WriteFault),
         Err(RunFault::Device) => Some(Status::DeviceFault),
         Err(RunFault::Memory) => Some(Status::Memory),
@@ -246,6 +252,7 @@ fn acl_act(command: &AclCommand) -> Act
             result: *answer,
         }),
         AclCommand::Del(sequence) => Act::Command(Command::Del(list_rank(*sequence))),
+        AclCommand::Probe(key) => Act::Probe(*key),
         AclCommand::Packet(key) => Act::Packet(*key),
         AclCommand::Commit => Act::Commit,
     }
@@ -268,6 +275,7 @@ fn route_act(command: &RouteCommand) -> Act
             result: *answer,
         }),
         RouteCommand::Del(prefix) => Act::Command(Command::Del(ipv4_route_rank(prefix))),
+        RouteCommand::Probe(key) => Act::Probe(*key),
         RouteCommand::Packet(key) => Act::Packet(*key),
         RouteCommand::Commit => Act::Commit,
     }

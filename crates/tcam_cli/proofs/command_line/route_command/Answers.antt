@@ -6,4 +6,5 @@ use Rattle.tcam_cli.proofs.command_line.route_command.Goals as goal
 pub returns-clause-app : goal.returns-clause-app
 unfolding route_command
 returns-clause-app c =
-    c.in_ok-arg.ensures.shape c.slots_arg.ensures.global ∙ ap₂ with_rule c.new.ensures.app c.slots_arg.ensures.rule
+    c.in_ok-arg-2.ensures.shape c.trace_arg.ensures.global
+    ∙ ap₂ with_rule (c.in_ok-arg.ensures.shape c.slots_arg.ensures.global ∙ ap₂ with_rule c.new.ensures.app c.slots_arg.ensures.rule) c.trace_arg.ensures.rule

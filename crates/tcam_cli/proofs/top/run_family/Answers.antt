@@ -7,4 +7,4 @@ pub run_script-requires-clause-begun : goal.run_script-requires-clause-begun
 run_script-requires-clause-begun g c =
     let slots = g.D.Device.slot_count c.args.device.now in
     let within : c.args.slots ≤ slots = omega arith in
-    ap (progress_of slots) c.in-Ok.ensures ∙ begins c.args.family c.args.slots slots within
+    ap (progress_of slots) c.in-Ok.ensures ∙ begins c.args.family c.args.slots slots c.args.trace within

@@ -1,8 +1,8 @@
--- The writes are those of the batch's commit, and a part of them where the device fails.
+-- The writes are those of the batch's commit, and a part of them where sink or device fails.
 use Rattle.std.proofs.Common.{◌≡◌, Ok, Err, sym, ◌∙◌}
 use Rattle.replay.specs.Running.{Running}
 use Rattle.replay.specs.declared.RunFault.TheVariants as fault
-use Rattle.replay.proofs.Exits.{cut-run, cut-stops, made-run_held, after-writes_run, all-carries, all-cuts}
+use Rattle.replay.proofs.Exits.{cut-run, cut-stops, cut-halts, made-run_held, after-writes_run, all-carries, all-cuts}
 use Rattle.replay.proofs.run.Run.carry_out.Goals as goal
 use Rattle.replay.proofs.run.Run.carry_out.Goals.{in-Ok-write_accepted, in-Err-write_accepted}
 
@@ -10,43 +10,65 @@ pub invariant_of-self : goal.invariant_of-self
 invariant_of-self g c =
     let run : Running = record {
       manager = c.self.inside.manager;
-      family = c.self.inside.family;
+      family = c.self.inside.watch.family;
+      trace = c.self.inside.watch.trace;
+      probes = c.self.inside.watch.probes;
       pending = c.self.inside.pending;
       commits = c.self.inside.commits;
       writes = c.self.inside.writes;
       refused = c.self.inside.refused;
     } in
-    cut-run run c.make_writes.new.manager _ _ c.self.invariant c.in-Err.ensures.cut
+    cut-run c.in-Err.fault run c.make_writes.new.manager _ _ _ _ _ c.self.invariant c.in-Err.ensures.kind c.in-Err.ensures.at_line c.in-Err.ensures.at_write
+
+pub returns-in-Err-clause-at_line : goal.returns-in-Err-clause-at_line
+returns-in-Err-clause-at_line g c =
+    let run : Running = record {
+      manager = c.self.inside.manager;
+      family = c.self.inside.watch.family;
+      trace = c.self.inside.watch.trace;
+      probes = c.self.inside.watch.probes;
+      pending = c.self.inside.pending;
+      commits = c.self.inside.commits;
+      writes = c.self.inside.writes;
+      refused = c.self.inside.refused;
+    } in
+    λ failed. cut-halts _ run c.args.self.now c.make_writes.new.manager _ _ _ _ c.self.view_is c.self.invariant c.requires.holds c.requires.slots c.requires.accepted (c.in-Err.ensures.at_line (let same : c.in-Err.fault ≡ fault.Sink = cc in same))
 
 pub returns-in-Err-clause-at_write : goal.returns-in-Err-clause-at_write
 returns-in-Err-clause-at_write g c =
     let run : Running = record {
       manager = c.self.inside.manager;
-      family = c.self.inside.family;
+      family = c.self.inside.watch.family;
+      trace = c.self.inside.watch.trace;
+      probes = c.self.inside.watch.probes;
       pending = c.self.inside.pending;
       commits = c.self.inside.commits;
       writes = c.self.inside.writes;
       refused = c.self.inside.refused;
     } in
-    λ same. cut-stops _ run c.args.self.now c.make_writes.new.manager _ _ _ c.self.view_is c.self.invariant c.requires.holds c.requires.slots c.requires.accepted c.in-Err.ensures.cut
+    λ failed. cut-stops _ run c.args.self.now c.make_writes.new.manager _ _ _ _ c.self.view_is c.self.invariant c.requires.holds c.requires.slots c.requires.accepted (c.in-Err.ensures.at_write (let same : c.in-Err.fault ≡ fault.Device = cc in same))
 
 pub invariant_of-self-2 : goal.invariant_of-self-2
 invariant_of-self-2 g c =
     let run : Running = record {
       manager = c.self.inside.manager;
-      family = c.self.inside.family;
+      family = c.self.inside.watch.family;
+      trace = c.self.inside.watch.trace;
+      probes = c.self.inside.watch.probes;
       pending = c.self.inside.pending;
       commits = c.self.inside.commits;
       writes = c.self.inside.writes;
       refused = c.self.inside.refused;
     } in
-    made-run_held run c.args.self.now c.in-Ok.done c.make_writes.new.manager _ _ c.self.view_is c.self.invariant c.requires.holds c.in-Ok.ensures.made
+    made-run_held _ run c.args.self.now c.in-Ok.done c.make_writes.new.manager _ _ _ _ c.self.view_is c.requires.holds c.in-Ok.ensures.made c.self.invariant
 
 pub invariant_of-self-3 : goal.invariant_of-self-3
 invariant_of-self-3 g c =
     let run : Running = record {
       manager = c.self.inside.manager;
-      family = c.self.inside.family;
+      family = c.self.inside.watch.family;
+      trace = c.self.inside.watch.trace;
+      probes = c.self.inside.watch.probes;
       pending = c.self.inside.pending;
       commits = c.self.inside.commits;
       writes = c.self.inside.writes;
@@ -54,20 +76,24 @@ invariant_of-self-3 g c =
     } in
     let counted : Running = record {
       manager = c.self-2.inside.manager;
-      family = c.self-2.inside.family;
+      family = c.self-2.inside.watch.family;
+      trace = c.self-2.inside.watch.trace;
+      probes = c.self-2.inside.watch.probes;
       pending = c.self-2.inside.pending;
       commits = c.self-2.inside.commits;
       writes = c.self-2.inside.writes;
       refused = c.self-2.inside.refused;
     } in
-    after-writes_run run c.args.self.now counted c.in-Ok.done c.make_writes.new.manager _ _ c.self.view_is c.self.invariant c.requires.holds c.in-Ok.ensures.made
-    (c.self-2.view_is ∙ c.count_commit.ensures)
+    after-writes_run _ run c.args.self.now c.in-Ok.done c.make_writes.new.manager _ _ _ _ c.self.view_is c.requires.holds c.in-Ok.ensures.made counted
+    (c.self-2.view_is ∙ c.count_commit.ensures) c.self.invariant
 
 pub returns-clause-carries : goal.returns-clause-carries
 returns-clause-carries g c =
     let run : Running = record {
       manager = c.self.inside.manager;
-      family = c.self.inside.family;
+      family = c.self.inside.watch.family;
+      trace = c.self.inside.watch.trace;
+      probes = c.self.inside.watch.probes;
       pending = c.self.inside.pending;
       commits = c.self.inside.commits;
       writes = c.self.inside.writes;
@@ -75,7 +101,9 @@ returns-clause-carries g c =
     } in
     let counted : Running = record {
       manager = c.self-2.inside.manager;
-      family = c.self-2.inside.family;
+      family = c.self-2.inside.watch.family;
+      trace = c.self-2.inside.watch.trace;
+      probes = c.self-2.inside.watch.probes;
       pending = c.self-2.inside.pending;
       commits = c.self-2.inside.commits;
       writes = c.self-2.inside.writes;
@@ -83,8 +111,8 @@ returns-clause-carries g c =
     } in
     elim c.match-write_accepted.branch [
       | in-Ok-write_accepted w ↦ rw w.result-is
-          (all-carries _ run c.args.self.now counted c.in-Ok.done c.make_writes.new.manager _ _ _ _ c.self.view_is c.self.invariant c.requires.holds c.requires.slots
-          c.requires.accepted c.in-Ok.ensures.made (c.self-2.view_is ∙ c.count_commit.ensures) w.in-Ok-write_accepted.ensures.whole)
+          (all-carries _ run c.args.self.now c.in-Ok.done c.make_writes.new.manager _ _ _ _ c.self.view_is c.requires.holds c.in-Ok.ensures.made counted
+          (c.self-2.view_is ∙ c.count_commit.ensures) _ c.self.invariant c.requires.slots c.requires.accepted w.in-Ok-write_accepted.ensures.whole)
       | in-Err-write_accepted w ↦ rw w.result-is tt
     ]
 
@@ -92,7 +120,9 @@ pub returns-clause-at_line : goal.returns-clause-at_line
 returns-clause-at_line g c =
     let run : Running = record {
       manager = c.self.inside.manager;
-      family = c.self.inside.family;
+      family = c.self.inside.watch.family;
+      trace = c.self.inside.watch.trace;
+      probes = c.self.inside.watch.probes;
       pending = c.self.inside.pending;
       commits = c.self.inside.commits;
       writes = c.self.inside.writes;
@@ -100,7 +130,9 @@ returns-clause-at_line g c =
     } in
     let counted : Running = record {
       manager = c.self-2.inside.manager;
-      family = c.self-2.inside.family;
+      family = c.self-2.inside.watch.family;
+      trace = c.self-2.inside.watch.trace;
+      probes = c.self-2.inside.watch.probes;
       pending = c.self-2.inside.pending;
       commits = c.self-2.inside.commits;
       writes = c.self-2.inside.writes;
@@ -109,6 +141,6 @@ returns-clause-at_line g c =
     elim c.match-write_accepted.branch [
       | in-Ok-write_accepted w ↦ λ failed. absurd (let bad : Ok tt ≡ Err fault.Sink = sym w.result-is ∙ failed in cc)
       | in-Err-write_accepted w ↦ λ failed.
-          all-cuts _ run c.args.self.now counted c.in-Ok.done c.make_writes.new.manager _ _ _ _ c.self.view_is c.self.invariant c.requires.holds c.requires.slots
-          c.requires.accepted c.in-Ok.ensures.made (c.self-2.view_is ∙ c.count_commit.ensures) w.in-Err-write_accepted.ensures.part
+          all-cuts _ run c.args.self.now c.in-Ok.done c.make_writes.new.manager _ _ _ _ c.self.view_is c.requires.holds c.in-Ok.ensures.made counted
+          (c.self-2.view_is ∙ c.count_commit.ensures) _ c.self.invariant c.requires.slots c.requires.accepted w.in-Err-write_accepted.ensures.part
     ]

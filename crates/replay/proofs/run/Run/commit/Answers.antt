@@ -8,7 +8,9 @@ pub returns-in-Ok-clause-at_line : goal.returns-in-Ok-clause-at_line
 returns-in-Ok-clause-at_line g c =
     let run : Running = record {
       manager = c.self.inside.manager;
-      family = c.self.inside.family;
+      family = c.self.inside.watch.family;
+      trace = c.self.inside.watch.trace;
+      probes = c.self.inside.watch.probes;
       pending = c.self.inside.pending;
       commits = c.self.inside.commits;
       writes = c.self.inside.writes;
@@ -21,7 +23,9 @@ pub returns-in-Ok-clause-at_write : goal.returns-in-Ok-clause-at_write
 returns-in-Ok-clause-at_write g c =
     let run : Running = record {
       manager = c.self.inside.manager;
-      family = c.self.inside.family;
+      family = c.self.inside.watch.family;
+      trace = c.self.inside.watch.trace;
+      probes = c.self.inside.watch.probes;
       pending = c.self.inside.pending;
       commits = c.self.inside.commits;
       writes = c.self.inside.writes;
@@ -34,7 +38,9 @@ pub returns-in-Err-clause-carries : goal.returns-in-Err-clause-carries
 returns-in-Err-clause-carries g c =
     let run : Running = record {
       manager = c.self.inside.manager;
-      family = c.self.inside.family;
+      family = c.self.inside.watch.family;
+      trace = c.self.inside.watch.trace;
+      probes = c.self.inside.watch.probes;
       pending = c.self.inside.pending;
       commits = c.self.inside.commits;
       writes = c.self.inside.writes;
@@ -47,7 +53,9 @@ pub returns-in-Err-clause-at_line : goal.returns-in-Err-clause-at_line
 returns-in-Err-clause-at_line g c =
     let run : Running = record {
       manager = c.self.inside.manager;
-      family = c.self.inside.family;
+      family = c.self.inside.watch.family;
+      trace = c.self.inside.watch.trace;
+      probes = c.self.inside.watch.probes;
       pending = c.self.inside.pending;
       commits = c.self.inside.commits;
       writes = c.self.inside.writes;

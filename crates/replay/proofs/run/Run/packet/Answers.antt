@@ -10,4 +10,4 @@ pub returns-in-Err-clause-at_line : goal.returns-in-Err-clause-at_line
 returns-in-Err-clause-at_line g c =
     let shows = subst (λ (run : Running). ShowsRules run.manager) c.self.view_is c.self.invariant.shows in
     packet-cuts _ c.args.self.now c.args.key.now _ c.look.result _ _ shows c.requires.idle c.requires.slots c.key_fields.ensures c.look.ensures
-    (subst (λ (run : Running). AppendsPart (g.K.Sink.taken c.args.sink.now) (g.K.Sink.taken c.write_packet.new.sink) (packet_line run.family c.look.result)) c.self.view_is c.in-Err.ensures.part)
+    (subst (λ (run : Running). AppendsPart (g.K.Sink.taken c.args.sink.now) (g.K.Sink.taken c.write_packet.new.sink) (packet_line run.family c.look.result)) c.self.view_is (subst (λ family. AppendsPart (g.K.Sink.taken c.args.sink.now) (g.K.Sink.taken c.write_packet.new.sink) (packet_line family c.look.result)) c.family.ensures c.in-Err.ensures.part))

@@ -9,7 +9,9 @@ pub invariant_of-self : goal.invariant_of-self
 invariant_of-self c =
     let run : Running = record {
       manager = c.self.inside.manager;
-      family = c.self.inside.family;
+      family = c.self.inside.watch.family;
+      trace = c.self.inside.watch.trace;
+      probes = c.self.inside.watch.probes;
       pending = c.self.inside.pending;
       commits = c.self.inside.commits;
       writes = c.self.inside.writes;
