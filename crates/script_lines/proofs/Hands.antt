@@ -1,14 +1,20 @@
 -- What is handed out, by what was gathered.
-use Rattle.std.proofs.Common.{◌≡◌, ◌≢◌, ◌<◌, ◌≤◌, ◌+◌, ℕ, Some, Err, List, [], ◌∷◌, ◌++◌, ◌==◌, length, take, drop, refl, ap, sym, ◌∙◌, append_assoc, append-nil, arith, length-take, drop-drop, subst}
+use Rattle.std.proofs.Common.{◌≡◌, ◌≢◌, ◌<◌, ◌≤◌, ◌+◌, ℕ, inl, Some, None, Ok, Option, Result, Err, List, [], ◌∷◌, ◌++◌, ◌==◌, length, take, drop, refl, ap, sym, ◌∙◌, append_assoc, append-nil, arith, length-take, drop-drop, subst}
 use Rattle.std.proofs.lemmas.List.{take-append-drop}
 use Rattle.std.proofs.lemmas.Bool.Decides.{nat_tests}
+use Rattle.std.proofs.Math.Seq.{take-length}
+use Rattle.std.specs.List.{concat}
+use Rattle.std.specs.Io.KnownBytes.{IsAtEnd}
+use Rattle.std.proofs.KnownBytes.{Consumes-nil}
+use Rattle.script_lines.specs.declared.Line.{Line}
 use Rattle.script_lines.specs.declared.LineFault.{LineFault}
 use Rattle.script_lines.specs.declared.LineFault.TheVariants.{Read, ScriptTooLong, TooLong, BadByte}
 use Rattle.script_lines.specs.declared.Over.TheVariants as over
 use Rattle.script_lines.specs.declared.scan.Found.TheVariants as found
 use Rattle.script_lines.specs.Lines.{limits, NumberedLine, EndOfInput, Faulty, line_feed, byte_fault, ends_at, onto_lines, lines_from, ScriptLines}
-use Rattle.script_lines.specs.Reader.{Held, IsOpenLine, HandsWhole, Hands, Follows, lines_held}
-use Rattle.script_lines.specs.Scan.{IsScanned, StopsAt}
+use Rattle.script_lines.specs.Reader.{Held, IsOpenLine, HandsByGiven, HandsWhole, HandsLast, Hands, Follows, lines_held}
+use Rattle.script_lines.specs.Scan.{IsScanned, StopsAt, Gathers}
+use Rattle.script_lines.specs.Given.{HasEnd, MayGive, GivesPieces}
 use Rattle.script_lines.proofs.FirstLines.{picks, lines-open, lines-whole, lines-last}
 
 -- a reader held some bytes and read more, of which so many are scanned, and these are left
@@ -142,3 +148,73 @@ pub follows-last : (seen old : Held) (left after buffer : List ℕ) (n : ℕ) (l
 follows-last seen old left after buffer n line before number pending same is used none some text same_number empty =
     subst (λ h. lines_held h left ≡ onto_lines line (lines_from limits before number [] (pending ++ after))) same
     (follows-last-at seen left after buffer n line before number pending is used none some text same_number empty)
+
+-- ---- by the pieces that were given
+
+-- what was gathered, as pieces
+pub by-pieces : (old : Held) (buffer : List ℕ) (n : ℕ) (a b : Option (List ℕ)) (given0 given1 pieces : List (List ℕ)) (left after : List ℕ)
+    → Gathers old.before old.pending buffer a b given0 given1 pieces → IsScanned buffer n old.before → MayGive left pieces after → IsGathered old left after buffer n
+by-pieces old buffer n a b given0 given1 pieces left after is scan may = record { got = concat pieces; grown = is.grown; taken = may.bytes; scan = scan }
+
+pub gives-pieces : (before : ℕ) (old new : List ℕ) (a b : Option (List ℕ)) (given0 given1 pieces : List (List ℕ)) → Gathers before old new a b given0 given1 pieces → (HasEnd pieces → IsAtEnd b)
+    → GivesPieces given0 given1 a b pieces
+gives-pieces before old new a b given0 given1 pieces is end = record { given = is.given; taken = is.taken; end = end }
+
+-- nothing was read
+pub gives-none : (given : List (List ℕ)) (a : Option (List ℕ)) → GivesPieces given given a a []
+gives-none given a = record { given = sym (append-nil given); taken = Consumes-nil a; end = λ e. absurd e }
+
+-- it was over before
+pub hands-over : (old : Held) (result : Result (Option Line) LineFault) → old.over ≢ over.Going → HandsByGiven old [] result old
+hands-over old result over = record { hands = λ going. absurd (over going); ended = λ e. absurd e; rests = λ _. refl; last = inl refl }
+
+hands-last-at : (old new : Held) (left after buffer : List ℕ) (n : ℕ) (line : NumberedLine) → IsGathered old left after buffer n → drop n buffer ≡ [] → after ≡ [] → n ≢ 0
+    → line.text ≡ take n buffer → line.number ≡ old.number → new.pending ≡ [] → new.over ≡ over.Ended → HandsLast old left line new after
+hands-last-at old new left after buffer n line is used none some text number empty ended =
+    let there : n ≤ length buffer = is.scan.there in
+    let long : length (take n buffer) ≡ n = simp length-take (omega arith) in
+    record {
+      bytes = gathered old left after buffer n is ∙ ap (λ r. take n buffer ++ (r ++ after)) used ∙ ap (λ r. take n buffer ++ r) none ∙ append-nil (take n buffer) ∙ sym text;
+      some = λ e. some (sym long ∙ ap length (sym text ∙ e));
+      one_line = subst (λ t. IsOpenLine old.before t) (sym text) is.scan.one_line;
+      number = number;
+      pending_new = empty;
+      none = none;
+      ended = ended;
+    }
+
+pub hands-last : (seen old new : Held) (left after buffer : List ℕ) (n : ℕ) (line : NumberedLine) → seen ≡ old → IsGathered seen left after buffer n → drop n buffer ≡ [] → after ≡ [] → n ≢ 0
+    → line.text ≡ take n buffer → line.number ≡ seen.number → new.pending ≡ [] → new.over ≡ over.Ended → HandsLast old left line new after
+hands-last seen old new left after buffer n line same is used none some text number empty ended =
+    subst (λ h. HandsLast h left line new after) same (hands-last-at seen new left after buffer n line is used none some text number empty ended)
+
+hands-end-at : (old new : Held) (left after buffer : List ℕ) (n : ℕ) → IsGathered old left after buffer n → drop n buffer ≡ [] → n ≡ 0 → after ≡ [] → new.over ≡ over.Ended → Hands old left (Ok None) new after
+hands-end-at old new left after buffer n is used zero none ended = (
+  gathered old left after buffer n is ∙ ap (λ r. take n buffer ++ (r ++ after)) used ∙ ap (λ r. take n buffer ++ r) none ∙ ap (λ k. take k buffer ++ []) zero,
+  none,
+  ended,
+)
+
+pub hands-end : (seen old new : Held) (left after buffer : List ℕ) (n : ℕ) → seen ≡ old → IsGathered seen left after buffer n → drop n buffer ≡ [] → n ≡ 0 → after ≡ [] → new.over ≡ over.Ended
+    → Hands old left (Ok None) new after
+hands-end seen old new left after buffer n same is used zero none ended = subst (λ h. Hands h left (Ok None) new after) same (hands-end-at seen new left after buffer n is used zero none ended)
+
+hands-read-at : (old new : Held) (left after buffer : List ℕ) (n : ℕ) → IsGathered old left after buffer n → n ≡ length buffer → new.pending ≡ buffer → new.over ≡ over.Going → Hands old left (Err Read) new after
+hands-read-at old new left after buffer n is all same going =
+    let whole : take n buffer ≡ new.pending = ap (λ k. take k buffer) all ∙ take-length buffer ∙ sym same in
+    let bytes : old.pending ++ left ≡ new.pending ++ after =
+    ap (λ l. old.pending ++ l) is.taken ∙ sym (append_assoc old.pending is.got after) ∙ ap (λ b. b ++ after) (sym is.grown ∙ sym same) in
+    (record { bytes = bytes; one_line = subst (λ t. IsOpenLine old.before t) whole is.scan.one_line }, going)
+
+pub hands-read : (seen old new : Held) (left after buffer : List ℕ) (n : ℕ) → seen ≡ old → IsGathered seen left after buffer n → n ≡ length buffer → new.pending ≡ buffer → new.over ≡ over.Going
+    → Hands old left (Err Read) new after
+hands-read seen old new left after buffer n same is all pending going = subst (λ h. Hands h left (Err Read) new after) same (hands-read-at seen new left after buffer n is all pending going)
+
+-- the rest of it, where it goes on
+pub by-given : (seen old new : Held) (result : Result (Option Line) LineFault) (buffer : List ℕ) (a b : Option (List ℕ)) (given0 given1 pieces : List (List ℕ))
+    → seen ≡ old → Gathers seen.before seen.pending buffer a b given0 given1 pieces → old.over ≡ over.Going
+    → ((left after : List ℕ) → MayGive left pieces after → Hands old left result new after) → (HasEnd pieces → new.over ≡ over.Ended) → HandsByGiven old pieces result new
+by-given seen old new result buffer a b given0 given1 pieces same is going hands ended =
+    let P : Held → Type 0 = λ h. Gathers h.before h.pending buffer a b given0 given1 pieces in
+    let here = subst P same is in
+    record { hands = λ _. hands; ended = ended; rests = λ other. absurd (other going); last = here.last }

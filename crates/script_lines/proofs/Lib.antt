@@ -4,3 +4,5 @@ pub mod Told
 mod Scans
 mod Buffers
 mod Hands
+pub mod Pieces
+mod Histories

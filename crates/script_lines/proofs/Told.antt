@@ -1,8 +1,10 @@
 -- What is told of the bytes of a source or a sink, over several calls.
-use Rattle.std.proofs.Common.{◌≡◌, ◌≤◌, ◌+◌, ℕ, List, length, take, drop, Option, Some, None, arith, length-drop, subst, sym, refl}
+use Rattle.std.proofs.Common.{Bool, true, false, ◌≡◌, ◌≤◌, ◌+◌, ℕ, List, length, take, drop, Option, Some, None, arith, length-drop, subst, sym, refl}
 use Rattle.std.specs.Io.KnownBytes.{Appends, Consumes}
+use Rattle.script_lines.specs.Given.{counted}
 use Rattle.std.proofs.KnownBytes.{Appends-trans}
 use Rattle.std.proofs.Math.Seq.{take-add}
+use Rattle.std.proofs.lemmas.List.{take_all}
 
 -- what was told stays told
 pub told_forward : (a b : Option (List ℕ)) (left : List ℕ) → (bytes : List ℕ) × Consumes a b bytes → a ≡ Some left → (mid : List ℕ) × (b ≡ Some mid)
@@ -20,3 +22,12 @@ pub Appends-part : (a b c : Option (List ℕ)) (piece : List ℕ) (done : ℕ) �
 Appends-part a b c piece done le x y =
     let fits = simp length-drop at y.1 in
     (done + y.0, omega (arith, fits), Appends-more a b c piece done y.0 x y.2)
+
+-- a front at least as long as the whole
+pub take-all : (n : ℕ) (xs : List ℕ) → length xs ≤ n → take n xs ≡ xs
+take-all n xs le = take_all n xs le
+
+-- what is so of both tellings
+pub each-telling : (P : Option (List ℕ) → Option (List ℕ) → Type 0) (which : Bool) (a b : Option (List ℕ)) (x y : List ℕ) → P a b → P (Some x) (Some y) → P (counted which a x) (counted which b y)
+each-telling P true a b x y told noted = told
+each-telling P false a b x y told noted = noted

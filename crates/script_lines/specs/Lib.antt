@@ -4,3 +4,4 @@ pub mod Reader
 pub mod Memory
 pub mod Buffer
 pub mod Scan
+pub mod Given

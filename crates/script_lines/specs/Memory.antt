@@ -45,20 +45,28 @@ pub record FailingKept : Type 0 where
   pub kept : Kept
   pub calls : CallCount
 
--- what a failing source has: the bytes left, the most bytes of a read, how often a read failed, and its calls
+-- what a source in memory has: the bytes left, and the pieces that it gave
+pub record Left : Type 0 where
+  pub bytes : List ℕ
+  pub given : List (List ℕ)
+
+-- what a failing source has: the bytes left, the pieces that it gave, the most bytes of a read, how often a read failed, and its calls
 pub record FailingLeft : Type 0 where
   pub bytes : List ℕ
+  pub given : List (List ℕ)
   pub piece : ℕ
   pub failed : ℕ
   pub calls : CallCount
 
 -- so many bytes are left, each of them this one, and a read gives so many at most
 pub record Filling : Type 0 where
+  pub given : List (List ℕ)
   pub byte : ℕ
   pub count : ℕ
   pub piece : ℕ
 
--- what an adapter has: the reader or writer, and how often it failed
+-- what an adapter has: the reader or writer, the pieces of its calls that answered Ok, and how often it failed
 pub record Counted (Inner : Type 0) : Type 0 where
   pub inner : Inner
+  pub pieces : List (List ℕ)
   pub failed : ℕ

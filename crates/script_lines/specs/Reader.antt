@@ -1,6 +1,8 @@
 -- What a reader of lines holds, and what it hands out.
 use Rattle.std.specs.Prelude.{◌≡◌, ◌≢◌, ◌⊎◌, ℕ, ◌+◌, ◌≤◌, ◌<◌, Bool, not, ◌==◌, ◌&&◌, IsTrue, Option, Some, None, Result, Ok, Err, List, [], ◌∷◌, ◌++◌, length}
 use Rattle.std.specs.List.{AllByRecursion}
+use Rattle.std.specs.List.{concat}
+use Rattle.script_lines.specs.Given.{HasEnd, MayGive}
 use Rattle.script_lines.specs.declared.Line.{Line}
 use Rattle.script_lines.specs.declared.LineFault.{LineFault}
 use Rattle.script_lines.specs.declared.LineFault.TheVariants as fault
@@ -90,3 +92,16 @@ abbrev pub Again : Over → Result (Option Line) LineFault → Type 0
 Again over.Going result = Unit {0}
 Again over.Ended result = result ≡ Ok None
 Again (over.Stopped stopped) result = result ≡ Err stopped
+
+-- at the last of these reads the bytes held and read before were a part of one line
+abbrev pub LastAtOpenLine : ℕ → List ℕ → List (List ℕ) → Type 0
+LastAtOpenLine before held pieces =
+    (pieces ≡ []) ⊎ ((front : List (List ℕ)) × (last : List ℕ) × (pieces ≡ front ++ last ∷ []) × IsOpenLine before (held ++ concat front))
+
+-- what it answers by the pieces that its source gave: the answer is right whatever bytes come after them, and none
+-- come after an end; it reads only where it holds no whole line, and not at all once it is over
+pub record HandsByGiven (old : Held) (pieces : List (List ℕ)) (result : Result (Option Line) LineFault) (new : Held) : Type 0 where
+  pub hands : old.over ≡ over.Going → (left after : List ℕ) → MayGive left pieces after → Hands old left result new after
+  pub ended : HasEnd pieces → new.over ≡ over.Ended
+  pub rests : old.over ≢ over.Going → pieces ≡ []
+  pub last : LastAtOpenLine old.before old.pending pieces

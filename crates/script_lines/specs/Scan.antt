@@ -1,7 +1,9 @@
 -- Where a scan of the bytes held stops.
-use Rattle.std.specs.Prelude.{◌≡◌, ◌≢◌, ℕ, ◌+◌, ◌<◌, ◌≤◌, List, ◌∷◌, Some, [], length, take}
+use Rattle.std.specs.Prelude.{◌≡◌, ◌≢◌, ℕ, ◌+◌, ◌<◌, ◌≤◌, List, ◌∷◌, ◌++◌, Option, Some, [], length, take}
+use Rattle.std.specs.List.{concat}
+use Rattle.std.specs.Io.KnownBytes.{Consumes}
 use Rattle.script_lines.specs.Lines.{limits, byte_fault}
-use Rattle.script_lines.specs.Reader.{IsOpenLine}
+use Rattle.script_lines.specs.Reader.{IsOpenLine, LastAtOpenLine}
 use Rattle.script_lines.specs.declared.LineFault.TheVariants as fault
 use Rattle.script_lines.specs.declared.Over.{Over}
 use Rattle.script_lines.specs.declared.Over.TheVariants as over
@@ -25,3 +27,10 @@ pub record IsReader (held : List ℕ) (scanned before number : ℕ) (is : Over) 
   pub scan : IsScanned held scanned before
   pub lines : number ≤ before + 1
   pub sound : is ≢ over.Stopped fault.Read
+
+-- these pieces were read behind the bytes that were held
+pub record Gathers (before : ℕ) (old new : List ℕ) (left after : Option (List ℕ)) (given_old given_new : List (List ℕ)) (pieces : List (List ℕ)) : Type 0 where
+  pub grown : new ≡ old ++ concat pieces
+  pub given : given_new ≡ given_old ++ pieces
+  pub taken : Consumes left after (concat pieces)
+  pub last : LastAtOpenLine before old pieces

@@ -1,17 +1,21 @@
-// Std's readers and writers as sources and sinks.
-ghost use Rattle.std.specs.Prelude.{◌≡◌, ◌<◌, ◌≤◌, ℕ, length, take, IfSome, IfNone};
+// Std's readers and writers as sources and sinks. No contract of std says what a file gives or takes, so
+// what is remembered here rests on these few lines: that at each call that answers Ok the history gets the
+// bytes that std's call put into the buffer, or took of it, and that nobody else reads or writes there.
+ghost use Rattle.std.specs.Prelude.{◌≡◌, ◌<◌, ◌≤◌, ℕ, [], length, take, IfSome, IfNone};
+ghost use Rattle.std.specs.List.{concat};
 ghost use Rattle.std.specs.Io.KnownBytes.{Appends};
 
 use crate::counts::fail;
-use crate::{Failed, Sink, Source};
+use crate::{Failed, Piece, Pieces, Sink, Source};
 use std::io::{Read, Write};
 use std::marker::Model;
 
-/// Std's reader as a source. It tells of its bytes what the reader tells, and each error of the reader
-/// is a failure.
+/// Std's reader as a source. Of the bytes to come it tells what the reader tells, of those that it gave
+/// all; each error of the reader is a failure.
 #[derive(Drop)]
 pub struct ReadFrom<R> {
     reader: R,
+    history: Pieces,
     failed: u64,
 }
 
@@ -20,37 +24,47 @@ impl<R> Model for ReadFrom<R> {
 
     ghost Value = { Counted R };
 
-    ghost view = { λ s. record { inner = s.reader; failed = s.failed } };
+    ghost view = { λ s. record { inner = s.reader; pieces = s.history.items; failed = s.failed } };
 }
 
 impl<R> ReadFrom<R> {
     /// A source over this reader, which hasn't failed yet. Takes no memory.
     pub fn new(reader: R) -> ReadFrom<R>
-        ensures { result ≡ record { inner = reader; failed = 0 } }
+        ensures { result ≡ record { inner = reader; pieces = []; failed = 0 } }
     {
-        ReadFrom { reader, failed: 0 }
+        ReadFrom {
+            reader,
+            history: Pieces::new(),
+            failed: 0,
+        }
     }
 }
 
 impl<R: Read> Source for ReadFrom<R> {
     ghost left = { λ s. R.remaining s.inner };
 
+    ghost given = { λ s. s.pieces };
+
     ghost faults = { λ s. s.failed };
 
     fn read(&mut self, into: &mut [u8]) -> Result<usize, Failed> {
         match self.reader.read(into) {
-            Ok(n) => Ok(n),
+            Ok(n) => {
+                self.history = self.history.and_piece(&Piece { bytes: &into[..n] });
+                Ok(n)
+            }
             Err(_) => Err(fail(&mut self.failed)),
         }
     }
 }
 
-/// Std's writer as a sink. It tells of its bytes what the writer tells. It flushes after each write. An
-/// error of the writer, a failed flush, and a write that takes nothing of a piece that isn't empty are
-/// failures.
+/// Std's writer as a sink. Of the bytes that the writer holds it tells what the writer tells, of those
+/// that it accepted all. It flushes after each write. An error of the writer, a failed flush, and a write
+/// that takes nothing of a piece that isn't empty are failures.
 #[derive(Drop)]
 pub struct WriteTo<W> {
     writer: W,
+    history: Pieces,
     failed: u64,
 }
 
@@ -59,26 +73,35 @@ impl<W> Model for WriteTo<W> {
 
     ghost Value = { Counted W };
 
-    ghost view = { λ s. record { inner = s.writer; failed = s.failed } };
+    ghost view = { λ s. record { inner = s.writer; pieces = s.history.items; failed = s.failed } };
 }
 
 impl<W> WriteTo<W> {
     /// A sink over this writer, which hasn't failed yet. Takes no memory.
     pub fn new(writer: W) -> WriteTo<W>
-        ensures { result ≡ record { inner = writer; failed = 0 } }
+        ensures { result ≡ record { inner = writer; pieces = []; failed = 0 } }
     {
-        WriteTo { writer, failed: 0 }
+        WriteTo {
+            writer,
+            history: Pieces::new(),
+            failed: 0,
+        }
     }
 }
 
 impl<W: Write> Sink for WriteTo<W> {
     ghost taken = { λ s. W.contents s.inner };
 
+    ghost accepted = { λ s. concat s.pieces };
+
     ghost faults = { λ s. s.failed };
 
     fn write(&mut self, from: &[u8]) -> Result<usize, Failed> {
         match written(&mut self.writer, from) {
-            Some(n) => Ok(n),
+            Some(n) => {
+                self.history = self.history.and_piece(&Piece { bytes: &from[..n] });
+                Ok(n)
+            }
             None => Err(fail(&mut self.failed)),
         }
     }

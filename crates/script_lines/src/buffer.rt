@@ -57,8 +57,9 @@ impl Buffer {
     // Reads more bytes after those held, and answers how many; none at the end of the input.
     pub fn fill<S: Source>(&mut self, source: &mut S) -> Result<usize, Failed>
         requires { length self.old < 4096 }
-        ensures ok { IfOk result (λ n. Gains self.old self.new (S.left source.old) (S.left source.new) n) }
+        ensures ok { IfOk result (λ n. Gains self.old self.new (S.left source.old) (S.left source.new) (S.given source.old) (S.given source.new) n) }
         ensures err { OnErr result (self.new ≡ self.old) }
+        ensures given_err { OnErr result (S.given source.new ≡ S.given source.old) }
         ensures left_err { OnErr result (Keeps (S.left source.old) (S.left source.new)) }
         ensures cause { HasCause (S.faults source.old) (S.faults source.new) result }
     {

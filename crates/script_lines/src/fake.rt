@@ -21,7 +21,7 @@ impl<'a> Model for FailSource<'a> {
 
     ghost Value = { FailingLeft };
 
-    ghost view = { λ s. record { bytes = s.source; piece = s.piece; failed = s.failed; calls = s.calls } };
+    ghost view = { λ s. record { bytes = s.source.bytes; given = s.source.given; piece = s.piece; failed = s.failed; calls = s.calls } };
 
     ghost invariant = { λ s. 0 < s.piece };
 }
@@ -32,7 +32,7 @@ impl<'a> FailSource<'a> {
     /// the least of `piece`, the buffer's length and what is left. Takes no memory.
     pub fn new(bytes: &'a [u8], piece: u32, calls: &'a [u64]) -> FailSource<'a>
         requires some { 0 < piece }
-        ensures { result ≡ record { bytes = bytes.entry.now; piece = piece; failed = 0; calls = record { listed = calls.entry.now; made = 0 } } }
+        ensures { result ≡ record { bytes = bytes.entry.now; given = []; piece = piece; failed = 0; calls = record { listed = calls.entry.now; made = 0 } } }
     {
         FailSource {
             source: MemSource::new(bytes),
@@ -44,18 +44,22 @@ impl<'a> FailSource<'a> {
 }
 
 impl Source for FailSource<'_> {
-    ghost use Rattle.std.specs.Prelude.{◌≡◌, ◌↔◌, ◌≤◌, length, min, Some, IsErr, IfOk, OnOk, OnErr};
+    ghost use Rattle.std.specs.Prelude.{◌≡◌, ◌↔◌, ◌≤◌, ◌<◌, length, min, Some, IsErr, IfOk, OnOk, OnErr};
     ghost use Rattle.std.specs.Io.KnownBytes.{ReadConsumes};
     ghost use Rattle.script_lines.specs.Cause.{HasCause};
+    ghost use Rattle.script_lines.specs.Given.{Gives};
     ghost use Rattle.script_lines.specs.Memory.{IsNextListed, with_call, raised};
 
     ghost left = { λ s. Some s.bytes };
+
+    ghost given = { λ s. s.given };
 
     ghost faults = { λ s. s.failed };
 
     fn read(&mut self, into: &mut [u8]) -> Result<usize, Failed>
         ensures count { IfOk result (λ n. n ≤ length into.new) }
         ensures bytes { ReadConsumes (Some self.old.bytes) (Some self.new.bytes) result into.new }
+        ensures given { 0 < length into.new → Gives self.old.given self.new.given result into.new }
         ensures cause { HasCause self.old.failed self.new.failed result }
         ensures fails { IsErr result ↔ IsNextListed self.old.calls }
         ensures most { IfOk result (λ n. n ≡ min (min self.old.piece (length into.new)) (length self.old.bytes)) }
@@ -125,9 +129,12 @@ impl Sink for FailSink<'_> {
     ghost use Rattle.std.specs.Prelude.{◌≡◌, ◌↔◌, ◌<◌, ◌≤◌, ℕ, length, take, Some, IsOk, IfOk, OnOk, OnErr};
     ghost use Rattle.std.specs.Io.KnownBytes.{Appends};
     ghost use Rattle.script_lines.specs.Cause.{HasCause};
+    ghost use Rattle.script_lines.specs.Given.{Accepts};
     ghost use Rattle.script_lines.specs.Memory.{IsNextListed, with_call, with_piece, with_fault};
 
     ghost taken = { λ s. Some s.kept.bytes };
+
+    ghost accepted = { λ s. s.kept.bytes };
 
     ghost faults = { λ s. s.kept.failed };
 
@@ -136,6 +143,7 @@ impl Sink for FailSink<'_> {
         ensures count { IfOk result (λ n. n ≤ length from.now) }
         ensures bytes { IfOk result (λ n. Appends (Some self.old.kept.bytes) (Some self.new.kept.bytes) (take n from.now)) }
         ensures part { OnErr result ((n : ℕ) × (n ≤ length from.now) × Appends (Some self.old.kept.bytes) (Some self.new.kept.bytes) (take n from.now)) }
+        ensures accepted { Accepts self.old.kept.bytes self.new.kept.bytes result from.now }
         ensures cause { HasCause self.old.kept.failed self.new.kept.failed result }
         ensures fits { IsOk result ↔ ((¬ IsNextListed self.old.calls) × (length from.now ≤ self.old.kept.room)) }
         ensures all { IfOk result (λ n. n ≡ length from.now) }

@@ -1,21 +1,27 @@
 //! Where a script comes from, where a report goes, and the lines of a script.
 //!
-//! - A `Source` gives bytes and a `Sink` takes them. Each may tell its bytes (`left`, `taken`), and each
-//!   counts its failures (`faults`), so that a contract above says what was read and written, and
-//!   answers a failure only where the count rose.
+//! - A `Source` gives bytes and a `Sink` takes them. Each tells what its calls that answered Ok did
+//!   (`given`, `accepted`), may tell what comes and what it holds (`left`, `taken`), and counts its
+//!   failures (`faults`), so that a contract above says what was read and written, and answers a failure
+//!   exactly where the count rose: none is passed over in silence, and none is tried again.
 //! - `Lines` cuts what a source gives into lines. Where the reads cut the bytes doesn't matter: a line
 //!   is handed out as soon as it is whole, and nothing is read while a whole line or a faulty byte is
 //!   held. It has a buffer of its own and takes no memory.
 //! - `MemSource`, `MemSink` and `FillSource` stand in for files, `FailSource` and `FailSink` fail at the
 //!   calls that they are told to, `ReadFrom` and `WriteTo` adapt std's readers and writers.
 //!
-//! What isn't told isn't claimed: std's input and output tell nothing of their bytes.
+//! A `History` is a list that only contracts see: an object remembers in it what happened, at no cost.
+//!
+//! What isn't told isn't claimed: std's input and output foretell nothing, and of a failed write they
+//! don't know what became of it. That what `ReadFrom` and `WriteTo` remember is what std's calls gave and
+//! took rests on their few lines.
 #![tactic(auto)]
 
 mod adapters;
 mod buffer;
 mod counts;
 mod fake;
+mod history;
 mod memory;
 mod reader;
 mod scan;
@@ -26,6 +32,7 @@ mod tests;
 
 pub use adapters::{ReadFrom, WriteTo};
 pub use fake::{FailSink, FailSource};
+pub use history::{History, Piece, Pieces};
 pub use memory::{FillSource, MemSink, MemSource};
 pub use reader::Lines;
 pub use sink::{Sink, write_all};

@@ -3,7 +3,7 @@ ghost use Rattle.std.specs.Prelude.{◌≡◌, ◌<◌, ◌≤◌, ℕ, List, []
 ghost use Rattle.script_lines.specs.Memory.{Kept, Filling};
 
 use crate::counts::fail;
-use crate::{Failed, Sink, Source};
+use crate::{Failed, Piece, Pieces, Sink, Source};
 use std::alloc::{AllocError, Global};
 use std::marker::Model;
 
@@ -11,41 +11,52 @@ use std::marker::Model;
 #[derive(Drop)]
 pub struct MemSource<'a> {
     bytes: &'a [u8],
+    history: Pieces,
 }
 
 impl<'a> Model for MemSource<'a> {
-    ghost Value = { List ℕ };
+    ghost use Rattle.script_lines.specs.Memory.{Left};
 
-    ghost view = { λ s. s.bytes.now };
+    ghost Value = { Left };
+
+    ghost view = { λ s. record { bytes = s.bytes.now; given = s.history.items } };
 }
 
 impl<'a> MemSource<'a> {
     /// A source that has these bytes left. Takes no memory.
     pub fn new(bytes: &'a [u8]) -> MemSource<'a>
-        ensures { result ≡ bytes.entry.now }
+        ensures { result ≡ record { bytes = bytes.entry.now; given = [] } }
     {
-        MemSource { bytes }
+        MemSource {
+            bytes,
+            history: Pieces::new(),
+        }
     }
 }
 
 impl Source for MemSource<'_> {
-    ghost use Rattle.std.specs.Prelude.{◌≡◌, ◌≤◌, length, min, Ok, Some, IfOk};
+    ghost use Rattle.std.specs.Prelude.{◌≡◌, ◌≤◌, ◌<◌, length, min, Ok, Some, IfOk};
     ghost use Rattle.std.specs.Io.KnownBytes.{ReadConsumes};
     ghost use Rattle.script_lines.specs.Cause.{HasCause};
+    ghost use Rattle.script_lines.specs.Given.{Gives};
 
-    ghost left = { λ s. Some s };
+    ghost left = { λ s. Some s.bytes };
+
+    ghost given = { λ s. s.given };
 
     ghost faults = { λ s. 0 };
 
     fn read(&mut self, into: &mut [u8]) -> Result<usize, Failed>
         ensures count { IfOk result (λ n. n ≤ length into.new) }
-        ensures bytes { ReadConsumes (Some self.old) (Some self.new) result into.new }
+        ensures bytes { ReadConsumes (Some self.old.bytes) (Some self.new.bytes) result into.new }
+        ensures given { 0 < length into.new → Gives self.old.given self.new.given result into.new }
         ensures cause { HasCause 0 0 result }
-        ensures most { result ≡ Ok (min (length self.old) (length into.new)) }
+        ensures most { result ≡ Ok (min (length self.old.bytes) (length into.new)) }
     {
         let n = self.bytes.len().min(into.len());
         into[..n].copy_from_slice(&self.bytes[..n]);
         self.bytes = &self.bytes[n..];
+        self.history = self.history.and_piece(&Piece { bytes: &into[..n] });
         Ok(n)
     }
 }
@@ -56,12 +67,13 @@ pub struct FillSource {
     byte: u8,
     count: u32,
     piece: u32,
+    history: Pieces,
 }
 
 impl Model for FillSource {
     ghost Value = { Filling };
 
-    ghost view = { λ s. record { byte = s.byte; count = s.count; piece = s.piece } };
+    ghost view = { λ s. record { given = s.history.items; byte = s.byte; count = s.count; piece = s.piece } };
 
     ghost invariant = { λ s. 0 < s.piece };
 }
@@ -71,24 +83,33 @@ impl FillSource {
     /// memory.
     pub fn new(byte: u8, count: u32, piece: u32) -> FillSource
         requires some { 0 < piece }
-        ensures { result ≡ record { byte = byte; count = count; piece = piece } }
+        ensures { result ≡ record { given = []; byte = byte; count = count; piece = piece } }
     {
-        FillSource { byte, count, piece }
+        FillSource {
+            byte,
+            count,
+            piece,
+            history: Pieces::new(),
+        }
     }
 }
 
 impl Source for FillSource {
-    ghost use Rattle.std.specs.Prelude.{◌≡◌, ◌≤◌, length, min, replicate, Ok, Some, IfOk};
+    ghost use Rattle.std.specs.Prelude.{◌≡◌, ◌≤◌, ◌<◌, length, min, replicate, Ok, Some, IfOk};
     ghost use Rattle.std.specs.Io.KnownBytes.{ReadConsumes};
     ghost use Rattle.script_lines.specs.Cause.{HasCause};
+    ghost use Rattle.script_lines.specs.Given.{Gives};
 
     ghost left = { λ s. Some (replicate s.count s.byte) };
+
+    ghost given = { λ s. s.given };
 
     ghost faults = { λ s. 0 };
 
     fn read(&mut self, into: &mut [u8]) -> Result<usize, Failed>
         ensures count { IfOk result (λ n. n ≤ length into.new) }
         ensures bytes { ReadConsumes (Some (replicate self.old.count self.old.byte)) (Some (replicate self.new.count self.new.byte)) result into.new }
+        ensures given { 0 < length into.new → Gives self.old.given self.new.given result into.new }
         ensures cause { HasCause 0 0 result }
         ensures most { result ≡ Ok (min (min self.old.count self.old.piece) (length into.new)) }
         ensures byte { self.new.byte ≡ self.old.byte }
@@ -97,6 +118,7 @@ impl Source for FillSource {
         let n = (self.count.min(self.piece) as usize).min(into.len());
         into[..n].fill(self.byte);
         self.count -= n as u32;
+        self.history = self.history.and_piece(&Piece { bytes: &into[..n] });
         Ok(n)
     }
 }
@@ -166,9 +188,12 @@ impl Sink for MemSink {
     ghost use Rattle.std.specs.Prelude.{◌≡◌, ◌↔◌, ◌<◌, ◌≤◌, ℕ, length, take, Some, Ok, IsOk, IfOk, OnOk, OnErr};
     ghost use Rattle.std.specs.Io.KnownBytes.{Appends};
     ghost use Rattle.script_lines.specs.Cause.{HasCause};
+    ghost use Rattle.script_lines.specs.Given.{Accepts};
     ghost use Rattle.script_lines.specs.Memory.{with_piece, with_fault};
 
     ghost taken = { λ s. Some s.bytes };
+
+    ghost accepted = { λ s. s.bytes };
 
     ghost faults = { λ s. s.failed };
 
@@ -177,6 +202,7 @@ impl Sink for MemSink {
         ensures count { IfOk result (λ n. n ≤ length from.now) }
         ensures bytes { IfOk result (λ n. Appends (Some self.old.bytes) (Some self.new.bytes) (take n from.now)) }
         ensures part { OnErr result ((n : ℕ) × (n ≤ length from.now) × Appends (Some self.old.bytes) (Some self.new.bytes) (take n from.now)) }
+        ensures accepted { Accepts self.old.bytes self.new.bytes result from.now }
         ensures cause { HasCause self.old.failed self.new.failed result }
         ensures fits { IsOk result ↔ (length from.now ≤ self.old.room) }
         ensures all { IfOk result (λ n. n ≡ length from.now) }

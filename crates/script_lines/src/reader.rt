@@ -28,10 +28,11 @@ impl Model for Lines {
 }
 
 impl Lines {
-    ghost use Rattle.std.specs.Prelude.{◌≡◌, ◌≢◌, ◌<◌, ◌≤◌, ◌+◌, ◌-◌, ℕ, List, [], Some, IfOk, IfSome, IsErrOf, drop, replicate};
+    ghost use Rattle.std.specs.Prelude.{◌≡◌, ◌≢◌, ◌<◌, ◌≤◌, ◌+◌, ◌-◌, ℕ, List, [], Some, Err, IfOk, IfSome, drop, replicate};
     ghost use Rattle.std.specs.Io.KnownBytes.{Consumes};
-    ghost use Rattle.script_lines.specs.Cause.{Rose};
-    ghost use Rattle.script_lines.specs.Reader.{Hands, Follows, Again, MayRead, Stays};
+    ghost use Rattle.script_lines.specs.Cause.{IsCounted};
+    ghost use Rattle.script_lines.specs.Reader.{Hands, Follows, HandsByGiven, Again, MayRead, Stays};
+    ghost use Rattle.script_lines.specs.Given.{GivesPieces};
 
     /// Nothing is held, and the script begins. Takes no memory.
     pub fn new() -> Lines
@@ -55,6 +56,8 @@ impl Lines {
             → Hands self.old left result self.new after }
         ensures lines { self.old.over ≡ Over.Going → (left after : List ℕ) → S.left source.old ≡ Some left → S.left source.new ≡ Some after
             → Follows self.old left result self.new after }
+        ensures gives { (pieces : List (List ℕ)) × GivesPieces (S.given source.old) (S.given source.new) (S.left source.old) (S.left source.new) pieces
+            × HandsByGiven self.old pieces result self.new }
         ensures again { Again self.old.over result }
         ensures rests { self.old.over ≢ Over.Going → (S.left source.new ≡ S.left source.old) × (self.new ≡ self.old) }
         ensures unread { ¬ MayRead self.old → source.new ≡ source.old }
@@ -64,8 +67,7 @@ impl Lines {
         ensures falls { IfOk result (λ found. IfSome found (λ _. (self.old.before < self.new.before) × (self.new.before ≤ 16777216))) }
         ensures counts { IfOk result (λ found. IfSome found (λ line. self.old.before + line.len ≤ self.new.before)) }
         ensures takes { (bytes : List ℕ) × Consumes (S.left source.old) (S.left source.new) bytes }
-        ensures faults { S.faults source.old ≤ S.faults source.new }
-        ensures cause { IsErrOf result LineFault.Read → Rose (S.faults source.old) (S.faults source.new) }
+        ensures cause { IsCounted (result ≡ Err LineFault.Read) (S.faults source.old) (S.faults source.new) }
     {
         match self.over {
             Over::Going => {}

@@ -4,7 +4,8 @@ ghost use Rattle.std.specs.Io.KnownBytes.{Consumes, IsAtEnd};
 ghost use Rattle.script_lines.specs.Cause.{HasCause};
 ghost use Rattle.std.specs.List.{prefix_len};
 ghost use Rattle.script_lines.specs.Reader.{is_of_line, IsOpenLine};
-ghost use Rattle.script_lines.specs.Scan.{StopsAt, IsScanned};
+ghost use Rattle.script_lines.specs.Scan.{StopsAt, IsScanned, Gathers};
+ghost use Rattle.script_lines.specs.Given.{HasEnd};
 
 use crate::buffer::Buffer;
 use crate::{Failed, LINE_BYTES, LineFault, SCRIPT_BYTES, Source};
@@ -32,6 +33,8 @@ pub fn gather<S: Source>(
     ensures end { result ≡ Ok Found.Open → IsAtEnd (S.left source.new) }
     ensures all_err { OnErr result (scanned.new ≡ length buffer.new) }
     ensures grown { (got : List ℕ) × (buffer.new ≡ buffer.old ++ got) × Consumes (S.left source.old) (S.left source.new) got }
+    ensures gives { (pieces : List (List ℕ)) × Gathers before buffer.old buffer.new (S.left source.old) (S.left source.new) (S.given source.old) (S.given source.new) pieces
+        × (HasEnd pieces → result ≡ Ok Found.Open) × (result ≡ Ok Found.Open → HasEnd pieces) }
     ensures unread { ¬ IsOpenLine before buffer.old → source.new ≡ source.old }
     ensures cause { HasCause (S.faults source.old) (S.faults source.new) result }
 {

@@ -24,6 +24,16 @@ fn assert_lines<S: Source>(
     assert_eq!(rt; lines.next(source), last);
 }
 
+// This script in memory has these lines, and then this.
+fn assert_script(
+    rt: &impl Abort,
+    script: &[u8],
+    want: &[&[u8]],
+    last: Result<Option<Line>, LineFault>,
+) {
+    assert_lines(rt, &mut MemSource::new(script), want, last);
+}
+
 #[test]
 fn cuts_do_not_matter(rt: HostRuntime) {
     let script = b"route add 10.0.0.0/8 1\n\n # note\r\nend";
@@ -44,17 +54,17 @@ fn cuts_do_not_matter(rt: HostRuntime) {
 fn bytes_and_limits(rt: HostRuntime) {
     let mut longest = [b'x'; 512];
     longest[0] = b'#';
-    assert_lines(&rt, &mut MemSource::new(&longest), &[&longest], Ok(None));
+    assert_script(&rt, &longest, &[&longest], Ok(None));
     let mut longer = [b'x'; 513];
     longer[0] = b'#';
     let fault = Err(LineFault::TooLong { line: 1 });
-    assert_lines(&rt, &mut MemSource::new(&longer), &[], fault);
+    assert_script(&rt, &longer, &[], fault);
     longer[512] = 200;
-    assert_lines(&rt, &mut MemSource::new(&longer), &[], fault);
+    assert_script(&rt, &longer, &[], fault);
     let bad: [&[u8]; 2] = [b"ok\n# \xc8", b"ok\n\0"];
     for script in bad {
         let fault = Err(LineFault::BadByte { line: 2 });
-        assert_lines(&rt, &mut MemSource::new(script), &[b"ok"], fault);
+        assert_script(&rt, script, &[b"ok"], fault);
     }
 }
 
