@@ -10,3 +10,4 @@ pub mod Shown
 pub mod Least
 pub mod Wider
 pub mod WiderInsertions
+mod Shadows

@@ -12,7 +12,7 @@ use Rattle.tcam_device.specs.declared.Write.{Write}
 use Rattle.tcam_device.specs.declared.Write.TheVariants.{Slot, Table}
 use Rattle.tcam_device.specs.State.{State, blank, blank_table, hits_key, told, lookup, Shows, IsInUse, apply, state_after, on_device}
 use Rattle.tcam_device.specs.Order.{StandsOnce, IsOrdered}
-use Rattle.tcam_device.specs.Hitless.{ShowsOldOrNew, IsHitless}
+use Rattle.tcam_device.specs.Hitless.{ShowsOldOrNew, IsHitless, TurnsOnce}
 use Rattle.tcam_device.proofs.Kept.{slots-apply}
 
 -- the state with so many empty slots behind its own
@@ -112,6 +112,19 @@ IsHitless-padded more old new state writes inside hitless = record {
   };
   after = subst (λ (now : State). Shows now new) (sym (state_after-padded more state writes inside)) (Shows-padded more (state_after state writes) new hitless.after);
 }
+
+-- and what turns once does so
+pub TurnsOnce-padded : (more : ℕ) (old new : List Rule) (state : State) (writes : List Write) → AllByRecursion (IsInUse (length state.slots)) writes
+    → TurnsOnce old new state writes → TurnsOnce old new (padded more state) writes
+TurnsOnce-padded more old new state writes inside turns key valid = let once = turns key valid in (
+  once.0,
+  record { before = λ n early. same n ∙ once.1.before n early; since = λ n late. same n ∙ once.1.since n late },
+)
+  where
+    same : (n : ℕ) → lookup (state_after (padded more state) (take n writes)) key ≡ lookup (state_after state (take n writes)) key
+    same n =
+        ap (λ (now : State). lookup now key) (state_after-padded more state (take n writes) (all_take (IsInUse (length state.slots)) n writes inside))
+        ∙ lookup-padded more (state_after state (take n writes)) key
 
 -- the same pieces stand, in the same order
 pub IsOrdered-padded : (more : ℕ) (state : State) (Member : RankedPiece → Type 0) → IsOrdered state Member → IsOrdered (padded more state) Member

@@ -4,7 +4,7 @@ ghost use Rattle.slot_order.specs.Order as order;
 ghost use Rattle.tcam_device.specs.State.{replay};
 ghost use Rattle.tcam_device.specs.Tcam.{IsNextListed};
 
-use crate::{Device, DeviceFault, MemTcam, Write};
+use crate::{Device, DeviceFault, MemTcam, Writable, Write};
 use rule_model::{Key, Rank};
 use std::alloc::{AllocError, Global};
 use std::marker::Model;
@@ -72,15 +72,15 @@ impl<'a> FlakyTcam<'a> {
     }
 }
 
-impl<'a> Device for FlakyTcam<'a> {
-    ghost use Rattle.std.specs.Prelude.{◌≡◌, ◌<◌, ◌≤◌, ◌+◌, ◌-◌, ◌^◌, ◌++◌, ◌∷◌, [], ◌↔◌, min, IsErr, OnOk, OnErr, Some};
+impl<'a> Writable for FlakyTcam<'a> {
+    ghost use Rattle.std.specs.Prelude.{◌≡◌, ◌<◌, ◌≤◌, ◌+◌, ◌-◌, ◌^◌, ◌++◌, ◌∷◌, [], ◌↔◌, min, IsErr, OnOk, OnErr};
     ghost use Rattle.script_lines.specs.Cause.{HasCause};
     ghost use Rattle.tcam_device.specs.State.{IsInUse};
     ghost use Rattle.tcam_device.specs.Tcam.{IsNextListed};
 
     ghost slot_count = { λ f. f.device.slots };
 
-    ghost journal = { λ f. Some f.device.journal };
+    ghost journal = { λ f. f.device.journal };
 
     ghost spare = { λ f. f.device.spare };
 
@@ -94,7 +94,7 @@ impl<'a> Device for FlakyTcam<'a> {
         ensures enough { OnOk result (n ≤ self.new.device.spare) }
         ensures least { self.old.device.spare ≤ self.new.device.spare }
         ensures spare_err { OnErr result (self.new.device.spare ≡ self.old.device.spare) }
-        ensures journal { Some self.new.device.journal ≡ Some self.old.device.journal }
+        ensures journal { self.new.device.journal ≡ self.old.device.journal }
         ensures slots { self.new.device.slots ≡ self.old.device.slots }
         ensures calls { self.new.calls ≡ self.old.calls }
         ensures made { self.new.made ≡ self.old.made }
@@ -111,9 +111,9 @@ impl<'a> Device for FlakyTcam<'a> {
         ensures made { self.new.made ≡ min (self.old.made + 1) (2 ^ 64 - 1) }
         ensures raised { OnErr result (self.new.faults ≡ min (self.old.faults + 1) (2 ^ 64 - 1)) }
         ensures faults_ok { OnOk result (self.new.faults ≡ self.old.faults) }
-        ensures written { OnOk result (Some self.new.device.journal ≡ Some (self.old.device.journal ++ write ∷ [])) }
+        ensures written { OnOk result (self.new.device.journal ≡ self.old.device.journal ++ write ∷ []) }
         ensures spare { OnOk result (self.new.device.spare + 1 ≡ self.old.device.spare) }
-        ensures journal_err { OnErr result (Some self.new.device.journal ≡ Some self.old.device.journal) }
+        ensures journal_err { OnErr result (self.new.device.journal ≡ self.old.device.journal) }
         ensures spare_err { OnErr result (self.new.device.spare ≡ self.old.device.spare) }
         ensures slots { self.new.device.slots ≡ self.old.device.slots }
         ensures cause { HasCause self.old.faults self.new.faults result }
@@ -124,7 +124,9 @@ impl<'a> Device for FlakyTcam<'a> {
         }
         self.device.write(write)
     }
+}
 
+impl<'a> Device for FlakyTcam<'a> {
     fn look(&self, key: &Key) -> Option<(Rank, u32)> {
         self.device.look(key)
     }

@@ -1,10 +1,10 @@
 // A device in memory.
-ghost use Rattle.std.specs.Prelude.{◌≡◌, ◌<◌, ◌≤◌, ◌-◌, [], length, IfOk, Some, vec_len, vec_capacity};
+ghost use Rattle.std.specs.Prelude.{◌≡◌, ◌<◌, ◌≤◌, ◌-◌, [], length, IfOk, vec_len, vec_capacity};
 ghost use Rattle.slot_order.specs.Order as order;
 ghost use Rattle.tcam_device.specs.State.{replay};
 
 use crate::memory::Memory;
-use crate::{Device, DeviceFault, Write};
+use crate::{Device, DeviceFault, Writable, Write};
 use rule_model::{Key, Rank};
 use std::alloc::{AllocError, Global};
 use std::marker::Model;
@@ -58,10 +58,10 @@ impl MemTcam {
     }
 }
 
-impl Device for MemTcam {
+impl Writable for MemTcam {
     ghost slot_count = { λ m. m.slots };
 
-    ghost journal = { λ m. Some m.journal };
+    ghost journal = { λ m. m.journal };
 
     ghost spare = { λ m. m.spare };
 
@@ -83,7 +83,9 @@ impl Device for MemTcam {
         self.journal.push_reserved(write);
         Ok(())
     }
+}
 
+impl Device for MemTcam {
     fn look(&self, key: &Key) -> Option<(Rank, u32)> {
         self.memory.look(key)
     }

@@ -3,7 +3,7 @@ ghost use Rattle.std.specs.Prelude.{◌≡◌, ◌<◌, ◌≤◌, ◌^◌, [], 
 ghost use Rattle.slot_order.specs.Order as order;
 ghost use Rattle.slot_order.specs.Order.{first_hit};
 ghost use Rattle.ternary_word.specs.Entry as entries;
-ghost use Rattle.tcam_device.specs.State.{apply, blank, told, lookup};
+ghost use Rattle.tcam_device.specs.State.{IsInUse, apply, blank, told, lookup};
 
 use crate::{Field, Write};
 use lane_lookup::Columns;
@@ -60,6 +60,17 @@ impl Memory {
         ensures { result ≡ order.slot self.now.slots slot }
     {
         self.slots.get(slot)
+    }
+
+    /// Makes a write of a slot that there is, or of a table.
+    pub(crate) fn make(&mut self, write: &Write)
+        requires { IsInUse (length self.old.slots) write.now }
+        ensures { self.new ≡ apply self.old write.now }
+    {
+        match write {
+            Write::Slot(slot, entry) => self.put(*slot, *entry),
+            Write::Table(field, port, word) => self.translate(*field, *port, *word),
+        }
     }
 
     /// Puts an entry into a slot, or erases it.

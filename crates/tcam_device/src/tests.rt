@@ -1,5 +1,10 @@
-// Look-ups and writes of the devices in memory.
-use crate::{Device, DeviceFault, Field, FlakyTcam, MemTcam, Write};
+// Look-ups and writes of the devices in memory, and of hardware with its shadow.
+ghost use Rattle.std.specs.Prelude.{◌≡◌};
+
+use crate::{
+    Device, DeviceFault, Field, FlakyTcam, Hardware, MemTcam, Shadowed, Writable, Write,
+    twice_as_once,
+};
 use rule_model::{Key, Rank};
 use std::process::Abort;
 use std::test::Fail;
@@ -110,5 +115,54 @@ fn fails_at_the_second_write(rt: HostRuntime) -> Result<(), Fail> {
         };
         assert_eq!(rt; device.look(&key), want, "port {dport}");
     }
+    Ok(())
+}
+
+/// Hardware that makes every write, and says at the first one that it failed.
+#[derive(Drop)]
+struct Late {
+    slots: [Option<Entry>; 8],
+    failed: bool,
+}
+
+impl Hardware for Late {
+    ghost slot_count = { λ late. 8 };
+
+    ghost puts = { λ before write answer after. Unit {0} };
+
+    fn slots(&self) -> u32 {
+        8
+    }
+
+    fn put(&mut self, write: &Write) -> Result<(), DeviceFault> {
+        if let Write::Slot(slot, entry) = write {
+            self.slots[*slot as usize] = *entry;
+        }
+        if !self.failed {
+            self.failed = true;
+            return Err(DeviceFault);
+        }
+        Ok(())
+    }
+}
+
+#[test]
+fn follows_what_was_answered_ok(rt: HostRuntime) -> Result<(), Fail> {
+    twice_as_once();
+    let hardware = Late {
+        slots: [None; 8],
+        failed: false,
+    };
+    let mut device = Shadowed::new(rt.alloc(), hardware)?;
+    device.reserve(1)?;
+    let first = device.write(Write::Slot(3, Some(ten())));
+    assert_eq!(rt; first, Err(DeviceFault));
+    assert_eq!(rt; device.hardware().slots[3], Some(ten()));
+    assert_eq!(rt; device.look(&to(0x0a01_0203)), None);
+    set(&rt, &mut device, 3, Some(ten()))?;
+    assert_eq!(rt; device.look(&to(0x0a01_0203)), FOUND);
+    set(&rt, &mut device, 3, None)?;
+    assert_eq!(rt; device.hardware().slots[3], None);
+    assert_eq!(rt; device.look(&to(0x0a01_0203)), None);
     Ok(())
 }

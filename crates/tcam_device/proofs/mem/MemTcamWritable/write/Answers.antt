@@ -1,8 +1,8 @@
 use Rattle.std.proofs.Common.{◌≡◌, refl}
 use Rattle.tcam_device.specs.State.{apply}
 use Rattle.tcam_device.proofs.Kept.{replay-apply}
-use Rattle.tcam_device.proofs.mem.MemTcamDevice.write.Goals as goal
-use Rattle.tcam_device.proofs.mem.MemTcamDevice.write.Goals.{in-Slot, in-Table}
+use Rattle.tcam_device.proofs.mem.MemTcamWritable.write.Goals as goal
+use Rattle.tcam_device.proofs.mem.MemTcamWritable.write.Goals.{in-Slot, in-Table}
 
 pub invariant_of-self : goal.invariant_of-self
 invariant_of-self c =

@@ -1,7 +1,7 @@
 use Rattle.std.proofs.Common.{◌<◌, ◌∙◌, ap, sym, subst}
 use Rattle.tcam_device.specs.State.{IsInUse}
 use Rattle.tcam_device.specs.Tcam.{Flaky, Tcam}
-use Rattle.tcam_device.proofs.flaky.FlakyTcamDevice.write.Goals as goal
+use Rattle.tcam_device.proofs.flaky.FlakyTcamWritable.write.Goals as goal
 
 pub write-requires-clause-room : goal.write-requires-clause-room
 write-requires-clause-room c =
