@@ -15,6 +15,7 @@ use Rattle.overlap_index.specs.declared.LivePiece.{LivePiece}
 use Rattle.overlap_index.specs.Live.{LivePieces, is_above}
 use Rattle.overlap_index.proofs.Listed.{in_map}
 use Rattle.overlap_index.proofs.Above.{rank_in, rank_is, piece_in, piece_is, live_is, above_is}
+use Rattle.move_planner.specs.declared.Aim.{Aim}
 use Rattle.move_planner.specs.declared.Move.{Move}
 use Rattle.move_planner.specs.Placement.{after_moves, gap_start, gap_end, span_of, IsInOrder, IsPlacement}
 use Rattle.std.proofs.Math.Seq.{drop-append_seam}
@@ -74,7 +75,7 @@ pub record IsInserted (index : LivePieces) (id : ℕ) (slots : Slots) (moves : L
   pub standing : StandOnce (IsLive index.live) (after_moves slots moves)
   pub bound : (m : ℕ) → BoundsLiveChains index.live m → length moves ≤ m * (1 + span_of (is_above index.live) slots id)
 
-pub inserted : (index : LivePieces) (id : ℕ) (slots : Slots) (moves : List Move) → IsReady index id slots → IsPlacement (is_above index.live) id slots moves
+pub inserted : (index : LivePieces) {aim : Aim} (id : ℕ) (slots : Slots) (moves : List Move) → IsReady index id slots → IsPlacement (is_above index.live) aim id slots moves
     → IsInserted index id slots moves
 inserted index id slots moves ready placement = record { order = order; standing = standing; bound = few }
   where
@@ -149,7 +150,7 @@ turned_none index id slots plan ready = record {
   moves = [];
   gained = sym (append-nil plan);
   after = refl;
-  goes_on = λ rest p. p;
+  goes_on = λ aim rest p. p;
   ready = ready;
   same_free = refl;
   closer = omega arith;
@@ -161,7 +162,7 @@ turned_more index id a b c p q r x y = record {
   moves = x.moves ++ y.moves;
   gained = y.gained ∙ (ap (λ z. z ++ y.moves) x.gained ∙ append_assoc p x.moves y.moves);
   after = y.after ∙ (ap (λ z. after_moves z y.moves) x.after ∙ sym (after_append a x.moves y.moves));
-  goes_on = λ rest k. subst (IsPlacement (is_above index.live) id a) (sym (append_assoc x.moves y.moves rest)) (x.goes_on (y.moves ++ rest) (y.goes_on rest k));
+  goes_on = λ aim rest k. subst (IsPlacement (is_above index.live) aim id a) (sym (append_assoc x.moves y.moves rest)) (x.goes_on aim (y.moves ++ rest) (y.goes_on aim rest k));
   ready = y.ready;
   same_free = y.same_free ∙ x.same_free;
   closer = let n = length-append x.moves y.moves in let s = x.closer in let t = y.closer in omega arith;
@@ -175,15 +176,15 @@ made_after index id a b c p q r x y =
     (y.1 ∙ (ap (λ z. after_moves z (moves_since q r)) x.after ∙ sym (after_append a x.moves (moves_since q r))))
 
 -- the whole of an insertion, as the planner says it
-pub record IsWholly (index : LivePieces) (id : ℕ) (slots slots' : Slots) (plan plan' : List Move) : Type 0 where
+pub record IsWholly (index : LivePieces) (aim : Aim) (id : ℕ) (slots slots' : Slots) (plan plan' : List Move) : Type 0 where
   pub made : AreMade slots slots' plan plan'
-  pub placement : IsPlacement (is_above index.live) id slots (moves_since plan plan')
+  pub placement : IsPlacement (is_above index.live) aim id slots (moves_since plan plan')
   pub few : length (moves_since plan plan') ≤ 4097 * (2 + span_of (is_above index.live) slots id)
   pub one_fewer : free_slots slots' + 1 ≡ free_slots slots
   pub inserted : IsInserted index id slots (moves_since plan plan')
 
-pub wholly : (index : LivePieces) (id : ℕ) (a b c : Slots) (p q r : List Move) → IsReady index id a → IsTurned index id a b p q → IsPlaced index id b c q r → IsWholly index id a c p r
-wholly index id a b c p q r ready x y = record {
+pub wholly : (index : LivePieces) (aim : Aim) (id : ℕ) (a b c : Slots) (p q r : List Move) → IsReady index id a → IsTurned index id a b p q → IsPlaced index aim id b c q r → IsWholly index aim id a c p r
+wholly index aim id a b c p q r ready x y = record {
   made = made;
   placement = placement;
   few = let n = length-append x.moves y.moves in let s = x.closer in let t = y.few in let e = ap length since in let k = wider in omega arith;
@@ -203,8 +204,8 @@ wholly index id a b c p q r ready x y = record {
     since : moves_since p r ≡ x.moves ++ y.moves
     since = ap (drop (length p)) gained ∙ drop-append_seam p (x.moves ++ y.moves)
 
-    placement : IsPlacement (is_above index.live) id a (moves_since p r)
-    placement = subst (IsPlacement (is_above index.live) id a) (sym since) (x.goes_on y.moves y.placement)
+    placement : IsPlacement (is_above index.live) aim id a (moves_since p r)
+    placement = subst (IsPlacement (is_above index.live) aim id a) (sym since) (x.goes_on aim y.moves y.placement)
 
     wider : gap_start (is_above index.live) a id - gap_end (is_above index.live) a id ≤ 1 + span_of (is_above index.live) a id
     wider = omega arith
@@ -214,7 +215,7 @@ pub record CountsMoves (index : LivePieces) (id : ℕ) (slots : Slots) (plan pla
   pub count : length plan' - length plan ≡ length (moves_since plan plan')
   pub small : length (moves_since plan plan') < 4294967296
 
-pub counted : (index : LivePieces) (id : ℕ) (slots slots' : Slots) (plan plan' : List Move) → IsReady index id slots → IsWholly index id slots slots' plan plan' → CountsMoves index id slots plan plan'
+pub counted : (index : LivePieces) {aim : Aim} (id : ℕ) (slots slots' : Slots) (plan plan' : List Move) → IsReady index id slots → IsWholly index aim id slots slots' plan plan' → CountsMoves index id slots plan plan'
 counted index id slots slots' plan plan' ready w = record {
   count = let e = ap length w.made.0 in let n = length-append plan (moves_since plan plan') in omega arith;
   small =

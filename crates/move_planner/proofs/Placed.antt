@@ -1,5 +1,5 @@
 -- The last part of an insertion is a placement.
-use Rattle.std.proofs.Common.{◌≡◌, ℕ, ◌+◌, ◌-◌, ◌/◌, ◌≤◌, Option, None, Some, List, [], ◌∷◌, ◌++◌, length, map, inl, inr, arith, refl, sym, ◌∙◌, ap, append_assoc, length-append}
+use Rattle.std.proofs.Common.{◌≡◌, ℕ, ◌+◌, ◌≤◌, Option, None, Some, List, [], ◌∷◌, ◌++◌, length, map, inl, inr, arith, refl, sym, ◌∙◌, ap, append_assoc, length-append}
 use Rattle.std.specs.Prelude.{slice_index_or}
 use Rattle.std.specs.Option.{unwrap_or}
 use Rattle.std.proofs.lemmas.List.{length-map}
@@ -9,10 +9,11 @@ use Rattle.slot_pool.specs.Arrangement.{Slots, HasTwin, nearest_free}
 use Rattle.slot_pool.proofs.Scan.{IsFree, nearest_free_is, next_free_is}
 use Rattle.overlap_index.specs.Live.{LivePieces, is_above}
 use Rattle.overlap_index.proofs.Above.{rank_in}
+use Rattle.move_planner.specs.declared.Aim.{Aim}
 use Rattle.move_planner.specs.declared.Move.{Move}
 use Rattle.move_planner.specs.declared.Move.TheVariants.{Put}
 use Rattle.move_planner.specs.declared.chains.Chain.{Chain}
-use Rattle.move_planner.specs.Placement.{Above, after_move, after_moves, moves_along, first_lower, last_upper, next_slot, gap_start, gap_end, gap_slot, into_gap, push_down, push_up}
+use Rattle.move_planner.specs.Placement.{Above, after_move, after_moves, moves_along, first_lower, last_upper, next_slot, gap_start, gap_end, aimed_at, gap_slot, into_gap, push_down, push_up}
 use Rattle.move_planner.specs.Insertion.{free_slots}
 use Rattle.move_planner.specs.Steps.{IsReady, IsPlaced, IsWay}
 use Rattle.move_planner.proofs.Chain.{write_of, IsDown, IsUp}
@@ -22,20 +23,20 @@ use Rattle.move_planner.proofs.Shifted.{free_put, free_over, after_more}
 use Rattle.move_planner.proofs.Turned.{chain_down, chain_up, low_at, high_at}
 
 -- the slot that was chosen is the gap's
-pub chosen : (above : Above) (slots : Slots) (id start end : ℕ) (found : Option ℕ) → start ≡ gap_start above slots id → end ≡ gap_end above slots id
-    → found ≡ nearest_free slots start end ((start + end - 1) / 2) → gap_slot above slots id ≡ found
-chosen above slots id start end found s e is =
-    sym (is ∙ (ap (λ a. nearest_free slots a end ((a + end - 1) / 2)) s ∙ ap (λ b. nearest_free slots (gap_start above slots id) b ((gap_start above slots id + b - 1) / 2)) e))
+pub chosen : (above : Above) (aim : Aim) (slots : Slots) (id start end : ℕ) (found : Option ℕ) → start ≡ gap_start above slots id → end ≡ gap_end above slots id
+    → found ≡ nearest_free slots start end (aimed_at aim start end) → gap_slot above aim slots id ≡ found
+chosen above aim slots id start end found s e is =
+    sym (is ∙ (ap (λ a. nearest_free slots a end (aimed_at aim a end)) s ∙ ap (λ b. nearest_free slots (gap_start above slots id) b (aimed_at aim (gap_start above slots id) b)) e))
 
-pub gap_free : (above : Above) (slots : Slots) (id at : ℕ) → gap_slot above slots id ≡ Some at → IsFree slots at
-gap_free above slots id at is = (nearest_free_is slots _ _ _ at is).free
+pub gap_free : (above : Above) (aim : Aim) (slots : Slots) (id at : ℕ) → gap_slot above aim slots id ≡ Some at → IsFree slots at
+gap_free above aim slots id at is = (nearest_free_is slots _ _ _ at is).free
 
 -- into the gap
-pub placed_in_gap : (index : LivePieces) (id : ℕ) (slots slots' : Slots) (plan plan' : List Move) (at : ℕ)
-    → gap_start (is_above index.live) slots id ≤ gap_end (is_above index.live) slots id → gap_slot (is_above index.live) slots id ≡ Some at
-    → plan' ≡ plan ++ Put at id ∷ [] → slots' ≡ after_move slots (Put at id) → IsPlaced index id slots slots' plan plan'
-placed_in_gap index id slots slots' plan plan' at fits is gained after =
-    let f = gap_free (is_above index.live) slots id at is in
+pub placed_in_gap : (index : LivePieces) (aim : Aim) (id : ℕ) (slots slots' : Slots) (plan plan' : List Move) (at : ℕ)
+    → gap_start (is_above index.live) slots id ≤ gap_end (is_above index.live) slots id → gap_slot (is_above index.live) aim slots id ≡ Some at
+    → plan' ≡ plan ++ Put at id ∷ [] → slots' ≡ after_move slots (Put at id) → IsPlaced index aim id slots slots' plan plan'
+placed_in_gap index aim id slots slots' plan plan' at fits is gained after =
+    let f = gap_free (is_above index.live) aim slots id at is in
     record {
       moves = Put at id ∷ [];
       gained = gained;
@@ -54,14 +55,14 @@ few_moves slots moves writes step n same size few =
     omega arith
 
 -- over the first slot of the way
-pub placed_by_way : (index : LivePieces) (id : ℕ) (slots between slots' : Slots) (plan middle plan' : List Move) (chain : Chain) → IsReady index id slots
-    → gap_start (is_above index.live) slots id ≤ gap_end (is_above index.live) slots id → gap_slot (is_above index.live) slots id ≡ None
+pub placed_by_way : (index : LivePieces) (aim : Aim) (id : ℕ) (slots between slots' : Slots) (plan middle plan' : List Move) (chain : Chain) → IsReady index id slots
+    → gap_start (is_above index.live) slots id ≤ gap_end (is_above index.live) slots id → gap_slot (is_above index.live) aim slots id ≡ None
     → IsWay (is_above index.live) slots id chain
     → middle ≡ plan ++ moves_along slots chain.free chain.members.items → between ≡ after_moves slots (moves_along slots chain.free chain.members.items)
     → HasTwin between (slice_index_or chain.members.items 0 chain.free) → free_slots between + 1 ≡ free_slots slots
     → plan' ≡ middle ++ Put (slice_index_or chain.members.items 0 chain.free) id ∷ [] → slots' ≡ after_move between (Put (slice_index_or chain.members.items 0 chain.free) id)
-    → IsPlaced index id slots slots' plan plan'
-placed_by_way index id slots between slots' plan middle plan' chain ready fits full way gained after twin fewer more then = go way
+    → IsPlaced index aim id slots slots' plan plan'
+placed_by_way index aim id slots between slots' plan middle plan' chain ready fits full way gained after twin fewer more then = go way
   where
     first : ℕ
     first = slice_index_or chain.members.items 0 chain.free
@@ -78,7 +79,7 @@ placed_by_way index id slots between slots' plan middle plan' chain ready fits f
     one_fewer : free_slots slots' + 1 ≡ free_slots slots
     one_fewer = ap (λ d. free_slots d + 1) then ∙ (ap (λ n. n + 1) (free_over between first id twin.0 (slot_inside between first twin.0 twin.2) twin.2) ∙ fewer)
 
-    go : IsWay (is_above index.live) slots id chain → IsPlaced index id slots slots' plan plan'
+    go : IsWay (is_above index.live) slots id chain → IsPlaced index aim id slots slots' plan plan'
     go (inl w) =
         let listed : all ≡ moves_along slots chain.free (w.lower ∷ w.down.rest) ++ Put w.lower id ∷ [] =
         ap (λ ms. moves_along slots chain.free ms ++ Put (slice_index_or ms 0 chain.free) id ∷ []) w.down.members in

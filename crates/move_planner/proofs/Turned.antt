@@ -13,6 +13,7 @@ use Rattle.slot_order.proofs.Writes.{slot_inside}
 use Rattle.std.specs.Prelude.{slice_index_or}
 use Rattle.overlap_index.specs.Live.{LivePieces, is_above}
 use Rattle.overlap_index.proofs.Above.{rank_in}
+use Rattle.move_planner.specs.declared.Aim.{Aim}
 use Rattle.move_planner.specs.declared.Move.{Move}
 use Rattle.move_planner.specs.declared.Move.TheVariants.{Erase}
 use Rattle.move_planner.specs.Placement.{after_moves, moves_along, first_lower, last_upper, next_slot, gap_start, gap_end, IsPlacement, uncross_down, uncross_up}
@@ -69,14 +70,14 @@ left_by : (index : LivePieces) (id : ℕ) (slots slots' : Slots) (plan plan' mov
     → (w : IsTurn (Related (is_above index.live)) (rank_in index.live) slots id turn)
     → w.floor_place ≡ gap_start (is_above index.live) slots id → w.ceiling_place ≡ gap_end (is_above index.live) slots id
     → map write_of moves ≡ turn_moves slots turn → length moves ≤ 4097 → plan' ≡ plan ++ moves → slots' ≡ after_moves slots moves → free_slots slots' ≡ free_slots slots
-    → ((rest : List Move) → IsPlacement (is_above index.live) id (after_moves slots moves) rest → IsPlacement (is_above index.live) id slots (moves ++ rest))
+    → ((aim : Aim) (rest : List Move) → IsPlacement (is_above index.live) aim id (after_moves slots moves) rest → IsPlacement (is_above index.live) aim id slots (moves ++ rest))
     → IsLeft index id slots slots' plan plan'
 left_by index id slots slots' plan plan' moves turn ready w floor ceiling same few gained after free goes = record {
   turned = record {
     moves = moves;
     gained = gained;
     after = after;
-    goes_on = λ rest p. goes rest (subst (λ d. IsPlacement (is_above index.live) id d rest) after p);
+    goes_on = λ aim rest p. goes aim rest (subst (λ d. IsPlacement (is_above index.live) aim id d rest) after p);
     ready = record {
       few = subst (λ n. n ≤ 4096) (sym size) ready.few;
       free = subst (λ n. 0 < n) (sym free) ready.free;
@@ -172,7 +173,7 @@ pub down_leaves : (index : LivePieces) (id : ℕ) (slots slots' : Slots) (plan p
 down_leaves index id slots slots' plan plan' lower upper chain ready crossed d out =
     left_by index id slots slots' plan plan' moves (Down chain.free lower d.rest) ready turn refl refl same few
     (out.gained ∙ ap (λ ms. plan ++ ms) listed) (out.after ∙ ap (after_moves slots) listed) out.same_free
-    (λ rest p. subst (IsPlacement (is_above index.live) id slots) (sym (append_assoc (moves_along slots chain.free (lower ∷ d.rest)) (Erase lower ∷ []) rest))
+    (λ aim rest p. subst (IsPlacement (is_above index.live) aim id slots) (sym (append_assoc (moves_along slots chain.free (lower ∷ d.rest)) (Erase lower ∷ []) rest))
     (uncross_down lower upper crossed.low crossed.high crossed.crossed (record { free = chain.free; rest = d.rest; to = d.to; chain = d.follows }) p))
   where
     w : LowerAt (Related (is_above index.live)) (rank_in index.live) slots id lower
@@ -229,7 +230,7 @@ pub up_leaves : (index : LivePieces) (id : ℕ) (slots slots' : Slots) (plan pla
 up_leaves index id slots slots' plan plan' lower upper chain ready crossed full d out =
     left_by index id slots slots' plan plan' moves (Up chain.free upper d.rest) ready turn refl refl same few
     (out.gained ∙ ap (λ ms. plan ++ ms) listed) (out.after ∙ ap (after_moves slots) listed) out.same_free
-    (λ rest p. subst (IsPlacement (is_above index.live) id slots) (sym (append_assoc (moves_along slots chain.free (upper ∷ d.rest)) (Erase upper ∷ []) rest))
+    (λ aim rest p. subst (IsPlacement (is_above index.live) aim id slots) (sym (append_assoc (moves_along slots chain.free (upper ∷ d.rest)) (Erase upper ∷ []) rest))
     (uncross_up lower upper crossed.low crossed.high crossed.crossed full (record { free = chain.free; rest = d.rest; to = d.to; chain = d.follows }) p))
   where
     w : UpperAt (Related (is_above index.live)) (rank_in index.live) slots id upper

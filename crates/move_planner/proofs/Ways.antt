@@ -1,5 +1,5 @@
 -- The chain that makes way for a new id whose gap is full.
-use Rattle.std.proofs.Common.{◌≡◌, ℕ, zero, suc, ◌+◌, ◌-◌, ◌/◌, ◌<◌, ◌≤◌, true, false, ◌&&◌, Bool, Option, None, Some, IsSome, length, filter, inl, inr, arith, refl, sym, ◌∙◌, subst, ap}
+use Rattle.std.proofs.Common.{◌≡◌, ℕ, zero, suc, ◌+◌, ◌<◌, ◌≤◌, true, false, ◌&&◌, Bool, Option, None, Some, IsSome, length, filter, inl, inr, arith, refl, sym, ◌∙◌, subst, ap}
 use Rattle.std.specs.Prelude.{nat_lt, nat_le, is_none}
 use Rattle.std.specs.List.{range_with_len}
 use Rattle.std.specs.Int.{abs_diff}
@@ -11,8 +11,8 @@ use Rattle.slot_pool.proofs.Places.{find_range_none}
 use Rattle.slot_pool.proofs.Scan.{find_back_none}
 use Rattle.overlap_index.specs.Live.{LivePieces, is_above}
 use Rattle.move_planner.specs.declared.chains.Chain.{Chain}
-use Rattle.move_planner.specs.Placement.{Above, first_lower, last_upper, next_slot, gap_start, gap_end, gap_slot, DownChain, UpChain}
-use Rattle.move_planner.specs.Steps.{CanShift, IsReady, IsDown, IsUp, FindsDownFrom, FindsUpFrom, shorter, DownWay, UpWay, IsWay}
+use Rattle.move_planner.specs.Placement.{Above, first_lower, last_upper, next_slot, gap_start, gap_end, aimed_at, DownChain, UpChain}
+use Rattle.move_planner.specs.Steps.{CanShift, IsReady, IsFull, IsDown, IsUp, FindsDownFrom, FindsUpFrom, shorter, DownWay, UpWay, IsWay}
 use Rattle.move_planner.proofs.Planner.{down_one, up_one}
 use Rattle.move_planner.proofs.Shifted.{free_somewhere}
 use Rattle.move_planner.proofs.Turned.{low_at, high_at, down_shifts, up_shifts}
@@ -160,7 +160,7 @@ nearest_some mid test from (suc size) j a b t e = elim (cases_Bool (test from)) 
 
 -- with an empty slot and none in the gap, one of the two chains is there
 pub some_way : (index : LivePieces) (id : ℕ) (slots : Slots) (down up : Option Chain) → IsReady index id slots
-    → gap_slot (is_above index.live) slots id ≡ None
+    → IsFull (is_above index.live) slots id
     → FindsDownFrom (is_above index.live) slots (first_lower (is_above index.live) slots id) down → FindsUpFrom (is_above index.live) slots (last_upper (is_above index.live) slots id) up
     → IsSome (shorter down up)
 some_way index id slots (Some down) None ready full d u = refl
@@ -172,8 +172,8 @@ some_way index id slots (Some down) (Some up) ready full d u = elim (cases_Bool 
 some_way index id slots None None ready full d u = absurd (elim (cases_lt w.0 start) [
   | inl before ↦ below (last_upper (is_above index.live) slots id) refl u before
   | inr m ↦ elim (cases_lt w.0 end) [
-    | inl l ↦ nearest_some ((start + end - 1) / 2) (λ at. is_free_within slots start end at) 0 (length slots) w.0 (omega arith) (let i = w.1 in omega arith)
-        (and_from (nat_le start w.0 && nat_lt w.0 end) (is_free slots w.0) (and_from (nat_le start w.0) (nat_lt w.0 end) (le-leb start w.0 m) (lt-ltb w.0 end l)) free) full
+    | inl l ↦ nearest_some (aimed_at full.0 start end) (λ at. is_free_within slots start end at) 0 (length slots) w.0 (omega arith) (let i = w.1 in omega arith)
+        (and_from (nat_le start w.0 && nat_lt w.0 end) (is_free slots w.0) (and_from (nat_le start w.0) (nat_lt w.0 end) (le-leb start w.0 m) (lt-ltb w.0 end l)) free) full.1
     | inr past ↦ beyond (first_lower (is_above index.live) slots id) refl d past
   ]
 ])

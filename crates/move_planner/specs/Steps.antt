@@ -3,10 +3,11 @@ use Rattle.std.specs.Prelude.{◌≡◌, ◌≢◌, ℕ, ◌+◌, ◌-◌, ◌*�
 use Rattle.slot_order.specs.Order.{slot}
 use Rattle.slot_pool.specs.Arrangement.{Slots, HasTwin, next_free_above, last_free_below}
 use Rattle.overlap_index.specs.Live.{LivePieces, AreApart, is_live, is_above}
+use Rattle.move_planner.specs.declared.Aim.{Aim}
 use Rattle.move_planner.specs.declared.Move.{Move}
 use Rattle.move_planner.specs.declared.Move.TheVariants.{Put, Erase}
 use Rattle.move_planner.specs.declared.chains.Chain.{Chain}
-use Rattle.move_planner.specs.Placement.{Above, after_moves, moves_along, first_lower, last_upper, gap_start, gap_end, StopsBelow, StopsAbove, step_down, step_up, IsDownChain, IsUpChain, DownChain, UpChain, IsPlacement, IsInOrder}
+use Rattle.move_planner.specs.Placement.{Above, after_moves, moves_along, first_lower, last_upper, gap_start, gap_end, gap_slot, StopsBelow, StopsAbove, step_down, step_up, IsDownChain, IsUpChain, DownChain, UpChain, IsPlacement, IsInOrder}
 use Rattle.move_planner.specs.Insertion.{IsOther, StandOnce, free_slots}
 
 -- the lesser of two slots, or the one that there is
@@ -84,18 +85,22 @@ pub record IsReady (index : LivePieces) (id : ℕ) (slots : Slots) : Type 0 wher
   pub standing : StandOnce (IsOther index.live id) slots
   pub order : IsInOrder (is_above index.live) slots
 
+-- no slot of the gap is free: whatever the aim, none is the nearest to it
+abbrev pub IsFull : Above → Slots → ℕ → Type 0
+IsFull above slots id = (aim : Aim) × (gap_slot above aim slots id ≡ None)
+
 -- a chain has moved, and its first slot was erased
 pub record IsShiftedOut (slots slots' : Slots) (plan plan' : List Move) (along : Chain) : Type 0 where
   pub gained : plan' ≡ plan ++ (moves_along slots along.free along.members.items ++ Erase (slice_index_or along.members.items 0 along.free) ∷ [])
   pub after : slots' ≡ after_moves slots (moves_along slots along.free along.members.items ++ Erase (slice_index_or along.members.items 0 along.free) ∷ [])
   pub same_free : free_slots slots' ≡ free_slots slots
 
--- what turns leave: the moves so far are the first part of a placement, and the gap is wider
+-- what turns leave: the moves so far are the first part of a placement with any aim, and the gap is wider
 pub record IsTurned (index : LivePieces) (id : ℕ) (slots slots' : Slots) (plan plan' : List Move) : Type 0 where
   pub moves : List Move
   pub gained : plan' ≡ plan ++ moves
   pub after : slots' ≡ after_moves slots moves
-  pub goes_on : (rest : List Move) → IsPlacement (is_above index.live) id slots' rest → IsPlacement (is_above index.live) id slots (moves ++ rest)
+  pub goes_on : (aim : Aim) (rest : List Move) → IsPlacement (is_above index.live) aim id slots' rest → IsPlacement (is_above index.live) aim id slots (moves ++ rest)
   pub ready : IsReady index id slots'
   pub same_free : free_slots slots' ≡ free_slots slots
   pub closer : length moves + 4097 * (gap_start (is_above index.live) slots' id - gap_end (is_above index.live) slots' id)
@@ -107,12 +112,12 @@ pub record IsCrossed (above : Above) (slots : Slots) (id lower upper : ℕ) : Ty
   pub high : last_upper above slots id ≡ Some upper
   pub crossed : lower < upper
 
--- what the last part of an insertion leaves: a placement was planned and made
-pub record IsPlaced (index : LivePieces) (id : ℕ) (slots slots' : Slots) (plan plan' : List Move) : Type 0 where
+-- what the last part of an insertion leaves: a placement with an aim was planned and made
+pub record IsPlaced (index : LivePieces) (aim : Aim) (id : ℕ) (slots slots' : Slots) (plan plan' : List Move) : Type 0 where
   pub moves : List Move
   pub gained : plan' ≡ plan ++ moves
   pub after : slots' ≡ after_moves slots moves
-  pub placement : IsPlacement (is_above index.live) id slots moves
+  pub placement : IsPlacement (is_above index.live) aim id slots moves
   pub few : length moves ≤ 4097
   pub one_fewer : free_slots slots' + 1 ≡ free_slots slots
 

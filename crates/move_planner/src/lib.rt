@@ -9,8 +9,8 @@
 //! # Where a new entry goes
 //! Of the entries that overlap it, the last upper one and the first lower one bound a gap.
 //!
-//! 1. A slot of the gap is free: the entry goes into the one nearest to the middle (`choose`, one function, so that
-//!    another choice can stand in its place).
+//! 1. A slot of the gap is free: the entry goes into the one nearest to its aim, the lower of two. The caller says the
+//!    aim: the middle of the gap, or a slot, which may lie in the gap or not. All that is promised holds of any aim.
 //! 2. None is: the first lower entry makes way downwards or the last upper one upwards, along the shorter of two
 //!    chains, and the new entry is put over the slot that this leaves.
 //! 3. The last upper entry stands past the first lower one, as it may where these two don't overlap: the lower one
@@ -76,6 +76,15 @@ pub enum Move {
     Put(u32, u32),
     /// A slot is emptied.
     Erase(u32),
+}
+
+/// Where a new id would stand best. Of the free slots that it may take it takes the one nearest to that.
+#[derive(Clone, Copy, Debug, PartialEq, Eq)]
+pub enum Aim {
+    /// The middle of the gap, as it is once nothing crosses.
+    Middle,
+    /// A slot, in the gap or not.
+    At(u32),
 }
 
 /// What an insertion took.
@@ -151,7 +160,7 @@ impl Plan {
     }
 }
 
-/// Plans the moves that place a new live id, and makes them in the arrangement.
+/// Plans the moves that place a new live id with an aim, and makes them in the arrangement.
 ///
 /// `slots` has at most 4,096 slots, of which one is free. `id` is live in `index` and stands in no slot; every other live
 /// id stands in exactly one, and all in order. The plan gains the moves, each of which leaves the arrangement in order,
@@ -165,6 +174,7 @@ pub fn plan_insert(
     slots: &mut Arrangement,
     index: &Index,
     id: u32,
+    aim: Aim,
     plan: &mut Plan,
 ) -> Result<Insert, AllocError>
     requires few { length slots.old ≤ 4096 }
@@ -174,7 +184,7 @@ pub fn plan_insert(
     requires order { IsInOrder (is_above index.now.live) slots.old }
     ensures plan { plan.new ≡ plan.old ++ moves_since plan.old plan.new }
     ensures slots { slots.new ≡ after_moves slots.old (moves_since plan.old plan.new) }
-    ensures placement { OnOk result (IsPlacement (is_above index.now.live) id slots.old (moves_since plan.old plan.new)) }
+    ensures placement { OnOk result (IsPlacement (is_above index.now.live) aim id slots.old (moves_since plan.old plan.new)) }
     ensures writes { IfOk result (λ insert. insert.writes ≡ length (moves_since plan.old plan.new)) }
     ensures span { IfOk result (λ insert. insert.span ≡ span_of (is_above index.now.live) slots.old id) }
     ensures uncrossed { IfOk result (λ insert. gap_start (is_above index.now.live) slots.old id ≤ gap_end (is_above index.now.live) slots.old id → insert.span ≡ 0) }
@@ -196,7 +206,7 @@ pub fn plan_insert(
         uncross(alloc, slots, index, plan, crossing)?;
         gap = find_gap(slots, index, id);
     }
-    place(alloc, slots, index, plan, id, gap)?;
+    place(alloc, slots, index, plan, id, aim, gap)?;
     let writes = (plan.len() - before) as u32;
     Ok(Insert { writes, span })
 }

@@ -3,9 +3,10 @@ ghost use Rattle.std.specs.Prelude.{◌≡◌, ◌<◌, ◌≤◌, ◌+◌, ◌-
 ghost use Rattle.slot_order.specs.Order.{slot as held_in};
 ghost use Rattle.slot_pool.specs.Arrangement.{nearest_free};
 ghost use Rattle.overlap_index.specs.Live.{AreApart, is_live, is_above};
-ghost use Rattle.move_planner.specs.Placement.{first_lower, last_upper, next_slot, gap_start, gap_end};
+ghost use Rattle.move_planner.specs.Placement.{first_lower, last_upper, next_slot, gap_start, gap_end, aimed_at};
 ghost use Rattle.move_planner.specs.Steps.{lesser, greater};
 
+use crate::Aim;
 use overlap_index::Index;
 use slot_pool::Arrangement;
 
@@ -103,13 +104,23 @@ pub(crate) fn find_gap(slots: &Arrangement, index: &Index, id: u32) -> Gap
 }
 
 /// The place in a gap, from `start` on and before `end`, that a new id takes: the free slot nearest
-/// to the middle, the lower one of two. `None` exactly where no slot of the gap is free.
-pub(crate) fn choose(slots: &Arrangement, start: u32, end: u32) -> Option<u32>
-    requires some { 0 < length slots.now }
+/// to its aim, the lower one of two. `None` exactly where no slot of the gap is free.
+pub(crate) fn choose(slots: &Arrangement, start: u32, end: u32, aim: Aim) -> Option<u32>
     requires few { length slots.now ≤ 4096 }
     requires ordered { start ≤ end }
     requires inside { end ≤ length slots.now }
-    ensures { result ≡ nearest_free slots.now start end ((start + end - 1) / 2) }
+    ensures { result ≡ nearest_free slots.now start end (aimed_at aim start end) }
 {
-    slots.nearest_free(start, end, (start + end).saturating_sub(1) / 2)
+    slots.nearest_free(start, end, aimed_at(aim, start, end))
+}
+
+// The slot that an aim means in a gap from `start` on and before `end`.
+fn aimed_at(aim: Aim, start: u32, end: u32) -> u32
+    requires { start + end < 2 ^ 32 }
+    ensures { result ≡ aimed_at aim start end }
+{
+    match aim {
+        Aim::Middle => (start + end).saturating_sub(1) / 2,
+        Aim::At(slot) => slot,
+    }
 }

@@ -1,13 +1,13 @@
 //! The last part of an insertion: the new id's own move, and the chain that makes way for it.
 ghost use Rattle.std.specs.Prelude.{◌≡◌, ◌≤◌, None, Some, IsSome, IfOk, OnOk, OnErr};
 ghost use Rattle.overlap_index.specs.Live.{is_above};
-ghost use Rattle.move_planner.specs.Placement.{first_lower, last_upper, gap_start, gap_end, gap_slot};
+ghost use Rattle.move_planner.specs.Placement.{first_lower, last_upper, gap_start, gap_end};
 ghost use Rattle.move_planner.specs.Insertion.{AreMade};
-ghost use Rattle.move_planner.specs.Steps.{IsReady, IsPlaced, IsWay, FindsDownFrom, FindsUpFrom, shorter};
+ghost use Rattle.move_planner.specs.Steps.{IsReady, IsFull, IsPlaced, IsWay, FindsDownFrom, FindsUpFrom, shorter};
 
 use crate::chains::{Chain, down_chain, up_chain};
 use crate::places::{Gap, choose, first_lower, last_upper};
-use crate::{Move, Plan};
+use crate::{Aim, Move, Plan};
 use overlap_index::Index;
 use slot_pool::Arrangement;
 use std::alloc::{AllocError, Global};
@@ -20,16 +20,17 @@ pub(crate) fn place(
     index: &Index,
     plan: &mut Plan,
     id: u32,
+    aim: Aim,
     gap: Gap,
 ) -> Result<(), AllocError>
     requires ready { IsReady index.now id slots.old }
     requires start { gap.start ≡ gap_start (is_above index.now.live) slots.old id }
     requires end { gap.end ≡ gap_end (is_above index.now.live) slots.old id }
     requires uncrossed { gap_start (is_above index.now.live) slots.old id ≤ gap_end (is_above index.now.live) slots.old id }
-    ensures placed { OnOk result (IsPlaced index.now id slots.old slots.new plan.old plan.new) }
+    ensures placed { OnOk result (IsPlaced index.now aim id slots.old slots.new plan.old plan.new) }
     ensures made { OnErr result (AreMade slots.old slots.new plan.old plan.new) }
 {
-    if let Some(slot) = choose(slots, gap.start, gap.end) {
+    if let Some(slot) = choose(slots, gap.start, gap.end, aim) {
         return plan.make(slots, Move::Put(slot, id));
     }
     let chain = way(alloc, slots, index, id)?;
@@ -40,7 +41,7 @@ pub(crate) fn place(
 // The chain that makes way for a new id whose gap has no free slot.
 fn way(alloc: Global, slots: &Arrangement, index: &Index, id: u32) -> Result<Chain, AllocError>
     requires ready { IsReady index.now id slots.now }
-    requires full { gap_slot (is_above index.now.live) slots.now id ≡ None }
+    requires full { IsFull (is_above index.now.live) slots.now id }
     requires uncrossed { gap_start (is_above index.now.live) slots.now id ≤ gap_end (is_above index.now.live) slots.now id }
     ensures { IfOk result (IsWay (is_above index.now.live) slots.now id) }
 {

@@ -1,6 +1,6 @@
 ghost use Rattle.std.specs.Prelude.{◌≡◌, ◌≤◌, None, [], length, replicate};
 
-use crate::{Insert, Move, Plan, plan_insert};
+use crate::{Aim, Insert, Move, Plan, plan_insert};
 use overlap_index::Index;
 use rule_model::{Piece, Prefix, Rank, list_rank, route_rule};
 use slot_pool::Arrangement;
@@ -8,22 +8,22 @@ use std::alloc::{AllocError, Global};
 use std::process::Abort;
 use std::test::Fail;
 
-// The piece and the priority of a route.
-fn route(addr: u32, len: u8) -> Result<(Piece, Rank), Fail> {
+// The piece, the priority and the aim of a route.
+fn route(addr: u32, len: u8, aim: Aim) -> Result<(Piece, Rank, Aim), Fail> {
     let rule = route_rule(Prefix::v4(addr, len).ok().ok_or("no prefix")?, 0);
-    Ok((Piece::whole(&rule), rule.priority))
+    Ok((Piece::whole(&rule), rule.priority, aim))
 }
 
 // A line of an access list to the addresses of a prefix.
-fn line(sequence: u32, addr: u32, len: u8) -> Result<(Piece, Rank), Fail> {
+fn line(sequence: u32, addr: u32, len: u8) -> Result<(Piece, Rank, Aim), Fail> {
     let rule = route_rule(Prefix::v4(addr, len).ok().ok_or("no prefix")?, 0);
-    Ok((Piece::whole(&rule), list_rank(sequence)))
+    Ok((Piece::whole(&rule), list_rank(sequence), Aim::Middle))
 }
 
 // Inserts some pieces, one after the other, as the ids from 0 on, and tells what the last one took.
 fn insert_all(
     alloc: Global,
-    pieces: &[(Piece, Rank)],
+    pieces: &[(Piece, Rank, Aim)],
     slots: &mut Arrangement,
     index: &mut Index,
     plan: &mut Plan,
@@ -35,9 +35,9 @@ fn insert_all(
 {
     let mut made = Insert { writes: 0, span: 0 };
     let mut id = 0u32;
-    for (piece, rank) in pieces {
+    for (piece, rank, aim) in pieces {
         index.add(id, piece, *rank)?;
-        made = plan_insert(alloc, slots, index, id, plan)?;
+        made = plan_insert(alloc, slots, index, id, *aim, plan)?;
         id += 1;
     }
     Ok(made)
@@ -47,7 +47,7 @@ fn insert_all(
 fn check(
     rt: &impl Abort,
     alloc: Global,
-    pieces: &[(Piece, Rank)],
+    pieces: &[(Piece, Rank, Aim)],
     want: Insert,
     moves: &[Move],
 ) -> Result<(), Fail>
@@ -70,10 +70,10 @@ fn check(
 #[test]
 fn worked_rows(rt: HostRuntime) -> Result<(), Fail> {
     let nested = [
-        route(0x0a00_0000, 8)?,
-        route(0x0a01_0200, 24)?,
-        route(0x0a01_0000, 16)?,
-        route(0x0a01_0000, 20)?,
+        route(0x0a00_0000, 8, Aim::Middle)?,
+        route(0x0a01_0200, 24, Aim::Middle)?,
+        route(0x0a01_0000, 16, Aim::Middle)?,
+        route(0x0a01_0000, 20, Aim::Middle)?,
     ];
     let made = [
         Move::Put(3, 0),
@@ -87,6 +87,25 @@ fn worked_rows(rt: HostRuntime) -> Result<(), Fail> {
         rt.alloc(),
         &nested,
         Insert { writes: 2, span: 0 },
+        &made,
+    )?;
+    let aimed = [
+        route(0x0a00_0000, 8, Aim::At(7))?,
+        route(0x0a01_0200, 24, Aim::At(1))?,
+        route(0x0a01_0000, 16, Aim::At(5))?,
+        route(0x0a01_0000, 20, Aim::At(3))?,
+    ];
+    let made = [
+        Move::Put(7, 0),
+        Move::Put(1, 1),
+        Move::Put(5, 2),
+        Move::Put(3, 3),
+    ];
+    check(
+        &rt,
+        rt.alloc(),
+        &aimed,
+        Insert { writes: 1, span: 0 },
         &made,
     )?;
     let crossed = [

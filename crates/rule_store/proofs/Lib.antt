@@ -1,3 +1,4 @@
+pub mod Above
 pub mod After
 pub mod Best
 pub mod Counts

@@ -1,5 +1,5 @@
 -- The rules under a list of slab keys, and what a change of the slab leaves of them.
-use Rattle.std.proofs.Common.{◌≡◌, ◌≢◌, ℕ, suc, ◌+◌, ◌<◌, List, ◌∷◌, ◌++◌, length, get_or, set, take, drop, Option, Some, None, IsSome, All, refl, sym, ap, ap₂, ◌∙◌, inl, inr, arith}
+use Rattle.std.proofs.Common.{◌≡◌, ◌≢◌, ℕ, suc, ◌+◌, ◌<◌, List, ◌∷◌, ◌++◌, length, get_or, set, map, take, drop, Option, Some, None, IsSome, All, refl, sym, ap, ap₂, ◌∙◌, inl, inr, arith}
 use Rattle.std.specs.List.{insert, remove}
 use Rattle.std.proofs.lemmas.Bool.{cases_eq, cases_lt}
 use Rattle.std.proofs.lemmas.List.{get_or-map, length-map, map-append, take-map, drop-map, same_lists, length-set, get_or-set_same, get_or-set_other, take-set, drop-set-lt}
@@ -67,16 +67,23 @@ module _ (old new : Slab Rule) (keys : List ℕ) (key : ℕ) (slot : Option Rule
             (sym (get_or-set_other (rules_under old keys) place k (rule_under new key) none away ∙ get_or-map (rule_under old) keys k 0 none to'))
       ])
 
--- a key that comes in at a place brings its rule in there
+-- an element that comes in at a place, and one that goes
+pub map-insert : {X Y : Type 0} (f : X → Y) (xs : List X) (place : ℕ) (x : X) → map f (insert xs place x) ≡ insert (map f xs) place (f x)
+map-insert {X} {Y} f xs place x =
+    map-append f (take place xs) (x ∷ drop place xs)
+    ∙ ap₂ (λ (a b : List Y). a ++ f x ∷ b) (sym (take-map f place xs)) (sym (drop-map f place xs))
+
+pub map-remove : {X Y : Type 0} (f : X → Y) (xs : List X) (place : ℕ) → map f (remove xs place) ≡ remove (map f xs) place
+map-remove {X} {Y} f xs place =
+    map-append f (take place xs) (drop (suc place) xs)
+    ∙ ap₂ (λ (a b : List Y). a ++ b) (sym (take-map f place xs)) (sym (drop-map f (suc place) xs))
+
+-- so a key brings its rule in there, and takes it away
 pub rules_under-insert : (slab : Slab Rule) (keys : List ℕ) (place key : ℕ) → rules_under slab (insert keys place key) ≡ insert (rules_under slab keys) place (rule_under slab key)
-rules_under-insert slab keys place key =
-    map-append (rule_under slab) (take place keys) (key ∷ drop place keys)
-    ∙ ap₂ (λ (a b : List Rule). a ++ rule_under slab key ∷ b) (sym (take-map (rule_under slab) place keys)) (sym (drop-map (rule_under slab) place keys))
+rules_under-insert slab keys place key = map-insert (rule_under slab) keys place key
 
 pub rules_under-remove : (slab : Slab Rule) (keys : List ℕ) (place : ℕ) → rules_under slab (remove keys place) ≡ remove (rules_under slab keys) place
-rules_under-remove slab keys place =
-    map-append (rule_under slab) (take place keys) (drop (suc place) keys)
-    ∙ ap₂ (λ (a b : List Rule). a ++ b) (sym (take-map (rule_under slab) place keys)) (sym (drop-map (rule_under slab) (suc place) keys))
+rules_under-remove slab keys place = map-remove (rule_under slab) keys place
 
 pub present-insert : (slab : Slab Rule) (keys : List ℕ) (place key : ℕ) → ArePresent slab keys → IsSome (get slab key) → ArePresent slab (insert keys place key)
 present-insert slab keys place key present some =

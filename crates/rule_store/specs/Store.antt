@@ -1,10 +1,12 @@
 -- What a contract sees of a Store, and what its calls do to the set.
-use Rattle.std.specs.Prelude.{ℕ, ◌+◌, ◌^◌, ◌<◌, ◌≤◌, not, nat_eq, if◌then◌else◌, List, length, map, filter, unwrap_or, slice_index_or, IsSome, All}
+use Rattle.std.specs.Prelude.{ℕ, ◌+◌, ◌^◌, ◌<◌, ◌≤◌, ◌≡◌, not, nat_eq, nat_lt, if◌then◌else◌, List, length, map, filter, unwrap_or, slice_index_or, IsSome, All}
 use Rattle.slab.specs.Slab.{Slab, get, HasRoomFor}
 use Rattle.rule_model.specs.declared.Rule.{Rule}
 use Rattle.rule_model.specs.AddressBlock.{any_address}
 use Rattle.rule_model.specs.Rule.{route_rule}
 use Rattle.rule_model.specs.RuleSet.{IsRuleSet}
+use Rattle.rule_store.specs.declared.Mode.TheVariants.{Cover}
+use Rattle.rule_store.specs.Verdict.{entries_needed}
 
 -- the rules by falling priority, and how many more have their memory
 pub record StoredRules : Type 0 where
@@ -23,6 +25,10 @@ rule_under slab key = unwrap_or (get slab key) no_rule
 abbrev pub rules_under : Slab Rule → List ℕ → List Rule
 rules_under slab keys = map (rule_under slab) keys
 
+-- the rules above a priority
+abbrev pub rules_above : List Rule → ℕ → List Rule
+rules_above rules priority = filter (λ rule. nat_lt priority rule.priority) rules
+
 -- Each key has a rule, the rules are a set, and the spare ones have room in the slab, in the list of keys and in a u32.
 pub record IsStored (slab : Slab Rule) (keys : List ℕ) (key_capacity spare : ℕ) : Type 0 where
   pub present : All (λ key. IsSome (get slab key)) keys
@@ -30,6 +36,12 @@ pub record IsStored (slab : Slab Rule) (keys : List ℕ) (key_capacity spare : �
   pub slab_room : HasRoomFor slab spare
   pub key_room : length keys + spare ≤ key_capacity
   pub count : length keys + spare < 2 ^ 32
+
+-- And beside the keys stands how many entries each rule takes by covers, with room for those of the spare ones.
+pub record IsSized (slab : Slab Rule) (keys : List ℕ) (key_capacity : ℕ) (sizes : List ℕ) (size_capacity spare : ℕ) : Type 0 where
+  pub stored : IsStored slab keys key_capacity spare
+  pub sizes_are : sizes ≡ map (entries_needed Cover) (rules_under slab keys)
+  pub size_room : length keys + spare ≤ size_capacity
 
 -- a rule with this result where it has this priority
 abbrev pub answered : ℕ → ℕ → Rule → Rule

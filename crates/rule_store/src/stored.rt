@@ -1,14 +1,16 @@
 //! A set of rules by falling priority.
 
-ghost use Rattle.std.specs.Prelude.{take, ◌≡◌, ◌↔◌, ◌+◌, ◌-◌, ◌<◌, ◌≤◌, ◌^◌, ℕ, [], ◌∷◌, None, Some, IsTrue, IsFalse, IsSome, IfOk, IfErr, IfSome, OnOk, OnErr, length, slice_get, slice_index, option_copied, is_some, MatchResult, All, not};
+ghost use Rattle.std.specs.Prelude.{take, ◌≡◌, ◌↔◌, ◌+◌, ◌-◌, ◌<◌, ◌≤◌, ◌^◌, ℕ, [], ◌∷◌, None, Some, IsTrue, IsFalse, IsSome, IfOk, IfErr, IfSome, OnOk, OnErr, length, slice_get, slice_index, option_copied, is_some, MatchResult, All, not, sum};
 ghost use Rattle.slab.specs.Slab.{get};
 ghost use Rattle.rule_model.specs.RuleSet.{IsRuleSet, best_rule, has_priority, rule_at};
 ghost use Rattle.rule_store.specs.Batch.{batch_fault, with_rule};
-ghost use Rattle.rule_store.specs.Store.{IsPlace, rules_under, with_answer, without_rule};
+ghost use Rattle.rule_store.specs.Store.{IsPlace, rules_above, rules_under, with_answer, without_rule};
 ghost use Rattle.rule_store.specs.Naming.{named_fault};
+ghost use Rattle.rule_store.specs.Verdict.{entries_of};
 
+use crate::entries::entries_needed;
 use crate::pending::{Named, Naming};
-use crate::{Batch, BatchFault, Command};
+use crate::{Batch, BatchFault, Command, Mode};
 use rule_model::{Key, Rank, Rule, matches};
 use slab::Slab;
 use std::alloc::{AllocError, Global};
@@ -20,19 +22,21 @@ pub struct Store {
     rules: Slab<Rule>,
     // The slab keys of the rules, by falling priority.
     order: Vec<usize>,
-    // How many rules more have their room in both.
+    // How many entries each of them takes by covers, in the same order.
+    sizes: Vec<u16>,
+    // How many rules more have their room in all three.
     spare: u32,
 }
 
 impl Model for Store {
     ghost use Rattle.std.specs.Prelude.{vec_capacity};
-    ghost use Rattle.rule_store.specs.Store.{StoredRules, IsStored, rules_under};
+    ghost use Rattle.rule_store.specs.Store.{StoredRules, IsSized, rules_under};
 
     ghost Value = { StoredRules };
 
     ghost view = { λ s. record { rules = rules_under s.rules s.order.items; spare = s.spare } };
 
-    ghost invariant = { λ s. IsStored s.rules s.order.items (vec_capacity s.order) s.spare };
+    ghost invariant = { λ s. IsSized s.rules s.order.items (vec_capacity s.order) s.sizes.items (vec_capacity s.sizes) s.spare };
 }
 
 // The place of the first rule whose priority isn't above this one, by halving.
@@ -54,6 +58,18 @@ fn place_of(rules: &Slab<Rule>, order: &[usize], priority: Rank) -> usize
     low
 }
 
+// The sum of some numbers.
+fn sum_of(numbers: &[u16]) -> u64
+    requires { length numbers.now < 2 ^ 32 }
+    ensures { result ≡ sum numbers.now }
+{
+    let mut total = 0;
+    for number in numbers {
+        total += u64::from(*number);
+    }
+    total
+}
+
 impl Store {
     /// A set without rules. It takes no memory yet.
     pub fn new(alloc: Global) -> Store
@@ -63,6 +79,7 @@ impl Store {
         Store {
             rules: Slab::new(alloc),
             order: Vec::new(alloc),
+            sizes: Vec::new(alloc),
             spare: 0,
         }
     }
@@ -77,6 +94,7 @@ impl Store {
     {
         self.rules.reserve(n as usize)?;
         self.order.reserve(n as usize)?;
+        self.sizes.reserve(n as usize)?;
         self.spare = self.spare.max(n);
         Ok(())
     }
@@ -89,8 +107,10 @@ impl Store {
         ensures spare { self.new.spare + 1 ≡ self.old.spare }
     {
         let place = place_of(&self.rules, self.order.as_slice(), rule.priority);
+        let size = entries_needed(Mode::Cover, &rule) as u16;
         let key = self.rules.insert_reserved(rule);
         self.order.insert(place, key).unwrap();
+        self.sizes.insert(place, size).unwrap();
         self.spare -= 1;
     }
 
@@ -113,6 +133,7 @@ impl Store {
         let place = place_of(&self.rules, self.order.as_slice(), priority);
         let key = self.order.remove(place);
         self.rules.remove(key);
+        self.sizes.remove(place);
         self.spare += 1;
     }
 
@@ -122,6 +143,19 @@ impl Store {
         ensures falling { IsRuleSet self.now.rules }
     {
         self.order.len() as u32
+    }
+
+    /// How many entries the rules above a priority take. It reads a number for each of them, and rules only to find the
+    /// first of the others.
+    pub fn entries_above(&self, mode: Mode, priority: Rank) -> u64
+        ensures count { result ≡ entries_of mode (rules_above self.now.rules priority) }
+        ensures most { result ≤ entries_of mode self.now.rules }
+    {
+        let place = place_of(&self.rules, self.order.as_slice(), priority);
+        match mode {
+            Mode::Cover => sum_of(&self.sizes[..place]),
+            Mode::Bits => place as u64,
+        }
     }
 
     /// Whether there is no rule.

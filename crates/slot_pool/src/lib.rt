@@ -110,11 +110,11 @@ impl Arrangement {
     }
 
     /// The empty slot from `from` on and before `to` that is nearest to `mid`, the lower one of two
-    /// at the same distance. `None` exactly where no slot there is empty.
+    /// at the same distance. `mid` may lie outside, even past the last slot. `None` exactly where no
+    /// slot there is empty.
     pub fn nearest_free(&self, from: u32, to: u32, mid: u32) -> Option<u32>
         requires from { from ≤ length self.now }
         requires to { to ≤ length self.now }
-        requires mid { mid < length self.now }
         ensures { result ≡ nearest_free self.now from to mid }
     {
         let above = free::next_marked(&self.free, mid.max(from), to);

@@ -28,7 +28,7 @@ overflow_cast-writes c =
       standing = c.requires.standing;
       order = c.requires.order;
     } in
-    let w = wholly c.args.index.now c.args.id c.args.slots.now c.loop-gap.slots c.place.new.slots c.args.plan.now c.loop-gap.plan c.place.new.plan ready c.loop-gap.invariant.turned c.in_ok-place.ensures.placed in
+    let w = wholly c.args.index.now c.args.aim c.args.id c.args.slots.now c.loop-gap.slots c.place.new.slots c.args.plan.now c.loop-gap.plan c.place.new.plan ready c.loop-gap.invariant.turned c.in_ok-place.ensures.placed in
     let n = counted c.args.index.now c.args.id c.args.slots.now c.place.new.slots c.args.plan.now c.place.new.plan ready w in
     let count = n.count in let small = n.small in
     omega arith
@@ -43,7 +43,7 @@ returns-clause-placement c =
       standing = c.requires.standing;
       order = c.requires.order;
     } in
-    (wholly c.args.index.now c.args.id c.args.slots.now c.loop-gap.slots c.place.new.slots c.args.plan.now c.loop-gap.plan c.place.new.plan ready c.loop-gap.invariant.turned c.in_ok-place.ensures.placed).placement
+    (wholly c.args.index.now c.args.aim c.args.id c.args.slots.now c.loop-gap.slots c.place.new.slots c.args.plan.now c.loop-gap.plan c.place.new.plan ready c.loop-gap.invariant.turned c.in_ok-place.ensures.placed).placement
 
 pub returns-clause-order : goal.returns-clause-order
 returns-clause-order c =
@@ -55,7 +55,7 @@ returns-clause-order c =
       standing = c.requires.standing;
       order = c.requires.order;
     } in
-    (wholly c.args.index.now c.args.id c.args.slots.now c.loop-gap.slots c.place.new.slots c.args.plan.now c.loop-gap.plan c.place.new.plan ready c.loop-gap.invariant.turned c.in_ok-place.ensures.placed).inserted.order
+    (wholly c.args.index.now c.args.aim c.args.id c.args.slots.now c.loop-gap.slots c.place.new.slots c.args.plan.now c.loop-gap.plan c.place.new.plan ready c.loop-gap.invariant.turned c.in_ok-place.ensures.placed).inserted.order
 
 pub returns-clause-standing : goal.returns-clause-standing
 returns-clause-standing c =
@@ -67,7 +67,7 @@ returns-clause-standing c =
       standing = c.requires.standing;
       order = c.requires.order;
     } in
-    let w = wholly c.args.index.now c.args.id c.args.slots.now c.loop-gap.slots c.place.new.slots c.args.plan.now c.loop-gap.plan c.place.new.plan ready c.loop-gap.invariant.turned c.in_ok-place.ensures.placed in
+    let w = wholly c.args.index.now c.args.aim c.args.id c.args.slots.now c.loop-gap.slots c.place.new.slots c.args.plan.now c.loop-gap.plan c.place.new.plan ready c.loop-gap.invariant.turned c.in_ok-place.ensures.placed in
     subst (StandOnce (IsLive c.args.index.now.live)) (sym w.made.1) w.inserted.standing
 
 pub returns-clause-bound : goal.returns-clause-bound
@@ -81,7 +81,7 @@ returns-clause-bound c = λ m bound.
       standing = c.requires.standing;
       order = c.requires.order;
     } in
-    let w = wholly c.args.index.now c.args.id c.args.slots.now c.loop-gap.slots c.place.new.slots c.args.plan.now c.loop-gap.plan c.place.new.plan ready c.loop-gap.invariant.turned c.in_ok-place.ensures.placed in
+    let w = wholly c.args.index.now c.args.aim c.args.id c.args.slots.now c.loop-gap.slots c.place.new.slots c.args.plan.now c.loop-gap.plan c.place.new.plan ready c.loop-gap.invariant.turned c.in_ok-place.ensures.placed in
     let n = counted c.args.index.now c.args.id c.args.slots.now c.place.new.slots c.args.plan.now c.place.new.plan ready w in
     let k = w.inserted.bound m bound in
     let count = n.count in

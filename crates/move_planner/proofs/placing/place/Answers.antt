@@ -15,14 +15,14 @@ choose-requires-clause-inside c =
 pub make-requires : goal.make-requires
 make-requires c =
     let above = is_above c.args.index.now.live in
-    let f = gap_free above c.args.slots.now c.args.id c.in-Some.slot (chosen above c.args.slots.now c.args.id _ _ _ c.requires.start c.requires.end c.choose.ensures ∙ c.in-Some.is) in
+    let f = gap_free above c.args.aim c.args.slots.now c.args.id c.in-Some.slot (chosen above c.args.aim c.args.slots.now c.args.id _ _ _ c.requires.start c.requires.end c.choose.ensures ∙ c.in-Some.is) in
     (f.inside, inl f.free)
 
 pub returns-in-Some-clause-placed : goal.returns-in-Some-clause-placed
 returns-in-Some-clause-placed c =
     let above = is_above c.args.index.now.live in
-    on_ok_both _ _ _ c.make.result (λ gained after. placed_in_gap c.args.index.now c.args.id c.args.slots.now c.make.new.slots c.args.plan.now c.make.new.self c.in-Some.slot
-    c.requires.uncrossed (chosen above c.args.slots.now c.args.id _ _ _ c.requires.start c.requires.end c.choose.ensures ∙ c.in-Some.is) gained after) c.make.ensures.plan c.make.ensures.slots
+    on_ok_both _ _ _ c.make.result (λ gained after. placed_in_gap c.args.index.now c.args.aim c.args.id c.args.slots.now c.make.new.slots c.args.plan.now c.make.new.self c.in-Some.slot
+    c.requires.uncrossed (chosen above c.args.aim c.args.slots.now c.args.id _ _ _ c.requires.start c.requires.end c.choose.ensures ∙ c.in-Some.is) gained after) c.make.ensures.plan c.make.ensures.slots
 
 pub shift-requires : goal.shift-requires
 shift-requires c = way_shifts c.args.index.now c.args.id c.args.slots.now c.in_ok-chain.chain c.requires.ready c.in_ok-chain.ensures
@@ -30,7 +30,12 @@ shift-requires c = way_shifts c.args.index.now c.args.id c.args.slots.now c.in_o
 pub returns-clause-placed : goal.returns-clause-placed
 returns-clause-placed c =
     let above = is_above c.args.index.now.live in
-    let full = chosen above c.args.slots.now c.args.id _ _ _ c.requires.start c.requires.end c.choose.ensures ∙ no_slot c.choose.result c.in_default.not-Some in
-    on_ok_both _ _ _ c.make-2.result (λ gained after. placed_by_way c.args.index.now c.args.id c.args.slots.now c.shift.new.slots c.make-2.new.slots c.args.plan.now c.shift.new.plan c.make-2.new.self
+    let full = chosen above c.args.aim c.args.slots.now c.args.id _ _ _ c.requires.start c.requires.end c.choose.ensures ∙ no_slot c.choose.result c.in_default.not-Some in
+    on_ok_both _ _ _ c.make-2.result (λ gained after. placed_by_way c.args.index.now c.args.aim c.args.id c.args.slots.now c.shift.new.slots c.make-2.new.slots c.args.plan.now c.shift.new.plan c.make-2.new.self
     c.in_ok-chain.chain c.requires.ready c.requires.uncrossed full c.in_ok-chain.ensures c.in_ok-shift.ensures.plan c.in_ok-shift.ensures.slots c.in_ok-shift.ensures.twin c.in_ok-shift.ensures.free
     (gained ∙ ap (λ k. c.shift.new.plan ++ Put k c.args.id ∷ []) c.first.ensures) (after ∙ ap (λ k. after_move c.shift.new.slots (Put k c.args.id)) c.first.ensures)) c.make-2.ensures.plan c.make-2.ensures.slots
+
+pub way-requires-clause-full : goal.way-requires-clause-full
+way-requires-clause-full c =
+    let above = is_above c.args.index.now.live in
+    (c.args.aim, chosen above c.args.aim c.args.slots.now c.args.id _ _ _ c.requires.start c.requires.end c.choose.ensures ∙ no_slot c.choose.result c.in_default.not-Some)

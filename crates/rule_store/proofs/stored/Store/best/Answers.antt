@@ -13,7 +13,7 @@ returns-then-matches c =
     let rule = c.index-rule.result.now in
     let within : place < length keys = rw c.deref-place-items.ensures.value at c.loop-place-test.true in
     let read = read-under slab keys place rule rule within (rw c.deref-place-items.ensures.value at c.index-rule.ensures) in
-    let best = best-at (rules_under slab keys) c.args.key.now place rule c.self.invariant.falling (omega (arith, count-under slab keys)) read (sym c.matches.ensures ∙ c.if-matches.true) in
+    let best = best-at (rules_under slab keys) c.args.key.now place rule c.self.invariant.stored.falling (omega (arith, count-under slab keys)) read (sym c.matches.ensures ∙ c.if-matches.true) in
     rw (← c.self.view_is) (sym (c.loop-place.invariant ∙ best))
 
 pub loop-place-preserved : goal.loop-place-preserved

@@ -13,7 +13,7 @@ absent-past : (c : goal.Then-place-len) → IsFalse (has_priority c.args.self.no
 absent-past c =
     let rules = rules_under c.self.inside.rules c.self.inside.order.items in
     let is = rw c.as_slice.ensures.value at c.place_of-place.ensures in
-    rw (← c.self.view_is) (absent-at rules c.args.priority c.place_of-place.result c.self.invariant.falling is
+    rw (← c.self.view_is) (absent-at rules c.args.priority c.place_of-place.result c.self.invariant.stored.falling is
     (λ none within. absurd (omega (arith, count-under c.self.inside.rules c.self.inside.order.items))))
 
 pub returns-then-place-len-clause-found : goal.returns-then-place-len-clause-found
@@ -35,7 +35,7 @@ found-here c =
     let key = c.index.ensures ∙ get_or_default keys place c.index.result.now 0 within in
     let read = read-under slab keys place rule rule within (rw key at c.index-rule.ensures) in
     let same = eqb-true rule.priority c.args.priority (sym c.eq.ensures ∙ c.if-eq.true) in
-    rw (← c.self.view_is) (rule_at-found (rules_under slab keys) c.args.priority place rule (IsAt-read (rules_under slab keys) c.args.priority place rule c.self.invariant.falling (omega arith) read same) ∙ ap (λ (r : Rule). Some r) read)
+    rw (← c.self.view_is) (rule_at-found (rules_under slab keys) c.args.priority place rule (IsAt-read (rules_under slab keys) c.args.priority place rule c.self.invariant.stored.falling (omega arith) read same) ∙ ap (λ (r : Rule). Some r) read)
 
 pub returns-then-eq-clause-found : goal.returns-then-eq-clause-found
 returns-then-eq-clause-found c = sym (found-here c)
@@ -55,7 +55,7 @@ absent-here c =
     let within : place < length keys = omega (arith, is.within) in
     let key = c.index.ensures ∙ get_or_default keys place c.index.result.now 0 within in
     let differ = eqb-false rule.priority c.args.priority (sym c.eq.ensures ∙ c.if-eq.false) in
-    rw (← c.self.view_is) (absent-at (rules_under slab keys) c.args.priority place c.self.invariant.falling is
+    rw (← c.self.view_is) (absent-at (rules_under slab keys) c.args.priority place c.self.invariant.stored.falling is
     (λ none to. rw (read-under slab keys place rule none within (rw key at c.index-rule.ensures)) differ))
 
 pub returns-else-eq-clause-found : goal.returns-else-eq-clause-found
