@@ -29,7 +29,8 @@ pub record IsTold (pieces changed : List RankedPiece) (all : List LivePiece) (he
   pub has : entry_at held one.id ≡ Some (entry_for now)
   pub now_piece : now.piece ≡ one.piece
   pub now_rank : now.rank ≡ one.rank
-  pub which : ((now ≡ was) × ((rewrite : Rewrite) → Contains rewrites rewrite → rewrite.id ≡ one.id → ⊥)) ⊎ Contains changed now
+  pub which : ((now ≡ was) × ((rewrite : Rewrite) → Contains rewrites rewrite → rewrite.id ≡ one.id → ⊥))
+      ⊎ ((rewrite : Rewrite) × Contains changed now × Contains rewrites rewrite × (rewrite.id ≡ one.id))
 
 -- some rewrites of live pieces' ids, each to the entry of a piece that has a new result
 abbrev pub AreRewrites : List RankedPiece → List LivePiece → List Rewrite → Type 0
@@ -76,7 +77,7 @@ told pieces changed live all held rewrites one of up are member = elim (rewritte
           has = entry;
           now_piece = piece;
           now_rank = rank;
-          which = inr w.1;
+          which = inr (rewrite, w.1, given, is);
         }
 
 -- each live id has the entry of what it shows

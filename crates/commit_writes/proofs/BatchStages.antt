@@ -1,8 +1,8 @@
 -- What stands after each of a planned batch's writes.
-use Rattle.std.proofs.Common.{◌≡◌, ℕ, ◌+◌, ◌-◌, ◌≤◌, List, ◌++◌, length, take, map, Contains, inl, inr, ◌⊎◌, refl, sym, ◌∙◌, subst, ap, ap₂, arith, append-nil, le_refl}
+use Rattle.std.proofs.Common.{◌≡◌, ℕ, suc, ◌+◌, ◌-◌, ◌<◌, ◌≤◌, List, ◌++◌, length, take, map, Contains, inl, inr, ◌⊎◌, sym, ◌∙◌, subst, ap, ap₂, arith, append-nil, le_refl}
 use Rattle.std.specs.Prelude.{◌↔◌}
 use Rattle.std.proofs.lemmas.Bool.{cases_lt}
-use Rattle.std.proofs.lemmas.List.{take_all, take-map, take-append-le}
+use Rattle.std.proofs.lemmas.List.{take_all, take-map, take-append-le, length-map}
 use Rattle.std.proofs.Math.Seq.{take-append-add}
 use Rattle.slot_pool.specs.Arrangement.{Slots}
 use Rattle.rule_model.specs.declared.Rule.{Rule}
@@ -22,18 +22,27 @@ use Rattle.commit_writes.specs.PlannedBatch.{rewrite_write, erase_write, batch_w
 use Rattle.commit_writes.proofs.BatchRow.{row_of}
 use Rattle.commit_writes.proofs.BatchOrder.{late_pieces, late_state, late_writes, late_ordered, late_once, late_reached}
 use Rattle.commit_writes.proofs.BatchWay.{early_on_the_way, late_on_the_way, arrived}
+use Rattle.commit_writes.proofs.BatchTurns.{early_single, late_single, inserting_onward, inserted_onward, late_onward}
 use Rattle.commit_writes.proofs.Mirror.{IsOrdered_same, StandsOnce_same}
 use Rattle.commit_writes.proofs.OnTheWay.{AreOnTheWay}
 use Rattle.commit_writes.proofs.Ordered.{planned_ordered}
+use Rattle.commit_writes.proofs.Row.{whole_insertions, whole_insertions-rise}
+use Rattle.commit_writes.proofs.Turns.{AreSingle, IsOnward}
 
--- a front of a list and another, past the first
-past : {X : Type 0} (n : ℕ) (xs ys : List X) → length xs ≤ n → take n (xs ++ ys) ≡ xs ++ take (n - length xs) ys
-past n xs ys long = ap (λ m. take m (xs ++ ys)) (let e : n ≡ length xs + (n - length xs) = omega arith in e) ∙ take-append-add xs ys (n - length xs)
+-- a front of two lists is one of each
+front_of_both : {X : Type 0} (n : ℕ) (xs ys : List X) → take n (xs ++ ys) ≡ take n xs ++ take (n - length xs) ys
+front_of_both n xs ys = elim (cases_lt n (length xs)) [
+  | inl short ↦ take-append-le n xs ys (omega arith) ∙ (sym (append-nil (take n xs)) ∙ ap (λ m. take n xs ++ take m ys) (let e : 0 ≡ n - length xs = omega arith in e))
+  | inr long ↦
+      ap (λ m. take m (xs ++ ys)) (let e : n ≡ length xs + (n - length xs) = omega arith in e)
+      ∙ (take-append-add xs ys (n - length xs) ∙ ap (λ front. front ++ take (n - length xs) ys) (sym (take_all n xs long)))
+]
 
--- Pieces on the way between two sets' stand in a state, in order; and each once, where so much is known.
+-- Pieces on the way between two sets' stand in a state, each with one result, in order; and each once, where so much is known.
 pub record IsStage (old new : List RankedPiece) (state : State) (Later : Type 0) : Type 0 where
   pub standing : List RankedPiece
   pub way : AreOnTheWay old new standing
+  pub single : AreSingle standing
   pub ordered : IsOrdered state (Contains standing)
   pub once : Later → StandsOnce state (Contains standing)
 
@@ -62,30 +71,26 @@ module _ (rules : List Rule) (batch : List Command) (live : List LivePiece) (slo
   abbrev made : List Write
   made = batch_writes entries slots planned rewrites erased
 
-  -- how many results and erases are among the first of the writes, past the insertions
-  record AreTaken (n : ℕ) : Type 0 where
-    told : ℕ
-    gone : ℕ
-    writes : take n made ≡ late_writes slots entries planned rewrites erased told gone
-    stage : (gone ≡ 0) ⊎ (take told rewrites ≡ rewrites)
+  -- how many results and how many erases are among the first of the writes
+  abbrev told_by : ℕ → ℕ
+  told_by n = n - length inserting
 
-  taken : (n : ℕ) → length inserting ≤ n → AreTaken n
-  taken n long = elim (cases_lt (n - length inserting) (length results)) [
-    | inl short ↦ record {
-      told = n - length inserting;
-      gone = 0;
-      writes = past n inserting (results ++ erases) long ∙ ap (λ rest. inserting ++ rest) (take-append-le (n - length inserting) results erases (omega arith)
-          ∙ (take-map (rewrite_write (slots_after slots planned)) (n - length inserting) rewrites ∙ sym (append-nil (map (rewrite_write (slots_after slots planned)) (take (n - length inserting) rewrites)))));
-      stage = inl refl;
-    }
-    | inr all ↦ record {
-      told = length rewrites;
-      gone = n - length inserting - length results;
-      writes = past n inserting (results ++ erases) long ∙ ap (λ rest. inserting ++ rest) (past (n - length inserting) results erases all
-          ∙ ap₂ (λ first rest. first ++ rest) (ap (map (rewrite_write (slots_after slots planned))) (sym (take_all (length rewrites) rewrites (le_refl (length rewrites)))))
-          (take-map (erase_write (slots_after slots planned)) (n - length inserting - length results) erased));
-      stage = inr (take_all (length rewrites) rewrites (le_refl (length rewrites)));
-    }
+  abbrev gone_by : ℕ → ℕ
+  gone_by n = n - length inserting - length results
+
+  -- past the insertions those are they,
+  taken : (n : ℕ) → length inserting ≤ n → take n made ≡ late_writes slots entries planned rewrites erased (told_by n) (gone_by n)
+  taken n long =
+      front_of_both n inserting (results ++ erases)
+      ∙ ap₂ (λ first rest. first ++ rest) (take_all n inserting long)
+      (front_of_both (told_by n) results erases
+      ∙ ap₂ (λ first rest. first ++ rest) (take-map (rewrite_write (slots_after slots planned)) (told_by n) rewrites) (take-map (erase_write (slots_after slots planned)) (gone_by n) erased))
+
+  -- and no piece goes before the last result
+  results_first : (n : ℕ) → (gone_by n ≡ 0) ⊎ (take (told_by n) rewrites ≡ rewrites)
+  results_first n = let size : length results ≡ length rewrites = length-map rewrites (rewrite_write (slots_after slots planned)) in elim (cases_lt (told_by n) (length rewrites)) [
+    | inl some ↦ inl (omega arith)
+    | inr all ↦ inr (take_all (told_by n) rewrites all)
   ]
 
   -- the state after some of them
@@ -101,27 +106,46 @@ module _ (rules : List Rule) (batch : List Command) (live : List LivePiece) (slo
             (late_once rules batch live slots entries planned rewrites erased plan told gone),
       )
 
-  early_ordered : (n count : ℕ) → n ≤ length inserting → IsOrdered (state_after start (take n inserting)) (Contains (old ++ take count added))
-      → IsOrdered (state_after start (take n made)) (Contains (old ++ take count added))
-  early_ordered n count short ordered =
-      subst (λ (writes : List Write). IsOrdered (state_after start writes) (Contains (old ++ take count added))) (sym (take-append-le n inserting (results ++ erases) short)) ordered
+  early_ordered : (n : ℕ) → n < length inserting → IsOrdered (state_after start (take n made)) (Contains (old ++ take (whole_insertions planned n) added))
+  early_ordered n short =
+      subst (λ (writes : List Write). IsOrdered (state_after start writes) (Contains (old ++ take (whole_insertions planned n) added))) (sym (take-append-le n inserting (results ++ erases) (omega arith)))
+      (planned_ordered old added live slots entries planned n (row_of rules batch live slots entries planned rewrites erased plan))
+
+  stage_at : (n : ℕ) → (n < length inserting) ⊎ (length inserting ≤ n) → IsStage old new (state_after start (take n made)) (length inserting ≤ n)
+  stage_at n (inl short) = record {
+    standing = old ++ take (whole_insertions planned n) added;
+    way = early_on_the_way rules batch live slots entries planned rewrites erased plan (whole_insertions planned n);
+    single = early_single rules batch live slots entries planned rewrites erased plan (whole_insertions planned n);
+    ordered = early_ordered n short;
+    once = λ long. absurd (omega arith);
+  }
+  stage_at n (inr long) = let are = late_after (take n made) (told_by n) (gone_by n) (taken n long) in record {
+    standing = late_pieces live entries planned rewrites erased (told_by n) (gone_by n);
+    way = late_on_the_way rules batch live slots entries planned rewrites erased plan (told_by n) (gone_by n) (results_first n);
+    single = late_single rules batch live slots entries planned rewrites erased plan (told_by n) (gone_by n);
+    ordered = are.0;
+    once = λ known. are.1;
+  }
 
   -- after each of the writes
   pub batch_stage : (n : ℕ) → IsStage old new (state_after start (take n made)) (length inserting ≤ n)
-  batch_stage n = elim (cases_lt n (length inserting)) [
-    | inl short ↦ let w = planned_ordered old added live slots entries planned n (row_of rules batch live slots entries planned rewrites erased plan) in record {
-      standing = old ++ take w.0 added;
-      way = early_on_the_way rules batch live slots entries planned rewrites erased plan w.0;
-      ordered = early_ordered n w.0 (omega arith) w.1;
-      once = λ long. absurd (omega arith);
-    }
-    | inr long ↦ let t = taken n long in let are = late_after (take n made) t.told t.gone t.writes in record {
-      standing = late_pieces live entries planned rewrites erased t.told t.gone;
-      way = late_on_the_way rules batch live slots entries planned rewrites erased plan t.told t.gone t.stage;
-      ordered = are.0;
-      once = λ known. are.1;
-    }
-  ]
+  batch_stage n = stage_at n (cases_lt n (length inserting))
+
+  onward_at : (n : ℕ) (now : (n < length inserting) ⊎ (length inserting ≤ n)) (next : (suc n < length inserting) ⊎ (length inserting ≤ suc n))
+      → IsOnward new (stage_at n now).standing (stage_at (suc n) next).standing
+  unfolding stage_at
+  onward_at n (inl short) (inl next) =
+      inserting_onward rules batch live slots entries planned rewrites erased plan (whole_insertions planned n) (whole_insertions planned (suc n)) (whole_insertions-rise planned n (suc n) (omega arith))
+  onward_at n (inl short) (inr next) =
+      inserted_onward rules batch live slots entries planned rewrites erased plan (whole_insertions planned n) (told_by (suc n)) (gone_by (suc n)) (stage_at (suc n) (inr next)).way
+  onward_at n (inr long) (inl next) = absurd (omega arith)
+  onward_at n (inr long) (inr next) =
+      late_onward rules batch live slots entries planned rewrites erased plan (told_by n) (told_by (suc n)) (gone_by n) (gone_by (suc n)) (omega arith) (omega arith)
+
+  -- each goes onward
+  pub batch_onward : (n : ℕ) → IsOnward new (batch_stage n).standing (batch_stage (suc n)).standing
+  unfolding batch_stage
+  batch_onward n = onward_at n (cases_lt n (length inserting)) (cases_lt (suc n) (length inserting))
 
   -- and after the last
   pub record IsLast : Type 0 where

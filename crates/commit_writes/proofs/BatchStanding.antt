@@ -76,7 +76,7 @@ module _ (rules : List Rule) (batch : List Command) (live : List LivePiece) (slo
       (before_it rules batch live slots entries planned rewrites erased plan _ is) like.1 like.0
 
   -- each piece of the new set has one, be it with another result
-  was_in : (ranked : RankedPiece) → Contains new ranked → HasPiece (row_pieces rules batch) ranked
+  pub was_in : (ranked : RankedPiece) → Contains new ranked → HasPiece (row_pieces rules batch) ranked
   was_in ranked member = elim (new_piece rules batch change ranked member) [
     | inl stood ↦ (ranked, Contains-append_left old inserted ranked stood.0, refl, refl)
     | inr rest ↦ elim rest [
@@ -126,7 +126,7 @@ module _ (rules : List Rule) (batch : List Command) (live : List LivePiece) (slo
       → (t : IsTold (row_pieces rules batch) rewritten all (told_entries entries rewrites told) (take told rewrites) one)
       → Contains new t.now ⊎ Contains goes t.now
   settled told one member whole t = elim t.which [
-    | inr changed ↦ inl (rewritten_stays rules batch change t.now changed)
+    | inr changed ↦ inl (rewritten_stays rules batch change t.now changed.1)
     | inl own ↦ elim (Contains-append_cases old inserted t.was t.member) [
       | inr put ↦ inl (subst (Contains new) (sym own.0) (inserted_stays rules batch change t.was put).0)
       | inl stood ↦ elim (old_piece rules batch change t.was stood) [

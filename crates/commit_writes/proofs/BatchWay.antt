@@ -35,12 +35,12 @@ itself : (standing : List RankedPiece) (ranked : RankedPiece) → Contains stand
 itself standing ranked member = (ranked, member, refl, refl)
 
 -- what stands behind the insertions is what a live piece shows
-record IsShown (pieces changed : List RankedPiece) (all : List LivePiece) (held : Entries) (rewrites : List Rewrite) (ids : List ℕ) (ranked : RankedPiece) : Type 0 where
-  one : LivePiece
-  member : Contains all one
-  stays : Contains ids one.id → ⊥
-  told : IsTold pieces changed all held rewrites one
-  is : told.now ≡ ranked
+pub record IsShown (pieces changed : List RankedPiece) (all : List LivePiece) (held : Entries) (rewrites : List Rewrite) (ids : List ℕ) (ranked : RankedPiece) : Type 0 where
+  pub one : LivePiece
+  pub member : Contains all one
+  pub stays : Contains ids one.id → ⊥
+  pub told : IsTold pieces changed all held rewrites one
+  pub is : told.now ≡ ranked
 
 module _ (rules : List Rule) (batch : List Command) (live : List LivePiece) (slots : Slots) (entries : Entries) (planned : List Planned) (rewrites : List Rewrite) (erased : List ℕ) (plan : IsPlannedBatch rules batch live slots entries planned rewrites erased) where
   abbrev old : List RankedPiece
@@ -109,10 +109,10 @@ module _ (rules : List Rule) (batch : List Command) (live : List LivePiece) (slo
           ]
 
   -- all new pieces stand from the last insertion on
-  new_stands : (told gone : ℕ) (ranked : RankedPiece) → Contains new ranked → HasPiece (late told gone) ranked
+  pub new_stands : (told gone : ℕ) (ranked : RankedPiece) → Contains new ranked → HasPiece (late told gone) ranked
   new_stands told gone ranked member = (new_held rules batch live slots entries planned rewrites erased plan told gone ranked member).4
 
-  shown : (told gone : ℕ) (ranked : RankedPiece) → Contains (late told gone) ranked
+  pub shown : (told gone : ℕ) (ranked : RankedPiece) → Contains (late told gone) ranked
       → IsShown (row_pieces rules batch) rewritten all (told_entries entries rewrites told) (take told rewrites) (take gone erased) ranked
   shown told gone ranked member =
       let w = in_map (λ one. piece_by all (told_entries entries rewrites told) one.id) (live_then live planned erased gone) ranked member in
@@ -124,7 +124,7 @@ module _ (rules : List Rule) (batch : List Command) (live : List LivePiece) (slo
   results_on_the_way : (told : ℕ) → AreOnTheWay old new (late told 0)
   results_on_the_way told = record {
     each = λ ranked member. let s = shown told 0 ranked member in elim s.told.which [
-      | inr changed ↦ inr (subst (Contains new) s.is (rewritten_stays rules batch change s.told.now changed), λ other is. inl (new_stands told 0 other is))
+      | inr changed ↦ inr (subst (Contains new) s.is (rewritten_stays rules batch change s.told.now changed.1), λ other is. inl (new_stands told 0 other is))
       | inl own ↦ elim (Contains-append_cases old inserted s.told.was s.told.member) [
         | inl stood ↦ inl (subst (Contains old) (sym own.0 ∙ s.is) stood, λ other is. inl (old_stands other is))
         | inr put ↦ inr (subst (Contains new) (sym own.0 ∙ s.is) (inserted_stays rules batch change s.told.was put).0, λ other is. inl (new_stands told 0 other is))

@@ -22,6 +22,7 @@ use Rattle.tcam_device.specs.Order.{IsOrdered}
 use Rattle.tcam_device.specs.Insertion.{insertions, IsCrossingSpan}
 use Rattle.tcam_device.proofs.Lookups.{HitAsPieces}
 use Rattle.tcam_device.proofs.One.{slot_write, one_run}
+use Rattle.move_planner.specs.declared.Aim.{Aim}
 use Rattle.move_planner.specs.declared.Move.{Move}
 use Rattle.move_planner.specs.declared.Move.TheVariants.{Put, Erase}
 use Rattle.move_planner.specs.Placement.{Above, after_moves, gap_start, gap_end, span_of, IsPlacement}
@@ -78,11 +79,11 @@ pub record IsBridged (held : Entries) (piece : ℕ → RankedPiece) (P Known : �
   pub changed : After piece (after_moves d moves) state (state_after state (device_writes piece moves))
   pub same_writes : map (write_for held) moves ≡ device_writes piece moves
 
-pub bridge : (held : Entries) (piece : ℕ → RankedPiece) (P Known : ℕ → Type 0) (above : Above) (d : Slots) (state : State) (id : ℕ) (moves : List Move)
+pub bridge : (held : Entries) (piece : ℕ → RankedPiece) (P Known : ℕ → Type 0) (above : Above) {aim : Aim} (d : Slots) (state : State) (id : ℕ) (moves : List Move)
     → Reads (over piece) (rank piece) Known above → MatchApart piece Known → HaveEntries held piece Known → ((a : ℕ) → P a → Known a) → Known id → (P id → ⊥)
     → state.slots ≡ entries (entry_by piece) d → Ordered (over piece) (rank piece) P d → AllOnce d
     → HitAsPieces state (Pieces piece Known)
-    → IsPlacement above id d moves → IsBridged held piece P Known above d state id moves
+    → IsPlacement above aim id d moves → IsBridged held piece P Known above d state id moves
 bridge held piece P Known above d state id moves reads apart have up known new same o alone hits placement = record {
   during = during;
   first = first;

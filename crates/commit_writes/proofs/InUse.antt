@@ -8,6 +8,7 @@ use Rattle.slot_pool.proofs.Places.{first_slot_is}
 use Rattle.slot_pool.proofs.Scan.{last_slot_is, next_free_is, last_free_is, nearest_free_is}
 use Rattle.overlap_index.specs.declared.LivePiece.{LivePiece}
 use Rattle.overlap_index.specs.Live.{is_above}
+use Rattle.move_planner.specs.declared.Aim.{Aim}
 use Rattle.move_planner.specs.declared.Move.{Move}
 use Rattle.move_planner.specs.declared.Move.TheVariants.{Put, Erase}
 use Rattle.move_planner.specs.Placement.{Above, after_moves, first_lower, last_upper, next_slot, gap_start, gap_end, span_of, lower_of_held, upper_of_held, IsDownChain, IsUpChain, put_held, moves_along, DownChain, UpChain, IsPlacement, into_gap, push_down, push_up, uncross_down, uncross_up}
@@ -70,7 +71,7 @@ up_chain : (above : Above) (slots : Slots) (from place : ℕ) (up : UpChain abov
 up_chain above slots from place up = up_inside above slots up.free from up.rest (last_inside slots place up.free up.to) up.chain
 
 -- the moves of a placement are of slots of the arrangement
-placement_inside : (above : Above) (id : ℕ) (slots : Slots) (moves : List Move) → IsPlacement above id slots moves → AreInside (length slots) moves
+placement_inside : (above : Above) {aim : Aim} (id : ℕ) (slots : Slots) (moves : List Move) → IsPlacement above aim id slots moves → AreInside (length slots) moves
 placement_inside above id slots moves (into_gap at low found) =
     ((nearest_free_is slots (gap_start above slots id) (gap_end above slots id) _ at found).free.inside, tt)
 placement_inside above id slots moves (push_down lower low none is down shorter) =

@@ -28,6 +28,7 @@ use Rattle.commit_writes.proofs.Counted.{writes_of_made}
 use Rattle.commit_writes.proofs.BatchSegment.{batch_tables}
 use Rattle.commit_writes.proofs.OnTheWay.{on_the_way_between}
 use Rattle.commit_writes.proofs.Ordered.{planned_ordered, planned_between}
+use Rattle.commit_writes.proofs.Row.{whole_insertions}
 use Rattle.commit_writes.proofs.Start.{commit_piece, commit_makes}
 
 module _ (rules : List Rule) (batch : List Command) (live : List LivePiece) (slots : Slots) (entries : Entries) (planned : List Planned) (rewrites : List Rewrite) (erased : List ℕ) (plan : IsPlannedBatch rules batch live slots entries planned rewrites erased) where
@@ -69,8 +70,11 @@ module _ (rules : List Rule) (batch : List Command) (live : List LivePiece) (slo
   early : (n : ℕ) → n ≤ insertion_writes start made → (k : ℕ) × IsOrdered (state_after start (take n made)) (Contains (old ++ take k added))
   early n within =
       let short : n ≤ length inserting = let first = insertions_first in omega arith in
-      let w = planned_ordered old added live slots entries planned n row in
-      (w.0, subst (λ (writes : List Write). IsOrdered (state_after start writes) (Contains (old ++ take w.0 added))) (sym (take-append-le n inserting _ short)) w.1)
+      let count = whole_insertions planned n in (
+        count,
+        subst (λ (writes : List Write). IsOrdered (state_after start writes) (Contains (old ++ take count added))) (sym (take-append-le n inserting _ short))
+            (planned_ordered old added live slots entries planned n row),
+      )
 
   -- and behind them what is on the way, each piece once
   late : (n : ℕ) → insertion_writes start made ≤ n → (standing : List RankedPiece) × AreBetween old (new) standing

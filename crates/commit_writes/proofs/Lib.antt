@@ -27,8 +27,11 @@ pub mod BatchIds
 pub mod BatchRow
 pub mod BatchOrder
 pub mod OnTheWay
+pub mod Turns
+pub mod Disjoint
 pub mod BatchStanding
 pub mod BatchWay
+pub mod BatchTurns
 pub mod BatchStages
 pub mod Hitless
 pub mod BatchStands

@@ -1,6 +1,7 @@
 -- The live ids of a planned row are those of the pieces that stand and of the new ones.
 use Rattle.std.proofs.Common.{◌≡◌, ℕ, ◌+◌, ◌<◌, ◌≤◌, Some, List, [], ◌∷◌, ◌++◌, map, Contains, arith, inl, inr, ◌⊎◌, sym, ◌∙◌, subst, ap, append_assoc, append-nil}
 use Rattle.std.specs.List.{AllByRecursion, AllPairs}
+use Rattle.std.proofs.lemmas.List.{map-id}
 use Rattle.std.proofs.lemmas.List.Elements.{All-contains, Contains-append_left, Contains-append_right, Contains-append_cases}
 use Rattle.slot_order.proofs.Rules.{contains_cases, contains_none}
 use Rattle.slot_pool.specs.Arrangement.{Slots}
@@ -64,6 +65,9 @@ pairs_one R f (x ∷ xs) a b all in_a in_b = elim (contains_cases x a xs in_a) [
     | inr later_b ↦ pairs_one R f xs a b (pairs_tail R (f x) (map f xs) all) later_a later_b
   ]
 ]
+
+pub pairs_same : {X : Type 0} (R : X → X → Type 0) (xs : List X) (a b : X) → AllPairs R xs → Contains xs a → Contains xs b → (a ≡ b) ⊎ (R a b ⊎ R b a)
+pairs_same R xs a b all in_a in_b = pairs_one R (λ x. x) xs a b (subst (AllPairs R) (sym (map-id xs)) all) in_a in_b
 
 -- two pieces that aren't one piece of one rank
 abbrev Apart : RankedPiece → RankedPiece → Type 0

@@ -18,6 +18,7 @@ use Rattle.commit_writes.specs.Planned.{Entries, Planned, IsPlannedRow, entry_at
 use Rattle.commit_writes.proofs.Mirror.{Pieces, IsOrdered_same, StandsOnce_same}
 use Rattle.commit_writes.proofs.Ids.{whole_is}
 use Rattle.commit_writes.proofs.Members.{of_row}
+use Rattle.commit_writes.proofs.Row.{whole_insertions}
 use Rattle.commit_writes.proofs.Start.{contents_are, commit_piece, planned_piece, commit_readable, commit_first, commit_done, commit_makes}
 
 -- the pieces of the standing ids and of some new ones
@@ -68,15 +69,13 @@ first_members standing inserted live slots entries planned k row ranked =
 -- after each of a planned row's writes the device is in order for the standing pieces and the first of the new ones,
 pub planned_ordered : (standing inserted : List RankedPiece) (live : List LivePiece) (slots : Slots) (entries : Entries) (planned : List Planned) (n : ℕ)
     → IsPlannedRow standing inserted live slots entries planned
-    → (k : ℕ) × IsOrdered (state_after (plain_state (contents entries slots)) (take n (planned_writes entries planned)))
-    (Contains (standing ++ take k inserted))
+    → IsOrdered (state_after (plain_state (contents entries slots)) (take n (planned_writes entries planned)))
+    (Contains (standing ++ take (whole_insertions planned n) inserted))
 planned_ordered standing inserted live slots entries planned n row =
-    let w = (commit_done standing inserted live slots entries planned row).during n in
-    let state = state_after (plain_state (contents entries slots)) (take n (planned_writes entries planned)) in (
-      w.0,
-      IsOrdered_same state (Pieces (commit_piece live entries planned) (IsLive (live_after live (take w.0 planned)))) (Contains (standing ++ take w.0 inserted))
-          (first_members standing inserted live slots entries planned w.0 row) w.1,
-    )
+    let count = whole_insertions planned n in
+    IsOrdered_same (state_after (plain_state (contents entries slots)) (take n (planned_writes entries planned)))
+    (Pieces (commit_piece live entries planned) (IsLive (live_after live (take count planned)))) (Contains (standing ++ take count inserted))
+    (first_members standing inserted live slots entries planned count row) ((commit_done standing inserted live slots entries planned row).during n)
 
 -- where one of its insertions begins each of those pieces stands in one slot,
 pub planned_between : (standing inserted : List RankedPiece) (live : List LivePiece) (slots : Slots) (entries : Entries) (planned : List Planned) (k : ℕ) (insertion : Insertion)

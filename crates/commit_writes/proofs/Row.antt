@@ -1,6 +1,6 @@
 -- Insertions that were planned one after the other, made one after the other.
-use Rattle.std.proofs.Common.{◌≡◌, ℕ, zero, suc, ◌+◌, ◌-◌, ◌*◌, ◌<◌, ◌≤◌, true, false, Some, List, [], ◌∷◌, ◌++◌, length, map, take, slice_get, Contains, arith, inl, inr, refl, sym, ◌∙◌, subst, ap, append_assoc, append-nil}
-use Rattle.std.specs.Prelude.{◌↔◌}
+use Rattle.std.proofs.Common.{◌≡◌, ℕ, zero, suc, ◌+◌, ◌-◌, ◌*◌, ◌<◌, ◌≤◌, true, false, Some, List, [], ◌∷◌, ◌++◌, length, map, take, slice_get, Contains, arith, inl, inr, refl, sym, ◌∙◌, subst, ap, append_assoc, append-nil, lt-ltb, le-ltb}
+use Rattle.std.specs.Prelude.{◌↔◌, if◌then◌else◌, nat_lt}
 use Rattle.std.specs.List.{AllZip}
 use Rattle.std.proofs.lemmas.Bool.{cases_lt}
 use Rattle.std.proofs.lemmas.Option.{none-some, same_Some}
@@ -104,9 +104,33 @@ pub record IsAsPlanned (piece : ℕ → RankedPiece) (all : List LivePiece) (pla
   pub few : (m : ℕ) → BoundsChains (over piece) (rank piece) (IsLive all) m → length insertion.writes ≤ m * (1 + planned.span)
   pub uncrossed : AreNestedIds piece all → planned.span ≡ 0
 
+-- how many of planned insertions are whole after so many of their writes
+abbrev pub whole_insertions : List Planned → ℕ → ℕ
+whole_insertions [] n = 0
+whole_insertions (planned ∷ rest) n = if nat_lt n (length planned.moves) then 0 else suc (whole_insertions rest (n - length planned.moves))
+
+first_short : (planned : Planned) (rest : List Planned) (n : ℕ) → n < length planned.moves → whole_insertions (planned ∷ rest) n ≡ 0
+first_short planned rest n short = ap (λ b. if b then 0 else suc (whole_insertions rest (n - length planned.moves))) (lt-ltb n (length planned.moves) short)
+
+first_whole : (planned : Planned) (rest : List Planned) (n : ℕ) → length planned.moves ≤ n
+    → whole_insertions (planned ∷ rest) n ≡ suc (whole_insertions rest (n - length planned.moves))
+first_whole planned rest n long = ap (λ b. if b then 0 else suc (whole_insertions rest (n - length planned.moves))) (le-ltb n (length planned.moves) long)
+
+-- with more writes no fewer
+pub whole_insertions-rise : (planned : List Planned) (n m : ℕ) → n ≤ m → whole_insertions planned n ≤ whole_insertions planned m
+whole_insertions-rise [] n m more = omega arith
+whole_insertions-rise (planned ∷ rest) n m more = elim (cases_lt n (length planned.moves)) [
+  | inl short ↦ let none = first_short planned rest n short in omega arith
+  | inr long ↦
+      let first = first_whole planned rest n long in
+      let last = first_whole planned rest m (omega arith) in
+      let up = whole_insertions-rise rest (n - length planned.moves) (m - length planned.moves) (omega arith) in
+      omega arith
+]
+
 -- what planned insertions do to the device
 pub record AreDone (held : Entries) (piece : ℕ → RankedPiece) (all live : List LivePiece) (slots : Slots) (state : State) (planned : List Planned) : Type 0 where
-  pub during : (n : ℕ) → (k : ℕ) × IsOrdered (state_after state (take n (planned_writes held planned))) (Pieces piece (IsLive (live_after live (take k planned))))
+  pub during : (n : ℕ) → IsOrdered (state_after state (take n (planned_writes held planned))) (Pieces piece (IsLive (live_after live (take (whole_insertions planned n) planned))))
   pub last : IsOrdered (state_after state (planned_writes held planned)) (Pieces piece (IsLive (live_after live planned)))
   pub changed : After piece (slots_after slots planned) state (state_after state (planned_writes held planned))
   pub within : AllKnown (IsLive (live_after live planned)) (slots_after slots planned)
@@ -129,7 +153,7 @@ done_none held piece all live slots state readable up same o alone =
     let now = ordered_state piece (IsLive live) (IsLive all) slots state readable.apart (live_up live all up) same o in
     let now' = subst (λ some. IsOrdered state (Pieces piece (IsLive some))) (sym (append-nil live)) now in
     record {
-      during = λ n. (0, subst (λ ws. IsOrdered (state_after state ws) (Pieces piece (IsLive (live ++ [])))) (sym (none_taken n)) now');
+      during = λ n. subst (λ ws. IsOrdered (state_after state ws) (Pieces piece (IsLive (live ++ [])))) (sym (none_taken n)) now';
       last = now';
       changed = record { slots = same; src = refl; dst = refl };
       within = subst (λ some. AllKnown (IsLive some) slots) (sym (append-nil live)) o.within;
@@ -207,24 +231,25 @@ done_more held piece all live slots state planned rest readable up o single span
         (subst (λ some. StandsOnce state (Pieces piece (IsLive some))) (sym (append-nil live)) single)
     between (suc k) begun read = subst (λ some. StandsOnce begun.before (Pieces piece (IsLive some))) (regroup (take k rest)) (h.between k begun read)
 
-    during : (n : ℕ) → (k : ℕ) × IsOrdered (state_after state (take n (planned_writes held (planned ∷ rest)))) (Pieces piece (IsLive (live_after live (take k (planned ∷ rest)))))
-    during n = elim (cases_lt n (length ours)) [
-      | inl short ↦ (
-        0,
-        subst (λ ws. IsOrdered (state_after state ws) (Pieces piece (IsLive (live ++ [])))) (sym (take-append-le n ours theirs (omega arith)))
-            (subst (λ some. IsOrdered (state_after state (take n ours)) (Pieces piece (IsLive some))) (sym (append-nil live))
-            (subst (λ ws. IsOrdered (state_after state (take n ws)) (Pieces piece (IsLive live))) (sym b.same_writes)
-            (b.during n (let size : length ours ≡ length planned.moves = length-map planned.moves (write_for held) in omega arith)))),
-      )
+    size : length ours ≡ length planned.moves
+    size = length-map planned.moves (write_for held)
+
+    during : (n : ℕ) → IsOrdered (state_after state (take n (ours ++ theirs))) (Pieces piece (IsLive (live_after live (take (whole_insertions (planned ∷ rest) n) (planned ∷ rest)))))
+    during n = elim (cases_lt n (length planned.moves)) [
+      | inl short ↦
+          subst (λ k. IsOrdered (state_after state (take n (ours ++ theirs))) (Pieces piece (IsLive (live_after live (take k (planned ∷ rest)))))) (sym (first_short planned rest n short))
+          (subst (λ ws. IsOrdered (state_after state ws) (Pieces piece (IsLive (live ++ [])))) (sym (take-append-le n ours theirs (omega (arith, size))))
+          (subst (λ some. IsOrdered (state_after state (take n ours)) (Pieces piece (IsLive some))) (sym (append-nil live))
+          (subst (λ ws. IsOrdered (state_after state (take n ws)) (Pieces piece (IsLive live))) (sym b.same_writes) (b.during n (omega arith)))))
       | inr long ↦
-          let w = h.during (n - length ours) in
-          let split : take n (ours ++ theirs) ≡ ours ++ take (n - length ours) theirs =
-          ap (λ m. take m (ours ++ theirs)) (let e : n ≡ length ours + (n - length ours) = omega arith in e) ∙ take-append-add ours theirs (n - length ours) in (
-            suc w.0,
-            subst (λ some. IsOrdered (state_after state (take n (ours ++ theirs))) (Pieces piece (IsLive some))) (regroup (take w.0 rest))
-                (subst (λ ws. IsOrdered (state_after state ws) (Pieces piece (IsLive (live_after more (take w.0 rest))))) (sym split)
-                (subst (λ s. IsOrdered s (Pieces piece (IsLive (live_after more (take w.0 rest))))) (sym (state_after-append state ours (take (n - length ours) theirs))) w.1)),
-          )
+          let later = n - length planned.moves in
+          let split : take n (ours ++ theirs) ≡ ours ++ take later theirs =
+          ap (λ m. take m (ours ++ theirs)) (let e : n ≡ length ours + later = omega (arith, size) in e) ∙ take-append-add ours theirs later in
+          let some = take (whole_insertions rest later) rest in
+          subst (λ k. IsOrdered (state_after state (take n (ours ++ theirs))) (Pieces piece (IsLive (live_after live (take k (planned ∷ rest)))))) (sym (first_whole planned rest n long))
+          (subst (λ ones. IsOrdered (state_after state (take n (ours ++ theirs))) (Pieces piece (IsLive ones))) (regroup some)
+          (subst (λ ws. IsOrdered (state_after state ws) (Pieces piece (IsLive (live_after more some)))) (sym split)
+          (subst (λ s. IsOrdered s (Pieces piece (IsLive (live_after more some)))) (sym (state_after-append state ours (take later theirs))) (h.during later))))
     ]
 
 pub done_all : (held : Entries) (piece : ℕ → RankedPiece) (all live : List LivePiece) (slots : Slots) (state : State) (planned : List Planned) → AreReadable held piece all

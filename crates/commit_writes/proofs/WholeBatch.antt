@@ -24,7 +24,7 @@ use Rattle.commit_writes.proofs.InUse.{planned_in_use, slots_kept}
 use Rattle.commit_writes.proofs.Wider.{IsPlannedSegment-padded}
 use Rattle.commit_writes.proofs.BatchStands.{AreIdRewrites, batch_home, batch_rewrites}
 use Rattle.commit_writes.proofs.BatchSegment.{batch_shape, batch_tight, batch_uncrossed, batch_counts}
-use Rattle.commit_writes.proofs.Hitless.{batch_hitless}
+use Rattle.commit_writes.proofs.Hitless.{batch_hitless, batch_turns}
 use Rattle.commit_writes.proofs.KeepsOrder.{batch_keeps}
 
 module _ (rules : List Rule) (batch : List Command) (live : List LivePiece) (slots : Slots) (entries : Entries) (planned : List Planned) (rewrites : List Rewrite) (erased : List ℕ) where
@@ -40,6 +40,7 @@ module _ (rules : List Rule) (batch : List Command) (live : List LivePiece) (slo
   segment_of counts plan numbers = record {
     segment = record {
       hitless = batch_hitless rules batch live slots entries planned rewrites erased plan;
+      turns = batch_turns rules batch live slots entries planned rewrites erased plan;
       order = batch_keeps rules batch live slots entries planned rewrites erased plan;
       shape = batch_shape rules batch live slots entries planned rewrites erased plan;
       bound = λ chain bounds. wide_from_tight chain (insertions (plain_state (contents entries slots)) made) (batch_tight rules batch live slots entries planned rewrites erased plan chain bounds);

@@ -12,7 +12,7 @@ use Rattle.tcam_device.specs.declared.Write.{Write}
 use Rattle.tcam_device.specs.State.{State, IsInUse, state_after}
 use Rattle.tcam_device.specs.Order.{StandsOnce, IsOrdered}
 use Rattle.tcam_device.specs.Insertion.{Insertion, insertions, table_writes, IsGreatestSpan, AreBoundedBy, IsUncrossed}
-use Rattle.tcam_device.proofs.Wider.{padded, all_take, slot-padded, state_after-padded, slots-after, IsHitless-padded, IsOrdered-padded, StandsOnce-padded}
+use Rattle.tcam_device.proofs.Wider.{padded, all_take, slot-padded, state_after-padded, slots-after, IsHitless-padded, TurnsOnce-padded, IsOrdered-padded, StandsOnce-padded}
 use Rattle.tcam_device.proofs.WiderInsertions.{widened, insertions-padded, longest-padded, writes-widened, entries-widened, IsGreatestSpan-widened, AreBoundedBy-widened, IsUncrossed-widened}
 use Rattle.commit_writes.specs.declared.Done.{Done}
 use Rattle.commit_writes.specs.Bits.{FieldBits, bits_with}
@@ -140,6 +140,7 @@ pub IsSegment-padded : (more : ℕ) (mode : Mode) (bits : FieldBits) (rules : Li
     → AreInUse state made → IsSegment mode bits rules batch state made → IsSegment mode bits rules batch (padded more state) made
 IsSegment-padded more mode bits rules batch state made inside segment = record {
   hitless = IsHitless-padded more rules (set_after rules batch) state made inside segment.hitless;
+  turns = λ none. TurnsOnce-padded more rules (set_after rules batch) state made inside (segment.turns none);
   order = KeepsOrder-padded more mode bits rules batch state made inside segment.order;
   shape = HasCommitShape-padded more mode bits rules batch state made inside segment.shape;
   bound = λ chain bounds. subst (AreBoundedBy _) (sym (insertions-padded more state made inside)) (AreBoundedBy-widened more _ (insertions state made) (segment.bound chain bounds));

@@ -1,15 +1,15 @@
 -- What an accepted commit writes, and its numbers.
-use Rattle.std.specs.Prelude.{◌≡◌, ℕ, ◌+◌, ◌≤◌, ◌++◌, Some, List, length, take, slice_get, flat_map, Contains, ◌⊎◌}
+use Rattle.std.specs.Prelude.{◌≡◌, ℕ, ◌+◌, ◌≤◌, ◌++◌, IsFalse, Some, List, length, take, slice_get, flat_map, Contains, ◌⊎◌}
 use Rattle.rule_model.specs.declared.Rule.{Rule}
 use Rattle.rule_model.specs.RuleSet.{BoundsChains}
 use Rattle.rule_store.specs.declared.Mode.{Mode}
 use Rattle.rule_store.specs.declared.Command.{Command}
-use Rattle.rule_store.specs.Batch.{additions, set_after}
+use Rattle.rule_store.specs.Batch.{removes, additions, set_after}
 use Rattle.ternary_word.specs.Entry.{RankedPiece}
 use Rattle.tcam_device.specs.declared.Write.{Write}
 use Rattle.tcam_device.specs.State.{State, state_after}
 use Rattle.tcam_device.specs.Order.{IsOrdered, StandsOnce}
-use Rattle.tcam_device.specs.Hitless.{IsHitless}
+use Rattle.tcam_device.specs.Hitless.{IsHitless, TurnsOnce}
 use Rattle.tcam_device.specs.Insertion.{Insertion, insertions, longest_insertion, table_writes, IsGreatestSpan, IsWithinBound, IsWithinTightBound}
 use Rattle.commit_writes.specs.declared.Done.{Done}
 use Rattle.commit_writes.specs.Bits.{FieldBits, bits_with}
@@ -58,9 +58,15 @@ pub record KeepsOrder (mode : Mode) (bits : FieldBits) (rules : List Rule) (batc
   pub after : IsOrdered (state_after state made) (Contains (new_pieces mode bits rules batch))
   pub once : StandsOnce (state_after state made) (Contains (new_pieces mode bits rules batch))
 
+-- no priority is both removed and given to a new rule
+abbrev pub ReplacesNone : List Command → Type 0
+ReplacesNone batch = (new : Rule) → Contains (additions batch) new → IsFalse (removes new.priority batch)
+
 -- the writes of an accepted commit: hitless, in order, as many of each kind as the rules fix, and within the bounds
 pub record IsSegment (mode : Mode) (bits : FieldBits) (rules : List Rule) (batch : List Command) (state : State) (made : List Write) : Type 0 where
   pub hitless : IsHitless rules (set_after rules batch) state made
+  -- and where no rule is replaced no key goes back to its old answer
+  pub turns : ReplacesNone batch → TurnsOnce rules (set_after rules batch) state made
   pub order : KeepsOrder mode bits rules batch state made
   pub shape : HasCommitShape mode bits rules batch state made
   pub bound : (chain : ℕ) → BoundsChains (rules ++ additions batch) chain → IsWithinBound chain (insertions state made)

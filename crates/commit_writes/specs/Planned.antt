@@ -9,6 +9,7 @@ use Rattle.ternary_word.specs.declared.Entry.{Entry}
 use Rattle.ternary_word.specs.Entry.{RankedPiece, IsEncodable, entry_for}
 use Rattle.overlap_index.specs.declared.LivePiece.{LivePiece}
 use Rattle.overlap_index.specs.Live.{AreApart, is_live, is_above}
+use Rattle.move_planner.specs.declared.Aim.{Aim}
 use Rattle.move_planner.specs.declared.Move.{Move}
 use Rattle.move_planner.specs.declared.Move.TheVariants.{Put, Erase}
 use Rattle.move_planner.specs.Placement.{IsPlacement, IsInOrder, after_moves, span_of}
@@ -43,10 +44,12 @@ abbrev pub write_for : Entries → Move → Write
 write_for entries (Put slot id) = Slot slot (entry_at entries id)
 write_for entries (Erase slot) = Slot slot None
 
--- one insertion as it was planned: the entry's id with its piece and priority, its result, its moves and its crossing span
+-- one insertion as it was planned: the entry's id with its piece and priority, its result, its aim, its moves and its
+-- crossing span
 pub record Planned : Type 0 where
   pub one : LivePiece
   pub result : ℕ
+  pub aim : Aim
   pub moves : List Move
   pub span : ℕ
 
@@ -55,12 +58,12 @@ abbrev pub ranked_of : Planned → RankedPiece
 ranked_of planned = record { piece = planned.one.piece; rank = planned.one.rank; result = planned.result }
 
 -- insertions planned one after the other, with these ids live and this arrangement before them: each new id goes in by
--- the moves of its placement
+-- the moves of a placement with its aim
 abbrev pub ArePlanned : List LivePiece → Slots → List Planned → Type 0
 ArePlanned live slots [] = Unit {0}
 ArePlanned live slots (planned ∷ rest) =
     IsFalse (is_live live planned.one.id)
-    × IsPlacement (is_above (live ++ planned.one ∷ [])) planned.one.id slots planned.moves
+    × IsPlacement (is_above (live ++ planned.one ∷ [])) planned.aim planned.one.id slots planned.moves
     × (planned.span ≡ span_of (is_above (live ++ planned.one ∷ [])) slots planned.one.id)
     × ArePlanned (live ++ planned.one ∷ []) (after_moves slots planned.moves) rest
 

@@ -2,9 +2,9 @@
 //!
 //! An accepted batch leads from a set of rules to the set after it by a **segment** of device writes, which has four
 //! parts: words of the translation tables, insertions, new results, erases. `specs/Shape` says which writes these are,
-//! `specs/Commit` that a segment is hitless, keeps the device in order, with the new set's entries in the end, each once,
-//! and is within the bounds on insertions, `specs/Bits` which range of ports has which bit meanwhile. None of them knows
-//! how a segment is planned.
+//! `specs/Commit` that a segment is hitless, turns a key's answer at most once where no rule is replaced, keeps the device
+//! in order, with the new set's entries in the end, each once, and is within the bounds on insertions, `specs/Bits` which
+//! range of ports has which bit meanwhile. None of them knows how a segment is planned.
 //!
 //! `specs/Planned` speaks of a plan: insertions one after the other, each with the moves of its placement. The lemma
 //! that the manager rests on is in `proofs/`: from an arrangement in order, the device writes of such insertions are a
