@@ -1,8 +1,7 @@
 -- Carrying out a commit: the writes that are left, and the new rules put in at its end.
-use Rattle.std.proofs.Common.{◌≡◌, ℕ, ◌+◌, ◌-◌, ◌<◌, List, [], ◌∷◌, ◌++◌, length, take, drop, slice_get, replicate, Option, Some, None, IfSome, refl, sym, ap, ap₂, subst, ◌∙◌, arith, length-drop, length-set, get_or, add-one, zero, suc}
-use Rattle.std.specs.Prelude.{option_map}
+use Rattle.std.proofs.Common.{◌≡◌, ℕ, ◌+◌, ◌-◌, ◌<◌, ◌≤◌, List, [], ◌∷◌, ◌++◌, length, take, drop, slice_get, replicate, Option, Some, None, IfSome, refl, sym, ap, ap₂, subst, ◌∙◌, arith, length-drop, length-set, get_or, add-one, zero, suc}
 use Rattle.std.specs.List.{AllByRecursion}
-use Rattle.std.proofs.lemmas.List.{set-append_left, length-map, length-replicate}
+use Rattle.std.proofs.lemmas.List.{set-append_left, length-map, length-replicate, replicate-append-replicate}
 use Rattle.std.proofs.lemmas.Option.{slice_get-get_or}
 use Rattle.std.proofs.Math.Seq.{drop-cons}
 use Rattle.std.proofs.lemmas.List.Sums.{fold-append}
@@ -21,12 +20,13 @@ use Rattle.rule_store.proofs.Sums.{take-read}
 use Rattle.overlap_index.specs.declared.LivePiece.{LivePiece}
 use Rattle.tcam_device.specs.declared.Write.{Write}
 use Rattle.tcam_device.specs.declared.Write.TheVariants.{Slot, Table}
-use Rattle.tcam_device.specs.State.{State, IsInUse, apply, state_after, on_device}
+use Rattle.tcam_device.specs.State.{State, IsInUse, apply, blank, state_after, on_device}
 use Rattle.commit_writes.specs.Bits.{no_bits}
 use Rattle.commit_writes.specs.Planned.{contents, plain_state, held_entry}
 use Rattle.commit_writes.specs.PlannedBatch.{erased_live, rewritten_entries}
 use Rattle.batch_order.specs.declared.Step.TheVariants.{Wrote, Finished}
 use Rattle.batch_order.specs.declared.manager.Held.{Held}
+use Rattle.batch_order.specs.declared.Placement.{Placement}
 use Rattle.batch_order.specs.Entries.{Entries, KeepEntries}
 use Rattle.batch_order.specs.Kept.{IsManaged, IsArranged, changed_by, held_of, state_of}
 use Rattle.batch_order.specs.Managed.{Managed, HeldCommit, StepsOn, IsOn, fresh, next_of}
@@ -34,10 +34,11 @@ use Rattle.batch_order.proofs.Entered.{contents_kept}
 use Rattle.batch_order.proofs.Unchanged.{arranged_same, settled_live}
 
 -- the view of a manager
-abbrev pub view_of : Mode → StoredRules → Entries → Slots → Option Held → Managed
-view_of mode rules kept slots held = record {
+abbrev pub view_of : Placement → Mode → StoredRules → Entries → Slots → Option Held → Managed
+view_of placement mode rules kept slots held = record {
   slots = length slots;
   mode = mode;
+  placement = placement;
   rules = rules.rules;
   bits = no_bits;
   state = state_of kept.entries slots held;
@@ -50,11 +51,11 @@ contents_none entries zero = refl
 contents_none entries (suc count) = ap (λ (rest : List (Option Entry)). None ∷ rest) (contents_none entries count)
 
 -- a new manager
-pub fresh_view : (slots : ℕ) (mode : Mode) (rules : StoredRules) (kept : Entries) (arrangement : Slots) → rules.rules ≡ [] → arrangement ≡ replicate slots None
-    → view_of mode rules kept arrangement None ≡ fresh slots mode
-fresh_view slots mode rules kept arrangement none blank =
-    ap₂ (λ (r : List Rule) (s : Slots). record { slots = length s; mode = mode; rules = r; bits = no_bits; state = plain_state (contents kept.entries s); held = None }) none blank
-    ∙ ap₂ (λ (n : ℕ) (e : List (Option Entry)). record { slots = n; mode = mode; rules = []; bits = no_bits; state = plain_state e; held = None }) (length-replicate slots None) (contents_none kept.entries slots)
+pub fresh_view : (slots : ℕ) (mode : Mode) (placement : Placement) (rules : StoredRules) (kept : Entries) (arrangement : Slots) → rules.rules ≡ [] → arrangement ≡ replicate slots None
+    → view_of placement mode rules kept arrangement None ≡ fresh slots mode placement
+fresh_view slots mode placement rules kept arrangement none blank =
+    ap₂ (λ (r : List Rule) (s : Slots). record { slots = length s; mode = mode; placement = placement; rules = r; bits = no_bits; state = plain_state (contents kept.entries s); held = None }) none blank
+    ∙ ap₂ (λ (n : ℕ) (e : List (Option Entry)). record { slots = n; mode = mode; placement = placement; rules = []; bits = no_bits; state = plain_state e; held = None }) (length-replicate slots None) (contents_none kept.entries slots)
 
 -- with no write left, none is left to make
 pub none_left : (held : Option HeldCommit) → next_of held ≡ None → IfSome held (λ held. held.writes ≡ [])
@@ -92,18 +93,18 @@ all_made : (writes : List Write) (made : ℕ) → drop made writes ≡ [] → ta
 all_made writes made none = take_all made writes (let left : length (drop made writes) ≡ 0 = ap length none in let size : length (drop made writes) ≡ length writes - made = length-drop made writes in omega arith)
 
 -- the state stays where the last write was made, and is that of the entries as they are arranged then
-pub finish_steps : (mode : Mode) (rules rules' : StoredRules) (kept kept' : Entries) (slots : Slots) (held : Held) → IsManaged mode rules kept slots (Some held)
+pub finish_steps : (placement : Placement) (mode : Mode) (rules rules' : StoredRules) (kept kept' : Entries) (slots : Slots) (held : Held) → IsManaged mode rules kept slots (Some held)
     → drop held.made held.writes.items ≡ [] → rules'.rules ≡ set_after rules.rules held.batch → IsFinished kept kept' held
-    → StepsOn (view_of mode rules kept slots (Some held)) (held_of rules.rules held) (drop held.made held.writes.items) (Finished held.counts) (view_of mode rules' kept' held.arrangement None)
-finish_steps mode rules rules' kept kept' slots held managed none is finished =
+    → StepsOn (view_of placement mode rules kept slots (Some held)) (held_of rules.rules held) (drop held.made held.writes.items) (Finished held.counts) (view_of placement mode rules' kept' held.arrangement None)
+finish_steps placement mode rules rules' kept kept' slots held managed none is finished =
     let carried = managed.carried in
     let size : length held.arrangement ≡ length slots = carried.after.settled.size ∙ sym carried.old.settled.size in
     let state : plain_state (contents kept'.entries held.arrangement) ≡ state_of kept.entries slots (Some held) =
     ap plain_state (contents_kept kept'.live (rewritten_entries kept.entries held.rewrites.items) kept'.entries held.arrangement finished.entries
     (settled_live kept' held.arrangement (finished_arranged (set_after rules.rules held.batch) kept kept' held finished carried.after).settled))
     ∙ (sym carried.leads ∙ ap (state_after (plain_state (contents kept.entries slots))) (sym (all_made held.writes.items held.made none))) in
-    subst (λ (left : List Write). StepsOn (view_of mode rules kept slots (Some held)) (held_of rules.rules held) left (Finished held.counts) (view_of mode rules' kept' held.arrangement None)) (sym none)
-    (refl, ap₂ (λ (n : ℕ) (rest : List Rule × State). record { slots = n; mode = mode; rules = rest.0; bits = no_bits; state = rest.1; held = None }) size (ap₂ (λ (r : List Rule) (s : State). (r, s)) is state))
+    subst (λ (left : List Write). StepsOn (view_of placement mode rules kept slots (Some held)) (held_of rules.rules held) left (Finished held.counts) (view_of placement mode rules' kept' held.arrangement None)) (sym none)
+    (refl, ap₂ (λ (n : ℕ) (rest : List Rule × State). record { slots = n; mode = mode; placement = placement; rules = rest.0; bits = no_bits; state = rest.1; held = None }) size (ap₂ (λ (r : List Rule) (s : State). (r, s)) is state))
 
 -- a write of a plan that is read
 read_at : (writes : List Write) (place : ℕ) (write : Write) → place < length writes → write ≡ get_or writes place write → slice_get writes place ≡ Some write
@@ -144,15 +145,15 @@ pub some_left : (writes : List Write) (made : ℕ) → 0 < length (drop made wri
 some_left writes made left = (let size : length (drop made writes) ≡ length writes - made = length-drop made writes in omega arith)
 
 -- the first of the writes that are left was made
-pub advance_steps : (mode : Mode) (rules : StoredRules) (kept : Entries) (slots : Slots) (held : Held) (write : Write)
+pub advance_steps : (placement : Placement) (mode : Mode) (rules : StoredRules) (kept : Entries) (slots : Slots) (held : Held) (write : Write)
     → held.made < length held.writes.items → write ≡ get_or held.writes.items held.made write
-    → StepsOn (view_of mode rules kept slots (Some held)) (held_of rules.rules held) (drop held.made held.writes.items) (Wrote write) (view_of mode rules kept slots (Some (record held { made = held.made + 1 })))
-advance_steps mode rules kept slots held write inside read =
+    → StepsOn (view_of placement mode rules kept slots (Some held)) (held_of rules.rules held) (drop held.made held.writes.items) (Wrote write) (view_of placement mode rules kept slots (Some (record held { made = held.made + 1 })))
+advance_steps placement mode rules kept slots held write inside read =
     let state : state_of kept.entries slots (Some (record held { made = held.made + 1 })) ≡ apply (state_of kept.entries slots (Some held)) write =
     ap (state_after (plain_state (contents kept.entries slots))) (take-read held.writes.items held.made write (read_at held.writes.items held.made write inside read))
     ∙ fold-append apply (plain_state (contents kept.entries slots)) (take held.made held.writes.items) (write ∷ []) in
-    subst (λ (w : List Write). StepsOn (view_of mode rules kept slots (Some held)) (held_of rules.rules held) w (Wrote write) (view_of mode rules kept slots (Some (record held { made = held.made + 1 })))) (sym (drop-read held.writes.items held.made write inside read))
-    (refl, ap (λ (s : State). record { slots = length slots; mode = mode; rules = rules.rules; bits = no_bits; state = s; held = Some (held_of rules.rules (record held { made = held.made + 1 })) }) state)
+    subst (λ (w : List Write). StepsOn (view_of placement mode rules kept slots (Some held)) (held_of rules.rules held) w (Wrote write) (view_of placement mode rules kept slots (Some (record held { made = held.made + 1 })))) (sym (drop-read held.writes.items held.made write inside read))
+    (refl, ap (λ (s : State). record { slots = length slots; mode = mode; placement = placement; rules = rules.rules; bits = no_bits; state = s; held = Some (held_of rules.rules (record held { made = held.made + 1 })) }) state)
 
 -- as many slots as are in use
 pub state_size : (kept : Entries) (slots : Slots) (held : Option Held) → length (state_of kept.entries slots held).slots ≡ length slots
@@ -169,34 +170,35 @@ state_size kept slots (Some held) = go (plain_state (contents kept.entries slots
     go state (write ∷ writes) = go (apply state write) writes ∙ one state write
 
 -- a write to a slot in use is the same on a device with more slots
-on_device-apply : (device_slots : ℕ) (state : State) (write : Write) → IsInUse (length state.slots) write → on_device device_slots (apply state write) ≡ apply (on_device device_slots state) write
+pub on_device-apply : (device_slots : ℕ) (state : State) (write : Write) → IsInUse (length state.slots) write → on_device device_slots (apply state write) ≡ apply (on_device device_slots state) write
 on_device-apply device_slots state (Slot at entry) inside =
     ap₂ (λ (slots : List (Option Entry)) (n : ℕ). record state { slots = slots ++ replicate (device_slots - n) None }) refl (length-set state.slots at entry)
     ∙ ap (λ (slots : List (Option Entry)). record state { slots = slots }) (sym (set-append_left state.slots (replicate (device_slots - length state.slots) None) at entry inside))
 on_device-apply device_slots state (Table Src port word) inside = refl
 on_device-apply device_slots state (Table Dst port word) inside = refl
 
+-- a new manager is on a blank device
+pub on_blank : (slots device_slots : ℕ) (mode : Mode) (placement : Placement) → slots ≤ device_slots → IsOn device_slots [] (fresh slots mode placement)
+on_blank slots device_slots mode placement within =
+    let blanks : List (Option Entry) = replicate slots None in
+    let all : slots + (device_slots - slots) ≡ device_slots = omega arith in
+    let f : List (Option Entry) → State = λ s. record (blank device_slots) { slots = s } in
+    ap f (ap (λ n. blanks ++ replicate (device_slots - n) None) (length-replicate slots None)
+    ∙ (replicate-append-replicate slots (device_slots - slots) None ∙ ap (λ n. replicate n None) all))
+
 -- the device stays the manager's where nothing was written
-pub on_same : (device_slots device_slots' : ℕ) (journal journal' : Option (List Write)) (old new : Managed) → device_slots' ≡ device_slots → journal' ≡ journal → new.state ≡ old.state
+pub on_same : (device_slots device_slots' : ℕ) (journal journal' : List Write) (old new : Managed) → device_slots' ≡ device_slots → journal' ≡ journal → new.state ≡ old.state
     → IsOn device_slots journal old → IsOn device_slots' journal' new
 on_same device_slots device_slots' journal journal' old new size told state on =
-    subst (λ (n : ℕ). IsOn n journal' new) (sym size) (subst (λ (j : Option (List Write)). IsOn device_slots j new) (sym told) (go journal on))
-  where
-    go : (j : Option (List Write)) → IsOn device_slots j old → IsOn device_slots j new
-    go None was = tt
-    go (Some writes) was = ap (on_device device_slots) state ∙ was
+    subst (λ (n : ℕ). IsOn n journal' new) (sym size) (subst (λ (j : List Write). IsOn device_slots j new) (sym told) (ap (on_device device_slots) state ∙ on))
 
 -- and where a write of a slot in use was
-pub on_written : (device_slots device_slots' : ℕ) (journal journal' : Option (List Write)) (old new : Managed) (write : Write) → device_slots' ≡ device_slots
-    → journal' ≡ option_map (λ writes. writes ++ write ∷ []) journal → new.state ≡ apply old.state write → length old.state.slots ≡ old.slots → IsInUse old.slots write
+pub on_written : (device_slots device_slots' : ℕ) (journal journal' : List Write) (old new : Managed) (write : Write) → device_slots' ≡ device_slots
+    → journal' ≡ journal ++ write ∷ [] → new.state ≡ apply old.state write → length old.state.slots ≡ old.slots → IsInUse old.slots write
     → IsOn device_slots journal old → IsOn device_slots' journal' new
 on_written device_slots device_slots' journal journal' old new write size told state slots inside on =
-    subst (λ (n : ℕ). IsOn n journal' new) (sym size) (subst (λ (j : Option (List Write)). IsOn device_slots j new) (sym told) (go journal on))
-  where
-    go : (j : Option (List Write)) → IsOn device_slots j old → IsOn device_slots (option_map (λ writes. writes ++ write ∷ []) j) new
-    go None was = tt
-    go (Some writes) was =
-        ap (on_device device_slots) state
-        ∙ (on_device-apply device_slots old.state write (subst (λ (n : ℕ). IsInUse n write) (sym slots) inside)
-        ∙ (ap (λ (s : State). apply s write) was
-        ∙ sym (fold-append apply _ writes (write ∷ []))))
+    subst (λ (n : ℕ). IsOn n journal' new) (sym size) (subst (λ (j : List Write). IsOn device_slots j new) (sym told)
+    (ap (on_device device_slots) state
+    ∙ (on_device-apply device_slots old.state write (subst (λ (n : ℕ). IsInUse n write) (sym slots) inside)
+    ∙ (ap (λ (s : State). apply s write) on
+    ∙ sym (fold-append apply _ journal (write ∷ []))))))

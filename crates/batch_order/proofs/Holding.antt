@@ -34,6 +34,7 @@ use Rattle.commit_writes.proofs.BatchState.{batch_entries, batch_state}
 use Rattle.commit_writes.proofs.WholeBatch.{batch_segment}
 use Rattle.batch_order.specs.declared.manager.Held.{Held}
 use Rattle.batch_order.specs.declared.Ready.{Ready}
+use Rattle.batch_order.specs.declared.Placement.{Placement}
 use Rattle.batch_order.specs.Entries.{Entries}
 use Rattle.batch_order.specs.Planning.{IsSettled}
 use Rattle.batch_order.specs.Changes.{IsStanding}
@@ -78,17 +79,17 @@ changed_stand kept slots [] settled all = tt
 changed_stand kept slots (rewrite ∷ rewrites) settled all = (live_stands kept slots rewrite.id settled all.0, changed_stand kept slots rewrites settled all.1)
 
 -- so it is in a plan
-plan_parts : (mode : Mode) (rules : StoredRules) (old new : Entries) (slots middle : Slots) (batch : List Command) (rewrites : List Rewrite) (erased : List ℕ) (writes : List Write) (counts : Done)
-    → IsPlanOf mode rules old new slots middle batch rewrites erased writes counts → AreLiveParts new.live rewrites erased
-plan_parts mode rules old new slots middle batch rewrites erased writes counts plan =
+plan_parts : (placement : Placement) (mode : Mode) (rules : StoredRules) (old new : Entries) (slots middle : Slots) (batch : List Command) (rewrites : List Rewrite) (erased : List ℕ) (writes : List Write) (counts : Done)
+    → IsPlanOf placement mode rules old new slots middle batch rewrites erased writes counts → AreLiveParts new.live rewrites erased
+plan_parts placement mode rules old new slots middle batch rewrites erased writes counts plan =
     subst (λ (l : List LivePiece). AreLiveParts l rewrites erased) (sym plan.live_is)
     (live_parts rules.rules batch old.slots old.live (map (λ (insertion : Planned). insertion.one) plan.planned) rewrites erased plan.managed.carried.settled.apart plan.parts)
 
 -- with the plan carried out the entries are those of the new set, as they are arranged then
-pub plan_arranged : (mode : Mode) (rules : StoredRules) (old new : Entries) (slots middle : Slots) (batch : List Command) (rewrites : List Rewrite) (erased : List ℕ) (writes : List Write) (counts : Done)
-    → IsPlanOf mode rules old new slots middle batch rewrites erased writes counts → IsArranged (set_after rules.rules batch) (changed_by new rewrites erased) (erased_slots middle erased)
-plan_arranged mode rules old new slots middle batch rewrites erased writes counts plan =
-    let parts = plan_parts mode rules old new slots middle batch rewrites erased writes counts plan in
+pub plan_arranged : (placement : Placement) (mode : Mode) (rules : StoredRules) (old new : Entries) (slots middle : Slots) (batch : List Command) (rewrites : List Rewrite) (erased : List ℕ) (writes : List Write) (counts : Done)
+    → IsPlanOf placement mode rules old new slots middle batch rewrites erased writes counts → IsArranged (set_after rules.rules batch) (changed_by new rewrites erased) (erased_slots middle erased)
+plan_arranged placement mode rules old new slots middle batch rewrites erased writes counts plan =
+    let parts = plan_parts placement mode rules old new slots middle batch rewrites erased writes counts plan in
     record {
       settled = same_settled (settled_erased new middle erased plan.settled parts.once parts.gone);
       entries_are = subst (λ (l : List LivePiece). AreEntriesOf (set_pieces Cover no_bits (set_after rules.rules batch)) (erased_live l erased) (rewritten_entries new.entries rewrites)) (sym plan.live_is)
@@ -99,10 +100,10 @@ plan_arranged mode rules old new slots middle batch rewrites erased writes count
     same_settled is = record { size = is.size; few = is.few; apart = is.apart; standing = is.standing; order = is.order; count = is.count }
 
 -- on a device with so many slots or more its writes are the batch's segment
-plan_segment : (mode : Mode) (rules : StoredRules) (old new : Entries) (slots middle : Slots) (batch : List Command) (rewrites : List Rewrite) (erased : List ℕ) (writes : List Write) (counts : Done)
-    → IsPlanOf mode rules old new slots middle batch rewrites erased writes counts → (device_slots : ℕ) → length slots ≤ device_slots
+plan_segment : (placement : Placement) (mode : Mode) (rules : StoredRules) (old new : Entries) (slots middle : Slots) (batch : List Command) (rewrites : List Rewrite) (erased : List ℕ) (writes : List Write) (counts : Done)
+    → IsPlanOf placement mode rules old new slots middle batch rewrites erased writes counts → (device_slots : ℕ) → length slots ≤ device_slots
     → IsPlannedSegment rules.rules batch (on_device device_slots (plain_state (contents old.entries slots))) writes counts
-plan_segment mode rules old new slots middle batch rewrites erased writes counts plan device_slots wide =
+plan_segment placement mode rules old new slots middle batch rewrites erased writes counts plan device_slots wide =
     subst (λ (w : List Write). IsPlannedSegment rules.rules batch (on_device device_slots (plain_state (contents old.entries slots))) w counts) (sym plan.writes_are)
     (subst (λ (e : _). IsPlannedSegment rules.rules batch (on_device device_slots (plain_state e)) (batch_writes new.entries slots plan.planned rewrites erased) counts)
     (contents_kept old.live old.entries new.entries slots plan.kept (settled_live old slots plan.managed.carried.settled))
@@ -110,11 +111,11 @@ plan_segment mode rules old new slots middle batch rewrites erased writes counts
     (subst (λ (w : List Write). AreNumbersOf w plan.planned counts) plan.writes_are plan.numbers)))
 
 -- a manager that holds the plan of a batch
-pub managed_held : (mode : Mode) (rules rules' : StoredRules) (old new : Entries) (slots middle : Slots) (batch : List Command) (held : Held)
-    → IsPlanOf mode rules old new slots middle batch held.rewrites.items held.erased.items held.writes.items held.counts → rules'.rules ≡ rules.rules → length batch ≤ rules'.spare
+pub managed_held : (placement : Placement) (mode : Mode) (rules rules' : StoredRules) (old new : Entries) (slots middle : Slots) (batch : List Command) (held : Held)
+    → IsPlanOf placement mode rules old new slots middle batch held.rewrites.items held.erased.items held.writes.items held.counts → rules'.rules ≡ rules.rules → length batch ≤ rules'.spare
     → held.made ≡ 0 → held.batch ≡ batch → held.arrangement ≡ erased_slots middle held.erased.items → IsManaged mode rules' new slots (Some held)
-managed_held mode rules rules' old new slots middle batch held plan same room made is arrangement =
-    let parts = plan_parts mode rules old new slots middle batch held.rewrites.items held.erased.items held.writes.items held.counts plan in
+managed_held placement mode rules rules' old new slots middle batch held plan same room made is arrangement =
+    let parts = plan_parts placement mode rules old new slots middle batch held.rewrites.items held.erased.items held.writes.items held.counts plan in
     record {
       cover = plan.managed.cover;
       right = subst (AllByRecursion HasConditions) (sym same) plan.managed.right;
@@ -125,7 +126,7 @@ managed_held mode rules rules' old new slots middle batch held plan same room ma
             (arranged_same rules.rules old (record new { live = old.live }) slots plan.managed.carried refl plan.size plan.kept);
         after = subst (λ (set : List Rule). IsArranged set (changed_by new held.rewrites.items held.erased.items) held.arrangement) (sym sets)
             (subst (λ (s : Slots). IsArranged (set_after rules.rules batch) (changed_by new held.rewrites.items held.erased.items) s) (sym arrangement)
-            (plan_arranged mode rules old new slots middle batch held.rewrites.items held.erased.items held.writes.items held.counts plan));
+            (plan_arranged placement mode rules old new slots middle batch held.rewrites.items held.erased.items held.writes.items held.counts plan));
         leads = ap (state_after (plain_state (contents new.entries slots))) plan.writes_are
             ∙ (batch_state rules.rules batch old.live slots new.entries plan.planned held.rewrites.items held.erased.items plan.commit
             ∙ ap (λ (s : Slots). plain_state (contents (rewritten_entries new.entries held.rewrites.items) s))
@@ -135,7 +136,7 @@ managed_held mode rules rules' old new slots middle batch held plan same room ma
             (subst (λ (new_set : List Rule). KeepsOldOrNew rules.rules new_set (on_device device_slots (plain_state (contents new.entries slots))) held.writes.items) (sym sets)
             (subst (λ (e : _). KeepsOldOrNew rules.rules (set_after rules.rules batch) (on_device device_slots (plain_state e)) held.writes.items)
             (sym (contents_kept old.live old.entries new.entries slots plan.kept (settled_live old slots plan.managed.carried.settled)))
-            (plan_segment mode rules old new slots middle batch held.rewrites.items held.erased.items held.writes.items held.counts plan device_slots wide).segment.hitless.on_the_way));
+            (plan_segment placement mode rules old new slots middle batch held.rewrites.items held.erased.items held.writes.items held.counts plan device_slots wide).segment.hitless.on_the_way));
         made = omega arith;
         in_use = plan.in_use;
         right = subst (AllByRecursion HasConditions) (sym sets) (right_after rules.rules batch plan.parts.change);
@@ -158,9 +159,9 @@ rewritten_ids live (ranked ∷ pieces) [] are = absurd are
 rewritten_ids live (ranked ∷ pieces) (rewrite ∷ rewrites) are = (are.0.0, rewritten_ids live pieces rewrites are.1)
 
 -- its writes are few: each id is inserted, rewritten or erased once, and each insertion's writes are few
-few_planned : (mode : Mode) (rules : StoredRules) (old new : Entries) (slots middle : Slots) (batch : List Command) (rewrites : List Rewrite) (erased : List ℕ) (writes : List Write) (counts : Done)
-    → IsPlanOf mode rules old new slots middle batch rewrites erased writes counts → length writes ≤ 2 ^ 40
-few_planned mode rules old new slots middle batch rewrites erased writes counts plan =
+few_planned : (placement : Placement) (mode : Mode) (rules : StoredRules) (old new : Entries) (slots middle : Slots) (batch : List Command) (rewrites : List Rewrite) (erased : List ℕ) (writes : List Write) (counts : Done)
+    → IsPlanOf placement mode rules old new slots middle batch rewrites erased writes counts → length writes ≤ 2 ^ 40
+few_planned placement mode rules old new slots middle batch rewrites erased writes counts plan =
     let apart = plan.managed.carried.settled.apart in
     let made : length writes ≡ length (batch_writes new.entries slots plan.planned rewrites erased) = ap length plan.writes_are in
     let each : length (batch_writes new.entries slots plan.planned rewrites erased) ≤ 4096 * 4097 * length plan.planned + length rewrites + length erased = batch_few rules.rules batch old.live slots new.entries plan.planned rewrites erased plan.commit in
@@ -177,23 +178,35 @@ few_planned mode rules old new slots middle batch rewrites erased writes counts 
     omega arith
 
 -- the view of such a manager
-pub holds_plan : (mode : Mode) (rules rules' : StoredRules) (old new : Entries) (slots middle : Slots) (batch : List Command) (held : Held) (ready : Ready)
-    → IsPlanOf mode rules old new slots middle batch held.rewrites.items held.erased.items held.writes.items held.counts → rules'.rules ≡ rules.rules
+pub holds_plan : (placement : Placement) (mode : Mode) (rules rules' : StoredRules) (old new : Entries) (slots middle : Slots) (batch : List Command) (held : Held) (ready : Ready)
+    → IsPlanOf placement mode rules old new slots middle batch held.rewrites.items held.erased.items held.writes.items held.counts → rules'.rules ≡ rules.rules
     → held.made ≡ 0 → held.batch ≡ batch → ready ≡ ready_of held.counts
-    → Holds (view_of mode rules old slots None) batch ready (view_of mode rules' new slots (Some held))
-holds_plan mode rules rules' old new slots middle batch held ready plan same made is counts = record {
+    → Holds (view_of placement mode rules old slots None) batch ready (view_of placement mode rules' new slots (Some held))
+holds_plan placement mode rules rules' old new slots middle batch held ready plan same made is counts = record {
   held = held_of rules'.rules held;
-  new_is = ap₂ (λ (r : List Rule) (s : State). record { slots = length slots; mode = mode; rules = r; bits = no_bits; state = s; held = Some (held_of rules'.rules held) }) same
+  new_is = ap₂ (λ (r : List Rule) (s : State). record { slots = length slots; mode = mode; placement = placement; rules = r; bits = no_bits; state = s; held = Some (held_of rules'.rules held) }) same
       (ap (λ (n : ℕ). state_after (plain_state (contents new.entries slots)) (take n held.writes.items)) made
       ∙ ap plain_state (contents_kept old.live old.entries new.entries slots plan.kept (settled_live old slots plan.managed.carried.settled)));
   rules = ap₂ (λ (r : List Rule) (b : List Command). set_after r b) same is;
   bits = subst (λ (m : Mode). no_bits ≡ bits_left (set_after rules.rules batch) (bits_with m rules.rules batch no_bits)) (sym plan.managed.cover) refl;
   counts = counts;
   in_use = subst (AllByRecursion (IsInUse (length slots))) (sym all) plan.in_use;
-  few = subst (λ (w : List Write). length w ≤ 2 ^ 40) (sym all) (few_planned mode rules old new slots middle batch held.rewrites.items held.erased.items held.writes.items held.counts plan);
+  few = subst (λ (w : List Write). length w ≤ 2 ^ 40) (sym all) (few_planned placement mode rules old new slots middle batch held.rewrites.items held.erased.items held.writes.items held.counts plan);
   segment = λ device_slots wide.
       subst (λ (m : Mode). IsSegment m no_bits rules.rules batch (on_device device_slots (plain_state (contents old.entries slots))) (drop held.made held.writes.items)) (sym plan.managed.cover)
       (subst (λ (w : List Write). IsSegment Cover no_bits rules.rules batch (on_device device_slots (plain_state (contents old.entries slots))) w) (sym all) (made_by device_slots wide).segment);
+  placed = record {
+    live = old.live;
+    arrangement = slots;
+    entries = new.entries;
+    planned = plan.planned;
+    rewrites = held.rewrites.items;
+    erased = held.erased.items;
+    stands = sym (ap plain_state (contents_kept old.live old.entries new.entries slots plan.kept (settled_live old slots plan.managed.carried.settled)));
+    commit = plan.commit;
+    aims = plan.aims;
+    writes_are = all ∙ plan.writes_are;
+  };
   numbers = λ device_slots wide. subst (λ (w : List Write). AreCounts (on_device device_slots (plain_state (contents old.entries slots))) w held.counts) (sym all) (made_by device_slots wide).numbers;
   uncrossed = λ device_slots wide routes changes. subst (λ (w : List Write). IsUncrossed 33 (insertions (on_device device_slots (plain_state (contents old.entries slots))) w)) (sym all) ((made_by device_slots wide).uncrossed routes changes);
 }
@@ -202,4 +215,4 @@ holds_plan mode rules rules' old new slots middle batch held ready plan same mad
     all = ap (λ (n : ℕ). drop n held.writes.items) made
 
     made_by : (device_slots : ℕ) → length slots ≤ device_slots → IsPlannedSegment rules.rules batch (on_device device_slots (plain_state (contents old.entries slots))) held.writes.items held.counts
-    made_by device_slots wide = plan_segment mode rules old new slots middle batch held.rewrites.items held.erased.items held.writes.items held.counts plan device_slots wide
+    made_by device_slots wide = plan_segment placement mode rules old new slots middle batch held.rewrites.items held.erased.items held.writes.items held.counts plan device_slots wide

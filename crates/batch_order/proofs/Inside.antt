@@ -7,6 +7,7 @@ use Rattle.slot_order.proofs.Inside.{AllInside, whole_inside}
 use Rattle.slot_pool.specs.Arrangement.{Slots}
 use Rattle.overlap_index.specs.Live.{LivePieces, is_above}
 use Rattle.overlap_index.proofs.Above.{rank_in}
+use Rattle.move_planner.specs.declared.Aim.{Aim}
 use Rattle.move_planner.specs.declared.Move.{Move}
 use Rattle.move_planner.specs.declared.Move.TheVariants.{Put, Erase}
 use Rattle.move_planner.specs.Placement.{IsPlacement}
@@ -24,7 +25,7 @@ from_writes size [] inside = tt
 from_writes size (Put at id ∷ moves) inside = (inside.0, from_writes size moves inside.1)
 from_writes size (Erase at ∷ moves) inside = (inside.0, from_writes size moves inside.1)
 
-pub moves_inside : (index : LivePieces) (id : ℕ) (slots : Slots) (moves : List Move) → IsReady index id slots → IsPlacement (is_above index.live) id slots moves
+pub moves_inside : (index : LivePieces) {aim : Aim} (id : ℕ) (slots : Slots) (moves : List Move) → IsReady index id slots → IsPlacement (is_above index.live) aim id slots moves
     → AllByRecursion (IsInside (length slots)) moves
 moves_inside index id slots moves ready placement =
     let reads : Reads (Related (is_above index.live)) (rank_in index.live) (IsLive index.live) (is_above index.live) =

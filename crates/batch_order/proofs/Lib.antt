@@ -23,3 +23,6 @@ pub mod Judged
 pub mod Taken
 pub mod Holding
 pub mod Answered
+pub mod Aimed
+pub mod Padded
+mod Ahead

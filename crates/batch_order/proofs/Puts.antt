@@ -8,6 +8,7 @@ use Rattle.slot_order.proofs.Inside.{all_append}
 use Rattle.slot_pool.specs.Arrangement.{Slots}
 use Rattle.overlap_index.specs.declared.LivePiece.{LivePiece}
 use Rattle.overlap_index.specs.Live.{is_live}
+use Rattle.move_planner.specs.declared.Aim.{Aim}
 use Rattle.move_planner.specs.declared.Move.{Move}
 use Rattle.move_planner.specs.declared.Move.TheVariants.{Put, Erase}
 use Rattle.move_planner.specs.Placement.{Above, IsPlacement, into_gap, push_down, push_up, uncross_down, uncross_up, after_moves, moves_along, put_held}
@@ -50,8 +51,8 @@ along_puts live slots free (at ∷ []) all = held_puts live free (slot slots at)
 along_puts live slots free (at ∷ next ∷ chain) all =
     all_append (PutsLive live) (moves_along slots free (next ∷ chain)) (put_held next (slot slots at)) (along_puts live slots free (next ∷ chain) all) (held_puts live next (slot slots at) (all.at at))
 
-pub placement_puts : (live : List LivePiece) (above : Above) (id : ℕ) (slots : Slots) (moves : List Move) → IsTrue (is_live live id) → AllLive live slots
-    → IsPlacement above id slots moves → AllByRecursion (PutsLive live) moves
+pub placement_puts : (live : List LivePiece) (above : Above) {aim : Aim} (id : ℕ) (slots : Slots) (moves : List Move) → IsTrue (is_live live id) → AllLive live slots
+    → IsPlacement above aim id slots moves → AllByRecursion (PutsLive live) moves
 placement_puts live above id slots moves now all (into_gap at gap free) = (now, tt)
 placement_puts live above id slots moves now all (push_down lower gap none first down shorter) =
     all_append (PutsLive live) (moves_along slots down.free (lower ∷ down.rest)) (Put lower id ∷ []) (along_puts live slots down.free (lower ∷ down.rest) all) (now, tt)

@@ -12,6 +12,7 @@ use Rattle.overlap_index.specs.declared.LivePiece.{LivePiece}
 use Rattle.tcam_device.specs.State.{State}
 use Rattle.commit_writes.specs.Bits.{no_bits}
 use Rattle.commit_writes.specs.Planned.{plain_state}
+use Rattle.batch_order.specs.declared.Placement.{Placement}
 use Rattle.batch_order.specs.Entries.{Entries, AddsIds, AreLast, KeepEntries}
 use Rattle.batch_order.specs.Kept.{IsManaged, IsArranged}
 use Rattle.batch_order.proofs.Entered.{contents_kept}
@@ -47,8 +48,8 @@ managed_same mode rules rules' old new slots managed same live size kept = recor
 }
 
 -- and it looks the same
-pub view_same : (mode : Mode) (rules rules' : StoredRules) (old new : Entries) (slots : Slots) → IsManaged mode rules old slots None → rules'.rules ≡ rules.rules
-    → KeepEntries old.live old.entries new.entries → view_of mode rules' new slots None ≡ view_of mode rules old slots None
-view_same mode rules rules' old new slots managed same kept =
-    ap₂ (λ (r : List Rule) (e : State). record { slots = length slots; mode = mode; rules = r; bits = no_bits; state = e; held = None }) same
+pub view_same : (placement : Placement) (mode : Mode) (rules rules' : StoredRules) (old new : Entries) (slots : Slots) → IsManaged mode rules old slots None → rules'.rules ≡ rules.rules
+    → KeepEntries old.live old.entries new.entries → view_of placement mode rules' new slots None ≡ view_of placement mode rules old slots None
+view_same placement mode rules rules' old new slots managed same kept =
+    ap₂ (λ (r : List Rule) (e : State). record { slots = length slots; mode = mode; placement = placement; rules = r; bits = no_bits; state = e; held = None }) same
     (ap plain_state (contents_kept old.live old.entries new.entries slots kept (settled_live old slots managed.carried.settled)))

@@ -12,6 +12,7 @@ use Rattle.ternary_word.specs.declared.Entry.{Entry}
 use Rattle.ternary_word.specs.Entry.{RankedPiece, entry_for}
 use Rattle.overlap_index.specs.declared.LivePiece.{LivePiece}
 use Rattle.overlap_index.specs.Live.{is_live, is_above}
+use Rattle.move_planner.specs.declared.Aim.{Aim}
 use Rattle.move_planner.specs.declared.Move.{Move}
 use Rattle.move_planner.specs.declared.Move.TheVariants.{Put, Erase}
 use Rattle.move_planner.specs.Placement.{IsPlacement, after_moves, span_of}
@@ -30,15 +31,16 @@ pub live_more : (live more : List LivePiece) (id : ℕ) → IsTrue (is_live live
 live_more live more id now = list_any-append (λ one. one.id == id) live more ∙ rw now refl
 
 -- the insertion of one piece, under an id that wasn't live
-pub planned_one : (old new : Entries) (slots slots' : Slots) (one : LivePiece) (answer : ℕ) (plan plan' : Plan)
+pub planned_one : (old new : Entries) (slots slots' : Slots) (one : LivePiece) (answer : ℕ) (aim : Aim) (plan plan' : Plan)
     → IsFalse (is_live old.live one.id) → new.live ≡ old.live ++ one ∷ []
     → entry_at new.entries one.id ≡ Some (entry_for (record { piece = one.piece; rank = one.rank; result = answer }))
-    → KeepEntries old.live old.entries new.entries → StandOnce (IsLive old.live) slots → IsInserted new slots slots' one.id plan plan'
-    → ArePlannedSince old new slots slots' plan plan' (record { piece = one.piece; rank = one.rank; result = answer } ∷ [])
-planned_one old new slots slots' one answer plan plan' absent live_is entry kept standing inserted = record {
-  planned = record { one = one; result = answer; moves = inserted.moves; span = span_of (is_above (old.live ++ one ∷ [])) slots one.id } ∷ [];
-  are_planned = (absent, subst (λ (l : List LivePiece). IsPlacement (is_above l) one.id slots inserted.moves) live_is inserted.placement, refl, tt);
+    → KeepEntries old.live old.entries new.entries → StandOnce (IsLive old.live) slots → IsInserted new slots slots' aim one.id plan plan'
+    → ArePlannedSince old new slots slots' plan plan' (record { piece = one.piece; rank = one.rank; result = answer } ∷ []) (aim ∷ [])
+planned_one old new slots slots' one answer aim plan plan' absent live_is entry kept standing inserted = record {
+  planned = record { one = one; result = answer; aim = aim; moves = inserted.moves; span = span_of (is_above (old.live ++ one ∷ [])) slots one.id } ∷ [];
+  are_planned = (absent, subst (λ (l : List LivePiece). IsPlacement (is_above l) aim one.id slots inserted.moves) live_is inserted.placement, refl, tt);
   pieces_are = refl;
+  aims_are = refl;
   live_is = live_is;
   slots_are = inserted.slots_are;
   have_entries = (entry, tt);
@@ -106,11 +108,12 @@ puts_more live more [] puts = tt
 puts_more live more (planned ∷ rest) puts = (moves_more live more planned.moves puts.0, puts_more live more rest puts.1)
 
 -- no insertion
-pub planned_none : (kept : Entries) (slots : Slots) (plan : Plan) → ArePlannedSince kept kept slots slots plan plan []
+pub planned_none : (kept : Entries) (slots : Slots) (plan : Plan) → ArePlannedSince kept kept slots slots plan plan [] []
 planned_none kept slots plan = record {
   planned = [];
   are_planned = tt;
   pieces_are = refl;
+  aims_are = refl;
   live_is = sym (append-nil kept.live);
   slots_are = refl;
   have_entries = tt;
@@ -122,14 +125,15 @@ planned_none kept slots plan = record {
 }
 
 -- some insertions after others
-pub planned_then : (old mid new : Entries) (slots slots' slots'' : Slots) (plan plan' plan'' : Plan) (first second : List RankedPiece)
-    → ArePlannedSince old mid slots slots' plan plan' first → ArePlannedSince mid new slots' slots'' plan' plan'' second
-    → ArePlannedSince old new slots slots'' plan plan'' (first ++ second)
-planned_then old mid new slots slots' slots'' plan plan' plan'' first second one two = record {
+pub planned_then : (old mid new : Entries) (slots slots' slots'' : Slots) (plan plan' plan'' : Plan) (first second : List RankedPiece) (first_aims second_aims : List Aim)
+    → ArePlannedSince old mid slots slots' plan plan' first first_aims → ArePlannedSince mid new slots' slots'' plan' plan'' second second_aims
+    → ArePlannedSince old new slots slots'' plan plan'' (first ++ second) (first_aims ++ second_aims)
+planned_then old mid new slots slots' slots'' plan plan' plan'' first second first_aims second_aims one two = record {
   planned = one.planned ++ two.planned;
   are_planned = planned_after old.live slots one.planned two.planned one.are_planned
       (subst (λ (l : List LivePiece). ArePlanned l (slots_after slots one.planned) two.planned) one.live_is (subst (λ (s : Slots). ArePlanned mid.live s two.planned) one.slots_are two.are_planned));
   pieces_are = map-append ranked_of one.planned two.planned ∙ ap₂ (λ (a b : List RankedPiece). a ++ b) one.pieces_are two.pieces_are;
+  aims_are = map-append (λ (insertion : Planned). insertion.aim) one.planned two.planned ∙ ap₂ (λ (a b : List Aim). a ++ b) one.aims_are two.aims_are;
   live_is = two.live_is
       ∙ (ap (λ (l : List LivePiece). live_after l two.planned) one.live_is
       ∙ (append_assoc old.live (map (λ (insertion : Planned). insertion.one) one.planned) (map (λ (insertion : Planned). insertion.one) two.planned)

@@ -27,11 +27,13 @@ use Rattle.commit_writes.proofs.Filters.{all_members}
 use Rattle.commit_writes.proofs.BatchRules.{IsSoundChange}
 use Rattle.commit_writes.proofs.PieceCounts.{added_pieces_count}
 use Rattle.commit_writes.proofs.Zips.{zip_right}
+use Rattle.batch_order.specs.declared.Placement.{Placement}
 use Rattle.batch_order.specs.declared.plan.Plan.{Plan}
 use Rattle.batch_order.specs.Entries.{Entries, KeepEntries}
 use Rattle.batch_order.specs.Planning.{IsSettled, IsPlannable, ArePlannedSince}
 use Rattle.batch_order.specs.Changes.{HasId, HaveIds}
 use Rattle.batch_order.specs.Kept.{IsManaged}
+use Rattle.batch_order.specs.Placing.{aims_of}
 use Rattle.batch_order.proofs.Numbered.{arranged_number}
 use Rattle.batch_order.proofs.Judged.{accepted_room}
 use Rattle.batch_order.proofs.Entered.{entries_of_kept}
@@ -81,7 +83,7 @@ pub record ArePartsOf (rules : List Rule) (batch : List Command) (live : List Li
   pub erased_are : AllZip (IsIdOf live) (erased_pieces Cover no_bits rules batch) erased
 
 -- A plan of a batch: the insertions of its new pieces, after which all is settled, and then the writes of the other parts.
-pub record IsPlanOf (mode : Mode) (rules : StoredRules) (old new : Entries) (slots middle : Slots) (batch : List Command) (rewrites : List Rewrite) (erased : List ℕ) (writes : List Write) (counts : Done) : Type 0 where
+pub record IsPlanOf (placement : Placement) (mode : Mode) (rules : StoredRules) (old new : Entries) (slots middle : Slots) (batch : List Command) (rewrites : List Rewrite) (erased : List ℕ) (writes : List Write) (counts : Done) : Type 0 where
   pub managed : IsManaged mode rules old slots None
   pub parts : ArePartsOf rules.rules batch old.live rewrites erased
   pub settled : IsSettled new middle
@@ -90,19 +92,21 @@ pub record IsPlanOf (mode : Mode) (rules : StoredRules) (old new : Entries) (slo
   pub kept : KeepEntries old.live old.entries new.entries
   pub planned : List Planned
   pub commit : IsPlannedBatch rules.rules batch old.live slots new.entries planned rewrites erased
+  pub aims : map (λ insertion. insertion.aim) planned ≡ aims_of placement (length slots) rules.rules (inserted_pieces Cover no_bits rules.rules batch)
   pub live_is : new.live ≡ live_after old.live planned
   pub middle_is : middle ≡ slots_after slots planned
   pub writes_are : writes ≡ batch_writes new.entries slots planned rewrites erased
   pub numbers : AreNumbersOf writes planned counts
 
-pub plan_made : (mode : Mode) (rules : StoredRules) (old new : Entries) (slots middle : Slots) (batch : List Command) (rewrites : List Rewrite) (erased : List ℕ) (plan plan' : Plan) (writes : List Write) (counts : Done)
+pub plan_made : (placement : Placement) (mode : Mode) (rules : StoredRules) (old new : Entries) (slots middle : Slots) (batch : List Command) (rewrites : List Rewrite) (erased : List ℕ) (plan plan' : Plan) (writes : List Write) (counts : Done)
     → IsManaged mode rules old slots None → ArePartsOf rules.rules batch old.live rewrites erased → new.slots ≡ old.slots → IsSettled new middle
     → ArePlannedSince old new slots middle plan plan' (inserted_pieces Cover no_bits rules.rules batch)
+    (aims_of placement (length slots) rules.rules (inserted_pieces Cover no_bits rules.rules batch))
     → plan.writes.items ≡ [] → plan.most ≡ 0 → plan.span ≡ 0
     → AllByRecursion (IsInUse (length middle)) writes → writes ≡ plan'.writes.items ++ (map (rewrite_write middle) rewrites ++ map (erase_write middle) erased)
     → counts.writes ≡ length writes → counts.words ≡ 0 → counts.most ≡ plan'.most → counts.span ≡ plan'.span
-    → IsPlanOf mode rules old new slots middle batch rewrites erased writes counts
-plan_made mode rules old new slots middle batch rewrites erased plan plan' writes counts managed parts size settled since no_writes no_most no_span in_use made count words most span = record {
+    → IsPlanOf placement mode rules old new slots middle batch rewrites erased writes counts
+plan_made placement mode rules old new slots middle batch rewrites erased plan plan' writes counts managed parts size settled since no_writes no_most no_span in_use made count words most span = record {
   managed = managed;
   parts = parts;
   settled = settled;
@@ -123,6 +127,7 @@ plan_made mode rules old new slots middle batch rewrites erased plan plan' write
     rewrites_are = parts.rewrites_are;
     erased_are = parts.erased_are;
   };
+  aims = since.aims_are;
   live_is = since.live_is;
   middle_is = since.slots_are;
   writes_are = made ∙ ap₂ (λ (first : List Write) (at : Slots). first ++ (map (rewrite_write at) rewrites ++ map (erase_write at) erased))

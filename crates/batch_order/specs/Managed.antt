@@ -1,5 +1,5 @@
 -- What a manager keeps, and how it judges a batch.
-use Rattle.std.specs.Prelude.{◌≡◌, ℕ, ◌≤◌, ◌^◌, ◌⊎◌, Result, Err, IsOk, Option, Some, None, IfSome, List, [], ◌∷◌, length, slice_get}
+use Rattle.std.specs.Prelude.{◌≡◌, ℕ, ◌≤◌, ◌^◌, ◌⊎◌, Result, Err, IsOk, Option, Some, None, List, [], ◌∷◌, length, slice_get}
 use Rattle.std.specs.List.{AllByRecursion}
 use Rattle.rule_model.specs.declared.Rule.{Rule}
 use Rattle.rule_model.specs.Routes.{IsIpv4Route}
@@ -10,16 +10,19 @@ use Rattle.rule_store.specs.declared.BatchFault.TheVariants.{Twice, Taken, Absen
 use Rattle.rule_store.specs.Batch.{additions, set_after}
 use Rattle.rule_store.specs.Verdict.{Verdict, Accepted, Unsound, OutOfBits, OutOfSlots, verdict}
 use Rattle.tcam_device.specs.declared.Write.{Write}
-use Rattle.tcam_device.specs.State.{State, IsInUse, blank, apply, replay, on_device}
+use Rattle.tcam_device.specs.State.{State, IsInUse, Shows, blank, apply, replay, on_device}
+use Rattle.tcam_device.specs.Hitless.{ShowsOldOrNew}
 use Rattle.tcam_device.specs.Insertion.{insertions, IsUncrossed}
 use Rattle.commit_writes.specs.declared.Done.{Done}
 use Rattle.commit_writes.specs.Bits.{FieldBits, no_bits, bits_with, bits_left}
 use Rattle.commit_writes.specs.Commit.{IsSegment, AreCounts}
+use Rattle.batch_order.specs.declared.Placement.{Placement}
 use Rattle.batch_order.specs.declared.Refusal.{Refusal}
 use Rattle.batch_order.specs.declared.Refusal.TheVariants as refusal
 use Rattle.batch_order.specs.declared.Step.{Step}
 use Rattle.batch_order.specs.declared.Step.TheVariants.{Wrote, Finished, Idle}
 use Rattle.batch_order.specs.declared.Ready.{Ready}
+use Rattle.batch_order.specs.Placing.{IsPlacedBy}
 
 -- a commit under way: the writes still to make, its numbers, and the set and the live ranges that it leads to
 pub record HeldCommit : Type 0 where
@@ -28,23 +31,30 @@ pub record HeldCommit : Type 0 where
   pub rules : List Rule
   pub bits : FieldBits
 
--- a manager: the slots in use, the encoding of port ranges, the rules of the set and their live ranges, what the slots in
--- use and the tables of its device hold, and the commit under way
+-- a manager: the slots in use, the encoding of port ranges, where insertions aim, the rules of the set and their live
+-- ranges, what the slots in use and the tables of its device hold, and the commit under way
 pub record Managed : Type 0 where
   pub slots : ℕ
   pub mode : Mode
+  pub placement : Placement
   pub rules : List Rule
   pub bits : FieldBits
   pub state : State
   pub held : Option HeldCommit
 
 -- a manager of a blank device, without rules
-abbrev pub fresh : ℕ → Mode → Managed
-fresh slots mode = record { slots = slots; mode = mode; rules = []; bits = no_bits; state = blank slots; held = None }
+abbrev pub fresh : ℕ → Mode → Placement → Managed
+fresh slots mode placement =
+    record { slots = slots; mode = mode; placement = placement; rules = []; bits = no_bits; state = blank slots; held = None }
 
--- the device's state is the manager's, where it is told
-abbrev pub IsOn : ℕ → Option (List Write) → Managed → Type 0
-IsOn device_slots journal manager = IfSome journal (λ writes. on_device device_slots manager.state ≡ replay device_slots writes)
+-- the writes of a device's journal leave the manager's state
+abbrev pub IsOn : ℕ → List Write → Managed → Type 0
+IsOn device_slots journal manager = on_device device_slots manager.state ≡ replay device_slots journal
+
+-- each key is answered as the rules do, and while a commit is under way as the old ones or the new ones do
+abbrev pub Serves : State → List Rule → Option HeldCommit → Type 0
+Serves state rules None = Shows state rules
+Serves state rules (Some held) = ShowsOldOrNew state rules held.rules
 
 -- the fault of a batch as a refusal
 abbrev pub refusal_of : BatchFault → Refusal
@@ -85,6 +95,8 @@ pub record Holds (old : Managed) (batch : List Command) (ready : Ready) (new : M
   -- hitless after every write, of the commit's shape, and within the bounds on insertions
   pub segment : (device_slots : ℕ) → old.slots ≤ device_slots
       → IsSegment old.mode old.bits old.rules batch (on_device device_slots old.state) held.writes
+  -- its insertions are those of the placement, each with its aim
+  pub placed : IsPlacedBy old.placement old.rules batch old.state held.writes
   pub numbers : (device_slots : ℕ) → old.slots ≤ device_slots → AreCounts (on_device device_slots old.state) held.writes held.counts
   -- of routes no insertion crosses others, and none takes more than 33 writes
   pub uncrossed : (device_slots : ℕ) → old.slots ≤ device_slots → AllByRecursion IsIpv4Route old.rules → OnlyChangesRoutes batch

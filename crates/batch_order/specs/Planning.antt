@@ -8,6 +8,7 @@ use Rattle.rule_store.specs.Batch.{with_rule}
 use Rattle.ternary_word.specs.Entry.{RankedPiece, entry_for}
 use Rattle.overlap_index.specs.declared.LivePiece.{LivePiece}
 use Rattle.overlap_index.specs.Live.{AreApart, is_live, is_above}
+use Rattle.move_planner.specs.declared.Aim.{Aim}
 use Rattle.move_planner.specs.declared.Move.{Move}
 use Rattle.move_planner.specs.declared.Move.TheVariants.{Put, Erase}
 use Rattle.move_planner.specs.Placement.{IsPlacement, IsInOrder, after_moves, span_of}
@@ -58,20 +59,22 @@ abbrev pub PutsLive : List LivePiece → Move → Type 0
 PutsLive live (Put slot id) = IsTrue (is_live live id)
 PutsLive live (Erase slot) = Unit {0}
 
--- the insertion of a live id was planned: its moves are those of its placement, and their writes stand behind the others
-pub record IsInserted (kept : Entries) (slots slots' : Slots) (id : ℕ) (plan plan' : Plan) : Type 0 where
+-- the insertion of a live id was planned: its moves are those of a placement with its aim, and their writes stand behind
+-- the others
+pub record IsInserted (kept : Entries) (slots slots' : Slots) (aim : Aim) (id : ℕ) (plan plan' : Plan) : Type 0 where
   pub moves : List Move
-  pub placement : IsPlacement (is_above kept.live) id slots moves
+  pub placement : IsPlacement (is_above kept.live) aim id slots moves
   pub slots_are : slots' ≡ after_moves slots moves
   pub writes : plan'.writes.items ≡ plan.writes.items ++ map (write_for kept.entries) moves
   pub most : plan'.most ≡ max plan.most (length moves)
   pub span : plan'.span ≡ max plan.span (span_of (is_above kept.live) slots id)
 
--- insertions of some pieces were planned, one after the other, under ids that weren't live before
-pub record ArePlannedSince (old new : Entries) (slots slots' : Slots) (plan plan' : Plan) (pieces : List RankedPiece) : Type 0 where
+-- insertions of some pieces were planned with these aims, one after the other, under ids that weren't live before
+pub record ArePlannedSince (old new : Entries) (slots slots' : Slots) (plan plan' : Plan) (pieces : List RankedPiece) (aims : List Aim) : Type 0 where
   pub planned : List Planned
   pub are_planned : ArePlanned old.live slots planned
   pub pieces_are : map ranked_of planned ≡ pieces
+  pub aims_are : map (λ insertion. insertion.aim) planned ≡ aims
   pub live_is : new.live ≡ live_after old.live planned
   pub slots_are : slots' ≡ slots_after slots planned
   pub have_entries : AllByRecursion (λ insertion. entry_at new.entries insertion.one.id ≡ Some (entry_for (ranked_of insertion))) planned

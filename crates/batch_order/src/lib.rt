@@ -12,6 +12,12 @@
 //! that are in the way move by a copy to their new slot before their old one is overwritten. Two copies of an entry
 //! are acceptable, none isn't.
 //!
+//! **Where an entry goes.** Of the free slots between the entries that it has to stand between, a new one takes the slot
+//! nearest to its aim, by the manager's [`Placement`]. The middle of that gap leaves room on both sides, as routes that
+//! come one by one want it. The slot of its rank keeps an access list in its order, so that lines that have nothing in
+//! common don't stand against it and cross others later. All that is promised holds of both, and the writes are those of
+//! the one that was chosen: no insertion takes a write more.
+//!
 //! **Port ranges.** A rule takes an entry for each pair of blocks of its ranges' covers. A rule that replaces another
 //! keeps the entries that both have, and only the others are put in and erased.
 //!
@@ -22,6 +28,7 @@
 ghost use Rattle.std.specs.Prelude.{◌≡◌};
 ghost use Rattle.batch_order.specs.Managed as managed;
 
+mod aims;
 mod changes;
 mod entries;
 mod manager;
@@ -29,6 +36,8 @@ mod parts;
 mod pieces;
 mod plan;
 mod planning;
+#[cfg(test)]
+mod silent_tests;
 #[cfg(test)]
 mod tests;
 
@@ -65,6 +74,15 @@ pub enum Refusal {
     /// Want of memory.
     #[error("out of memory")]
     Memory,
+}
+
+/// Where in its gap an insertion aims.
+#[derive(Clone, Copy, Debug, PartialEq, Eq)]
+pub enum Placement {
+    /// At the middle of the gap.
+    Middle,
+    /// At the slot of its rank, among the entries that stand before the commit and all that the commit inserts.
+    Rank,
 }
 
 /// The numbers of a commit that is about to be made: its writes and those to the translation tables, the writes

@@ -3,26 +3,27 @@
 ghost use Rattle.std.specs.Prelude.{◌≡◌, ◌+◌, ◌-◌, ◌++◌, ◌∷◌, [], ◌≤◌, ◌<◌, ◌↔◌, ℕ, List, Option, Some, None, Err, IfSome, IsSome, IfOk, IfErr, OnOk, OnErr, length, option_map, fold};
 ghost use Rattle.std.specs.List.{AllByRecursion};
 ghost use Rattle.script_lines.specs.Cause.{HasCause};
-ghost use Rattle.tcam_device.specs.State.{IsInUse, Shows, on_device};
+ghost use Rattle.tcam_device.specs.declared.Write.{Write};
+ghost use Rattle.tcam_device.specs.State.{IsInUse, Shows, apply, on_device, replay};
 ghost use Rattle.tcam_device.specs.Hitless.{ShowsOldOrNew};
 ghost use Rattle.rule_store.specs.Verdict.{entries_of, verdict, Accepted};
 ghost use Rattle.rule_store.specs.Batch.{batch_fault};
 ghost use Rattle.commit_writes.specs.PlannedBatch.{ChangesRules};
-ghost use Rattle.batch_order.specs.Managed.{Judges, Answers, Holds, Steps, next_of, IsOn, fresh, writes_of};
+ghost use Rattle.batch_order.specs.Managed.{Judges, Answers, Holds, Steps, next_of, IsOn, Serves, fresh, writes_of};
 
 use crate::changes::erase_all;
 use crate::entries::LiveEntries;
 use crate::parts::{parts_of, plan_changes};
 use crate::plan::{Plan, ready};
 use crate::planning::{forget_all, plan_additions};
-use crate::{Done, Ready, Refusal, Step, refusal_of};
+use crate::{Done, Placement, Ready, Refusal, Step, refusal_of};
 use commit_writes::Rewrite;
 use rule_model::rule_conditions;
 use rule_store::{Batch, Command, Mode, Store};
 use slot_pool::Arrangement;
 use std::alloc::{AllocError, Global};
 use std::marker::Model;
-use tcam_device::{Device, DeviceFault, Write};
+use tcam_device::{DeviceFault, Writable, Write};
 
 /// A commit under way: its writes and how many of them were made, its numbers, and what is to be done once its writes
 /// are made: the batch that takes the rules to the new set, the ids that get another entry, the ids that go, by
@@ -43,6 +44,7 @@ pub(crate) struct Held {
 pub struct Manager {
     alloc: Global,
     mode: Mode,
+    placement: Placement,
     rules: Store,
     live: LiveEntries,
     /// Where the entries of the set stand, before the writes of a commit under way.
@@ -61,6 +63,7 @@ impl Model for Manager {
     ghost view = { λ m. record {
       slots = length m.arrangement;
       mode = m.mode;
+      placement = m.placement;
       rules = m.rules.rules;
       bits = no_bits;
       state = state_of m.live.entries m.arrangement m.held;
@@ -72,19 +75,26 @@ impl Model for Manager {
 
 impl Manager {
     /// A manager of a blank device with so many slots in use, 1 to 4,096, and no rules. The mode is `Cover` until range
-    /// bits come. It fails only for want of memory.
+    /// bits come. Each insertion aims where the placement says. It fails only for want of memory.
     ///
     /// From here on nobody else may write the device: what is promised of it holds of one that the manager's writes
     /// alone have changed.
-    pub fn new(alloc: Global, slots: u32, mode: Mode) -> Result<Manager, AllocError>
+    pub fn new(
+        alloc: Global,
+        slots: u32,
+        mode: Mode,
+        placement: Placement,
+    ) -> Result<Manager, AllocError>
         requires least { 1 ≤ slots }
         requires most { slots ≤ 4096 }
         requires cover { mode ≡ Mode.Cover }
-        ensures { IfOk result (λ manager. manager ≡ fresh slots mode) }
+        ensures fresh { IfOk result (λ manager. manager ≡ fresh slots mode placement) }
+        ensures on_blank { IfOk result (λ manager. (device_slots : ℕ) → slots ≤ device_slots → IsOn device_slots [] manager) }
     {
         Ok(Manager {
             alloc,
             mode,
+            placement,
             rules: Store::new(alloc),
             live: LiveEntries::new(alloc, slots)?,
             arrangement: Arrangement::new(alloc, slots)?,
@@ -123,14 +133,18 @@ impl Manager {
     }
 
     /// Judges a batch of changes to the rules, over a device with at least the slots in use. Where the batch is
-    /// taken, all of its writes are planned, and all memory for them is taken, the device's too: then nothing can fail
-    /// for memory until the commit has finished. The answer has the numbers of the writes.
+    /// taken, all of its writes are planned, its insertions by the placement, and all memory for them is taken, the
+    /// device's too: then nothing can fail for memory until the commit has finished. The answer has the numbers of the
+    /// writes.
     ///
     /// Refusals are tried in this order. `Busy` comes exactly while a commit is under way, with the writes that are
     /// left. Else the rule lists alone decide: `Twice`, `Taken` and `Absent` by the first command that the set doesn't
     /// take, `Slots` where the additions need more entries than slots are free. `Memory` comes last. A refusal writes
     /// nothing, and leaves rules, manager, and the device's journal as they were.
-    pub fn prepare<D: Device>(&mut self, batch: &Batch, device: &mut D) -> Result<Ready, Refusal>
+    ///
+    /// Whatever it answers, each key is answered, by the device's journal, as before: as the rules of the set do, and with
+    /// a commit under way already as its old ones or its new ones do.
+    pub fn prepare<D: Writable>(&mut self, batch: &Batch, device: &mut D) -> Result<Ready, Refusal>
         requires slots { self.old.slots ≤ D.slot_count device.old }
         ensures judged { Judges self.old self.old.held batch.now result }
         ensures ready { IfOk result (λ ready. Holds self.old batch.now ready self.new) }
@@ -141,7 +155,9 @@ impl Manager {
         ensures slot_count { D.slot_count device.new ≡ D.slot_count device.old }
         ensures faults { D.faults device.new ≡ D.faults device.old }
         ensures stays_on { IsOn (D.slot_count device.old) (D.journal device.old) self.old → IsOn (D.slot_count device.new) (D.journal device.new) self.new }
+        ensures serves { IsOn (D.slot_count device.old) (D.journal device.old) self.old → Serves (replay (D.slot_count device.new) (D.journal device.new)) self.old.rules self.old.held }
     {
+        self.serving();
         if let Some(left) = self.left() {
             return Err(Refusal::Busy { left });
         }
@@ -179,7 +195,7 @@ impl Manager {
 
     /// Plans the commit of a batch that is taken, on a copy of the arrangement, and reserves the device for it. On
     /// want of memory all is as it was.
-    fn plan<D: Device>(&mut self, batch: &Batch, device: &mut D) -> Result<Ready, AllocError>
+    fn plan<D: Writable>(&mut self, batch: &Batch, device: &mut D) -> Result<Ready, AllocError>
         requires idle { self.old.held ≡ None }
         requires sound { batch_fault self.old.rules batch.now ≡ None }
         requires fits { verdict self.old.slots self.old.mode self.old.rules batch.now ≡ Accepted }
@@ -199,6 +215,8 @@ impl Manager {
         let mut plan = Plan::new(self.alloc);
         let ids = plan_additions(
             self.alloc,
+            self.placement,
+            &self.rules,
             &parts.inserted,
             &mut self.live,
             &mut arrangement,
@@ -229,13 +247,18 @@ impl Manager {
     /// that are left. With none left there is no write: the rules become the new set, and the answer is `Finished`.
     /// With no commit under way the answer is `Idle`, and nothing changes. It takes no memory.
     ///
-    /// A failure comes only where a write is due and the device's count of failures rose. It changes nothing, and the
-    /// same write is next again.
-    pub fn step<D: Device>(&mut self, device: &mut D) -> Result<Step, DeviceFault>
+    /// After it, also after a failure, each key is answered, by the device's journal, as the rules do, and while a commit
+    /// is under way as the old ones or the new ones do.
+    ///
+    /// A failure comes exactly where a write is due and the device's count of failures rose. It changes nothing, and the
+    /// same write is next again. It does no harm where the hardware has made that write all the same: each key is
+    /// answered as the old rules or the new ones do then too, and made twice the write leaves what it leaves once
+    /// (`tcam_device::twice_as_once`).
+    pub fn step<D: Writable>(&mut self, device: &mut D) -> Result<Step, DeviceFault>
         requires slots { self.old.slots ≤ D.slot_count device.old }
         requires room { IfSome self.old.held (λ held. length held.writes ≤ D.spare device.old) }
         ensures stepped { IfOk result (λ step. Steps self.old self.old.held step self.new) }
-        ensures journal { IfOk result (λ step. D.journal device.new ≡ option_map (λ writes. writes ++ writes_of step) (D.journal device.old)) }
+        ensures journal { IfOk result (λ step. D.journal device.new ≡ D.journal device.old ++ writes_of step) }
         ensures spare { IfOk result (λ step. D.spare device.new + length (writes_of step) ≡ D.spare device.old) }
         ensures failed { OnErr result (self.new ≡ self.old) }
         ensures journal_err { OnErr result (D.journal device.new ≡ D.journal device.old) }
@@ -244,14 +267,32 @@ impl Manager {
         ensures due { OnErr result (IsSome (next_of self.old.held)) }
         ensures cause { HasCause (D.faults device.old) (D.faults device.new) result }
         ensures stays_on { IsOn (D.slot_count device.old) (D.journal device.old) self.old → IsOn (D.slot_count device.new) (D.journal device.new) self.new }
+        ensures serves { IsOn (D.slot_count device.old) (D.journal device.old) self.old → Serves (replay (D.slot_count device.new) (D.journal device.new)) self.new.rules self.new.held }
+        ensures serves_err { OnErr result (IsOn (D.slot_count device.old) (D.journal device.old) self.old → IfSome (next_of self.old.held) (λ write. Serves (apply (replay (D.slot_count device.new) (D.journal device.new)) write) self.new.rules self.new.held)) }
     {
+        self.serving();
         match self.next_write() {
-            None => Ok(self.finish()),
+            None => {
+                let step = self.finish();
+                self.serving();
+                Ok(step)
+            }
             Some(write) => {
                 device.write(write)?;
-                Ok(self.advance())
+                let step = self.advance();
+                self.serving();
+                Ok(step)
             }
         }
+    }
+
+    /// A device that holds what the manager's writes left serves each key, and so it does where the next write was
+    /// made already.
+    fn serving(&self)
+        ensures serves { (device_slots : ℕ) → self.now.slots ≤ device_slots → Serves (on_device device_slots self.now.state) self.now.rules self.now.held }
+        ensures ahead { (write : Write) → next_of self.now.held ≡ Some write → (device_slots : ℕ) → self.now.slots ≤ device_slots → Serves (on_device device_slots (apply self.now.state write)) self.now.rules self.now.held }
+    {
+        let _rules = &self.rules;
     }
 
     /// The next write, if a commit is under way and has one left.

@@ -21,7 +21,7 @@ use commit_writes::Rewrite;
 use rule_store::{Batch, Mode, Store};
 use slot_pool::Arrangement;
 use std::alloc::{AllocError, Global};
-use tcam_device::Device;
+use tcam_device::Writable;
 
 /// What a commit does: the pieces that it inserts, the new entry of each id whose piece gets a result, both by falling
 /// priority, and the ids of the pieces that go, by rising priority.
@@ -64,7 +64,7 @@ pub(crate) fn parts_of(
 }
 
 /// Plans the writes behind the insertions, the new entries before the erases, and reserves the device for all.
-pub(crate) fn plan_changes<D: Device>(
+pub(crate) fn plan_changes<D: Writable>(
     parts: &Parts,
     arrangement: &Arrangement,
     plan: &mut Plan,

@@ -3,19 +3,23 @@
 ghost use Rattle.std.specs.Prelude.{◌≡◌, ◌+◌, ◌-◌, ◌<◌, ◌≤◌, ◌^◌, ◌++◌, ◌∷◌, [], IfOk, OnOk, OnErr, IsTrue, IsFalse, length, fold, map, take, drop};
 ghost use Rattle.std.specs.List.{AllByRecursion};
 ghost use Rattle.rule_store.specs.Batch.{with_rule};
+ghost use Rattle.rule_store.specs.Verdict.{entries_of};
 ghost use Rattle.ternary_word.specs.Entry.{IsEncodable};
 ghost use Rattle.overlap_index.specs.Live.{is_live};
 ghost use Rattle.tcam_device.specs.State.{IsInUse};
 ghost use Rattle.commit_writes.specs.Planned.{write_for};
 ghost use Rattle.batch_order.specs.Entries.{AddsIds, AreLast, KeepEntries};
+ghost use Rattle.batch_order.specs.Placing.{aims_of};
 ghost use Rattle.batch_order.specs.Planning.{AreNew, IsPlannable, IsLastLive, IsInside, IsInserted, ArePlannedSince};
 
+use crate::Placement;
+use crate::aims::aim_of;
 use crate::entries::LiveEntries;
 use crate::pieces::Ranked;
 use crate::plan::Plan;
-use move_planner::{Move, Plan as Moves, plan_insert};
+use move_planner::{Aim, Move, Plan as Moves, plan_insert};
 use rule_model::Rule;
-use rule_store::Store;
+use rule_store::{Mode, Store};
 use slot_pool::Arrangement;
 use std::alloc::{AllocError, Global};
 
@@ -33,29 +37,36 @@ pub(crate) fn falling(alloc: Global, rules: &[Rule]) -> Result<Store, AllocError
     Ok(sorted)
 }
 
-/// Plans an insertion for each piece, in their order, and answers the ids of their entries. On want of memory the live
-/// entries are as they were.
+/// Plans an insertion for each piece that a commit puts into a set, in their order and with the aims of the placement,
+/// and answers the ids of their entries. On want of memory the live entries are as they were.
 pub(crate) fn plan_additions(
     alloc: Global,
+    placement: Placement,
+    rules: &Store,
     pieces: &[Ranked],
     live: &mut LiveEntries,
     arrangement: &mut Arrangement,
     plan: &mut Plan,
 ) -> Result<Vec<u32>, AllocError>
+    requires standing { length live.old.live ≡ entries_of Mode.Cover rules.now.rules }
     requires room { length live.old.live + length pieces.now ≤ live.old.slots }
     requires encodable { AllByRecursion (λ ranked. IsEncodable ranked.piece) pieces.now }
     requires plannable { IsPlannable live.old arrangement.old plan.old.writes.items }
     ensures plannable { OnOk result (IsPlannable live.new arrangement.new plan.new.writes.items) }
-    ensures planned { OnOk result (ArePlannedSince live.old live.new arrangement.old arrangement.new plan.old plan.new pieces.now) }
+    ensures planned { OnOk result (ArePlannedSince live.old live.new arrangement.old arrangement.new plan.old plan.new pieces.now
+        (aims_of placement (length arrangement.old) rules.now.rules pieces.now)) }
     ensures adds { IfOk result (λ ids. AddsIds live.old live.new ids.items) }
     ensures number { IfOk result (λ ids. length ids.items ≡ length pieces.now) }
     ensures refused { OnErr result (live.new.live ≡ live.old.live) }
     ensures kept { KeepEntries live.old.live live.old.entries live.new.entries }
     ensures slots { live.new.slots ≡ live.old.slots }
 {
+    let slots = arrangement.slots();
+    let all = slots - arrangement.free_count() + pieces.len() as u32;
     let mut ids = Vec::with_capacity(alloc, pieces.len())?;
     for ranked in pieces {
-        match plan_piece(alloc, ranked, live, arrangement, plan) {
+        let aim = aim_of(placement, slots, rules, all, ids.len() as u32, ranked);
+        match plan_piece(alloc, ranked, aim, live, arrangement, plan) {
             Ok(id) => ids.push_reserved(id),
             Err(fault) => {
                 forget_all(live, ids);
@@ -82,6 +93,7 @@ pub(crate) fn forget_all(live: &mut LiveEntries, mut ids: Vec<u32>)
 fn plan_piece(
     alloc: Global,
     ranked: &Ranked,
+    aim: Aim,
     live: &mut LiveEntries,
     arrangement: &mut Arrangement,
     plan: &mut Plan,
@@ -90,14 +102,14 @@ fn plan_piece(
     requires encodable { IsEncodable ranked.now.piece }
     requires plannable { IsPlannable live.old arrangement.old plan.old.writes.items }
     ensures plannable { OnOk result (IsPlannable live.new arrangement.new plan.new.writes.items) }
-    ensures planned { OnOk result (ArePlannedSince live.old live.new arrangement.old arrangement.new plan.old plan.new (ranked.now ∷ [])) }
+    ensures planned { OnOk result (ArePlannedSince live.old live.new arrangement.old arrangement.new plan.old plan.new (ranked.now ∷ []) (aim ∷ [])) }
     ensures adds { IfOk result (λ id. AddsIds live.old live.new (id ∷ [])) }
     ensures refused { OnErr result (live.new.live ≡ live.old.live) }
     ensures kept { KeepEntries live.old.live live.old.entries live.new.entries }
     ensures slots { live.new.slots ≡ live.old.slots }
 {
     let id = live.add(&ranked.piece, ranked.rank, ranked.result)?;
-    match plan_moves(alloc, id, live, arrangement, plan) {
+    match plan_moves(alloc, id, aim, live, arrangement, plan) {
         Ok(()) => Ok(id),
         Err(fault) => {
             live.forget(id);
@@ -106,10 +118,11 @@ fn plan_piece(
     }
 }
 
-/// Plans the insertion of a live id, each of its moves a device write.
+/// Plans the insertion of a live id with an aim, each of its moves a device write.
 fn plan_moves(
     alloc: Global,
     id: u32,
+    aim: Aim,
     live: &LiveEntries,
     arrangement: &mut Arrangement,
     plan: &mut Plan,
@@ -117,10 +130,10 @@ fn plan_moves(
     requires new { IsLastLive live.now arrangement.old id }
     requires in_use { AllByRecursion (IsInUse live.now.slots) plan.old.writes.items }
     ensures plannable { OnOk result (IsPlannable live.now arrangement.new plan.new.writes.items) }
-    ensures inserted { OnOk result (IsInserted live.now arrangement.old arrangement.new id plan.old plan.new) }
+    ensures inserted { OnOk result (IsInserted live.now arrangement.old arrangement.new aim id plan.old plan.new) }
 {
     let mut moves = Moves::new(alloc);
-    let insert = plan_insert(alloc, arrangement, live.index(), id, &mut moves)?;
+    let insert = plan_insert(alloc, arrangement, live.index(), id, aim, &mut moves)?;
     push_all(live, &moves, plan)?;
     plan.count(insert);
     Ok(())

@@ -1,13 +1,15 @@
 // Commits of routes and of an access list's rule into a device of eight slots. The bodies borrow manager and device, so that each proof stays short.
 ghost use Rattle.std.specs.Prelude.{◌≡◌, ◌≤◌, IfSome, length};
 
-use crate::{Done, Manager, Mode, Ready, Refusal, Step};
+mod by_rank;
+
+use crate::{Done, Manager, Mode, Placement, Ready, Refusal, Step};
 use rule_model::{Key, Ports, Prefix, Rank, Rule, list_rank, route_rule};
 use rule_store::{Batch, Command};
 use std::alloc::Global;
 use std::process::Abort;
 use std::test::Fail;
-use tcam_device::{Device, DeviceFault, FlakyTcam, MemTcam, Write};
+use tcam_device::{Device, DeviceFault, FlakyTcam, MemTcam, Writable, Write};
 
 /// A packet to 10.1.2.3.
 fn packet() -> Key {
@@ -47,7 +49,7 @@ fn adding(alloc: Global, addr: u32, len: u8) -> Result<Batch, Fail> {
 }
 
 /// Prepares the commit of a batch.
-fn prepare<D: Device>(
+fn prepare<D: Writable>(
     manager: &mut Manager,
     device: &mut D,
     batch: &Batch,
@@ -62,7 +64,7 @@ fn prepare<D: Device>(
 }
 
 /// Makes one step.
-fn step<D: Device>(manager: &mut Manager, device: &mut D) -> Result<Step, DeviceFault>
+fn step<D: Writable>(manager: &mut Manager, device: &mut D) -> Result<Step, DeviceFault>
     requires slots { manager.old.slots ≤ D.slot_count device.old }
     requires room { IfSome manager.old.held (λ held. length held.writes ≤ D.spare device.old) }
     ensures slots { manager.new.slots ≡ manager.old.slots }
@@ -230,7 +232,7 @@ fn two_writes(
 
 #[test]
 fn routes(rt: HostRuntime) -> Result<(), Fail> {
-    let mut manager = Manager::new(rt.alloc(), 8, Mode::Cover)?;
+    let mut manager = Manager::new(rt.alloc(), 8, Mode::Cover, Placement::Middle)?;
     let mut device = MemTcam::new(rt.alloc(), 8)?;
     no_writes(&rt, rt.alloc(), &mut manager, &mut device)?;
     three_routes(&rt, rt.alloc(), &mut manager, &mut device)?;
@@ -238,21 +240,21 @@ fn routes(rt: HostRuntime) -> Result<(), Fail> {
 }
 
 /// The first write fails, and the next step makes it.
-fn fails_once(
+pub(crate) fn fails_once<D: Device>(
     rt: &impl Abort,
     alloc: Global,
     manager: &mut Manager,
-    device: &mut FlakyTcam,
+    device: &mut D,
 ) -> Result<(), Fail>
-    requires slots { manager.old.slots ≤ device.old.device.slots }
-    requires room { IfSome manager.old.held (λ held. length held.writes ≤ device.old.device.spare) }
+    requires slots { manager.old.slots ≤ D.slot_count device.old }
+    requires room { IfSome manager.old.held (λ held. length held.writes ≤ D.spare device.old) }
 {
     let ready = prepare(manager, device, &adding(alloc, 0x0a00_0000, 8)?)?;
     let failed = step(manager, device);
-    let journal = device.journal().len();
+    let found = device.look(&packet());
     let again = put_slot(&step(manager, device)?);
     assert_eq!(rt; (ready.writes, ready.most), (1, 1));
-    assert_eq!(rt; (failed, journal), (Err(DeviceFault), 0));
+    assert_eq!(rt; (failed, found), (Err(DeviceFault), None));
     assert_eq!(rt; again, Some(3));
     assert_eq!(rt; device.look(&packet()), route(0x0a00_0000, 8));
     Ok(())
@@ -260,7 +262,7 @@ fn fails_once(
 
 #[test]
 fn a_write_that_fails(rt: HostRuntime) -> Result<(), Fail> {
-    let mut manager = Manager::new(rt.alloc(), 8, Mode::Cover)?;
+    let mut manager = Manager::new(rt.alloc(), 8, Mode::Cover, Placement::Middle)?;
     let mut device = FlakyTcam::new(rt.alloc(), 8, &[1])?;
     fails_once(&rt, rt.alloc(), &mut manager, &mut device)
 }
@@ -404,7 +406,7 @@ fn four_batches(
 
 #[test]
 fn changes(rt: HostRuntime) -> Result<(), Fail> {
-    let mut manager = Manager::new(rt.alloc(), 8, Mode::Cover)?;
+    let mut manager = Manager::new(rt.alloc(), 8, Mode::Cover, Placement::Middle)?;
     let mut device = MemTcam::new(rt.alloc(), 8)?;
     four_batches(&rt, rt.alloc(), &mut manager, &mut device)
 }
@@ -482,7 +484,7 @@ fn two_ranges(
 
 #[test]
 fn port_ranges(rt: HostRuntime) -> Result<(), Fail> {
-    let mut manager = Manager::new(rt.alloc(), 8, Mode::Cover)?;
+    let mut manager = Manager::new(rt.alloc(), 8, Mode::Cover, Placement::Middle)?;
     let mut device = MemTcam::new(rt.alloc(), 8)?;
     two_ranges(&rt, rt.alloc(), &mut manager, &mut device)
 }

@@ -37,8 +37,8 @@ push_all-requires-clause-inside c =
     let slots = c.args.arrangement.now in
     let m = moves_since c.new-moves.result c.plan_insert.new.plan in
     let all : c.plan_insert.new.plan ≡ m = c.plan_insert.ensures.plan ∙ ap (λ p. p ++ m) c.new-moves.ensures in
-    let placement : IsPlacement (is_above kept.live) c.args.id slots m =
-    subst (λ l. IsPlacement (is_above l) c.args.id slots m) c.index.ensures.live c.in_ok-insert.ensures.placement in
+    let placement : IsPlacement (is_above kept.live) c.args.aim c.args.id slots m =
+    subst (λ l. IsPlacement (is_above l) c.args.aim c.args.id slots m) c.index.ensures.live c.in_ok-insert.ensures.placement in
     let inside = moves_inside (record { slots = kept.slots; live = kept.live }) c.args.id slots m (ready kept slots c.args.id c.requires.new) placement in
     subst (λ n. AllByRecursion (IsInside n) c.plan_insert.new.plan) c.requires.new.size (subst (AllByRecursion (IsInside (length slots))) (sym all) inside)
 
@@ -61,7 +61,7 @@ returns c =
       };
       inserted = record {
         moves = m;
-        placement = subst (λ l. IsPlacement (is_above l) c.args.id slots m) live c.in_ok-insert.ensures.placement;
+        placement = subst (λ l. IsPlacement (is_above l) c.args.aim c.args.id slots m) live c.in_ok-insert.ensures.placement;
         slots_are = after;
         writes = c.count.ensures.writes ∙ (c.in_ok-push_all.ensures.writes ∙ ap (λ (p : List Move). c.args.plan.now.writes.items ++ map (write_for kept.entries) p) all);
         most = c.count.ensures.most ∙ ap₂ max c.in_ok-push_all.ensures.most c.in_ok-insert.ensures.writes;

@@ -59,11 +59,11 @@ returns-in-Some c =
       entries = rw (← c.deref.ensures.value, ← c.rewrite_all.ensures.entries) c.forget_each.ensures.kept;
       slots = c.forget_each.ensures.slots ∙ c.rewrite_all.ensures.slots;
     } in
-    let view : view_of i.mode i.rules i.live i.arrangement i.held ≡ c.args.self.now = c.self.view_is in
-    let requires : IfSome (view_of i.mode i.rules i.live i.arrangement i.held).held (λ one. one.writes ≡ []) = rw (← c.self.view_is) at c.requires in
-    let none : drop held.made held.writes.items ≡ [] = subst (λ (h : Option Held). IfSome (view_of i.mode i.rules i.live i.arrangement h).held (λ one. one.writes ≡ [])) was requires in
-    let new = view_of i.mode c.apply.new.self c.forget_each.new.self held.arrangement None in
-    let steps : Steps (view_of i.mode i.rules i.live i.arrangement i.held) (view_of i.mode i.rules i.live i.arrangement i.held).held (Finished held.counts) new =
-    subst (λ (h : Option Held). Steps (view_of i.mode i.rules i.live i.arrangement h) (view_of i.mode i.rules i.live i.arrangement h).held (Finished held.counts) new) (sym was)
-    (finish_steps i.mode i.rules c.apply.new.self i.live c.forget_each.new.self i.arrangement held before none c.apply.ensures.rules finished) in
+    let view : view_of i.placement i.mode i.rules i.live i.arrangement i.held ≡ c.args.self.now = c.self.view_is in
+    let requires : IfSome (view_of i.placement i.mode i.rules i.live i.arrangement i.held).held (λ one. one.writes ≡ []) = rw (← c.self.view_is) at c.requires in
+    let none : drop held.made held.writes.items ≡ [] = subst (λ (h : Option Held). IfSome (view_of i.placement i.mode i.rules i.live i.arrangement h).held (λ one. one.writes ≡ [])) was requires in
+    let new = view_of i.placement i.mode c.apply.new.self c.forget_each.new.self held.arrangement None in
+    let steps : Steps (view_of i.placement i.mode i.rules i.live i.arrangement i.held) (view_of i.placement i.mode i.rules i.live i.arrangement i.held).held (Finished held.counts) new =
+    subst (λ (h : Option Held). Steps (view_of i.placement i.mode i.rules i.live i.arrangement h) (view_of i.placement i.mode i.rules i.live i.arrangement h).held (Finished held.counts) new) (sym was)
+    (finish_steps i.placement i.mode i.rules c.apply.new.self i.live c.forget_each.new.self i.arrangement held before none c.apply.ensures.rules finished) in
     rw c.take.ensures.after (subst (λ (old : Managed). Steps old old.held (Finished held.counts) new) view steps)

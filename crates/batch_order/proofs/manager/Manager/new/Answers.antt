@@ -1,5 +1,12 @@
-use Rattle.batch_order.proofs.Carried.{fresh_view}
+use Rattle.std.proofs.Common.{ℕ, ◌≤◌, [], sym, subst}
+use Rattle.batch_order.specs.Managed.{Managed, IsOn}
+use Rattle.batch_order.proofs.Carried.{fresh_view, on_blank}
 use Rattle.batch_order.proofs.manager.Manager.new.Goals as goal
 
-pub returns : goal.returns
-returns c = fresh_view c.args.slots c.args.mode c.new.result c.in_ok-new.field-0 c.in_ok-new-2.field-0 c.new.ensures.rules c.in_ok-new-2.ensures
+pub returns-clause-fresh : goal.returns-clause-fresh
+returns-clause-fresh c = fresh_view c.args.slots c.args.mode c.args.placement c.new.result c.in_ok-new.field-0 c.in_ok-new-2.field-0 c.new.ensures.rules c.in_ok-new-2.ensures
+
+pub returns-clause-on_blank : goal.returns-clause-on_blank
+returns-clause-on_blank c =
+    let view = fresh_view c.args.slots c.args.mode c.args.placement c.new.result c.in_ok-new.field-0 c.in_ok-new-2.field-0 c.new.ensures.rules c.in_ok-new-2.ensures in
+    subst (λ (m : Managed). (device_slots : ℕ) → c.args.slots ≤ device_slots → IsOn device_slots [] m) (sym view) (λ device_slots within. on_blank c.args.slots device_slots c.args.mode c.args.placement within)

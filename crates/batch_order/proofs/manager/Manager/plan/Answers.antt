@@ -10,7 +10,7 @@ use Rattle.rule_store.specs.declared.Mode.TheVariants.{Cover}
 use Rattle.rule_store.specs.declared.Command.{Command}
 use Rattle.rule_store.specs.Store.{StoredRules}
 use Rattle.rule_store.specs.Batch.{batch_fault}
-use Rattle.rule_store.specs.Verdict.{verdict, Accepted}
+use Rattle.rule_store.specs.Verdict.{verdict, Accepted, entries_of}
 use Rattle.ternary_word.specs.Entry.{RankedPiece}
 use Rattle.tcam_device.specs.State.{IsInUse}
 use Rattle.commit_writes.specs.declared.Rewrite.{Rewrite}
@@ -22,9 +22,11 @@ use Rattle.batch_order.specs.declared.manager.Held.{Held}
 use Rattle.batch_order.specs.Entries.{AddsIds, Entries, KeepEntries}
 use Rattle.batch_order.specs.Changes.{HaveIds}
 use Rattle.batch_order.specs.Kept.{IsManaged, held_of}
+use Rattle.batch_order.specs.Placing.{aims_of}
 use Rattle.batch_order.specs.Planning.{ArePlannedSince}
 use Rattle.batch_order.specs.Managed.{Managed, Holds}
 use Rattle.batch_order.proofs.Parted.{inserted_encodable}
+use Rattle.batch_order.proofs.Numbered.{arranged_number}
 use Rattle.batch_order.proofs.Needed.{rules_entries}
 use Rattle.batch_order.proofs.Judged.{entries_few}
 use Rattle.batch_order.proofs.Cleared.{all_stand}
@@ -78,6 +80,12 @@ reserve-requires g c =
     let set : length c.self.inside.rules.rules ≤ 4096 = t.set in
     let most : c.len.result ≤ 4096 = c.len.ensures.most in
     omega arith
+
+pub plan_additions-requires-clause-standing : goal.plan_additions-requires-clause-standing
+plan_additions-requires-clause-standing g c =
+    let t = taking c.self.inside.mode c.self.inside.rules c.self.inside.live c.self.inside.arrangement c.self.inside.held c.args.batch.now c.self.invariant
+    (no_held c.self.inside.rules.rules c.self.inside.held (rw (← c.self.view_is) at c.requires.idle)) c.requires.changes (rw (← c.self.view_is) at c.requires.sound) (rw (← c.self.view_is) at c.requires.fits) in
+    arranged_number c.self.inside.rules.rules c.self.inside.live c.self.inside.arrangement t.managed.is_set t.managed.carried ∙ ap (entries_of Cover) (sym c.reserve.ensures.rules)
 
 pub plan_additions-requires-clause-room : goal.plan_additions-requires-clause-room
 plan_additions-requires-clause-room g c =
@@ -174,10 +182,10 @@ returns-in_err-ids-clause-refused g c =
     let i = c.self.inside in
     let none = no_held i.rules.rules i.held (rw (← c.self.view_is) at c.requires.idle) in
     let managed : IsManaged i.mode i.rules i.live i.arrangement None = subst (IsManaged i.mode i.rules i.live i.arrangement) none c.self.invariant in
-    let view : view_of i.mode i.rules i.live i.arrangement i.held ≡ c.args.self.now = c.self.view_is in
-    let same : view_of i.mode c.reserve.new.self c.plan_additions.new.live i.arrangement i.held ≡ view_of i.mode i.rules i.live i.arrangement i.held =
-    subst (λ (h : Option Held). view_of i.mode c.reserve.new.self c.plan_additions.new.live i.arrangement h ≡ view_of i.mode i.rules i.live i.arrangement h) (sym none)
-    (view_same i.mode i.rules c.reserve.new.self i.live c.plan_additions.new.live i.arrangement managed c.reserve.ensures.rules c.plan_additions.ensures.kept) in
+    let view : view_of i.placement i.mode i.rules i.live i.arrangement i.held ≡ c.args.self.now = c.self.view_is in
+    let same : view_of i.placement i.mode c.reserve.new.self c.plan_additions.new.live i.arrangement i.held ≡ view_of i.placement i.mode i.rules i.live i.arrangement i.held =
+    subst (λ (h : Option Held). view_of i.placement i.mode c.reserve.new.self c.plan_additions.new.live i.arrangement h ≡ view_of i.placement i.mode i.rules i.live i.arrangement h) (sym none)
+    (view_same i.placement i.mode i.rules c.reserve.new.self i.live c.plan_additions.new.live i.arrangement managed c.reserve.ensures.rules c.plan_additions.ensures.kept) in
     at_err c.from_residual-in_err-ids.result _ (same ∙ view)
 
 pub returns-in-Err-clause-refused : goal.returns-in-Err-clause-refused
@@ -185,12 +193,12 @@ returns-in-Err-clause-refused g c =
     let i = c.self.inside in
     let none = no_held i.rules.rules i.held (rw (← c.self.view_is) at c.requires.idle) in
     let managed : IsManaged i.mode i.rules i.live i.arrangement None = subst (IsManaged i.mode i.rules i.live i.arrangement) none c.self.invariant in
-    let view : view_of i.mode i.rules i.live i.arrangement i.held ≡ c.args.self.now = c.self.view_is in
+    let view : view_of i.placement i.mode i.rules i.live i.arrangement i.held ≡ c.args.self.now = c.self.view_is in
     let back = c.forget_all.ensures.live ∙ adds_first i.live c.plan_additions.new.live c.in_ok-ids.ids.items c.in_ok-ids.ensures.adds in
     let kept = kept_back i.live c.plan_additions.new.live c.forget_all.new.live c.plan_additions.ensures.kept c.forget_all.ensures.kept back in
-    let same : view_of i.mode c.reserve.new.self c.forget_all.new.live i.arrangement i.held ≡ view_of i.mode i.rules i.live i.arrangement i.held =
-    subst (λ (h : Option Held). view_of i.mode c.reserve.new.self c.forget_all.new.live i.arrangement h ≡ view_of i.mode i.rules i.live i.arrangement h) (sym none)
-    (view_same i.mode i.rules c.reserve.new.self i.live c.forget_all.new.live i.arrangement managed c.reserve.ensures.rules kept) in
+    let same : view_of i.placement i.mode c.reserve.new.self c.forget_all.new.live i.arrangement i.held ≡ view_of i.placement i.mode i.rules i.live i.arrangement i.held =
+    subst (λ (h : Option Held). view_of i.placement i.mode c.reserve.new.self c.forget_all.new.live i.arrangement h ≡ view_of i.placement i.mode i.rules i.live i.arrangement h) (sym none)
+    (view_same i.placement i.mode i.rules c.reserve.new.self i.live c.forget_all.new.live i.arrangement managed c.reserve.ensures.rules kept) in
     same ∙ view
 
 pub invariant_of-self-2 : goal.invariant_of-self-2
@@ -200,12 +208,14 @@ invariant_of-self-2 g c =
     let t = taking i.mode i.rules i.live i.arrangement i.held c.args.batch.now c.self.invariant
     (no_held i.rules.rules i.held (rw (← c.self.view_is) at c.requires.idle)) c.requires.changes (rw (← c.self.view_is) at c.requires.sound) (rw (← c.self.view_is) at c.requires.fits) in
     let held : Held = record { writes = c.plan_changes.new.plan.writes; made = 0; counts = c.counts-counts.result; batch = c.in_ok-copy.copy; rewrites = parts.rewrites; erased = parts.erased; arrangement = c.erase_all.new.arrangement } in
-    let since : ArePlannedSince i.live c.plan_additions.new.live i.arrangement c.plan_additions.new.arrangement c.new-plan.result c.plan_additions.new.plan (inserted_pieces Cover no_bits i.rules.rules c.args.batch.now) =
-    subst (λ (pieces : List RankedPiece). ArePlannedSince i.live c.plan_additions.new.live i.arrangement c.plan_additions.new.arrangement c.new-plan.result c.plan_additions.new.plan pieces) (c.deref.ensures.value ∙ c.in_ok-parts.ensures.inserted)
-    (subst (λ (s : Slots). ArePlannedSince i.live c.plan_additions.new.live s c.plan_additions.new.arrangement c.new-plan.result c.plan_additions.new.plan c.deref.result.now) c.in_ok-arrangement.ensures c.in_ok-ids.ensures.planned) in
+    let since : ArePlannedSince i.live c.plan_additions.new.live i.arrangement c.plan_additions.new.arrangement c.new-plan.result c.plan_additions.new.plan (inserted_pieces Cover no_bits i.rules.rules c.args.batch.now)
+    (aims_of i.placement (length i.arrangement) i.rules.rules (inserted_pieces Cover no_bits i.rules.rules c.args.batch.now)) =
+    subst (λ (pieces : List RankedPiece). ArePlannedSince i.live c.plan_additions.new.live i.arrangement c.plan_additions.new.arrangement c.new-plan.result c.plan_additions.new.plan pieces (aims_of i.placement (length i.arrangement) i.rules.rules pieces)) (c.deref.ensures.value ∙ c.in_ok-parts.ensures.inserted)
+    (subst (λ (s : Slots). ArePlannedSince i.live c.plan_additions.new.live s c.plan_additions.new.arrangement c.new-plan.result c.plan_additions.new.plan c.deref.result.now (aims_of i.placement (length s) i.rules.rules c.deref.result.now)) c.in_ok-arrangement.ensures
+    (subst (λ (set : List Rule). ArePlannedSince i.live c.plan_additions.new.live c.in_ok-arrangement.arrangement c.plan_additions.new.arrangement c.new-plan.result c.plan_additions.new.plan c.deref.result.now (aims_of i.placement (length c.in_ok-arrangement.arrangement) set c.deref.result.now)) c.reserve.ensures.rules c.in_ok-ids.ensures.planned)) in
     let spare : length c.args.batch.now ≤ c.reserve.new.self.spare = (let n : c.len.result ≡ length c.args.batch.now = c.len.ensures.count in let e : c.len.result ≤ c.reserve.new.self.spare = c.in_ok-reserve.ensures.enough in omega arith) in
-    managed_held i.mode i.rules c.reserve.new.self i.live c.plan_additions.new.live i.arrangement c.plan_additions.new.arrangement c.args.batch.now held
-    (plan_made i.mode i.rules i.live c.plan_additions.new.live i.arrangement c.plan_additions.new.arrangement c.args.batch.now parts.rewrites.items parts.erased.items c.new-plan.result c.plan_additions.new.plan c.plan_changes.new.plan.writes.items c.counts-counts.result
+    managed_held i.placement i.mode i.rules c.reserve.new.self i.live c.plan_additions.new.live i.arrangement c.plan_additions.new.arrangement c.args.batch.now held
+    (plan_made i.placement i.mode i.rules i.live c.plan_additions.new.live i.arrangement c.plan_additions.new.arrangement c.args.batch.now parts.rewrites.items parts.erased.items c.new-plan.result c.plan_additions.new.plan c.plan_changes.new.plan.writes.items c.counts-counts.result
     t.managed record { change = t.change; rewrites_are = c.in_ok-parts.ensures.rewrites; erased_are = c.in_ok-parts.ensures.erased }
     c.plan_additions.ensures.slots c.in_ok-ids.ensures.plannable.settled since c.new-plan.ensures.writes c.new-plan.ensures.most c.new-plan.ensures.span c.in-Ok.ensures.in_use c.in-Ok.ensures.writes
     c.counts-counts.ensures.writes c.counts-counts.ensures.words (c.counts-counts.ensures.most ∙ c.in-Ok.ensures.most) (c.counts-counts.ensures.span ∙ c.in-Ok.ensures.span))
@@ -219,17 +229,19 @@ returns-clause-ready g c =
     let t = taking i.mode i.rules i.live i.arrangement i.held c.args.batch.now c.self.invariant
     none c.requires.changes (rw (← c.self.view_is) at c.requires.sound) (rw (← c.self.view_is) at c.requires.fits) in
     let held : Held = record { writes = c.plan_changes.new.plan.writes; made = 0; counts = c.counts-counts.result; batch = c.in_ok-copy.copy; rewrites = parts.rewrites; erased = parts.erased; arrangement = c.erase_all.new.arrangement } in
-    let since : ArePlannedSince i.live c.plan_additions.new.live i.arrangement c.plan_additions.new.arrangement c.new-plan.result c.plan_additions.new.plan (inserted_pieces Cover no_bits i.rules.rules c.args.batch.now) =
-    subst (λ (pieces : List RankedPiece). ArePlannedSince i.live c.plan_additions.new.live i.arrangement c.plan_additions.new.arrangement c.new-plan.result c.plan_additions.new.plan pieces) (c.deref.ensures.value ∙ c.in_ok-parts.ensures.inserted)
-    (subst (λ (s : Slots). ArePlannedSince i.live c.plan_additions.new.live s c.plan_additions.new.arrangement c.new-plan.result c.plan_additions.new.plan c.deref.result.now) c.in_ok-arrangement.ensures c.in_ok-ids.ensures.planned) in
-    let view : view_of i.mode i.rules i.live i.arrangement i.held ≡ c.args.self.now = c.self.view_is in
-    let new = view_of i.mode c.reserve.new.self c.plan_additions.new.live i.arrangement (Some held) in
-    let holds : Holds (view_of i.mode i.rules i.live i.arrangement None) c.args.batch.now c.ready.result new =
-    holds_plan i.mode i.rules c.reserve.new.self i.live c.plan_additions.new.live i.arrangement c.plan_additions.new.arrangement c.args.batch.now held c.ready.result
-    (plan_made i.mode i.rules i.live c.plan_additions.new.live i.arrangement c.plan_additions.new.arrangement c.args.batch.now parts.rewrites.items parts.erased.items c.new-plan.result c.plan_additions.new.plan c.plan_changes.new.plan.writes.items c.counts-counts.result
+    let since : ArePlannedSince i.live c.plan_additions.new.live i.arrangement c.plan_additions.new.arrangement c.new-plan.result c.plan_additions.new.plan (inserted_pieces Cover no_bits i.rules.rules c.args.batch.now)
+    (aims_of i.placement (length i.arrangement) i.rules.rules (inserted_pieces Cover no_bits i.rules.rules c.args.batch.now)) =
+    subst (λ (pieces : List RankedPiece). ArePlannedSince i.live c.plan_additions.new.live i.arrangement c.plan_additions.new.arrangement c.new-plan.result c.plan_additions.new.plan pieces (aims_of i.placement (length i.arrangement) i.rules.rules pieces)) (c.deref.ensures.value ∙ c.in_ok-parts.ensures.inserted)
+    (subst (λ (s : Slots). ArePlannedSince i.live c.plan_additions.new.live s c.plan_additions.new.arrangement c.new-plan.result c.plan_additions.new.plan c.deref.result.now (aims_of i.placement (length s) i.rules.rules c.deref.result.now)) c.in_ok-arrangement.ensures
+    (subst (λ (set : List Rule). ArePlannedSince i.live c.plan_additions.new.live c.in_ok-arrangement.arrangement c.plan_additions.new.arrangement c.new-plan.result c.plan_additions.new.plan c.deref.result.now (aims_of i.placement (length c.in_ok-arrangement.arrangement) set c.deref.result.now)) c.reserve.ensures.rules c.in_ok-ids.ensures.planned)) in
+    let view : view_of i.placement i.mode i.rules i.live i.arrangement i.held ≡ c.args.self.now = c.self.view_is in
+    let new = view_of i.placement i.mode c.reserve.new.self c.plan_additions.new.live i.arrangement (Some held) in
+    let holds : Holds (view_of i.placement i.mode i.rules i.live i.arrangement None) c.args.batch.now c.ready.result new =
+    holds_plan i.placement i.mode i.rules c.reserve.new.self i.live c.plan_additions.new.live i.arrangement c.plan_additions.new.arrangement c.args.batch.now held c.ready.result
+    (plan_made i.placement i.mode i.rules i.live c.plan_additions.new.live i.arrangement c.plan_additions.new.arrangement c.args.batch.now parts.rewrites.items parts.erased.items c.new-plan.result c.plan_additions.new.plan c.plan_changes.new.plan.writes.items c.counts-counts.result
     t.managed record { change = t.change; rewrites_are = c.in_ok-parts.ensures.rewrites; erased_are = c.in_ok-parts.ensures.erased }
     c.plan_additions.ensures.slots c.in_ok-ids.ensures.plannable.settled since c.new-plan.ensures.writes c.new-plan.ensures.most c.new-plan.ensures.span c.in-Ok.ensures.in_use c.in-Ok.ensures.writes
     c.counts-counts.ensures.writes c.counts-counts.ensures.words (c.counts-counts.ensures.most ∙ c.in-Ok.ensures.most) (c.counts-counts.ensures.span ∙ c.in-Ok.ensures.span))
     c.reserve.ensures.rules refl c.in_ok-copy.ensures c.ready.ensures in
     subst (λ (old : Managed). Holds old c.args.batch.now c.ready.result new) view
-    (subst (λ (h : Option Held). Holds (view_of i.mode i.rules i.live i.arrangement h) c.args.batch.now c.ready.result new) (sym none) holds)
+    (subst (λ (h : Option Held). Holds (view_of i.placement i.mode i.rules i.live i.arrangement h) c.args.batch.now c.ready.result new) (sym none) holds)

@@ -5,6 +5,7 @@ use Rattle.rule_store.specs.declared.BatchFault.{BatchFault}
 use Rattle.rule_store.specs.Batch.{batch_fault}
 use Rattle.rule_store.specs.Verdict.{verdict_by, room_verdict}
 use Rattle.batch_order.specs.Managed.{Managed, HeldCommit, Judges, Answers, refusal_of}
+use Rattle.batch_order.proofs.Ahead.{by_journal}
 use Rattle.batch_order.proofs.manager.Manager.prepare.Goals as goal
 
 -- no commit is under way where none has a number of writes left
@@ -24,3 +25,20 @@ returns-in-Err-clause-judged g c =
     let idle = idle_from c.args.self.now.held c.left.result c.left.ensures (λ n is. c.in_default.not-Some n is) in
     let fault : batch_fault c.args.self.now.rules c.args.batch.now ≡ Some c.in-Err.fault = subst (λ (m : Managed). batch_fault m.rules c.args.batch.now ≡ Some c.in-Err.fault) c.self.view_is c.in-Err.ensures in
     rw c.refusal_of.ensures (unsound_answer c.args.self.now c.args.self.now.held c.args.batch.now c.in-Err.fault idle fault)
+
+pub returns-in-Some-clause-serves : goal.returns-in-Some-clause-serves
+returns-in-Some-clause-serves g c =
+    by_journal (g.D.Writable.slot_count c.args.device.now) (g.D.Writable.journal c.args.device.now) c.args.self.now c.requires.slots c.serving.ensures.serves
+
+pub returns-in-Err-clause-serves : goal.returns-in-Err-clause-serves
+returns-in-Err-clause-serves g c =
+    by_journal (g.D.Writable.slot_count c.args.device.now) (g.D.Writable.journal c.args.device.now) c.args.self.now c.requires.slots c.serving.ensures.serves
+
+pub returns-in-Err-check_slots-clause-serves : goal.returns-in-Err-check_slots-clause-serves
+returns-in-Err-check_slots-clause-serves g c =
+    by_journal (g.D.Writable.slot_count c.args.device.now) (g.D.Writable.journal c.args.device.now) c.args.self.now c.requires.slots c.serving.ensures.serves
+
+pub returns-in-Err-plan-clause-serves : goal.returns-in-Err-plan-clause-serves
+returns-in-Err-plan-clause-serves g c =
+    rw (c.plan.ensures.slot_count, c.plan.ensures.journal)
+    (by_journal (g.D.Writable.slot_count c.args.device.now) (g.D.Writable.journal c.args.device.now) c.args.self.now c.requires.slots c.serving.ensures.serves)

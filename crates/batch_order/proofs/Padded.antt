@@ -1,0 +1,92 @@
+-- What the placement refuses: an insertion with a write more. The first rule of a set takes one write for its one piece.
+use Rattle.std.proofs.Common.{◌≡◌, ℕ, Bool, true, Option, Some, None, List, [], ◌∷◌, length, map, refl, sym, ap, ◌∙◌, arith}
+use Rattle.std.proofs.lemmas.List.{append-nil, length-map}
+use Rattle.std.specs.List.{AllZip}
+use Rattle.slot_order.specs.Order.{slot}
+use Rattle.slot_order.proofs.Rules.{contains_none}
+use Rattle.slot_pool.specs.Arrangement.{Slots, passes}
+use Rattle.slot_pool.proofs.Places.{first_slot_is}
+use Rattle.slot_pool.proofs.Scan.{last_slot_is}
+use Rattle.rule_model.specs.AddressBlock.{any_address}
+use Rattle.rule_model.specs.Rule.{route_rule}
+use Rattle.rule_store.specs.declared.Mode.TheVariants.{Cover}
+use Rattle.rule_store.specs.declared.Command.{Command}
+use Rattle.rule_store.specs.declared.Command.TheVariants.{Add}
+use Rattle.ternary_word.specs.declared.Entry.{Entry}
+use Rattle.overlap_index.specs.declared.LivePiece.{LivePiece}
+use Rattle.overlap_index.proofs.Above.{live_is}
+use Rattle.move_planner.specs.declared.Aim.{Aim}
+use Rattle.move_planner.specs.declared.Move.{Move}
+use Rattle.move_planner.specs.Placement.{Above, first_lower, last_upper, IsPlacement, into_gap, push_down, push_up, uncross_down, uncross_up}
+use Rattle.tcam_device.specs.declared.Write.{Write}
+use Rattle.tcam_device.specs.declared.Write.TheVariants.{Slot}
+use Rattle.tcam_device.specs.State.{State}
+use Rattle.commit_writes.specs.Bits.{no_bits}
+use Rattle.commit_writes.specs.Shape.{inserted_pieces, rewritten_pieces}
+use Rattle.commit_writes.specs.Planned.{Entries, Planned, ArePlanned, ranked_of, planned_writes, write_for}
+use Rattle.commit_writes.specs.PlannedBatch.{IsIdOf, IsRewriteOf}
+use Rattle.batch_order.specs.declared.Placement.{Placement}
+use Rattle.batch_order.specs.Placing.{IsPlacedBy}
+
+-- the addition of a rule that every packet matches
+abbrev addition : List Command
+addition = Add (route_rule 0 any_address 7) ∷ []
+
+-- no id stands anywhere
+abbrev IsEmpty : Slots → Type 0
+IsEmpty slots = (at id : ℕ) → slot slots at ≡ Some id → ⊥
+
+held-by : (test : ℕ → Bool) (held : Option ℕ) → passes test held ≡ true → (id : ℕ) × (held ≡ Some id)
+held-by test None passing = absurd (cc)
+held-by test (Some id) passing = (id, refl)
+
+no-lower : (above : Above) (id : ℕ) (slots : Slots) (lower : ℕ) → IsEmpty slots → first_lower above slots id ≡ Some lower → ⊥
+no-lower above id slots lower empty is =
+    let first = first_slot_is (λ other. above id other) slots lower is in
+    let held = held-by (λ other. above id other) (slot slots lower) first.passing in
+    empty lower held.0 held.1
+
+no-upper : (above : Above) (id : ℕ) (slots : Slots) (upper : ℕ) → IsEmpty slots → last_upper above slots id ≡ Some upper → ⊥
+no-upper above id slots upper empty is =
+    let last = last_slot_is (λ other. above other id) slots upper is in
+    let held = held-by (λ other. above other id) (slot slots upper) last.passing in
+    empty upper held.0 held.1
+
+-- among empty slots the moves of a placement are one
+one-move : (above : Above) {aim : Aim} (id : ℕ) (slots : Slots) (moves : List Move) → IsPlacement above aim id slots moves → IsEmpty slots → length moves ≡ 1
+one-move above id slots moves (into_gap at low found) empty = refl
+one-move above id slots moves (push_down lower low none is down shorter) empty = absurd (no-lower above id slots lower empty is)
+one-move above id slots moves (push_up upper low none is up shorter) empty = absurd (no-upper above id slots upper empty is)
+one-move above id slots moves (uncross_down lower upper is high less down rest) empty = absurd (no-lower above id slots lower empty is)
+one-move above id slots moves (uncross_up lower upper is high less none up rest) empty = absurd (no-lower above id slots lower empty is)
+
+one-insertion : (entries : Entries) (live : List LivePiece) (slots : Slots) (planned : List Planned) → length planned ≡ 1 → ArePlanned live slots planned → IsEmpty slots → length (planned_writes entries planned) ≡ 1
+one-insertion entries live slots [] count are empty = absurd (cc)
+one-insertion entries live slots (insertion ∷ []) count are empty =
+    ap length (append-nil (map (write_for entries) insertion.moves)) ∙ (length-map insertion.moves (write_for entries) ∙ one-move _ insertion.one.id slots insertion.moves are.1 empty)
+one-insertion entries live slots (first ∷ second ∷ rest) count are empty = absurd (omega arith)
+
+none-zipped : {X Y : Type 0} (R : X → Y → Type 0) (ys : List Y) → AllZip R [] ys → ys ≡ []
+none-zipped R [] all = refl
+none-zipped R (y ∷ ys) all = absurd all
+
+-- a batch that inserts one piece into an empty set makes one write
+pub one-write : (placement : Placement) (batch : List Command) (state : State) (made : List Write)
+    → length (inserted_pieces Cover no_bits [] batch) ≡ 1 → rewritten_pieces Cover no_bits [] batch ≡ []
+    → IsPlacedBy placement [] batch state made → length made ≡ 1
+one-write placement batch state made one none placed =
+    let commit = placed.commit in
+    let empty : IsEmpty placed.arrangement = λ at id is.
+    let live = live_is placed.live id (commit.arranged.standing.within at id is) in
+    let piece = commit.entries_are.of_piece live.0 live.1 in
+    contains_none piece.0 piece.1 in
+    let count : length placed.planned ≡ 1 = sym (length-map placed.planned ranked_of) ∙ (ap length commit.inserted ∙ one) in
+    let inserted : length (planned_writes placed.entries placed.planned) ≡ 1 = one-insertion placed.entries placed.live placed.arrangement placed.planned count commit.are_planned empty in
+    let rewritten : placed.rewrites ≡ [] = none-zipped (IsRewriteOf placed.live) placed.rewrites (rw none at commit.rewrites_are) in
+    let erased : placed.erased ≡ [] = none-zipped (IsIdOf placed.live) placed.erased commit.erased_are in
+    let whole = ap length placed.writes_are in
+    rw (rewritten, erased, append-nil) at whole ∙ inserted
+
+-- the entry is put into one slot, and moved once more
+padded : (placement : Placement) (state : State) (entry : Entry) → IsPlacedBy placement [] addition state (Slot 2 (Some entry) ∷ Slot 3 (Some entry) ∷ Slot 2 None ∷ []) → ⊥
+padded placement state entry placed = let one = one-write placement addition state _ refl refl placed in omega (arith, one)
