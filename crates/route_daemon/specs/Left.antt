@@ -1,5 +1,6 @@
 -- How far a commit under way has come.
-use Rattle.std.specs.Prelude.{ℕ, ◌≤◌, Option, Some, None, length}
+use Rattle.std.specs.Prelude.{ℕ, ◌≤◌, Option, Some, None, List, [], ◌∷◌, length}
+use Rattle.tcam_device.specs.declared.Write.{Write}
 use Rattle.batch_order.specs.Managed.{HeldCommit}
 
 -- how many writes are left to make
@@ -10,3 +11,8 @@ left_number (Some held) = length held.writes
 -- a device with so much room has it for them
 abbrev pub HasRoom : Option HeldCommit → ℕ → Type 0
 HasRoom held spare = left_number held ≤ spare
+
+-- the write that was made, or none
+abbrev pub made_list : Option Write → List Write
+made_list None = []
+made_list (Some write) = write ∷ []

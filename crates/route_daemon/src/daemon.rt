@@ -1,13 +1,19 @@
 //! The daemon's side of a commit.
 
-ghost use Rattle.std.specs.Prelude.{◌≡◌, ◌<◌, ◌≤◌, IfOk, IfSome, OnErr};
-ghost use Rattle.route_daemon.specs.Left.{HasRoom, left_number};
+ghost use Rattle.std.specs.Prelude.{◌≡◌, ◌<◌, ◌≤◌, ◌++◌, ◌∷◌, [], None, IfOk, IfSome, OnOk, OnErr};
+ghost use Rattle.script_lines.specs.Cause.{HasCause};
+ghost use Rattle.tcam_device.specs.State.{Shows, replay};
+ghost use Rattle.rule_store.specs.Batch.{set_after};
+ghost use Rattle.batch_order.specs.Managed.{IsOn, Serves};
+ghost use Rattle.route_daemon.specs.Asked.{route_priority, route_to};
+ghost use Rattle.route_daemon.specs.Left.{HasRoom, left_number, made_list};
+ghost use Rattle.route_daemon.specs.Served.{IsServed, IsStep};
 
 use anyhow::anyhow;
 use batch_order::{Manager, Step};
 use rule_model::{Key, Prefix, PrefixFault, ipv4_route_rank, route_rule};
 use rule_store::{Batch, Command, PushFault};
-use tcam_device::{Device, Write};
+use tcam_device::{Device, Writable, Write};
 use thiserror::Error;
 
 /// Why a change can't join a batch.
@@ -24,6 +30,7 @@ pub enum RouteFault {
 /// Adds a route in the pending batch: the prefix `address/length`, whose packets go to `port`. After a refusal the batch
 /// is as before; so it is with the two below.
 pub fn add_route(batch: &mut Batch, address: u32, length: u8, port: u32) -> Result<(), RouteFault>
+    ensures added { OnOk result (batch.new ≡ batch.old ++ Command.Add (route_to address length port) ∷ []) }
     ensures refused { OnErr result (batch.new ≡ batch.old) }
 {
     let route = route_rule(Prefix::v4(address, length)?, port);
@@ -38,6 +45,7 @@ pub fn change_route(
     length: u8,
     port: u32,
 ) -> Result<(), RouteFault>
+    ensures changed { OnOk result (batch.new ≡ batch.old ++ Command.Set (route_priority address length) port ∷ []) }
     ensures refused { OnErr result (batch.new ≡ batch.old) }
 {
     let prefix = Prefix::v4(address, length)?;
@@ -50,6 +58,7 @@ pub fn change_route(
 
 /// Withdraws a route, in the pending batch.
 pub fn withdraw_route(batch: &mut Batch, address: u32, length: u8) -> Result<(), RouteFault>
+    ensures withdrawn { OnOk result (batch.new ≡ batch.old ++ Command.Del (route_priority address length) ∷ []) }
     ensures refused { OnErr result (batch.new ≡ batch.old) }
 {
     let prefix = Prefix::v4(address, length)?;
@@ -57,8 +66,9 @@ pub fn withdraw_route(batch: &mut Batch, address: u32, length: u8) -> Result<(),
     Ok(())
 }
 
-/// Carries a batch of changes to routes out, write by write, and looks one packet up after each. What the manager has
-/// written then answers it as the old routes or the new ones do (`Manager::rules`, `on_the_way`).
+/// Carries a batch of changes to routes out, write by write, and looks one packet up after each. By what was written, each
+/// packet is answered as the old routes do before the first write, and after each write as the old routes or the new
+/// ones do, also where it stops at a failure. With Ok the routes are the new ones, and each packet is answered by them.
 pub fn commit<D: Device>(
     rt: &HostRuntime,
     manager: &mut Manager,
@@ -66,8 +76,15 @@ pub fn commit<D: Device>(
     device: &mut D,
 ) -> anyhow::Result<()>
     requires slots { manager.old.slots ≤ D.slot_count device.old }
+    requires on { IsOn (D.slot_count device.old) (D.journal device.old) manager.old }
+    requires idle { manager.old.held ≡ None }
     ensures slots { manager.new.slots ≡ manager.old.slots }
     ensures slot_count { D.slot_count device.new ≡ D.slot_count device.old }
+    ensures on { IsOn (D.slot_count device.new) (D.journal device.new) manager.new }
+    ensures hitless { IsServed (D.slot_count device.new) (D.journal device.old) (D.journal device.new) manager.old.rules (set_after manager.old.rules batch.now) }
+    ensures idle { OnOk result (manager.new.held ≡ None) }
+    ensures rules { OnOk result (manager.new.rules ≡ set_after manager.old.rules batch.now) }
+    ensures shows { OnOk result (Shows (replay (D.slot_count device.new) (D.journal device.new)) (set_after manager.old.rules batch.now)) }
 {
     match manager.prepare(batch, device) {
         Ok(ready) => println!(rt; "commit writes {}", ready.writes)?,
@@ -81,13 +98,19 @@ pub fn commit<D: Device>(
 
 /// Makes the next write of the commit under way. None: there was none left, and the routes are the new ones. After a
 /// failure the same write is next again.
-fn next_write<D: Device>(manager: &mut Manager, device: &mut D) -> anyhow::Result<Option<Write>>
+fn next_write<D: Writable>(manager: &mut Manager, device: &mut D) -> anyhow::Result<Option<Write>>
     requires slots { manager.old.slots ≤ D.slot_count device.old }
     requires room { HasRoom manager.old.held (D.spare device.old) }
     ensures slots { manager.new.slots ≡ manager.old.slots }
     ensures slot_count { D.slot_count device.new ≡ D.slot_count device.old }
     ensures room { IfOk result (λ made. HasRoom manager.new.held (D.spare device.new)) }
     ensures fewer { IfOk result (λ made. IfSome made (λ write. left_number manager.new.held < left_number manager.old.held)) }
+    ensures stepped { IfOk result (λ made. IsStep manager.old manager.new (D.journal device.old) (D.journal device.new) (made_list made)) }
+    ensures failed { OnErr result (manager.new ≡ manager.old) }
+    ensures journal_err { OnErr result (D.journal device.new ≡ D.journal device.old) }
+    ensures cause { HasCause (D.faults device.old) (D.faults device.new) result }
+    ensures stays_on { IsOn (D.slot_count device.old) (D.journal device.old) manager.old → IsOn (D.slot_count device.new) (D.journal device.new) manager.new }
+    ensures serves { IsOn (D.slot_count device.old) (D.journal device.old) manager.old → Serves (replay (D.slot_count device.new) (D.journal device.new)) manager.new.rules manager.new.held }
 {
     match manager.step(device) {
         Ok(Step::Wrote(write)) => Ok(Some(write)),

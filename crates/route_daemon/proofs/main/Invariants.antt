@@ -1,5 +1,6 @@
-use Rattle.std.proofs.Common.{◌≡◌}
+use Rattle.std.proofs.Common.{◌≡◌, None}
+use Rattle.batch_order.specs.Managed.{IsOn}
 use Rattle.route_daemon.proofs.main.Given as goal
 
 abbrev pub invariant-loop-address : goal.invariant-loop-address
-invariant-loop-address l = l.manager.slots ≡ 8
+invariant-loop-address l = (l.manager.slots ≡ 8) × (l.device.slots ≡ 8) × IsOn l.device.slots l.device.journal l.manager × (l.manager.held ≡ None)
