@@ -1,5 +1,5 @@
 -- Each act, as what it does to the journal and to the report.
-use Rattle.std.proofs.Common.{◌≡◌, ◌≢◌, ℕ, ◌+◌, ◌≤◌, true, false, List, [], ◌∷◌, ◌++◌, Option, Some, None, IfSome, option_map, length, append_assoc, refl, sym, ap, ◌∙◌, subst}
+use Rattle.std.proofs.Common.{◌≡◌, ◌≢◌, ℕ, ◌+◌, ◌≤◌, true, List, [], ◌∷◌, ◌++◌, Option, None, length, append_assoc, refl, sym, ap, ◌∙◌, subst}
 use Rattle.std.specs.Io.KnownBytes.{Appends}
 use Rattle.rule_model.specs.declared.Key.{Key}
 use Rattle.rule_model.specs.Key.{IsKey}
@@ -19,12 +19,12 @@ use Rattle.replay.proofs.Effects.{does-line, does-part, does-nothing, does-write
 use Rattle.replay.proofs.Runs.{run_after, commits-with}
 
 -- a change that joins the batch
-pub push-carries : (slots : ℕ) (run : Running) (change : Change) (journal : Option (List Write)) (taken : Option (List ℕ))
+pub push-carries : (slots : ℕ) (run : Running) (change : Change) (journal : List Write) (taken : Option (List ℕ))
     → CarriesRun slots run (Command change) (record run { pending = run.pending ++ change ∷ [] }) journal journal taken taken
 push-carries slots run change journal taken at = record { effects = []; step = (refl, refl); does = does-nothing journal taken }
 
 -- a key that is probed from now on
-pub probe-carries : (slots : ℕ) (run : Running) (key : Key) (journal : Option (List Write)) (taken : Option (List ℕ))
+pub probe-carries : (slots : ℕ) (run : Running) (key : Key) (journal : List Write) (taken : Option (List ℕ))
     → CarriesRun slots run (Probe key) (record run { probes = run.probes ++ key ∷ [] }) journal journal taken taken
 probe-carries slots run key journal taken at = record { effects = []; step = (refl, refl); does = does-nothing journal taken }
 
@@ -35,18 +35,11 @@ answered slots run key writes found shows idle within valid told at =
     sym (told ∙ ap (λ state. lookup state key) (sym at) ∙ shows idle slots within key valid)
 
 -- a packet whose line is cut
-pub packet-cuts : (slots : ℕ) (run : Running) (key : Key) (journal : Option (List Write)) (found : Answer) (old new : Option (List ℕ))
+pub packet-cuts : (slots : ℕ) (run : Running) (key : Key) (journal : List Write) (found : Answer) (old new : Option (List ℕ))
     → ShowsRules run.manager → run.manager.held ≡ None → run.manager.slots ≤ slots → IsKey key
-    → IfSome journal (λ writes. found ≡ lookup (replay slots writes) key) → AppendsPart old new (packet_line run.family found)
+    → found ≡ lookup (replay slots journal) key → AppendsPart old new (packet_line run.family found)
     → CutsRunAtLine slots run (Packet key) journal journal old new
-packet-cuts slots run key None found old new shows idle within valid told part at = record {
-  front = [];
-  partial = [];
-  rest = packet_line run.family (answer run.manager.rules key);
-  cut = record { back = []; after = progress_of slots run; step = (refl, refl) };
-  does = does-part [] None old new (λ some. absurd (let none : false ≡ true = some in cc));
-}
-packet-cuts slots run key (Some writes) found old new shows idle within valid told part at = record {
+packet-cuts slots run key journal found old new shows idle within valid told part at = record {
   front = [];
   partial = part.0;
   rest = part.1;
@@ -55,11 +48,11 @@ packet-cuts slots run key (Some writes) found old new shows idle within valid to
     after = progress_of slots run;
     step = (
       ap (λ text. Prints text ∷ [])
-          (sym part.2 ∙ ap (packet_line run.family) (sym (answered slots run key writes found shows idle within valid told at))),
+          (sym part.2 ∙ ap (packet_line run.family) (sym (answered slots run key journal found shows idle within valid told at))),
       refl,
     );
   };
-  does = does-part part.0 (Some writes) old new (λ some. part.3);
+  does = does-part part.0 journal old new part.3;
 }
 
 -- a verdict against the batch
@@ -81,7 +74,7 @@ refuse-step slots run reason line judged other same =
     (judged-refused (setting_of run) (progress_of slots run) reason (Prints line ∷ []) (progress_of slots (run_refused run)) other (ap (λ text. Prints text ∷ []) same, refl))
 
 -- a commit that is refused, with its line
-pub refuse-carries : (slots : ℕ) (run new : Running) (reason : Verdict) (journal_old journal_new : Option (List Write)) (old taken : Option (List ℕ))
+pub refuse-carries : (slots : ℕ) (run new : Running) (reason : Verdict) (journal_old journal_new : List Write) (old taken : Option (List ℕ))
     → verdict_of run ≡ reason → reason ≢ Accepted → new ≡ run_refused run → journal_new ≡ journal_old → Appends old taken (refused_line run.family (run.commits + 1) reason)
     → CarriesRun slots run Commit new journal_old journal_new old taken
 refuse-carries slots run new reason journal_old journal_new old taken judged other is same grown =
@@ -89,11 +82,11 @@ refuse-carries slots run new reason journal_old journal_new old taken judged oth
     (subst (λ journal. CarriesRun slots run Commit (run_refused run) journal_old journal old taken) (sym same) (λ at. record {
       effects = Prints (refused_line run.family (run.commits + 1) reason) ∷ [];
       step = refuse-step slots run reason (refused_line run.family (run.commits + 1) reason) judged other refl;
-      does = does-line (refused_line run.family (run.commits + 1) reason) journal_old old taken (λ some. grown);
+      does = does-line (refused_line run.family (run.commits + 1) reason) journal_old old taken grown;
     }))
 
 -- and with a part of it
-pub refuse-cuts : (slots : ℕ) (run : Running) (reason : Verdict) (journal_old journal_new : Option (List Write)) (old taken : Option (List ℕ))
+pub refuse-cuts : (slots : ℕ) (run : Running) (reason : Verdict) (journal_old journal_new : List Write) (old taken : Option (List ℕ))
     → verdict_of run ≡ reason → reason ≢ Accepted → journal_new ≡ journal_old → AppendsPart old taken (refused_line run.family (run.commits + 1) reason)
     → CutsRunAtLine slots run Commit journal_old journal_new old taken
 refuse-cuts slots run reason journal_old journal_new old taken judged other same part =
@@ -106,7 +99,7 @@ refuse-cuts slots run reason journal_old journal_new old taken judged other same
         after = progress_of slots (run_refused run);
         step = refuse-step slots run reason (part.0 ++ part.1) judged other (sym part.2);
       };
-      does = does-part part.0 journal_old old taken (λ some. part.3);
+      does = does-part part.0 journal_old old taken part.3;
     })
 
 module _ (run : Running) (ready : Ready) (is : IsRun run) (holds : Holds (record run.manager { held = None }) run.pending ready run.manager)
@@ -129,9 +122,9 @@ module _ (run : Running) (ready : Ready) (is : IsRun run) (holds : Holds (record
       (commits-with run ready is holds slots within effects same)
 
   -- a commit that is accepted, with its line
-  pub commit-carries : (new : Running) (journal_old journal_new : Option (List Write)) (old mid taken : Option (List ℕ)) → new ≡ run_after run holds.held
-      → journal_new ≡ option_map (λ writes. writes ++ holds.held.writes) journal_old
-      → IfSome journal_old (λ writes. Appends old mid (printed (writes_of (setting_of run) run.probes 1 (replay slots writes) holds.held.writes))) → Appends mid taken line
+  pub commit-carries : (new : Running) (journal_old journal_new : List Write) (old mid taken : Option (List ℕ)) → new ≡ run_after run holds.held
+      → journal_new ≡ journal_old ++ holds.held.writes
+      → Appends old mid (printed (writes_of (setting_of run) run.probes 1 (replay slots journal_old) holds.held.writes)) → Appends mid taken line
       → CarriesRun slots run Commit new journal_old journal_new old taken
   commit-carries new journal_old journal_new old mid taken same journal made grown =
       subst (λ after. CarriesRun slots run Commit after journal_old journal_new old taken) (sym same) (λ at. record {
@@ -142,9 +135,9 @@ module _ (run : Running) (ready : Ready) (is : IsRun run) (holds : Holds (record
       })
 
   -- with a part of it
-  pub commit-cuts : (journal_old journal_new : Option (List Write)) (old mid taken : Option (List ℕ))
-      → journal_new ≡ option_map (λ writes. writes ++ holds.held.writes) journal_old
-      → IfSome journal_old (λ writes. Appends old mid (printed (writes_of (setting_of run) run.probes 1 (replay slots writes) holds.held.writes))) → AppendsPart mid taken line
+  pub commit-cuts : (journal_old journal_new : List Write) (old mid taken : Option (List ℕ))
+      → journal_new ≡ journal_old ++ holds.held.writes
+      → Appends old mid (printed (writes_of (setting_of run) run.probes 1 (replay slots journal_old) holds.held.writes)) → AppendsPart mid taken line
       → CutsRunAtLine slots run Commit journal_old journal_new old taken
   commit-cuts journal_old journal_new old mid taken journal made part at = record {
     front = told holds.held.writes;
@@ -160,18 +153,11 @@ module _ (run : Running) (ready : Ready) (is : IsRun run) (holds : Holds (record
   }
 
   -- with a part of the lines of its writes
-  pub commit-halts : (made : List Write) (journal_old journal_new : Option (List Write)) (old taken : Option (List ℕ))
-      → journal_new ≡ option_map (λ writes. writes ++ made) journal_old
-      → IfSome journal_old (λ writes. CutsEffects (writes_of (setting_of run) run.probes 1 (replay slots writes) holds.held.writes) journal_old journal_new old taken)
+  pub commit-halts : (made : List Write) (journal_old journal_new : List Write) (old taken : Option (List ℕ))
+      → journal_new ≡ journal_old ++ made
+      → CutsEffects (writes_of (setting_of run) run.probes 1 (replay slots journal_old) holds.held.writes) journal_old journal_new old taken
       → CutsRunAtLine slots run Commit journal_old journal_new old taken
-  commit-halts made None journal_new old taken journal cuts at = record {
-    front = told holds.held.writes;
-    partial = [];
-    rest = line;
-    cut = record { back = []; after = progress_of slots (run_after run holds.held); step = commit-step (told holds.held.writes ++ Prints line ∷ []) refl };
-    does = record { journal = journal; report = λ some. absurd (let none : false ≡ true = some in cc) };
-  }
-  commit-halts made (Some writes) journal_new old taken journal cuts at = record {
+  commit-halts made journal_old journal_new old taken journal cuts at = record {
     front = cuts.front;
     partial = cuts.partial;
     rest = cuts.rest;
@@ -186,9 +172,9 @@ module _ (run : Running) (ready : Ready) (is : IsRun run) (holds : Holds (record
   }
 
   -- and with a part of its writes
-  pub commit-stops : (made left : List Write) (due : Write) (journal_old journal_new : Option (List Write)) (old taken : Option (List ℕ)) → holds.held.writes ≡ made ++ due ∷ left
-      → journal_new ≡ option_map (λ writes. writes ++ made) journal_old
-      → IfSome journal_old (λ writes. Appends old taken (printed (writes_of (setting_of run) run.probes 1 (replay slots writes) made)))
+  pub commit-stops : (made left : List Write) (due : Write) (journal_old journal_new : List Write) (old taken : Option (List ℕ)) → holds.held.writes ≡ made ++ due ∷ left
+      → journal_new ≡ journal_old ++ made
+      → Appends old taken (printed (writes_of (setting_of run) run.probes 1 (replay slots journal_old) made))
       → CutsRunAtWrite slots run Commit journal_old journal_new old taken
   commit-stops made left due journal_old journal_new old taken whole journal told_made at =
       let next = state_after before made in

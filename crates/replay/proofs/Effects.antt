@@ -1,5 +1,5 @@
 -- What effects leave in the journal and in the report.
-use Rattle.std.proofs.Common.{Bool, true, false, ◌+◌, length, IfSome, arith, ◌≡◌, ℕ, List, [], ◌∷◌, ◌++◌, Option, Some, None, IsSome, option_map, take, drop, refl, sym, ap, ◌∙◌, subst, append_assoc, take-append-drop}
+use Rattle.std.proofs.Common.{Bool, true, false, ◌+◌, length, arith, ◌≡◌, ℕ, List, [], ◌∷◌, ◌++◌, Option, take, drop, refl, sym, ap, ◌∙◌, subst, append_assoc, take-append-drop}
 use Rattle.std.proofs.lemmas.List.{append-nil}
 use Rattle.std.specs.Io.KnownBytes.{Appends}
 use Rattle.std.proofs.KnownBytes.{Appends-nil, Appends-trans}
@@ -14,15 +14,9 @@ use Rattle.replay.specs.Carried.{Does, AppendsPart}
 pub part-of : (old new : Option (List ℕ)) (line : List ℕ) (n : ℕ) → Appends old new (take n line) → AppendsPart old new line
 part-of old new line n grown = (take n line, drop n line, sym (take-append-drop n line), grown)
 
--- no write
-pub grown-none : (journal : Option (List Write)) → journal ≡ option_map (λ writes. writes ++ []) journal
-grown-none None = refl
-grown-none (Some writes) = ap Some (sym (append-nil writes))
-
-pub grown-more : (journal mid new : Option (List Write)) (made more : List Write) → mid ≡ option_map (λ writes. writes ++ made) journal
-    → new ≡ option_map (λ writes. writes ++ more) mid → new ≡ option_map (λ writes. writes ++ (made ++ more)) journal
-grown-more None mid new made more first second = second ∙ ap (option_map (λ writes. writes ++ more)) first
-grown-more (Some writes) mid new made more first second = second ∙ ap (option_map (λ writes. writes ++ more)) first ∙ ap Some (append_assoc writes made more)
+-- some writes, and others behind them
+pub grown-more : (journal mid new made more : List Write) → mid ≡ journal ++ made → new ≡ mid ++ more → new ≡ journal ++ (made ++ more)
+grown-more journal mid new made more first second = second ∙ ap (λ writes. writes ++ more) first ∙ append_assoc journal made more
 
 pub written-append : (a b : List Effect) → written (a ++ b) ≡ written a ++ written b
 written-append [] b = refl
@@ -77,53 +71,51 @@ writes_of-append setting probes number state (write ∷ made) more =
     (sym (append_assoc (lines_of setting probes number next write) (writes_of setting probes (number + 1) next made) (writes_of setting probes (number + length (write ∷ made)) (state_after next made) more)))
 
 -- a line alone
-pub does-line : (line : List ℕ) (journal : Option (List Write)) (old new : Option (List ℕ)) → (IsSome journal → Appends old new line) → Does (Prints line ∷ []) [] journal journal old new
+pub does-line : (line : List ℕ) (journal : List Write) (old new : Option (List ℕ)) → Appends old new line → Does (Prints line ∷ []) [] journal journal old new
 does-line line journal old new grown = record {
-  journal = grown-none journal;
-  report = λ told. subst (Appends old new) (sym (append-nil (line ++ []) ∙ append-nil line)) (grown told);
+  journal = sym (append-nil journal);
+  report = subst (Appends old new) (sym (append-nil (line ++ []) ∙ append-nil line)) grown;
 }
 
 -- a part of a line alone
-pub does-part : (partial : List ℕ) (journal : Option (List Write)) (old new : Option (List ℕ)) → (IsSome journal → Appends old new partial) → Does [] partial journal journal old new
-does-part partial journal old new grown = record { journal = grown-none journal; report = grown }
+pub does-part : (partial : List ℕ) (journal : List Write) (old new : Option (List ℕ)) → Appends old new partial → Does [] partial journal journal old new
+does-part partial journal old new grown = record { journal = sym (append-nil journal); report = grown }
 
 -- nothing
-pub does-nothing : (journal : Option (List Write)) (taken : Option (List ℕ)) → Does [] [] journal journal taken taken
-does-nothing journal taken = does-part [] journal taken taken (λ told. Appends-nil taken)
+pub does-nothing : (journal : List Write) (taken : Option (List ℕ)) → Does [] [] journal journal taken taken
+does-nothing journal taken = does-part [] journal taken taken (Appends-nil taken)
 
-module _ (setting : Setting) (probes : List Key) (state : State) (made : List Write) (journal_old journal_new : Option (List Write)) (old mid new : Option (List ℕ))
-    (journal : journal_new ≡ option_map (λ writes. writes ++ made) journal_old) (told : IsSome journal_old → Appends old mid (printed (writes_of setting probes 1 state made))) where
+module _ (setting : Setting) (probes : List Key) (state : State) (made : List Write) (journal_old journal_new : List Write) (old mid new : Option (List ℕ))
+    (journal : journal_new ≡ journal_old ++ made) (told : Appends old mid (printed (writes_of setting probes 1 state made))) where
   -- writes, each told
   pub does-writes : Does (writes_of setting probes 1 state made) [] journal_old journal_new old mid
   does-writes = record {
-    journal = journal ∙ ap (λ more. option_map (λ writes. writes ++ more) journal_old) (sym (written-writes setting probes 1 state made));
-    report = λ some. subst (Appends old mid) (sym (append-nil (printed (writes_of setting probes 1 state made)))) (told some);
+    journal = journal ∙ ap (λ more. journal_old ++ more) (sym (written-writes setting probes 1 state made));
+    report = subst (Appends old mid) (sym (append-nil (printed (writes_of setting probes 1 state made)))) told;
   }
 
   -- and a part of a line
   pub does-writes_part : (partial : List ℕ) → Appends mid new partial → Does (writes_of setting probes 1 state made) partial journal_old journal_new old new
   does-writes_part partial grown = record {
     journal = does-writes.journal;
-    report = λ some. Appends-trans old mid new (printed (writes_of setting probes 1 state made)) partial (told some) grown;
+    report = Appends-trans old mid new (printed (writes_of setting probes 1 state made)) partial told grown;
   }
 
   -- and a line
   pub does-writes_line : (line : List ℕ) → Appends mid new line → Does (writes_of setting probes 1 state made ++ Prints line ∷ []) [] journal_old journal_new old new
   does-writes_line line grown = record {
     journal = journal
-        ∙ ap (λ more. option_map (λ writes. writes ++ more) journal_old)
+        ∙ ap (λ more. journal_old ++ more)
         (sym (written-append (writes_of setting probes 1 state made) (Prints line ∷ []) ∙ append-nil (written (writes_of setting probes 1 state made)) ∙ written-writes setting probes 1 state made));
-    report = λ some.
-        subst (Appends old new)
+    report = subst (Appends old new)
         (sym (append-nil (printed (writes_of setting probes 1 state made ++ Prints line ∷ []))
         ∙ printed-append (writes_of setting probes 1 state made) (Prints line ∷ [])
         ∙ ap (λ text. printed (writes_of setting probes 1 state made) ++ text) (append-nil line)))
-        (Appends-trans old mid new (printed (writes_of setting probes 1 state made)) line (told some) grown);
+        (Appends-trans old mid new (printed (writes_of setting probes 1 state made)) line told grown);
   }
 
 -- what is told where the device stands is told where the run stands
-pub told-at : (setting : Setting) (probes : List Key) (state : State) (slots : ℕ) (journal : Option (List Write)) (made : List Write) (old new : Option (List ℕ))
-    → IfSome journal (λ writes. state ≡ replay slots writes) → IfSome journal (λ writes. Appends old new (printed (writes_of setting probes 1 (replay slots writes) made)))
-    → IsSome journal → Appends old new (printed (writes_of setting probes 1 state made))
-told-at setting probes state slots None made old new at told some = absurd (let none : false ≡ true = some in cc)
-told-at setting probes state slots (Some writes) made old new at told some = subst (λ one. Appends old new (printed (writes_of setting probes 1 one made))) (sym at) told
+pub told-at : (setting : Setting) (probes : List Key) (state : State) (slots : ℕ) (journal : List Write) (made : List Write) (old new : Option (List ℕ))
+    → state ≡ replay slots journal → Appends old new (printed (writes_of setting probes 1 (replay slots journal) made))
+    → Appends old new (printed (writes_of setting probes 1 state made))
+told-at setting probes state slots journal made old new at told = subst (λ one. Appends old new (printed (writes_of setting probes 1 one made))) (sym at) told

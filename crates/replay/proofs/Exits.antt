@@ -1,5 +1,5 @@
 -- How each call of a run ends, by the values that the code has.
-use Rattle.std.proofs.Common.{◌≡◌, ◌≢◌, ◌⊎◌, inl, inr, ℕ, ◌+◌, ◌^◌, ◌≤◌, List, [], ◌∷◌, ◌++◌, Option, Some, None, IfSome, Result, Ok, Err, OnOk, OnErr, option_map, length, take, sym, ap, ◌∙◌, subst}
+use Rattle.std.proofs.Common.{IsSome, refl, ◌≡◌, ◌≢◌, ◌⊎◌, inl, inr, ℕ, ◌+◌, ◌^◌, ◌≤◌, List, [], ◌∷◌, ◌++◌, Option, Some, None, IfSome, Result, Ok, Err, OnOk, OnErr, length, take, sym, ap, ◌∙◌, subst}
 use Rattle.std.specs.Io.KnownBytes.{Appends}
 use Rattle.rule_model.specs.declared.Key.{Key}
 use Rattle.rule_store.specs.declared.Command.{Command as Change}
@@ -36,13 +36,22 @@ pub part-same : (result : Result (Unit {0}) Failed) (old new : Option (List ℕ)
 part-same (Ok done) old new bytes line same part = tt
 part-same (Err fault) old new bytes line same part = subst (AppendsPart old new) same part
 
+-- the same of a whole one
 pub whole-same : (result : Result (Unit {0}) Failed) (old new : Option (List ℕ)) (bytes line : List ℕ) → bytes ≡ line
     → OnOk result (Appends old new bytes) → OnOk result (Appends old new line)
 whole-same (Ok done) old new bytes line same whole = subst (Appends old new) same whole
 whole-same (Err fault) old new bytes line same whole = tt
 
+-- what was told stays told
+pub told-of : (result : Result (Unit {0}) Failed) (old new : Option (List ℕ)) (bytes : List ℕ) → OnOk result (Appends old new bytes)
+    → OnErr result ((n : ℕ) × (n ≤ length bytes) × Appends old new (take n bytes)) → IsSome old → IsSome new
+told-of result None new bytes whole part some = absurd (cc)
+told-of (Ok done) (Some x) None bytes whole part some = absurd whole
+told-of (Err fault) (Some x) None bytes whole part some = absurd part.2
+told-of result (Some x) (Some y) bytes whole part some = refl
+
 -- a change that joined the batch, or not
-pub pushes : (result : Result (Unit {0}) RunFault) (slots : ℕ) (run new : Running) (act : Act) (change : Change) (journal : Option (List Write)) (taken : Option (List ℕ))
+pub pushes : (result : Result (Unit {0}) RunFault) (slots : ℕ) (run new : Running) (act : Act) (change : Change) (journal : List Write) (taken : Option (List ℕ))
     → act ≡ Command change → OnOk result (new ≡ record run { pending = run.pending ++ change ∷ [] }) → OnOk result (CarriesRun slots run act new journal journal taken taken)
 pushes (Err fault) slots run new act change journal taken is pushed = tt
 pushes (Ok done) slots run new act change journal taken is pushed =
@@ -50,7 +59,7 @@ pushes (Ok done) slots run new act change journal taken is pushed =
     (subst (λ after. CarriesRun slots run (Command change) after journal journal taken taken) (sym pushed) (push-carries slots run change journal taken))
 
 -- a key that is probed from now on, or not
-pub probes : (result : Result (Unit {0}) RunFault) (slots : ℕ) (run new : Running) (act : Act) (key : Key) (journal : Option (List Write)) (taken : Option (List ℕ))
+pub probes : (result : Result (Unit {0}) RunFault) (slots : ℕ) (run new : Running) (act : Act) (key : Key) (journal : List Write) (taken : Option (List ℕ))
     → act ≡ Probe key → OnOk result (new ≡ record run { probes = run.probes ++ key ∷ [] }) → OnOk result (CarriesRun slots run act new journal journal taken taken)
 probes (Err fault) slots run new act key journal taken is probed = tt
 probes (Ok done) slots run new act key journal taken is probed =
@@ -75,14 +84,14 @@ cut-held run now is some =
     subst (λ (manager : Managed). IsRun (record run { manager = manager })) (sym some.now_is) (held-run run some.made (record some.held { writes = some.left }) is)
 
 -- a run whose commit was cut
-pub cut-run : (why : RunFault) (run : Running) (now : Managed) (slots : ℕ) (journal_old journal_new : Option (List Write)) (old taken : Option (List ℕ)) → IsRun run
+pub cut-run : (why : RunFault) (run : Running) (now : Managed) (slots : ℕ) (journal_old journal_new : List Write) (old taken : Option (List ℕ)) → IsRun run
     → (why ≡ fault.Sink) ⊎ (why ≡ fault.Device)
     → (why ≡ fault.Sink → StopsAtLine run.manager now (watching run) slots journal_old journal_new old taken)
     → (why ≡ fault.Device → StopsAtWrite run.manager now (watching run) slots journal_old journal_new old taken) → IsRun (record run { manager = now })
 cut-run why run now slots journal_old journal_new old taken is (inl sink) at_line at_write = cut-held run now is (at_line sink).some
 cut-run why run now slots journal_old journal_new old taken is (inr device) at_line at_write = cut-held run now is (at_write device).some
 
-pub cut-stops : (slots : ℕ) (inside run : Running) (now : Managed) (journal_old journal_new : Option (List Write)) (old taken : Option (List ℕ)) → inside ≡ run → IsRun inside
+pub cut-stops : (slots : ℕ) (inside run : Running) (now : Managed) (journal_old journal_new : List Write) (old taken : Option (List ℕ)) → inside ≡ run → IsRun inside
     → HoldsPending run → run.manager.slots ≤ slots → verdict_of run ≡ Accepted → StopsAtWrite inside.manager now (watching inside) slots journal_old journal_new old taken
     → CutsRunAtWrite slots run Commit journal_old journal_new old taken
 cut-stops slots inside run now journal_old journal_new old taken same is pending within accepted stops =
@@ -91,16 +100,16 @@ cut-stops slots inside run now journal_old journal_new old taken same is pending
     (ap (λ (held : HeldCommit). held.writes) (sym one) ∙ stops.some.whole ∙ ap (λ left. stops.some.made ++ left) stops.left_is) stops.journal
     (subst (λ (r : Running). Tells r.manager (watching r) slots journal_old stops.some.made old taken) same stops.report)
 
-pub cut-halts : (slots : ℕ) (inside run : Running) (now : Managed) (journal_old journal_new : Option (List Write)) (old taken : Option (List ℕ)) → inside ≡ run → IsRun inside
+pub cut-halts : (slots : ℕ) (inside run : Running) (now : Managed) (journal_old journal_new : List Write) (old taken : Option (List ℕ)) → inside ≡ run → IsRun inside
     → HoldsPending run → run.manager.slots ≤ slots → verdict_of run ≡ Accepted → StopsAtLine inside.manager now (watching inside) slots journal_old journal_new old taken
     → CutsRunAtLine slots run Commit journal_old journal_new old taken
 cut-halts slots inside run now journal_old journal_new old taken same is pending within accepted stops =
     let one = held-one run pending.0 stops.some.held pending.1 (ap (λ (r : Running). r.manager.held) (sym same) ∙ stops.some.held_is) in
     commit-halts run pending.0 (subst IsRun same is) pending.1 slots within accepted stops.some.made journal_old journal_new old taken stops.journal
-    (subst (λ (r : Running). IfSome journal_old (λ writes. CutsEffects (effects_on r.manager (watching r) slots writes pending.1.held.writes) journal_old journal_new old taken)) same
-    (subst (λ (held : HeldCommit). IfSome journal_old (λ writes. CutsEffects (effects_on inside.manager (watching inside) slots writes held.writes) journal_old journal_new old taken)) one stops.cuts))
+    (subst (λ (r : Running). CutsEffects (effects_on r.manager (watching r) slots journal_old pending.1.held.writes) journal_old journal_new old taken) same
+    (subst (λ (held : HeldCommit). CutsEffects (effects_on inside.manager (watching inside) slots journal_old held.writes) journal_old journal_new old taken) one stops.cuts))
 
-module _ (slots : ℕ) (inside run : Running) (done : Done) (now : Managed) (journal_old journal_new : Option (List Write)) (old mid : Option (List ℕ)) (same : inside ≡ run)
+module _ (slots : ℕ) (inside run : Running) (done : Done) (now : Managed) (journal_old journal_new : List Write) (old mid : Option (List ℕ)) (same : inside ≡ run)
     (holds : HoldsPending run) (all : MakesAll inside.manager (watching inside) slots done now journal_old journal_new old mid) where
   one : all.held ≡ holds.1.held
   one = held-one run holds.0 all.held holds.1 (ap (λ (r : Running). r.manager.held) (sym same) ∙ all.held_is)
@@ -119,8 +128,8 @@ module _ (slots : ℕ) (inside run : Running) (done : Done) (now : Managed) (jou
       let is_run = subst IsRun same is in
       subst IsRun (sym made-manager.0) (made-run run holds.0 is_run holds.1 run.pending run.commits run.writes is_run.changes is_run.few)
 
-  all-journal : journal_new ≡ option_map (λ writes. writes ++ holds.1.held.writes) journal_old
-  all-journal = all.journal ∙ ap (λ (held : HeldCommit). option_map (λ writes. writes ++ held.writes) journal_old) one
+  all-journal : journal_new ≡ journal_old ++ holds.1.held.writes
+  all-journal = all.journal ∙ ap (λ (held : HeldCommit). journal_old ++ held.writes) one
 
   all-told : Tells run.manager (watching run) slots journal_old holds.1.held.writes old mid
   all-told =
@@ -165,7 +174,7 @@ planned-progress slots run ready new holds = ap (λ (manager : Managed). progres
 planned-setting : (run : Running) (ready : Ready) (new : Managed) → Holds run.manager run.pending ready new → setting_of (record run { manager = new }) ≡ setting_of run
 planned-setting run ready new holds = ap (λ (manager : Managed). setting_of (record run { manager = manager })) holds.new_is
 
-pub planned-line : (slots slots_now : ℕ) (inside run : Running) (ready : Ready) (new : Managed) (journal_old journal_now journal_new : Option (List Write)) (old taken : Option (List ℕ))
+pub planned-line : (slots slots_now : ℕ) (inside run : Running) (ready : Ready) (new : Managed) (journal_old journal_now journal_new : List Write) (old taken : Option (List ℕ))
     → slots_now ≡ slots → journal_now ≡ journal_old → inside ≡ run → Holds inside.manager inside.pending ready new
     → CutsRunAtLine slots_now (record inside { manager = new }) Commit journal_now journal_new old taken → CutsRunAtLine slots run Commit journal_old journal_new old taken
 planned-line slots slots_now inside run ready new journal_old journal_now journal_new old taken count journal same holds cuts =
@@ -176,7 +185,7 @@ planned-line slots slots_now inside run ready new journal_old journal_now journa
     (subst (λ (setting : Setting). IsAt slots_now journal_now (progress_of slots_now (record inside { manager = new }))
     → CutsAtLine setting (progress_of slots_now (record inside { manager = new })) Commit journal_now journal_new old taken) (planned-setting inside ready new holds) cuts))))
 
-pub planned-write : (slots slots_now : ℕ) (inside run : Running) (ready : Ready) (new : Managed) (journal_old journal_now journal_new : Option (List Write)) (old taken : Option (List ℕ))
+pub planned-write : (slots slots_now : ℕ) (inside run : Running) (ready : Ready) (new : Managed) (journal_old journal_now journal_new : List Write) (old taken : Option (List ℕ))
     → slots_now ≡ slots → journal_now ≡ journal_old → inside ≡ run → Holds inside.manager inside.pending ready new
     → CutsRunAtWrite slots_now (record inside { manager = new }) Commit journal_now journal_new old taken → CutsRunAtWrite slots run Commit journal_old journal_new old taken
 planned-write slots slots_now inside run ready new journal_old journal_now journal_new old taken count journal same holds cuts =
@@ -204,7 +213,7 @@ judged-against inside run reason same idle judges other = told-refused (verdict_
 
 -- a refused commit, with its line
 pub refused-carries : (result : Result (Unit {0}) RunFault) (slots : ℕ) (inside run new : Running) (reason : Refusal) (manager : Managed)
-    (journal_old journal_new : Option (List Write)) (old taken : Option (List ℕ)) → inside ≡ run → run.manager.held ≡ None
+    (journal_old journal_new : List Write) (old taken : Option (List ℕ)) → inside ≡ run → run.manager.held ≡ None
     → Judges inside.manager inside.manager.held inside.pending (Err reason) → reason ≢ refusal.Memory → manager ≡ inside.manager → journal_new ≡ journal_old
     → new ≡ run_refused (record inside { manager = manager })
     → OnOk result (Appends old taken (refused_line inside.family (inside.commits + 1) (verdict_told reason)))
@@ -218,7 +227,7 @@ refused-carries (Ok done) slots inside run new reason manager journal_old journa
 
 -- or a part of it
 pub refused-cuts : (result : Result (Unit {0}) RunFault) (slots : ℕ) (inside run : Running) (reason : Refusal)
-    (journal_old journal_new : Option (List Write)) (old taken : Option (List ℕ)) → inside ≡ run → run.manager.held ≡ None
+    (journal_old journal_new : List Write) (old taken : Option (List ℕ)) → inside ≡ run → run.manager.held ≡ None
     → Judges inside.manager inside.manager.held inside.pending (Err reason) → reason ≢ refusal.Memory → journal_new ≡ journal_old
     → OnErr result (AppendsPart old taken (refused_line inside.family (inside.commits + 1) (verdict_told reason)))
     → result ≡ Err fault.Sink → CutsRunAtLine slots run Commit journal_old journal_new old taken

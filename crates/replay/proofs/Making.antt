@@ -1,5 +1,5 @@
 -- The writes of a commit under way, one after the other.
-use Rattle.std.proofs.Common.{◌≡◌, ℕ, ◌+◌, ◌≤◌, true, false, List, [], ◌∷◌, ◌++◌, Option, Some, None, IfSome, IsSome, option_map, length, refl, sym, ap, ◌∙◌, subst, append_assoc, length-append, arith}
+use Rattle.std.proofs.Common.{◌≡◌, ℕ, ◌+◌, ◌≤◌, true, false, List, [], ◌∷◌, ◌++◌, Option, Some, None, IsSome, length, refl, sym, ap, ◌∙◌, subst, append_assoc, length-append, arith}
 use Rattle.std.specs.Prelude.{slice_get}
 use Rattle.std.specs.Io.KnownBytes.{Appends}
 use Rattle.std.proofs.KnownBytes.{Appends-trans}
@@ -29,22 +29,22 @@ stepped now held (due ∷ rest) step new write steps wrote =
     )
 
 -- a write is made, and isn't told yet
-pub record HasWritten (begun now : Managed) (watch : Watching) (device_slots : ℕ) (journal_begun journal_now : Option (List Write)) (taken_begun taken_now : Option (List ℕ)) (number spare : ℕ) (write : Write) : Type 0 where
+pub record HasWritten (begun now : Managed) (watch : Watching) (device_slots : ℕ) (journal_begun journal_now : List Write) (taken_begun taken_now : Option (List ℕ)) (number spare : ℕ) (write : Write) : Type 0 where
   pub held : HeldCommit
   pub made : List Write
   pub left : List Write
   pub held_is : begun.held ≡ Some held
   pub whole : held.writes ≡ made ++ write ∷ left
   pub now_is : now ≡ record begun { state = state_after begun.state (made ++ write ∷ []); held = Some (record held { writes = left }) }
-  pub journal : journal_now ≡ option_map (λ writes. writes ++ (made ++ write ∷ [])) journal_begun
+  pub journal : journal_now ≡ journal_begun ++ (made ++ write ∷ [])
   pub report : Tells begun watch device_slots journal_begun made taken_begun taken_now
   pub count : number ≡ length made
   pub room : length left ≤ spare
 
 -- one write more
-pub making-more : (begun now new : Managed) (watch : Watching) (slots : ℕ) (journal_begun journal_now journal_new : Option (List Write)) (taken_begun taken : Option (List ℕ)) (number spare spare_new : ℕ) (step : Step) (write : Write)
+pub making-more : (begun now new : Managed) (watch : Watching) (slots : ℕ) (journal_begun journal_now journal_new : List Write) (taken_begun taken : Option (List ℕ)) (number spare spare_new : ℕ) (step : Step) (write : Write)
     → IsMaking begun now watch slots journal_begun journal_now taken_begun taken number spare → Steps now now.held step new → step ≡ Wrote write
-    → journal_new ≡ option_map (λ writes. writes ++ writes_of step) journal_now → spare_new + length (writes_of step) ≡ spare
+    → journal_new ≡ journal_now ++ writes_of step → spare_new + length (writes_of step) ≡ spare
     → HasWritten begun new watch slots journal_begun journal_new taken_begun taken number spare_new write
 making-more begun now new watch slots journal_begun journal_now journal_new taken_begun taken number spare spare_new step write making steps wrote journal room =
     let standing : now.held ≡ Some (record making.held { writes = making.left }) = ap (λ (manager : Managed). manager.held) making.now_is in
@@ -63,7 +63,7 @@ making-more begun now new watch slots journal_begun journal_now journal_new take
           ∙ ap (λ (manager : Managed). record manager { state = apply manager.state write; held = Some (record making.held { writes = more.0 }) }) making.now_is
           ∙ ap (λ (state : State). record begun { state = state; held = Some (record making.held { writes = more.0 }) }) (sym (state_after-append begun.state making.made (write ∷ [])));
       journal = grown-more journal_begun journal_now journal_new making.made (write ∷ []) making.journal
-          (journal ∙ ap (λ last. option_map (λ writes. writes ++ last) journal_now) one);
+          (journal ∙ ap (λ last. journal_now ++ last) one);
       report = making.report;
       count = making.count;
       room = omega arith;
@@ -92,15 +92,14 @@ one-told begun watch slots before made write left =
     ∙ ap (λ now. effects_on begun watch slots before made
     ++ Writes write ∷ (lines_of (telling begun watch) watch.probes (length made + 1) now write ++ effects.writes_of (telling begun watch) watch.probes (length made + 2) now left)) (sym at)
 
-told-more : (begun : Managed) (watch : Watching) (slots : ℕ) (journal_begun journal : Option (List Write)) (made : List Write) (write : Write) (old mid new : Option (List ℕ)) (number : ℕ)
-    → number ≡ length made → journal ≡ option_map (λ writes. writes ++ (made ++ write ∷ [])) journal_begun → Tells begun watch slots journal_begun made old mid
-    → IfSome journal (λ writes. Appends mid new (printed (lines_on watch slots (number + 1) write writes)))
+told-more : (begun : Managed) (watch : Watching) (slots : ℕ) (journal_begun journal : List Write) (made : List Write) (write : Write) (old mid new : Option (List ℕ)) (number : ℕ)
+    → number ≡ length made → journal ≡ journal_begun ++ (made ++ write ∷ []) → Tells begun watch slots journal_begun made old mid
+    → Appends mid new (printed (lines_on watch slots (number + 1) write journal))
     → Tells begun watch slots journal_begun (made ++ write ∷ []) old new
-told-more begun watch slots None journal made write old mid new number count same told lines = tt
-told-more begun watch slots (Some before) journal made write old mid new number count same told lines =
+told-more begun watch slots before journal made write old mid new number count same told lines =
     let at : Appends mid new (printed (lines_on watch slots (length made + 1) write (before ++ (made ++ write ∷ [])))) =
     subst (λ n. Appends mid new (printed (lines_on watch slots (n + 1) write (before ++ (made ++ write ∷ []))))) count
-    (subst (λ journal. IfSome journal (λ writes. Appends mid new (printed (lines_on watch slots (number + 1) write writes)))) same lines) in
+    (subst (λ writes. Appends mid new (printed (lines_on watch slots (number + 1) write writes))) same lines) in
     let now = lines_on watch slots (length made + 1) write (before ++ (made ++ write ∷ [])) in
     subst (Appends old new)
     (sym (ap printed (one-told begun watch slots before made write [])
@@ -109,9 +108,9 @@ told-more begun watch slots (Some before) journal made write old mid new number 
     (Appends-trans old mid new (printed (effects_on begun watch slots before made)) (printed now) told at)
 
 -- it is told
-pub making-told : (begun now : Managed) (watch : Watching) (slots : ℕ) (journal_begun journal : Option (List Write)) (taken_begun taken taken_new : Option (List ℕ)) (number spare : ℕ) (write : Write)
+pub making-told : (begun now : Managed) (watch : Watching) (slots : ℕ) (journal_begun journal : List Write) (taken_begun taken taken_new : Option (List ℕ)) (number spare : ℕ) (write : Write)
     → HasWritten begun now watch slots journal_begun journal taken_begun taken number spare write
-    → IfSome journal (λ writes. Appends taken taken_new (printed (lines_on watch slots (number + 1) write writes)))
+    → Appends taken taken_new (printed (lines_on watch slots (number + 1) write journal))
     → IsMaking begun now watch slots journal_begun journal taken_begun taken_new (number + 1) spare
 making-told begun now watch slots journal_begun journal taken_begun taken taken_new number spare write has lines =
     let count = has.count in
@@ -128,16 +127,15 @@ making-told begun now watch slots journal_begun journal taken_begun taken taken_
       room = has.room;
     }
 
-cut-more : (begun : Managed) (watch : Watching) (slots : ℕ) (journal_begun journal : Option (List Write)) (made : List Write) (write : Write) (left all : List Write) (old mid new : Option (List ℕ)) (number : ℕ)
-    → number ≡ length made → all ≡ made ++ write ∷ left → journal ≡ option_map (λ writes. writes ++ (made ++ write ∷ [])) journal_begun → Tells begun watch slots journal_begun made old mid
-    → IfSome journal (λ writes. CutsLines (lines_on watch slots (number + 1) write writes) mid new)
-    → IfSome journal_begun (λ before. CutsEffects (effects_on begun watch slots before all) journal_begun journal old new)
-cut-more begun watch slots None journal made write left all old mid new number count whole same told cuts = tt
-cut-more begun watch slots (Some before) journal made write left all old mid new number count whole same told cuts =
+cut-more : (begun : Managed) (watch : Watching) (slots : ℕ) (journal_begun journal : List Write) (made : List Write) (write : Write) (left all : List Write) (old mid new : Option (List ℕ)) (number : ℕ)
+    → number ≡ length made → all ≡ made ++ write ∷ left → journal ≡ journal_begun ++ (made ++ write ∷ []) → Tells begun watch slots journal_begun made old mid
+    → CutsLines (lines_on watch slots (number + 1) write journal) mid new
+    → CutsEffects (effects_on begun watch slots journal_begun all) journal_begun journal old new
+cut-more begun watch slots before journal made write left all old mid new number count whole same told cuts =
     let now = lines_on watch slots (length made + 1) write (before ++ (made ++ write ∷ [])) in
     let cut : CutsLines now mid new =
     subst (λ n. CutsLines (lines_on watch slots (n + 1) write (before ++ (made ++ write ∷ []))) mid new) count
-    (subst (λ journal. IfSome journal (λ writes. CutsLines (lines_on watch slots (number + 1) write writes) mid new)) same cuts) in
+    (subst (λ writes. CutsLines (lines_on watch slots (number + 1) write writes) mid new) same cuts) in
     let later = effects.writes_of (telling begun watch) watch.probes (length made + 2) (replay slots (before ++ (made ++ write ∷ []))) left in
     let ahead = effects_on begun watch slots before made in
     let none : written cut.front ≡ [] = written-front cut.front (cut.partial ++ cut.rest) cut.back
@@ -153,21 +151,20 @@ cut-more begun watch slots (Some before) journal made write left all old mid new
           ∙ sym (append_assoc ahead (Writes write ∷ cut.front) (Prints (cut.partial ++ cut.rest) ∷ (cut.back ++ later)));
       does = record {
         journal = same
-            ∙ ap (λ more. Some (before ++ more))
+            ∙ ap (λ more. before ++ more)
             (sym (written-append ahead (Writes write ∷ cut.front)
             ∙ ap (λ writes. writes ++ write ∷ written cut.front) (written-writes (telling begun watch) watch.probes 1 (replay slots before) made)
             ∙ ap (λ writes. made ++ write ∷ writes) none));
-        report = λ some.
-            subst (Appends old new)
+        report = subst (Appends old new)
             (sym (ap (λ text. text ++ cut.partial) (printed-append ahead (Writes write ∷ cut.front)) ∙ append_assoc (printed ahead) (printed cut.front) cut.partial))
             (Appends-trans old mid new (printed ahead) (printed cut.front ++ cut.partial) told cut.grown);
       };
     }
 
 -- it isn't told whole
-pub making-stops : (begun now : Managed) (watch : Watching) (slots : ℕ) (journal_begun journal : Option (List Write)) (taken_begun taken taken_new : Option (List ℕ)) (number spare : ℕ) (write : Write)
+pub making-stops : (begun now : Managed) (watch : Watching) (slots : ℕ) (journal_begun journal : List Write) (taken_begun taken taken_new : Option (List ℕ)) (number spare : ℕ) (write : Write)
     → HasWritten begun now watch slots journal_begun journal taken_begun taken number spare write
-    → IfSome journal (λ writes. CutsLines (lines_on watch slots (number + 1) write writes) taken taken_new)
+    → CutsLines (lines_on watch slots (number + 1) write journal) taken taken_new
     → StopsAtLine begun now watch slots journal_begun journal taken_begun taken_new
 making-stops begun now watch slots journal_begun journal taken_begun taken taken_new number spare write has cuts = record {
   some = record {
@@ -187,7 +184,7 @@ some_left [] some = absurd (let none : false ≡ true = some in cc)
 some_left (due ∷ rest) some = (due, rest, refl)
 
 -- where one is left, and isn't made
-pub making-cut : (begun now new : Managed) (watch : Watching) (slots : ℕ) (journal_begun journal_now journal_new : Option (List Write)) (taken_begun taken : Option (List ℕ)) (number spare : ℕ)
+pub making-cut : (begun now new : Managed) (watch : Watching) (slots : ℕ) (journal_begun journal_now journal_new : List Write) (taken_begun taken : Option (List ℕ)) (number spare : ℕ)
     → IsMaking begun now watch slots journal_begun journal_now taken_begun taken number spare → new ≡ now → journal_new ≡ journal_now → IsSome (next_of now.held)
     → StopsAtWrite begun new watch slots journal_begun journal_new taken_begun taken
 making-cut begun now new watch slots journal_begun journal_now journal_new taken_begun taken number spare making same journal next =

@@ -1,7 +1,7 @@
 -- The probes of a write, looked up one after the other.
-use Rattle.std.proofs.Common.{◌≡◌, ℕ, ◌+◌, ◌<◌, suc, List, [], ◌∷◌, ◌++◌, Option, Some, None, IfSome, Result, Ok, Err, OnErr, length, take, drop, get_or, sym, ap, ◌∙◌, subst, append_assoc, take-append-drop, length-take, arith}
+use Rattle.std.proofs.Common.{◌≡◌, ℕ, ◌+◌, ◌<◌, ◌≤◌, suc, List, [], ◌∷◌, ◌++◌, Option, Result, Ok, Err, OnErr, length, take, drop, get_or, sym, ap, ◌∙◌, subst, append_assoc, take-append-drop, length-take, arith}
 use Rattle.std.proofs.Math.Seq.{take-suc}
-use Rattle.std.proofs.lemmas.List.{append-nil}
+use Rattle.std.proofs.lemmas.List.{append-nil, drop_all}
 use Rattle.std.specs.Io.KnownBytes.{Appends}
 use Rattle.std.proofs.KnownBytes.{Appends-trans}
 use Rattle.rule_model.specs.declared.Key.{Key}
@@ -26,7 +26,7 @@ probes_of-append family number state first (key ∷ keys) more =
     ∙ ap (λ n. probes_of family number state (first + 1) keys ++ probes_of family number state n more) same)
 
 module _ (watch : Watching) (number slots place : ℕ) (key : Key) (found : Answer) (within : place < length watch.probes) (is : key ≡ get_or watch.probes place key) where
-  -- what a probe shows where the device tells these writes
+  -- what a probe shows once these writes are made
   abbrev shown : List Write → Effect
   shown writes = Prints (probe_line watch.family number (place + 1) (lookup (replay slots writes) key))
 
@@ -53,11 +53,10 @@ module _ (watch : Watching) (number slots place : ℕ) (key : Key) (found : Answ
       ∙ append_assoc (take place watch.probes) (key ∷ []) (drop (place + 1) watch.probes)
 
   -- its line is written
-  looked-more : (journal : Option (List Write)) (old mid new : Option (List ℕ)) → IfSome journal (λ writes. found ≡ lookup (replay slots writes) key)
-      → IfSome journal (λ writes. Appends old mid (printed (told writes (take place watch.probes)))) → Appends mid new (probe_line watch.family number (place + 1) found)
-      → IfSome journal (λ writes. Appends old new (printed (told writes (take (place + 1) watch.probes))))
-  looked-more None old mid new tells before line = tt
-  looked-more (Some writes) old mid new tells before line =
+  looked-more : (journal : List Write) (old mid new : Option (List ℕ)) → found ≡ lookup (replay slots journal) key
+      → Appends old mid (printed (told journal (take place watch.probes))) → Appends mid new (probe_line watch.family number (place + 1) found)
+      → Appends old new (printed (told journal (take (place + 1) watch.probes)))
+  looked-more writes old mid new tells before line =
       subst (Appends old new)
       (sym (ap (λ keys. printed (told writes keys)) one-more
       ∙ ap printed (counted writes [])
@@ -67,11 +66,10 @@ module _ (watch : Watching) (number slots place : ℕ) (key : Key) (found : Answ
       (subst (λ answer. Appends mid new (probe_line watch.family number (place + 1) answer)) tells line))
 
   -- or a part of it
-  looked-part : (journal : Option (List Write)) (old mid new : Option (List ℕ)) → IfSome journal (λ writes. found ≡ lookup (replay slots writes) key)
-      → IfSome journal (λ writes. Appends old mid (printed (told writes (take place watch.probes)))) → AppendsPart mid new (probe_line watch.family number (place + 1) found)
-      → IfSome journal (λ writes. CutsLines (told writes watch.probes) old new)
-  looked-part None old mid new tells before part = tt
-  looked-part (Some writes) old mid new tells before part = record {
+  looked-part : (journal : List Write) (old mid new : Option (List ℕ)) → found ≡ lookup (replay slots journal) key
+      → Appends old mid (printed (told journal (take place watch.probes))) → AppendsPart mid new (probe_line watch.family number (place + 1) found)
+      → CutsLines (told journal watch.probes) old new
+  looked-part writes old mid new tells before part = record {
     front = told writes (take place watch.probes);
     partial = part.0;
     rest = part.1;
@@ -84,21 +82,31 @@ module _ (watch : Watching) (number slots place : ℕ) (key : Key) (found : Answ
   }
 
 -- the same by what the code has of them
-pub look-more : (inside watch : Watching) (number slots place : ℕ) (key : Key) (found : Answer) (journal : Option (List Write)) (old mid new : Option (List ℕ)) → inside ≡ watch
-    → place < length inside.probes → key ≡ get_or inside.probes place key → IfSome journal (λ writes. found ≡ lookup (replay slots writes) key)
-    → IfSome journal (λ writes. Appends old mid (printed (probes_of watch.family number (replay slots writes) 1 (take place watch.probes))))
+pub look-more : (inside watch : Watching) (number slots place : ℕ) (key : Key) (found : Answer) (journal : List Write) (old mid new : Option (List ℕ)) → inside ≡ watch
+    → place < length inside.probes → key ≡ get_or inside.probes place key → found ≡ lookup (replay slots journal) key
+    → Appends old mid (printed (probes_of watch.family number (replay slots journal) 1 (take place watch.probes)))
     → Appends mid new (probe_line inside.family number (place + 1) found)
-    → IfSome journal (λ writes. Appends old new (printed (probes_of watch.family number (replay slots writes) 1 (take (place + 1) watch.probes))))
+    → Appends old new (printed (probes_of watch.family number (replay slots journal) 1 (take (place + 1) watch.probes)))
 look-more inside watch number slots place key found journal old mid new same within is tells before line =
     looked-more watch number slots place key found (subst (λ (one : Watching). place < length one.probes) same within) (subst (λ (one : Watching). key ≡ get_or one.probes place key) same is)
     journal old mid new tells before (subst (λ (one : Watching). Appends mid new (probe_line one.family number (place + 1) found)) same line)
 
-pub look-part : {E : Type 0} (result : Result (Unit {0}) E) (inside watch : Watching) (number slots place : ℕ) (key : Key) (found : Answer) (journal : Option (List Write)) (old mid new : Option (List ℕ)) → inside ≡ watch
-    → place < length inside.probes → key ≡ get_or inside.probes place key → IfSome journal (λ writes. found ≡ lookup (replay slots writes) key)
-    → IfSome journal (λ writes. Appends old mid (printed (probes_of watch.family number (replay slots writes) 1 (take place watch.probes))))
+pub look-part : {E : Type 0} (result : Result (Unit {0}) E) (inside watch : Watching) (number slots place : ℕ) (key : Key) (found : Answer) (journal : List Write) (old mid new : Option (List ℕ)) → inside ≡ watch
+    → place < length inside.probes → key ≡ get_or inside.probes place key → found ≡ lookup (replay slots journal) key
+    → Appends old mid (printed (probes_of watch.family number (replay slots journal) 1 (take place watch.probes)))
     → AppendsPart mid new (probe_line inside.family number (place + 1) found)
-    → OnErr result (IfSome journal (λ writes. CutsLines (probes_of watch.family number (replay slots writes) 1 watch.probes) old new))
+    → OnErr result (CutsLines (probes_of watch.family number (replay slots journal) 1 watch.probes) old new)
 look-part (Ok done) inside watch number slots place key found journal old mid new same within is tells before part = tt
 look-part (Err fault) inside watch number slots place key found journal old mid new same within is tells before part =
     looked-part watch number slots place key found (subst (λ (one : Watching). place < length one.probes) same within) (subst (λ (one : Watching). key ≡ get_or one.probes place key) same is)
     journal old mid new tells before (subst (λ (one : Watching). AppendsPart mid new (probe_line one.family number (place + 1) found)) same part)
+
+-- all of them are looked up
+pub look-all : (inside watch : Watching) (number slots place : ℕ) (writes : List Write) (old new : Option (List ℕ)) → inside ≡ watch → length inside.probes ≤ place
+    → Appends old new (printed (probes_of watch.family number (replay slots writes) 1 (take place watch.probes)))
+    → Appends old new (printed (probes_of watch.family number (replay slots writes) 1 watch.probes))
+look-all inside watch number slots place writes old new same all told =
+    let over : length watch.probes ≤ place = subst (λ (one : Watching). length one.probes ≤ place) same all in
+    let whole : take place watch.probes ≡ watch.probes =
+    sym (append-nil (take place watch.probes)) ∙ ap (λ rest. take place watch.probes ++ rest) (sym (drop_all place watch.probes over)) ∙ take-append-drop place watch.probes in
+    subst (λ keys. Appends old new (printed (probes_of watch.family number (replay slots writes) 1 keys))) whole told

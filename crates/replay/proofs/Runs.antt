@@ -1,20 +1,24 @@
 -- What a run is between two calls, and after an accepted commit.
-use Rattle.std.proofs.Common.{Bool, ◌≡◌, ℕ, ◌+◌, ◌-◌, ◌*◌, ◌^◌, ◌≤◌, length, List, [], ◌∷◌, ◌++◌, Some, None, Result, Ok, Err, OnOk, OnErr, refl, sym, ap, ◌∙◌, subst, arith}
+use Rattle.std.proofs.Common.{Bool, ◌≡◌, ℕ, ◌+◌, ◌-◌, ◌*◌, ◌^◌, ◌≤◌, length, List, [], ◌∷◌, ◌++◌, Option, Some, None, replicate, take, Result, Ok, Err, OnOk, OnErr, refl, sym, ap, ◌∙◌, subst, arith}
+use Rattle.std.proofs.Math.Seq.{take-append_seam}
 use Rattle.std.specs.List.{AllByRecursion}
 use Rattle.rule_model.specs.declared.Rule.{Rule}
 use Rattle.rule_model.specs.Routes.{IsIpv4Route}
 use Rattle.rule_store.specs.Batch.{set_after}
 use Rattle.rule_store.specs.declared.Mode.{Mode}
 use Rattle.rule_store.specs.declared.Command.{Command as Change}
+use Rattle.ternary_word.specs.declared.Entry.{Entry}
 use Rattle.tcam_device.specs.declared.Write.{Write}
 use Rattle.tcam_device.specs.State.{State, Shows, IsInUse, blank, state_after, on_device}
 use Rattle.tcam_device.specs.Insertion.{Insertion, IsUncrossed}
 use Rattle.commit_writes.specs.Bits.{FieldBits, bits_with, bits_left}
+use Rattle.batch_order.specs.declared.Placement.{Placement}
 use Rattle.batch_order.specs.declared.Ready.{Ready}
 use Rattle.batch_order.specs.Managed.{HeldCommit, Holds, OnlyChangesRoutes}
+use Rattle.batch_order.specs.Placing.{IsPlacedBy}
 use Rattle.replay.specs.declared.Family.{Family}
 use Rattle.replay.specs.declared.Family.TheVariants.{Route, Acl}
-use Rattle.replay.specs.Run.{Progress, Effect, Prints, Commits, OfFamily, IsChangeOf, writes_of, after_segment}
+use Rattle.replay.specs.Run.{Setting, Progress, Effect, Prints, Commits, OfFamily, slots_in_use, IsChangeOf, writes_of, after_segment}
 use Rattle.replay.specs.Text.{accepted_line}
 use Rattle.replay.specs.Running.{Running, IsRun, setting_of, progress_of, begun}
 use Rattle.replay.proofs.RouteSets.{routes_after, changes_more}
@@ -22,8 +26,8 @@ use Rattle.tcam_device.proofs.Wider.{slots-after, state_after-on_device, Shows-p
 use Rattle.std.proofs.lemmas.List.{length-replicate}
 
 -- a run before its first act
-pub begun-run : (slots : ℕ) (mode : Mode) (family : Family) (trace : Bool) → IsRun (begun slots mode family trace)
-begun-run slots mode family trace = record {
+pub begun-run : (slots : ℕ) (mode : Mode) (placement : Placement) (family : Family) (trace : Bool) → IsRun (begun slots mode placement family trace)
+begun-run slots mode placement family trace = record {
   changes = λ route. tt;
   routes = λ route. tt;
   size = length-replicate slots None;
@@ -63,6 +67,12 @@ run_after run held =
       commits = run.commits + 1;
       writes = run.writes + held.counts.writes;
     }
+
+-- the slots in use of a device are those of the manager
+in-use : (setting : Setting) (slots : ℕ) (state : State) → length state.slots ≡ setting.slots → slots_in_use setting (on_device slots state) ≡ state
+in-use setting slots state size =
+    let others : List (Option Entry) = replicate (slots - length state.slots) None in
+    ap (λ (first : List (Option Entry)). record state { slots = first }) (ap (λ (count : ℕ). take count (state.slots ++ others)) (sym size) ∙ take-append_seam state.slots others)
 
 wider : (made : List Insertion) → IsUncrossed 33 made → IsUncrossed 67 made
 wider [] all = tt
@@ -132,6 +142,8 @@ module _ (run : Running) (ready : Ready) (is : IsRun run) (holds : Holds (record
     made = holds.held.writes;
     counts = holds.held.counts;
     segment = holds.segment slots within;
+    placed = subst (λ (state : State). IsPlacedBy run.manager.placement run.manager.rules run.pending state holds.held.writes)
+        (sym (in-use (setting_of run) slots run.manager.state is.size)) holds.placed;
     of_family = of-family slots within;
     in_use = holds.in_use;
     numbers = holds.numbers slots within;

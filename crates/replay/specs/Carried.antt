@@ -1,28 +1,28 @@
--- What a run does by one act, to a device and a sink that may tell or not.
-use Rattle.std.specs.Prelude.{◌≡◌, ℕ, ◌++◌, Option, IfSome, IsSome, option_map, List, [], ◌∷◌}
+-- What a run does by one act, to a device and to a sink that may tell or not.
+use Rattle.std.specs.Prelude.{◌≡◌, ℕ, ◌++◌, Option, List, [], ◌∷◌}
 use Rattle.std.specs.Io.KnownBytes.{Appends}
 use Rattle.tcam_device.specs.declared.Write.{Write}
 use Rattle.tcam_device.specs.State.{replay}
 use Rattle.replay.specs.declared.Act.{Act}
 use Rattle.replay.specs.Run.{Setting, Effect, Writes, Prints, written, printed, Progress, Step, IsCutStep, TakesMemory}
 
--- the device is where the run stands, where it tells
-abbrev pub IsAt : ℕ → Option (List Write) → Progress → Type 0
-IsAt slots journal progress = IfSome journal (λ writes. progress.state ≡ replay slots writes)
+-- the device is where the run stands
+abbrev pub IsAt : ℕ → List Write → Progress → Type 0
+IsAt slots journal progress = progress.state ≡ replay slots journal
 
--- these effects and a part of a further line came about; the report is told where the device tells too
-pub record Does (effects : List Effect) (partial : List ℕ) (journal_old journal_new : Option (List Write)) (taken_old taken_new : Option (List ℕ)) : Type 0 where
-  pub journal : journal_new ≡ option_map (λ writes. writes ++ written effects) journal_old
-  pub report : IsSome journal_old → Appends taken_old taken_new (printed effects ++ partial)
+-- these effects and a part of a further line came about
+pub record Does (effects : List Effect) (partial : List ℕ) (journal_old journal_new : List Write) (taken_old taken_new : Option (List ℕ)) : Type 0 where
+  pub journal : journal_new ≡ journal_old ++ written effects
+  pub report : Appends taken_old taken_new (printed effects ++ partial)
 
 -- the act is carried out, and the run stands there
-pub record Carries (setting : Setting) (old : Progress) (act : Act) (new : Progress) (journal_old journal_new : Option (List Write)) (taken_old taken_new : Option (List ℕ)) : Type 0 where
+pub record Carries (setting : Setting) (old : Progress) (act : Act) (new : Progress) (journal_old journal_new : List Write) (taken_old taken_new : Option (List ℕ)) : Type 0 where
   pub effects : List Effect
   pub step : Step setting old act effects new
   pub does : Does effects [] journal_old journal_new taken_old taken_new
 
 -- it is cut at a line that the sink didn't take whole
-pub record CutsAtLine (setting : Setting) (old : Progress) (act : Act) (journal_old journal_new : Option (List Write)) (taken_old taken_new : Option (List ℕ)) : Type 0 where
+pub record CutsAtLine (setting : Setting) (old : Progress) (act : Act) (journal_old journal_new : List Write) (taken_old taken_new : Option (List ℕ)) : Type 0 where
   pub front : List Effect
   pub partial : List ℕ
   pub rest : List ℕ
@@ -30,14 +30,14 @@ pub record CutsAtLine (setting : Setting) (old : Progress) (act : Act) (journal_
   pub does : Does front partial journal_old journal_new taken_old taken_new
 
 -- it is cut at a write that the device didn't take
-pub record CutsAtWrite (setting : Setting) (old : Progress) (act : Act) (journal_old journal_new : Option (List Write)) (taken_old taken_new : Option (List ℕ)) : Type 0 where
+pub record CutsAtWrite (setting : Setting) (old : Progress) (act : Act) (journal_old journal_new : List Write) (taken_old taken_new : Option (List ℕ)) : Type 0 where
   pub front : List Effect
   pub write : Write
   pub cut : IsCutStep setting old act front (Writes write)
   pub does : Does front [] journal_old journal_new taken_old taken_new
 
 -- it wants memory, and has done nothing
-pub record Wants (setting : Setting) (old : Progress) (act : Act) (journal_old journal_new : Option (List Write)) (taken_old taken_new : Option (List ℕ)) : Type 0 where
+pub record Wants (setting : Setting) (old : Progress) (act : Act) (journal_old journal_new : List Write) (taken_old taken_new : Option (List ℕ)) : Type 0 where
   pub needs : TakesMemory setting old act
   pub does : Does [] [] journal_old journal_new taken_old taken_new
 
@@ -56,7 +56,7 @@ pub record CutsLines (lines : List Effect) (taken_old taken_new : Option (List �
   pub grown : Appends taken_old taken_new (printed front ++ partial)
 
 -- effects came about up to a line that the sink didn't take whole
-pub record CutsEffects (effects : List Effect) (journal_old journal_new : Option (List Write)) (taken_old taken_new : Option (List ℕ)) : Type 0 where
+pub record CutsEffects (effects : List Effect) (journal_old journal_new : List Write) (taken_old taken_new : Option (List ℕ)) : Type 0 where
   pub front : List Effect
   pub partial : List ℕ
   pub rest : List ℕ

@@ -1,5 +1,5 @@
 -- Runs: what the acts of a script do to the device and to the report, one after the other.
-use Rattle.std.specs.Prelude.{◌≡◌, ℕ, ◌+◌, Bool, true, false, List, [], ◌∷◌, ◌++◌, length, if◌then◌else◌}
+use Rattle.std.specs.Prelude.{◌≡◌, ℕ, ◌+◌, Bool, true, false, List, [], ◌∷◌, ◌++◌, length, take, if◌then◌else◌}
 use Rattle.std.specs.List.{AllByRecursion}
 use Rattle.rule_model.specs.declared.Key.{Key}
 use Rattle.rule_model.specs.declared.Rule.{Rule}
@@ -14,17 +14,21 @@ use Rattle.tcam_device.specs.Insertion.{insertions, IsUncrossed}
 use Rattle.commit_writes.specs.declared.Done.{Done}
 use Rattle.commit_writes.specs.Bits.{FieldBits, no_bits, bits_with, bits_left}
 use Rattle.commit_writes.specs.Commit.{AreCounts, IsSegment}
+use Rattle.batch_order.specs.declared.Placement.{Placement}
 use Rattle.batch_order.specs.Managed.{OnlyChangesRoutes}
+use Rattle.batch_order.specs.Placing.{IsPlacedBy}
 use Rattle.replay.specs.declared.Family.{Family}
 use Rattle.replay.specs.declared.Family.TheVariants.{Route, Acl}
 use Rattle.replay.specs.declared.Act.{Act}
 use Rattle.replay.specs.declared.Act.TheVariants.{Command, Probe, Packet, Commit}
 use Rattle.replay.specs.Text.{packet_line, probe_line, trace_line, accepted_line, refused_line, end_line}
 
--- what the words of a command line ask for: the slots in use, the encoding of ranges, the family, and a trace
+-- what the words of a command line ask for: the slots in use, the encoding of ranges, where insertions aim, the family,
+-- and a trace
 pub record Setting : Type 0 where
   pub slots : ℕ
   pub mode : Mode
+  pub placement : Placement
   pub family : Family
   pub trace : Bool
 
@@ -113,11 +117,17 @@ abbrev pub OfFamily : Family → State → List Write → Type 0
 OfFamily Route state made = IsUncrossed 67 (insertions state made) × IsUncrossed 33 (insertions state made)
 OfFamily Acl state made = Unit {0}
 
--- An accepted commit makes a segment, each write of it with its lines, and prints its numbers.
+-- the slots in use of a device, with its tables
+abbrev pub slots_in_use : Setting → State → State
+slots_in_use setting state = record state { slots = take setting.slots state.slots }
+
+-- An accepted commit makes a segment, its insertions by the placement and no others, each write with its lines, and
+-- prints its numbers.
 pub record Commits (setting : Setting) (old : Progress) (effects : List Effect) (new : Progress) : Type 0 where
   pub made : List Write
   pub counts : Done
   pub segment : IsSegment setting.mode old.bits old.rules old.batch old.state made
+  pub placed : IsPlacedBy setting.placement old.rules old.batch (slots_in_use setting old.state) made
   pub of_family : OfFamily setting.family old.state made
   pub in_use : AllByRecursion (IsInUse setting.slots) made
   pub numbers : AreCounts old.state made counts

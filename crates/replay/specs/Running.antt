@@ -1,5 +1,5 @@
 -- What a run keeps, and where it stands by that.
-use Rattle.std.specs.Prelude.{◌≡◌, ℕ, ◌*◌, ◌^◌, ◌≤◌, ◌++◌, ◌∷◌, Bool, false, Option, None, Some, IfSome, List, [], length, option_map}
+use Rattle.std.specs.Prelude.{◌≡◌, ℕ, ◌*◌, ◌^◌, ◌≤◌, ◌++◌, ◌∷◌, Bool, false, Option, None, Some, List, [], length}
 use Rattle.std.specs.Io.KnownBytes.{Appends}
 use Rattle.std.specs.List.{AllByRecursion}
 use Rattle.rule_model.specs.declared.Key.{Key}
@@ -10,6 +10,7 @@ use Rattle.rule_store.specs.Verdict.{Verdict, verdict}
 use Rattle.tcam_device.specs.declared.Write.{Write}
 use Rattle.tcam_device.specs.State.{Shows, replay, state_after, on_device}
 use Rattle.commit_writes.specs.declared.Done.{Done}
+use Rattle.batch_order.specs.declared.Placement.{Placement}
 use Rattle.batch_order.specs.declared.Ready.{Ready}
 use Rattle.batch_order.specs.Managed.{Managed, HeldCommit, Holds, OnlyChangesRoutes, fresh}
 use Rattle.replay.specs.declared.Act.{Act}
@@ -41,7 +42,14 @@ watching run = record { family = run.family; trace = run.trace; probes = run.pro
 
 -- what the words of a command line asked for
 abbrev pub setting_of : Running → Setting
-setting_of run = record { slots = run.manager.slots; mode = run.manager.mode; family = run.family; trace = run.trace }
+setting_of run =
+    record {
+      slots = run.manager.slots;
+      mode = run.manager.mode;
+      placement = run.manager.placement;
+      family = run.family;
+      trace = run.trace;
+    }
 
 -- where the run stands, over a device of so many slots
 abbrev pub progress_of : ℕ → Running → Progress
@@ -58,10 +66,10 @@ progress_of device_slots run =
     }
 
 -- a run before its first act
-abbrev pub begun : ℕ → Mode → Family → Bool → Running
-begun slots mode family trace =
+abbrev pub begun : ℕ → Mode → Placement → Family → Bool → Running
+begun slots mode placement family trace =
     record {
-      manager = fresh slots mode;
+      manager = fresh slots mode placement;
       family = family;
       trace = trace;
       probes = [];
@@ -94,57 +102,64 @@ abbrev pub HoldsPending : Running → Type 0
 HoldsPending run = (ready : Ready) × Holds (record run.manager { held = None }) run.pending ready run.manager
 
 -- an act is carried out, where the device is where the run stands
-abbrev pub CarriesRun : ℕ → Running → Act → Running → Option (List Write) → Option (List Write) → Option (List ℕ) → Option (List ℕ) → Type 0
+abbrev pub CarriesRun : ℕ → Running → Act → Running → List Write → List Write → Option (List ℕ) → Option (List ℕ) → Type 0
 CarriesRun device_slots old act new journal_old journal_new taken_old taken_new =
     IsAt device_slots journal_old (progress_of device_slots old)
     → Carries (setting_of old) (progress_of device_slots old) act (progress_of device_slots new) journal_old journal_new taken_old taken_new
 
 -- it is cut at a line, likewise
-abbrev pub CutsRunAtLine : ℕ → Running → Act → Option (List Write) → Option (List Write) → Option (List ℕ) → Option (List ℕ) → Type 0
+abbrev pub CutsRunAtLine : ℕ → Running → Act → List Write → List Write → Option (List ℕ) → Option (List ℕ) → Type 0
 CutsRunAtLine device_slots old act journal_old journal_new taken_old taken_new =
     IsAt device_slots journal_old (progress_of device_slots old)
     → CutsAtLine (setting_of old) (progress_of device_slots old) act journal_old journal_new taken_old taken_new
 
 -- it is cut at a write, likewise
-abbrev pub CutsRunAtWrite : ℕ → Running → Act → Option (List Write) → Option (List Write) → Option (List ℕ) → Option (List ℕ) → Type 0
+abbrev pub CutsRunAtWrite : ℕ → Running → Act → List Write → List Write → Option (List ℕ) → Option (List ℕ) → Type 0
 CutsRunAtWrite device_slots old act journal_old journal_new taken_old taken_new =
     IsAt device_slots journal_old (progress_of device_slots old)
     → CutsAtWrite (setting_of old) (progress_of device_slots old) act journal_old journal_new taken_old taken_new
 
 -- what is told while a manager makes the writes of its commit
 abbrev pub telling : Managed → Watching → Setting
-telling manager watch = record { slots = manager.slots; mode = manager.mode; family = watch.family; trace = watch.trace }
+telling manager watch =
+    record {
+      slots = manager.slots;
+      mode = manager.mode;
+      placement = manager.placement;
+      family = watch.family;
+      trace = watch.trace;
+    }
 
 -- the effects of a commit's writes over a device of so many slots that these writes were made to
 abbrev pub effects_on : Managed → Watching → ℕ → List Write → List Write → List Effect
 effects_on manager watch device_slots before made =
     writes_of (telling manager watch) watch.probes 1 (replay device_slots before) made
 
--- these writes are told, where the device tells
-abbrev pub Tells : Managed → Watching → ℕ → Option (List Write) → List Write → Option (List ℕ) → Option (List ℕ) → Type 0
+-- these writes are told, behind those of the journal
+abbrev pub Tells : Managed → Watching → ℕ → List Write → List Write → Option (List ℕ) → Option (List ℕ) → Type 0
 Tells manager watch device_slots journal made taken_old taken_new =
-    IfSome journal (λ before. Appends taken_old taken_new (printed (effects_on manager watch device_slots before made)))
+    Appends taken_old taken_new (printed (effects_on manager watch device_slots journal made))
 
 -- writes of a commit under way are being made: so many are made, and the device has room for those left
-pub record IsMaking (begun now : Managed) (watch : Watching) (device_slots : ℕ) (journal_begun journal_now : Option (List Write)) (taken_begun taken_now : Option (List ℕ)) (number spare : ℕ) : Type 0 where
+pub record IsMaking (begun now : Managed) (watch : Watching) (device_slots : ℕ) (journal_begun journal_now : List Write) (taken_begun taken_now : Option (List ℕ)) (number spare : ℕ) : Type 0 where
   pub held : HeldCommit
   pub made : List Write
   pub left : List Write
   pub held_is : begun.held ≡ Some held
   pub whole : held.writes ≡ made ++ left
   pub now_is : now ≡ record begun { state = state_after begun.state made; held = Some (record held { writes = left }) }
-  pub journal : journal_now ≡ option_map (λ writes. writes ++ made) journal_begun
+  pub journal : journal_now ≡ journal_begun ++ made
   pub report : Tells begun watch device_slots journal_begun made taken_begun taken_now
   pub count : number ≡ length made
   pub room : length left ≤ spare
 
 -- all of them are made
-pub record MakesAll (begun : Managed) (watch : Watching) (device_slots : ℕ) (done : Done) (now : Managed) (journal_begun journal_now : Option (List Write)) (taken_begun taken_now : Option (List ℕ)) : Type 0 where
+pub record MakesAll (begun : Managed) (watch : Watching) (device_slots : ℕ) (done : Done) (now : Managed) (journal_begun journal_now : List Write) (taken_begun taken_now : Option (List ℕ)) : Type 0 where
   pub held : HeldCommit
   pub held_is : begun.held ≡ Some held
   pub done_is : done ≡ held.counts
   pub now_is : now ≡ record begun { state = state_after begun.state held.writes; rules = held.rules; bits = held.bits; held = None }
-  pub journal : journal_now ≡ option_map (λ writes. writes ++ held.writes) journal_begun
+  pub journal : journal_now ≡ journal_begun ++ held.writes
   pub report : Tells begun watch device_slots journal_begun held.writes taken_begun taken_now
 
 -- some of them are made
@@ -157,19 +172,19 @@ pub record MakesSome (begun now : Managed) : Type 0 where
   pub now_is : now ≡ record begun { state = state_after begun.state made; held = Some (record held { writes = left }) }
 
 -- some of them are made and told, and the next one isn't made
-pub record StopsAtWrite (begun now : Managed) (watch : Watching) (device_slots : ℕ) (journal_begun journal_now : Option (List Write)) (taken_begun taken_now : Option (List ℕ)) : Type 0 where
+pub record StopsAtWrite (begun now : Managed) (watch : Watching) (device_slots : ℕ) (journal_begun journal_now : List Write) (taken_begun taken_now : Option (List ℕ)) : Type 0 where
   pub some : MakesSome begun now
   pub due : Write
   pub left : List Write
   pub left_is : some.left ≡ due ∷ left
-  pub journal : journal_now ≡ option_map (λ writes. writes ++ some.made) journal_begun
+  pub journal : journal_now ≡ journal_begun ++ some.made
   pub report : Tells begun watch device_slots journal_begun some.made taken_begun taken_now
 
 -- some of them are made, and the last one of these isn't told whole
-pub record StopsAtLine (begun now : Managed) (watch : Watching) (device_slots : ℕ) (journal_begun journal_now : Option (List Write)) (taken_begun taken_now : Option (List ℕ)) : Type 0 where
+pub record StopsAtLine (begun now : Managed) (watch : Watching) (device_slots : ℕ) (journal_begun journal_now : List Write) (taken_begun taken_now : Option (List ℕ)) : Type 0 where
   pub some : MakesSome begun now
-  pub journal : journal_now ≡ option_map (λ writes. writes ++ some.made) journal_begun
-  pub cuts : IfSome journal_begun (λ before. CutsEffects (effects_on begun watch device_slots before some.held.writes) journal_begun journal_now taken_begun taken_now)
+  pub journal : journal_now ≡ journal_begun ++ some.made
+  pub cuts : CutsEffects (effects_on begun watch device_slots journal_begun some.held.writes) journal_begun journal_now taken_begun taken_now
 
 -- how many writes are left
 abbrev pub left_number : Option HeldCommit → ℕ

@@ -10,7 +10,7 @@ mod report;
 mod run;
 mod watch;
 
-pub use batch_order::Mode;
+pub use batch_order::{Mode, Placement};
 pub use report::{write_fault, write_text};
 use rule_model::Key;
 use rule_store::Command;

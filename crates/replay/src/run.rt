@@ -1,8 +1,9 @@
 //! A run of acts over one device.
 
-ghost use Rattle.std.specs.Prelude.{◌≡◌, ◌≢◌, ◌+◌, ◌<◌, ◌≤◌, ◌^◌, ◌↔◌, ◌++◌, ◌∷◌, [], ℕ, Ok, Err, None, Some, IsSome, IfOk, IfErr, IfSome, OnOk, OnErr, ◌⊎◌, codes, length, true};
+ghost use Rattle.std.specs.Prelude.{Bool, ◌≡◌, ◌≢◌, ◌+◌, ◌<◌, ◌≤◌, ◌^◌, ◌↔◌, ◌++◌, ◌∷◌, [], ℕ, Ok, Err, None, Some, IsSome, IfOk, IfErr, IfSome, OnOk, OnErr, ◌⊎◌, codes, length, true};
 ghost use Rattle.std.specs.Io.KnownBytes.{Appends};
-ghost use Rattle.script_lines.specs.Cause.{Rose, HasCause};
+ghost use Rattle.script_lines.specs.Given.{counted};
+ghost use Rattle.script_lines.specs.Cause.{HasCause, IsCounted};
 ghost use Rattle.rule_store.specs.Verdict.{Accepted};
 ghost use Rattle.replay.specs.Text.{verdict_told, refused_line};
 ghost use Rattle.replay.specs.Run.{IsActOf, IsChangeOf, ending};
@@ -13,7 +14,7 @@ ghost use Rattle.replay.specs.Running.{Running, HoldsPending, CarriesRun, CutsRu
 use crate::report::{Totals, write_accepted, write_end, write_packet, write_refused};
 use crate::watch::Watch;
 use crate::{Act, Family, RunFault};
-use batch_order::{Done, Manager, Mode, Refusal, Step};
+use batch_order::{Done, Manager, Mode, Placement, Refusal, Step};
 use rule_model::{Key, key_fields};
 use rule_store::{Batch, Command, PushFault};
 use script_lines::{Failed, Sink};
@@ -44,22 +45,23 @@ impl Model for Run {
 
 impl Run {
     /// A run before its first act, over a blank device with so many slots in use, 1 to 4,096: no rules, no probe, and
-    /// no change pending. With a trace each write of a commit has its line. The mode is `Cover` until range bits come.
-    /// It fails only for want of memory.
+    /// no change pending. Each insertion aims where the placement says. With a trace each write of a commit has its
+    /// line. The mode is `Cover` until range bits come. It fails only for want of memory.
     pub fn new(
         alloc: Global,
         slots: u32,
         mode: Mode,
+        placement: Placement,
         family: Family,
         trace: bool,
     ) -> Result<Run, AllocError>
         requires least { 1 ≤ slots }
         requires most { slots ≤ 4096 }
         requires cover { mode ≡ Mode.Cover }
-        ensures { IfOk result (λ run. run ≡ begun slots mode family trace) }
+        ensures { IfOk result (λ run. run ≡ begun slots mode placement family trace) }
     {
         Ok(Run {
-            manager: Manager::new(alloc, slots, mode)?,
+            manager: Manager::new(alloc, slots, mode, placement)?,
             watch: Watch::new(alloc, family, trace)?,
             pending: Batch::new(alloc),
             commits: 0,
@@ -106,30 +108,28 @@ impl Run {
         requires act { IsActOf self.old.family act.now }
         requires idle { self.old.manager.held ≡ None }
         requires commits { self.old.commits < 2 ^ 22 }
-        ensures carries { OnOk result (IsAt (D.slot_count device.old) (D.journal device.old) (progress_of (D.slot_count device.old) self.old)
+        ensures carries { (which : Bool) → OnOk result (IsAt (D.slot_count device.old) (D.journal device.old) (progress_of (D.slot_count device.old) self.old)
             → Carries (setting_of self.old) (progress_of (D.slot_count device.old) self.old) act.now (progress_of (D.slot_count device.old) self.new)
-            (D.journal device.old) (D.journal device.new) (K.taken sink.old) (K.taken sink.new)) }
-        ensures at_line { (result ≡ Err RunFault.Sink) → IsAt (D.slot_count device.old) (D.journal device.old) (progress_of (D.slot_count device.old) self.old)
+            (D.journal device.old) (D.journal device.new) (counted which (K.taken sink.old) (K.accepted sink.old)) (counted which (K.taken sink.new) (K.accepted sink.new))) }
+        ensures at_line { (which : Bool) → (result ≡ Err RunFault.Sink) → IsAt (D.slot_count device.old) (D.journal device.old) (progress_of (D.slot_count device.old) self.old)
             → CutsAtLine (setting_of self.old) (progress_of (D.slot_count device.old) self.old) act.now
-            (D.journal device.old) (D.journal device.new) (K.taken sink.old) (K.taken sink.new) }
-        ensures at_write { (result ≡ Err RunFault.Device) → IsAt (D.slot_count device.old) (D.journal device.old) (progress_of (D.slot_count device.old) self.old)
+            (D.journal device.old) (D.journal device.new) (counted which (K.taken sink.old) (K.accepted sink.old)) (counted which (K.taken sink.new) (K.accepted sink.new)) }
+        ensures at_write { (which : Bool) → (result ≡ Err RunFault.Device) → IsAt (D.slot_count device.old) (D.journal device.old) (progress_of (D.slot_count device.old) self.old)
             → CutsAtWrite (setting_of self.old) (progress_of (D.slot_count device.old) self.old) act.now
-            (D.journal device.old) (D.journal device.new) (K.taken sink.old) (K.taken sink.new) }
-        ensures memory { (result ≡ Err RunFault.Memory) → Wants (setting_of self.old) (progress_of (D.slot_count device.old) self.old) act.now
-            (D.journal device.old) (D.journal device.new) (K.taken sink.old) (K.taken sink.new) }
+            (D.journal device.old) (D.journal device.new) (counted which (K.taken sink.old) (K.accepted sink.old)) (counted which (K.taken sink.new) (K.accepted sink.new)) }
+        ensures memory { (which : Bool) → (result ≡ Err RunFault.Memory) → Wants (setting_of self.old) (progress_of (D.slot_count device.old) self.old) act.now
+            (D.journal device.old) (D.journal device.new) (counted which (K.taken sink.old) (K.accepted sink.old)) (counted which (K.taken sink.new) (K.accepted sink.new)) }
         ensures full { (result ≡ Err RunFault.BatchFull) ↔ (limit_fault act.now (length self.old.pending) (length self.old.probes) ≡ Some (codes "batch full")) }
         ensures probes_full { (result ≡ Err RunFault.ProbesFull) ↔ (limit_fault act.now (length self.old.pending) (length self.old.probes) ≡ Some (codes "too many probes")) }
-        ensures untouched { (result ≡ Err RunFault.BatchFull) ⊎ ((result ≡ Err RunFault.ProbesFull) ⊎ (result ≡ Err RunFault.Memory)) → (D.journal device.new ≡ D.journal device.old) × (K.taken sink.new ≡ K.taken sink.old) }
+        ensures untouched { (result ≡ Err RunFault.BatchFull) ⊎ ((result ≡ Err RunFault.ProbesFull) ⊎ (result ≡ Err RunFault.Memory)) → (D.journal device.new ≡ D.journal device.old) × (K.taken sink.new ≡ K.taken sink.old) × (K.accepted sink.new ≡ K.accepted sink.old) }
         ensures unchanged { (result ≡ Err RunFault.BatchFull) ⊎ ((result ≡ Err RunFault.ProbesFull) ⊎ (result ≡ Err RunFault.Memory)) → self.new ≡ self.old }
         ensures idle { (result ≢ Err RunFault.Device) → (result ≢ Err RunFault.Sink) → self.new.manager.held ≡ None }
         ensures setting { setting_of self.new ≡ setting_of self.old }
         ensures commits { self.new.commits ≤ self.old.commits + 1 }
         ensures slot_count { D.slot_count device.new ≡ D.slot_count device.old }
-        ensures told { (IsSome (D.journal device.old) → IsSome (D.journal device.new)) × (IsSome (D.journal device.new) → IsSome (D.journal device.old)) × (IsSome (K.taken sink.old) → IsSome (K.taken sink.new)) }
-        ensures sink_later { K.faults sink.old ≤ K.faults sink.new }
-        ensures sink_cause { (result ≡ Err RunFault.Sink) → Rose (K.faults sink.old) (K.faults sink.new) }
-        ensures device_later { D.faults device.old ≤ D.faults device.new }
-        ensures device_cause { (result ≡ Err RunFault.Device) → Rose (D.faults device.old) (D.faults device.new) }
+        ensures told { IsSome (K.taken sink.old) → IsSome (K.taken sink.new) }
+        ensures sink_cause { IsCounted (result ≡ Err RunFault.Sink) (K.faults sink.old) (K.faults sink.new) }
+        ensures device_cause { IsCounted (result ≡ Err RunFault.Device) (D.faults device.old) (D.faults device.new) }
     {
         match *act {
             Act::Command(command) => self.push(command),
@@ -177,8 +177,8 @@ impl Run {
     ) -> Result<(), RunFault>
         requires slots { self.now.manager.slots ≤ D.slot_count device.now }
         requires idle { self.now.manager.held ≡ None }
-        ensures carries { OnOk result (CarriesRun (D.slot_count device.now) self.now (Act.Packet key.now) self.now (D.journal device.now) (D.journal device.now) (K.taken sink.old) (K.taken sink.new)) }
-        ensures at_line { OnErr result (CutsRunAtLine (D.slot_count device.now) self.now (Act.Packet key.now) (D.journal device.now) (D.journal device.now) (K.taken sink.old) (K.taken sink.new)) }
+        ensures carries { (which : Bool) → OnOk result (CarriesRun (D.slot_count device.now) self.now (Act.Packet key.now) self.now (D.journal device.now) (D.journal device.now) (counted which (K.taken sink.old) (K.accepted sink.old)) (counted which (K.taken sink.new) (K.accepted sink.new))) }
+        ensures at_line { (which : Bool) → OnErr result (CutsRunAtLine (D.slot_count device.now) self.now (Act.Packet key.now) (D.journal device.now) (D.journal device.now) (counted which (K.taken sink.old) (K.accepted sink.old)) (counted which (K.taken sink.new) (K.accepted sink.new))) }
         ensures kind { IfErr result (λ fault. fault ≡ RunFault.Sink) }
         ensures told { IsSome (K.taken sink.old) → IsSome (K.taken sink.new) }
         ensures cause { HasCause (K.faults sink.old) (K.faults sink.new) result }
@@ -195,22 +195,20 @@ impl Run {
         requires slots { self.old.manager.slots ≤ D.slot_count device.old }
         requires idle { self.old.manager.held ≡ None }
         requires commits { self.old.commits < 2 ^ 22 }
-        ensures carries { OnOk result (CarriesRun (D.slot_count device.old) self.old Act.Commit self.new (D.journal device.old) (D.journal device.new) (K.taken sink.old) (K.taken sink.new)) }
-        ensures at_line { (result ≡ Err RunFault.Sink) → CutsRunAtLine (D.slot_count device.old) self.old Act.Commit (D.journal device.old) (D.journal device.new) (K.taken sink.old) (K.taken sink.new) }
-        ensures at_write { (result ≡ Err RunFault.Device) → CutsRunAtWrite (D.slot_count device.old) self.old Act.Commit (D.journal device.old) (D.journal device.new) (K.taken sink.old) (K.taken sink.new) }
+        ensures carries { (which : Bool) → OnOk result (CarriesRun (D.slot_count device.old) self.old Act.Commit self.new (D.journal device.old) (D.journal device.new) (counted which (K.taken sink.old) (K.accepted sink.old)) (counted which (K.taken sink.new) (K.accepted sink.new))) }
+        ensures at_line { (which : Bool) → (result ≡ Err RunFault.Sink) → CutsRunAtLine (D.slot_count device.old) self.old Act.Commit (D.journal device.old) (D.journal device.new) (counted which (K.taken sink.old) (K.accepted sink.old)) (counted which (K.taken sink.new) (K.accepted sink.new)) }
+        ensures at_write { (which : Bool) → (result ≡ Err RunFault.Device) → CutsRunAtWrite (D.slot_count device.old) self.old Act.Commit (D.journal device.old) (D.journal device.new) (counted which (K.taken sink.old) (K.accepted sink.old)) (counted which (K.taken sink.new) (K.accepted sink.new)) }
         ensures accepted { (result ≡ Err RunFault.Memory) → verdict_of self.old ≡ Accepted }
         ensures unchanged { (result ≡ Err RunFault.Memory) → self.new ≡ self.old }
-        ensures untouched { (result ≡ Err RunFault.Memory) → (D.journal device.new ≡ D.journal device.old) × (K.taken sink.new ≡ K.taken sink.old) }
+        ensures untouched { (result ≡ Err RunFault.Memory) → (D.journal device.new ≡ D.journal device.old) × (K.taken sink.new ≡ K.taken sink.old) × (K.accepted sink.new ≡ K.accepted sink.old) }
         ensures not_full { (result ≢ Err RunFault.BatchFull) × (result ≢ Err RunFault.ProbesFull) }
         ensures idle { (result ≢ Err RunFault.Device) → (result ≢ Err RunFault.Sink) → self.new.manager.held ≡ None }
         ensures setting { setting_of self.new ≡ setting_of self.old }
         ensures commits { self.new.commits ≤ self.old.commits + 1 }
         ensures slot_count { D.slot_count device.new ≡ D.slot_count device.old }
-        ensures told { (IsSome (D.journal device.old) → IsSome (D.journal device.new)) × (IsSome (D.journal device.new) → IsSome (D.journal device.old)) × (IsSome (K.taken sink.old) → IsSome (K.taken sink.new)) }
-        ensures sink_later { K.faults sink.old ≤ K.faults sink.new }
-        ensures sink_cause { (result ≡ Err RunFault.Sink) → Rose (K.faults sink.old) (K.faults sink.new) }
-        ensures device_later { D.faults device.old ≤ D.faults device.new }
-        ensures device_cause { (result ≡ Err RunFault.Device) → Rose (D.faults device.old) (D.faults device.new) }
+        ensures told { IsSome (K.taken sink.old) → IsSome (K.taken sink.new) }
+        ensures sink_cause { IsCounted (result ≡ Err RunFault.Sink) (K.faults sink.old) (K.faults sink.new) }
+        ensures device_cause { IsCounted (result ≡ Err RunFault.Device) (D.faults device.old) (D.faults device.new) }
     {
         match self.manager.prepare(&self.pending, device) {
             Ok(_) => self.carry_out(sink, device),
@@ -233,8 +231,8 @@ impl Run {
         requires judged { verdict_told refusal.now ≢ Accepted }
         requires commits { self.old.commits < 2 ^ 22 }
         ensures refused { self.new ≡ record self.old { pending = []; commits = self.old.commits + 1; refused = true } }
-        ensures whole { OnOk result (Appends (K.taken sink.old) (K.taken sink.new) (refused_line self.old.family (self.old.commits + 1) (verdict_told refusal.now))) }
-        ensures part { OnErr result (AppendsPart (K.taken sink.old) (K.taken sink.new) (refused_line self.old.family (self.old.commits + 1) (verdict_told refusal.now))) }
+        ensures whole { (which : Bool) → OnOk result (Appends (counted which (K.taken sink.old) (K.accepted sink.old)) (counted which (K.taken sink.new) (K.accepted sink.new)) (refused_line self.old.family (self.old.commits + 1) (verdict_told refusal.now))) }
+        ensures part { (which : Bool) → OnErr result (AppendsPart (counted which (K.taken sink.old) (K.accepted sink.old)) (counted which (K.taken sink.new) (K.accepted sink.new)) (refused_line self.old.family (self.old.commits + 1) (verdict_told refusal.now))) }
         ensures kind { IfErr result (λ fault. fault ≡ RunFault.Sink) }
         ensures told { IsSome (K.taken sink.old) → IsSome (K.taken sink.new) }
         ensures cause { HasCause (K.faults sink.old) (K.faults sink.new) result }
@@ -258,19 +256,17 @@ impl Run {
         requires room { IfSome self.old.manager.held (λ held. length held.writes ≤ D.spare device.old) }
         requires accepted { verdict_of self.old ≡ Accepted }
         requires commits { self.old.commits < 2 ^ 22 }
-        ensures carries { OnOk result (CarriesRun (D.slot_count device.old) self.old Act.Commit self.new (D.journal device.old) (D.journal device.new) (K.taken sink.old) (K.taken sink.new)) }
-        ensures at_line { (result ≡ Err RunFault.Sink) → CutsRunAtLine (D.slot_count device.old) self.old Act.Commit (D.journal device.old) (D.journal device.new) (K.taken sink.old) (K.taken sink.new) }
-        ensures at_write { (result ≡ Err RunFault.Device) → CutsRunAtWrite (D.slot_count device.old) self.old Act.Commit (D.journal device.old) (D.journal device.new) (K.taken sink.old) (K.taken sink.new) }
+        ensures carries { (which : Bool) → OnOk result (CarriesRun (D.slot_count device.old) self.old Act.Commit self.new (D.journal device.old) (D.journal device.new) (counted which (K.taken sink.old) (K.accepted sink.old)) (counted which (K.taken sink.new) (K.accepted sink.new))) }
+        ensures at_line { (which : Bool) → (result ≡ Err RunFault.Sink) → CutsRunAtLine (D.slot_count device.old) self.old Act.Commit (D.journal device.old) (D.journal device.new) (counted which (K.taken sink.old) (K.accepted sink.old)) (counted which (K.taken sink.new) (K.accepted sink.new)) }
+        ensures at_write { (which : Bool) → (result ≡ Err RunFault.Device) → CutsRunAtWrite (D.slot_count device.old) self.old Act.Commit (D.journal device.old) (D.journal device.new) (counted which (K.taken sink.old) (K.accepted sink.old)) (counted which (K.taken sink.new) (K.accepted sink.new)) }
         ensures kind { (result ≢ Err RunFault.Memory) × ((result ≢ Err RunFault.BatchFull) × (result ≢ Err RunFault.ProbesFull)) }
         ensures idle { OnOk result (self.new.manager.held ≡ None) }
         ensures setting { setting_of self.new ≡ setting_of self.old }
         ensures commits { self.new.commits ≤ self.old.commits + 1 }
         ensures slot_count { D.slot_count device.new ≡ D.slot_count device.old }
-        ensures told { (IsSome (D.journal device.old) → IsSome (D.journal device.new)) × (IsSome (D.journal device.new) → IsSome (D.journal device.old)) × (IsSome (K.taken sink.old) → IsSome (K.taken sink.new)) }
-        ensures sink_later { K.faults sink.old ≤ K.faults sink.new }
-        ensures sink_cause { (result ≡ Err RunFault.Sink) → Rose (K.faults sink.old) (K.faults sink.new) }
-        ensures device_later { D.faults device.old ≤ D.faults device.new }
-        ensures device_cause { (result ≡ Err RunFault.Device) → Rose (D.faults device.old) (D.faults device.new) }
+        ensures told { IsSome (K.taken sink.old) → IsSome (K.taken sink.new) }
+        ensures sink_cause { IsCounted (result ≡ Err RunFault.Sink) (K.faults sink.old) (K.faults sink.new) }
+        ensures device_cause { IsCounted (result ≡ Err RunFault.Device) (D.faults device.old) (D.faults device.new) }
     {
         let done = match make_writes(&mut self.manager, &self.watch, sink, device) {
             Ok(done) => done,
@@ -291,11 +287,10 @@ impl Run {
     pub fn finish<K: Sink>(&mut self, sink: &mut K) -> Result<bool, Failed>
         ensures refused { IfOk result (λ refused. refused ≡ self.old.refused) }
         ensures unchanged { self.new ≡ self.old }
-        ensures whole { OnOk result ((device_slots : ℕ) → Appends (K.taken sink.old) (K.taken sink.new) (ending (setting_of self.old) (progress_of device_slots self.old))) }
-        ensures part { OnErr result ((device_slots : ℕ) → AppendsPart (K.taken sink.old) (K.taken sink.new) (ending (setting_of self.old) (progress_of device_slots self.old))) }
+        ensures whole { (which : Bool) → OnOk result ((device_slots : ℕ) → Appends (counted which (K.taken sink.old) (K.accepted sink.old)) (counted which (K.taken sink.new) (K.accepted sink.new)) (ending (setting_of self.old) (progress_of device_slots self.old))) }
+        ensures part { (which : Bool) → OnErr result ((device_slots : ℕ) → AppendsPart (counted which (K.taken sink.old) (K.accepted sink.old)) (counted which (K.taken sink.new) (K.accepted sink.new)) (ending (setting_of self.old) (progress_of device_slots self.old))) }
         ensures told { IsSome (K.taken sink.old) → IsSome (K.taken sink.new) }
-        ensures later { K.faults sink.old ≤ K.faults sink.new }
-        ensures cause { OnErr result (Rose (K.faults sink.old) (K.faults sink.new)) }
+        ensures cause { HasCause (K.faults sink.old) (K.faults sink.new) result }
     {
         let totals = Totals {
             rules: self.manager.rules().len(),
@@ -322,19 +317,17 @@ fn make_writes<K: Sink, D: Device>(
     requires held { IsSome manager.old.held }
     requires room { IfSome manager.old.held (λ held. length held.writes ≤ D.spare device.old) }
     requires few { IfSome manager.old.held (λ held. length held.writes ≤ 2 ^ 40) }
-    ensures made { IfOk result (λ done. MakesAll manager.old watch.now (D.slot_count device.old) done manager.new
-        (D.journal device.old) (D.journal device.new) (K.taken sink.old) (K.taken sink.new)) }
-    ensures at_line { IfErr result (λ fault. fault ≡ RunFault.Sink → StopsAtLine manager.old manager.new watch.now (D.slot_count device.old)
-        (D.journal device.old) (D.journal device.new) (K.taken sink.old) (K.taken sink.new)) }
-    ensures at_write { IfErr result (λ fault. fault ≡ RunFault.Device → StopsAtWrite manager.old manager.new watch.now (D.slot_count device.old)
-        (D.journal device.old) (D.journal device.new) (K.taken sink.old) (K.taken sink.new)) }
+    ensures made { (which : Bool) → IfOk result (λ done. MakesAll manager.old watch.now (D.slot_count device.old) done manager.new
+        (D.journal device.old) (D.journal device.new) (counted which (K.taken sink.old) (K.accepted sink.old)) (counted which (K.taken sink.new) (K.accepted sink.new))) }
+    ensures at_line { (which : Bool) → IfErr result (λ fault. fault ≡ RunFault.Sink → StopsAtLine manager.old manager.new watch.now (D.slot_count device.old)
+        (D.journal device.old) (D.journal device.new) (counted which (K.taken sink.old) (K.accepted sink.old)) (counted which (K.taken sink.new) (K.accepted sink.new))) }
+    ensures at_write { (which : Bool) → IfErr result (λ fault. fault ≡ RunFault.Device → StopsAtWrite manager.old manager.new watch.now (D.slot_count device.old)
+        (D.journal device.old) (D.journal device.new) (counted which (K.taken sink.old) (K.accepted sink.old)) (counted which (K.taken sink.new) (K.accepted sink.new))) }
     ensures kind { IfErr result (λ fault. (fault ≡ RunFault.Sink) ⊎ (fault ≡ RunFault.Device)) }
     ensures slot_count { D.slot_count device.new ≡ D.slot_count device.old }
     ensures told { IsSome (K.taken sink.old) → IsSome (K.taken sink.new) }
-    ensures sink_later { K.faults sink.old ≤ K.faults sink.new }
-    ensures sink_cause { IfErr result (λ fault. fault ≡ RunFault.Sink → Rose (K.faults sink.old) (K.faults sink.new)) }
-    ensures device_later { D.faults device.old ≤ D.faults device.new }
-    ensures device_cause { IfErr result (λ fault. fault ≡ RunFault.Device → Rose (D.faults device.old) (D.faults device.new)) }
+    ensures sink_cause { IsCounted (result ≡ Err RunFault.Sink) (K.faults sink.old) (K.faults sink.new) }
+    ensures device_cause { IsCounted (result ≡ Err RunFault.Device) (D.faults device.old) (D.faults device.new) }
 {
     let mut number = 0u64;
     'making: loop {

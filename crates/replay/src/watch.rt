@@ -1,7 +1,8 @@
 //! What the report shows after each write of a commit.
 
-ghost use Rattle.std.specs.Prelude.{◌≡◌, ◌≢◌, ◌↔◌, ◌++◌, ◌∷◌, [], IsSome, IsTrue, IfOk, IfSome, OnOk, OnErr, length};
+ghost use Rattle.std.specs.Prelude.{Bool, ◌≡◌, ◌≢◌, ◌↔◌, ◌++◌, ◌∷◌, [], IsSome, IsTrue, IfOk, IfSome, OnOk, OnErr, length};
 ghost use Rattle.std.specs.Io.KnownBytes.{Appends};
+ghost use Rattle.script_lines.specs.Given.{counted};
 ghost use Rattle.script_lines.specs.Cause.{HasCause};
 ghost use Rattle.tcam_device.specs.State.{replay};
 ghost use Rattle.replay.specs.Run.{printed, probes_of, trace_of};
@@ -82,11 +83,11 @@ impl Watch {
         sink: &mut K,
         device: &D,
     ) -> Result<(), Failed>
-        ensures whole { OnOk result (IfSome (D.journal device.now) (λ writes. Appends (K.taken sink.old) (K.taken sink.new)
-            (printed (trace_of self.now.trace number write.now ++ probes_of self.now.family number (replay (D.slot_count device.now) writes) 1 self.now.probes)))) }
-        ensures part { OnErr result (IfSome (D.journal device.now) (λ writes. CutsLines
-            (trace_of self.now.trace number write.now ++ probes_of self.now.family number (replay (D.slot_count device.now) writes) 1 self.now.probes)
-            (K.taken sink.old) (K.taken sink.new))) }
+        ensures whole { (which : Bool) → OnOk result (Appends (counted which (K.taken sink.old) (K.accepted sink.old)) (counted which (K.taken sink.new) (K.accepted sink.new))
+            (printed (trace_of self.now.trace number write.now ++ probes_of self.now.family number (replay (D.slot_count device.now) (D.journal device.now)) 1 self.now.probes))) }
+        ensures part { (which : Bool) → OnErr result (CutsLines
+            (trace_of self.now.trace number write.now ++ probes_of self.now.family number (replay (D.slot_count device.now) (D.journal device.now)) 1 self.now.probes)
+            (counted which (K.taken sink.old) (K.accepted sink.old)) (counted which (K.taken sink.new) (K.accepted sink.new))) }
         ensures told { IsSome (K.taken sink.old) → IsSome (K.taken sink.new) }
         ensures cause { HasCause (K.faults sink.old) (K.faults sink.new) result }
     {
@@ -103,10 +104,10 @@ impl Watch {
         sink: &mut K,
         device: &D,
     ) -> Result<(), Failed>
-        ensures whole { OnOk result (IfSome (D.journal device.now) (λ writes. Appends (K.taken sink.old) (K.taken sink.new)
-            (printed (probes_of self.now.family number (replay (D.slot_count device.now) writes) 1 self.now.probes)))) }
-        ensures part { OnErr result (IfSome (D.journal device.now) (λ writes. CutsLines
-            (probes_of self.now.family number (replay (D.slot_count device.now) writes) 1 self.now.probes) (K.taken sink.old) (K.taken sink.new))) }
+        ensures whole { (which : Bool) → OnOk result (Appends (counted which (K.taken sink.old) (K.accepted sink.old)) (counted which (K.taken sink.new) (K.accepted sink.new))
+            (printed (probes_of self.now.family number (replay (D.slot_count device.now) (D.journal device.now)) 1 self.now.probes))) }
+        ensures part { (which : Bool) → OnErr result (CutsLines
+            (probes_of self.now.family number (replay (D.slot_count device.now) (D.journal device.now)) 1 self.now.probes) (counted which (K.taken sink.old) (K.accepted sink.old)) (counted which (K.taken sink.new) (K.accepted sink.new))) }
         ensures told { IsSome (K.taken sink.old) → IsSome (K.taken sink.new) }
         ensures cause { HasCause (K.faults sink.old) (K.faults sink.new) result }
     {

@@ -6,13 +6,13 @@ use Rattle.replay.proofs.Exits.{part-same, whole-same}
 use Rattle.replay.proofs.report.write_trace.Goals as goal
 
 pub returns-clause-whole : goal.returns-clause-whole
-returns-clause-whole g c =
+returns-clause-whole g c = λ which.
     let same : c.device_write.result ++ 10 ∷ [] ≡ trace_line c.args.number c.args.write.now =
     rw (c.device_write.ensures.text, c.number.ensures.text, c.new.ensures) (with_words-line (codes "w") (decimal c.args.number ∷ write_words c.args.write.now)) in
-    whole-same c.write.result _ _ (c.device_write.result ++ 10 ∷ []) (trace_line c.args.number c.args.write.now) same c.write.ensures.whole
+    whole-same c.write.result _ _ (c.device_write.result ++ 10 ∷ []) (trace_line c.args.number c.args.write.now) same (c.write.ensures.whole which)
 
 pub returns-clause-part : goal.returns-clause-part
-returns-clause-part g c =
+returns-clause-part g c = λ which.
     let same : c.device_write.result ++ 10 ∷ [] ≡ trace_line c.args.number c.args.write.now =
     rw (c.device_write.ensures.text, c.number.ensures.text, c.new.ensures) (with_words-line (codes "w") (decimal c.args.number ∷ write_words c.args.write.now)) in
-    part-same c.write.result _ _ (c.device_write.result ++ 10 ∷ []) (trace_line c.args.number c.args.write.now) same c.write.ensures.part
+    part-same c.write.result _ _ (c.device_write.result ++ 10 ∷ []) (trace_line c.args.number c.args.write.now) same (c.write.ensures.part which)

@@ -1,5 +1,6 @@
 -- A step makes the next write that is left, and one that fails leaves it; each write is told.
-use Rattle.std.proofs.Common.{◌∙◌, arith}
+use Rattle.std.proofs.Common.{true, rules, ◌≡◌, ◌≤◌, ◌+◌, ◌^◌, IfSome, length, length-append, ap, subst, ◌∙◌, arith}
+use Rattle.batch_order.specs.Managed.{HeldCommit}
 use Rattle.replay.proofs.Making.{making-more, making-told, making-stops, making-cut}
 use Rattle.replay.proofs.run.make_writes.Goals as goal
 
@@ -7,24 +8,40 @@ pub making-preserved : goal.making-preserved
 making-preserved g c =
     let made = c.in-Ok-Wrote.ensures in
     let slots = made.slot_count ∙ c.making.invariant.slot_count in
-    let device_now = made.cause.later in
-    let device_before = c.making.invariant.device_later in
-    let sink_now = c.in-Ok.ensures.cause.later in
-    let sink_before = c.making.invariant.sink_later in
-    let written = making-more _ _ _ _ _ _ _ _ _ _ _ _ _ c.in-Ok-Wrote.field-0 c.in-Ok-Wrote.write c.making.invariant.making made.stepped c.in-Ok-Wrote.field-0-is made.journal made.spare in record {
-      making = making-told _ _ _ _ _ _ _ _ _ _ _ c.in-Ok-Wrote.write written (rw slots at c.in-Ok.ensures.whole);
+    record {
+      making = λ which.
+          let written = making-more _ _ _ _ _ _ _ _ _ _ _ _ _ c.in-Ok-Wrote.field-0 c.in-Ok-Wrote.write (c.making.invariant.making which) made.stepped c.in-Ok-Wrote.field-0-is made.journal made.spare in
+          making-told _ _ _ _ _ _ _ _ _ _ _ c.in-Ok-Wrote.write written (let h = c.in-Ok.ensures.whole which in rw slots at h);
       slot_count = slots;
       told = λ some. c.in-Ok.ensures.told (c.making.invariant.told some);
-      sink_later = omega arith;
-      device_later = omega arith;
+      sink_faults = c.in-Ok.ensures.cause.stayed ∙ c.making.invariant.sink_faults;
+      device_faults = made.cause.stayed ∙ c.making.invariant.device_faults;
     }
 
 pub returns-in-Err-tell-clause-at_line : goal.returns-in-Err-tell-clause-at_line
-returns-in-Err-tell-clause-at_line g c = λ failed.
+returns-in-Err-tell-clause-at_line g c = λ which failed.
     let made = c.in-Ok-Wrote.ensures in
     let slots = made.slot_count ∙ c.making.invariant.slot_count in
-    let written = making-more _ _ _ _ _ _ _ _ _ _ _ _ _ c.in-Ok-Wrote.field-0 c.in-Ok-Wrote.write c.making.invariant.making made.stepped c.in-Ok-Wrote.field-0-is made.journal made.spare in
-    making-stops _ _ _ _ _ _ _ _ _ _ _ c.in-Ok-Wrote.write written (rw slots at c.in-Err-tell.ensures.part)
+    let written = making-more _ _ _ _ _ _ _ _ _ _ _ _ _ c.in-Ok-Wrote.field-0 c.in-Ok-Wrote.write (c.making.invariant.making which) made.stepped c.in-Ok-Wrote.field-0-is made.journal made.spare in
+    making-stops _ _ _ _ _ _ _ _ _ _ _ c.in-Ok-Wrote.write written (let h = c.in-Err-tell.ensures.part which in rw slots at h)
 
 pub returns-in-Err-clause-at_write : goal.returns-in-Err-clause-at_write
-returns-in-Err-clause-at_write g c = λ failed. making-cut _ _ _ _ _ _ _ _ _ _ _ _ c.making.invariant.making c.in-Err.ensures.failed c.in-Err.ensures.journal_err c.in-Err.ensures.due
+returns-in-Err-clause-at_write g c = λ which failed. making-cut _ _ _ _ _ _ _ _ _ _ _ _ (c.making.invariant.making which) c.in-Err.ensures.failed c.in-Err.ensures.journal_err c.in-Err.ensures.due
+
+pub step-requires-clause-slots : goal.step-requires-clause-slots
+step-requires-clause-slots g c = let h = c.making.invariant.making true in search rules
+
+pub step-requires-clause-room : goal.step-requires-clause-room
+step-requires-clause-room g c = let h = c.making.invariant.making true in search rules
+
+pub overflow_add-number : goal.overflow_add-number
+overflow_add-number g c =
+    let making = c.making.invariant.making true in
+    let few : length making.held.writes ≤ 2 ^ 40 = subst (λ held. IfSome held (λ (one : HeldCommit). length one.writes ≤ 2 ^ 40)) making.held_is c.requires.few in
+    let all : length making.held.writes ≡ length making.made + length making.left = ap length making.whole ∙ length-append making.made making.left in
+    let count = making.count in
+    let most : c.making.number ≤ 2 ^ 40 = omega arith in
+    search rules
+
+pub unreachable-requires : goal.unreachable-requires
+unreachable-requires g c = let h = c.making.invariant.making true in search rules

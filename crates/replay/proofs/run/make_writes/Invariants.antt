@@ -1,15 +1,16 @@
-use Rattle.std.proofs.Common.{◌≡◌, ◌≤◌, IsSome}
+use Rattle.std.proofs.Common.{Bool, ◌≡◌, IsSome}
+use Rattle.script_lines.specs.Given.{counted}
 use Rattle.replay.specs.Running.{IsMaking, left_number}
 use Rattle.replay.proofs.run.make_writes.Given as goal
 
 abbrev pub invariant-making : goal.invariant-making
 invariant-making g l = record {
-  making : IsMaking l.fn.manager l.manager l.fn.watch (g.D.Device.slot_count l.fn.device) (g.D.Device.journal l.fn.device) (g.D.Device.journal l.device)
-      (g.K.Sink.taken l.fn.sink) (g.K.Sink.taken l.sink) l.number (g.D.Device.spare l.device);
-  slot_count : g.D.Device.slot_count l.device ≡ g.D.Device.slot_count l.fn.device;
+  making : (which : Bool) → IsMaking l.fn.manager l.manager l.fn.watch (g.D.Writable.slot_count l.fn.device) (g.D.Writable.journal l.fn.device) (g.D.Writable.journal l.device)
+      (counted which (g.K.Sink.taken l.fn.sink) (g.K.Sink.accepted l.fn.sink)) (counted which (g.K.Sink.taken l.sink) (g.K.Sink.accepted l.sink)) l.number (g.D.Writable.spare l.device);
+  slot_count : g.D.Writable.slot_count l.device ≡ g.D.Writable.slot_count l.fn.device;
   told : IsSome (g.K.Sink.taken l.fn.sink) → IsSome (g.K.Sink.taken l.sink);
-  sink_later : g.K.Sink.faults l.fn.sink ≤ g.K.Sink.faults l.sink;
-  device_later : g.D.Device.faults l.fn.device ≤ g.D.Device.faults l.device;
+  sink_faults : g.K.Sink.faults l.sink ≡ g.K.Sink.faults l.fn.sink;
+  device_faults : g.D.Writable.faults l.device ≡ g.D.Writable.faults l.fn.device;
 }
 
 abbrev pub decreases-making : goal.decreases-making

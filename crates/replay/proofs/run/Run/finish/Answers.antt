@@ -1,5 +1,6 @@
 -- The numbers are those of the run.
 use Rattle.std.proofs.Common.{◌≡◌, length, subst}
+use Rattle.script_lines.specs.Given.{counted}
 use Rattle.replay.specs.Carried.{AppendsPart}
 use Rattle.replay.specs.Running.{Running}
 use Rattle.replay.proofs.Exits.{ending-same}
@@ -7,7 +8,7 @@ use Rattle.replay.proofs.run.Run.finish.Goals as goal
 use Rattle.replay.proofs.run.Run.finish.Goals.{in-Ok, in-Err}
 
 pub returns-clause-part : goal.returns-clause-part
-returns-clause-part g c =
+returns-clause-part g c = λ which.
     let run : Running = record {
       manager = c.self.inside.manager;
       family = c.self.inside.watch.family;
@@ -22,8 +23,8 @@ returns-clause-part g c =
     elim c.match-write_end.branch [
       | in-Ok w ↦ rw w.result-is tt
       | in-Err w ↦ rw w.result-is
-          (λ slots. subst (AppendsPart (g.K.Sink.taken c.args.sink.now) (g.K.Sink.taken c.write_end.new.sink))
+          (λ slots. subst (AppendsPart (counted which (g.K.Sink.taken c.args.sink.now) (g.K.Sink.accepted c.args.sink.now)) (counted which (g.K.Sink.taken c.write_end.new.sink) (g.K.Sink.accepted c.write_end.new.sink)))
           (ending-same slots run c.args.self.now c.len.result c.entries.result c.len-2.result c.self.view_is rules
           c.entries.ensures c.len-2.ensures.count)
-          w.in-Err.ensures.part)
+          (w.in-Err.ensures.part which))
     ]
