@@ -1,5 +1,5 @@
 -- One line more, and the ends of a run.
-use Rattle.std.proofs.Common.{◌≡◌, ◌⊎◌, inl, inr, ℕ, ◌+◌, Bool, true, false, Option, Some, None, IfSome, IsSome, Result, Ok, Err, List, [], ◌∷◌, ◌++◌, length, refl, ap, sym, ◌∙◌, subst, append_assoc, append-nil}
+use Rattle.std.proofs.Common.{◌≡◌, ◌⊎◌, inl, inr, ℕ, ◌+◌, Bool, true, false, Option, Some, None, Result, Ok, Err, List, [], ◌∷◌, ◌++◌, length, refl, ap, sym, ◌∙◌, subst, append_assoc, append-nil}
 use Rattle.std.specs.Io.KnownBytes.{Appends}
 use Rattle.std.proofs.lemmas.List.{append_cancel_right}
 use Rattle.std.proofs.KnownBytes.{Appends-trans}
@@ -175,10 +175,6 @@ outcome-complete setting slots script came last (FaultAt line text) status effec
     let Q : Status → Type 0 = λ s. IsOutcome setting slots script came s effects [] in
     subst Q (sym e) (subst P e whole, refl)
 
-journal-same : (journal : Option (List Write)) (a b : List Write) → a ≡ b → IfSome journal (λ writes. writes ≡ a) → IfSome journal (λ writes. writes ≡ b)
-journal-same None a b e h = tt
-journal-same (Some writes) a b e h = h ∙ e
-
 written-line : (effects : List Effect) (line : List ℕ) → written effects ≡ written (effects ++ Prints line ∷ [])
 written-line effects line = sym (append-nil (written effects)) ∙ sym (written-append effects (Prints line ∷ []))
 
@@ -189,9 +185,9 @@ printed-line effects line =
 
 -- the last line
 pub ends-closed : (setting : Setting) (slots : ℕ) (bytes taken now : List ℕ) (acts : List NumberedAct) (end : ScriptEnd) (effects : List Effect) (last : Progress) (result : Status)
-    (journal : Option (List Write)) (start before after : Option (List ℕ))
+    (journal : List Write) (start before after : Option (List ℕ))
     → script_of (reading setting.family) bytes ≡ record { acts = acts; last = end }
-    → Runs setting slots (acts_only acts) effects last → IfSome journal (λ writes. writes ≡ written effects) → (IsSome journal → Appends start before (printed effects))
+    → Runs setting slots (acts_only acts) effects last → journal ≡ written effects → Appends start before (printed effects)
     → Closes (last_line setting last end) (status_of last end) result before after → ((result ≡ Done) ⊎ (result ≡ Refused) → now ≡ [])
     → Ends setting slots bytes taken now result journal start after
 ends-closed setting slots bytes taken now acts end effects last result journal start before after is run told report (inl (e, line)) all =
@@ -211,9 +207,9 @@ ends-closed setting slots bytes taken now acts end effects last result journal s
       effects = more;
       partial = [];
       outcome = outcome-complete setting slots S (script_so_far (reading setting.family) taken) last end result more e whole;
-      journal_is = journal-same journal _ _ (written-line effects (last_line setting last end)) told;
-      report = λ some. subst (Appends start after) (printed-line effects (last_line setting last end))
-          (Appends-trans start before after (printed effects) (last_line setting last end) (report some) line);
+      journal_is = told ∙ written-line effects (last_line setting last end);
+      report = subst (Appends start after) (printed-line effects (last_line setting last end))
+          (Appends-trans start before after (printed effects) (last_line setting last end) report line);
       all = all;
     }
 ends-closed setting slots bytes taken now acts end effects last result journal start before after is run told report (inr (e, (partial, rest, part, line))) all =
@@ -231,15 +227,15 @@ ends-closed setting slots bytes taken now acts end effects last result journal s
         part = part;
       });
       journal_is = told;
-      report = λ some. Appends-trans start before after (printed effects) partial (report some) line;
+      report = Appends-trans start before after (printed effects) partial report line;
       all = all;
     }
 
 -- a failed read
 pub ends-read : (setting : Setting) (slots : ℕ) (bytes taken now : List ℕ) (acts : List NumberedAct) (effects : List Effect) (last : Progress)
-    (journal : Option (List Write)) (start before : Option (List ℕ))
+    (journal : List Write) (start before : Option (List ℕ))
     → script_so_far (reading setting.family) taken ≡ record { acts = acts; last = Whole }
-    → Runs setting slots (acts_only acts) effects last → IfSome journal (λ writes. writes ≡ written effects) → (IsSome journal → Appends start before (printed effects))
+    → Runs setting slots (acts_only acts) effects last → journal ≡ written effects → Appends start before (printed effects)
     → Ends setting slots bytes taken now ReadFault journal start before
 ends-read setting slots bytes taken now acts effects last journal start before is run told report =
     let P : Script → Type 0 = λ s. Runs setting slots (acts_of s) effects last in
@@ -248,7 +244,7 @@ ends-read setting slots bytes taken now acts effects last journal start before i
       partial = [];
       outcome = (record { sound = ap (λ s. s.last) is; last = last; run = subst P (sym is) run }, refl);
       journal_is = told;
-      report = λ some. subst (Appends start before) (sym (append-nil (printed effects))) (report some);
+      report = subst (Appends start before) (sym (append-nil (printed effects))) report;
       all = λ e. elim e [ inl d ↦ absurd (cc) | inr r ↦ absurd (cc) ];
     }
 
@@ -268,10 +264,10 @@ only-more [] number act = refl
 only-more (first ∷ acts) number act = ap (λ l. first.act ∷ l) (only-more acts number act)
 
 pub goes-act : (setting : Setting) (slots : ℕ) (bytes left : List ℕ) (old : Held) (line : NumberedLine) (new : Held) (after : List ℕ) (act : Act) (acts : List NumberedAct)
-    (effects : List Effect) (last next : Progress) (journal_old journal_new : Option (List Write)) (start before later : Option (List ℕ))
+    (effects : List Effect) (last next : Progress) (journal_old journal_new : List Write) (start before later : Option (List ℕ))
     → IsGoing (reading setting.family) bytes old left acts (length last.batch) (length last.probes)
     → HandsOne old left line new after
-    → Runs setting slots (acts_only acts) effects last → IfSome journal_old (λ writes. writes ≡ written effects) → (IsSome journal_old → Appends start before (printed effects))
+    → Runs setting slots (acts_only acts) effects last → journal_old ≡ written effects → Appends start before (printed effects)
     → reading setting.family line.text ≡ Ok (Some act) → limit_fault act (length last.batch) (length last.probes) ≡ None
     → Carries setting last act next journal_old journal_new before later
     → SoFar setting slots bytes new after next journal_new start later
@@ -287,7 +283,7 @@ goes-act setting slots bytes left old line new after act acts effects last next 
       effects = effects ++ made.effects;
       run = subst P (only-more acts line.number act) (run-more setting slots (acts_only acts) effects last act made.effects next run made.step);
       journal_is = does-journal effects made.effects [] journal_old journal_new before later made.does told;
-      report = λ some. subst (Appends start later) (append-nil (printed (effects ++ made.effects))) (does-report effects made.effects [] journal_old journal_new start before later made.does report some);
+      report = subst (Appends start later) (append-nil (printed (effects ++ made.effects))) (does-report effects made.effects [] journal_old journal_new start before later made.does report);
       read = next-line (reading setting.family) bytes old left line new after acts acts2 p q (length next.batch) (length next.probes) going hands (λ rest.
           ap (onto_all acts) (line-act (reading setting.family) p q line rest act is room)
           ∙ onto-more acts line.number act (acts_next (reading setting.family) (pending_after act p) (probes_after act q) rest)
@@ -305,9 +301,9 @@ act-here reading bytes old left line new after act acts p q going hands is room 
     (acts_of next, ap acts_of (e ∙ ap (onto_all acts) (line-act reading p q line rest act is room)) ∙ acts-more acts line.number act next)
 
 pub ends-line : (setting : Setting) (slots : ℕ) (bytes taken now : List ℕ) (act : Act) (acts : List NumberedAct) (later : List Act) (effects : List Effect) (last : Progress)
-    (journal_old journal_new : Option (List Write)) (start before after : Option (List ℕ))
+    (journal_old journal_new : List Write) (start before after : Option (List ℕ))
     → acts_of (script_of (reading setting.family) bytes) ≡ acts_only acts ++ act ∷ later
-    → Runs setting slots (acts_only acts) effects last → IfSome journal_old (λ writes. writes ≡ written effects) → (IsSome journal_old → Appends start before (printed effects))
+    → Runs setting slots (acts_only acts) effects last → journal_old ≡ written effects → Appends start before (printed effects)
     → CutsAtLine setting last act journal_old journal_new before after
     → Ends setting slots bytes taken now WriteFault journal_new start after
 ends-line setting slots bytes taken now act acts later effects last journal_old journal_new start before after is run told report cut = record {
@@ -325,9 +321,9 @@ ends-line setting slots bytes taken now act acts later effects last journal_old 
 }
 
 pub ends-device : (setting : Setting) (slots : ℕ) (bytes taken now : List ℕ) (act : Act) (acts : List NumberedAct) (later : List Act) (effects : List Effect) (last : Progress)
-    (journal_old journal_new : Option (List Write)) (start before after : Option (List ℕ))
+    (journal_old journal_new : List Write) (start before after : Option (List ℕ))
     → acts_of (script_of (reading setting.family) bytes) ≡ acts_only acts ++ act ∷ later
-    → Runs setting slots (acts_only acts) effects last → IfSome journal_old (λ writes. writes ≡ written effects) → (IsSome journal_old → Appends start before (printed effects))
+    → Runs setting slots (acts_only acts) effects last → journal_old ≡ written effects → Appends start before (printed effects)
     → CutsAtWrite setting last act journal_old journal_new before after
     → Ends setting slots bytes taken now DeviceFault journal_new start after
 ends-device setting slots bytes taken now act acts later effects last journal_old journal_new start before after is run told report cut = record {
@@ -346,16 +342,16 @@ ends-device setting slots bytes taken now act acts later effects last journal_ol
 }
 
 pub ends-memory : (setting : Setting) (slots : ℕ) (bytes taken now : List ℕ) (act : Act) (acts : List NumberedAct) (later : List Act) (effects : List Effect) (last : Progress)
-    (journal_old journal_new : Option (List Write)) (start before after : Option (List ℕ))
+    (journal_old journal_new : List Write) (start before after : Option (List ℕ))
     → acts_of (script_of (reading setting.family) bytes) ≡ acts_only acts ++ act ∷ later
-    → Runs setting slots (acts_only acts) effects last → IfSome journal_old (λ writes. writes ≡ written effects) → (IsSome journal_old → Appends start before (printed effects))
+    → Runs setting slots (acts_only acts) effects last → journal_old ≡ written effects → Appends start before (printed effects)
     → Wants setting last act journal_old journal_new before after
     → Ends setting slots bytes taken now Memory journal_new start after
 ends-memory setting slots bytes taken now act acts later effects last journal_old journal_new start before after is run told report wants = record {
   effects = effects;
   partial = [];
   outcome = (inr (record { done = acts_only acts; act = act; later = later; acts = is; before = last; run = run; needs = wants.needs }), refl);
-  journal_is = journal-same journal_new _ _ (ap written (append-nil effects)) (does-journal effects [] [] journal_old journal_new before after wants.does told);
-  report = λ some. subst (λ e. Appends start after (printed e ++ [])) (append-nil effects) (does-report effects [] [] journal_old journal_new start before after wants.does report some);
+  journal_is = does-journal effects [] [] journal_old journal_new before after wants.does told ∙ ap written (append-nil effects);
+  report = subst (λ e. Appends start after (printed e ++ [])) (append-nil effects) (does-report effects [] [] journal_old journal_new start before after wants.does report);
   all = λ e. elim e [ inl d ↦ absurd (cc) | inr r ↦ absurd (cc) ];
 }

@@ -1,6 +1,7 @@
 -- The promise of the top call at some small scripts, each with its whole report.
-use Rattle.std.proofs.Common.{◌≡◌, false, ℕ, ◌∙◌, Contains, List, [], ◌∷◌, ◌++◌, Some, None, refl, sym, inl, inr}
-use Rattle.std.specs.Prelude.{codes, ℕ}
+use Rattle.std.proofs.Common.{◌≡◌, false, ℕ, ◌∙◌, Contains, List, [], ◌∷◌, ◌++◌, Some, None, replicate, refl, sym, inl, inr, lit≤, arith}
+use Rattle.std.specs.Prelude.{codes, nat_eq, ℕ}
+use Rattle.std.specs.List.{IsDistinct}
 use Rattle.std.specs.Fmt.{digits}
 use Rattle.rule_store.specs.declared.Mode.TheVariants.{Cover}
 use Rattle.rule_store.specs.Verdict.{OutOfSlots}
@@ -18,6 +19,7 @@ use Rattle.tcam_cli.specs.declared.Status.TheVariants.{Done, Refused, Script as 
 use Rattle.std.proofs.lemmas.Option.{none-some}
 use Rattle.std.proofs.Math.Seq.{take-nil}
 use Rattle.slot_order.proofs.Rules.{contains_none}
+use Rattle.slot_pool.specs.Arrangement.{Slots}
 use Rattle.ternary_word.specs.declared.Entry.{Entry}
 use Rattle.tcam_device.specs.Order.{IsOrdered}
 use Rattle.tcam_device.proofs.Wider.{empty_slot}
@@ -26,6 +28,9 @@ use Rattle.tcam_device.specs.State as State
 use Rattle.commit_writes.specs.declared.Done.{Done as Counts}
 use Rattle.commit_writes.specs.Bits.{no_bits}
 use Rattle.commit_writes.specs.Commit.{IsSegment}
+use Rattle.commit_writes.specs.Planned.{AreArranged}
+use Rattle.batch_order.specs.declared.Placement.TheVariants.{Middle}
+use Rattle.batch_order.specs.Placing.{IsPlacedBy}
 use Rattle.tcam_cli.specs.Readings.{reading}
 use Rattle.tcam_cli.specs.CommandLine.{script_setting}
 use Rattle.tcam_cli.specs.Headline.{NoJob, Reads, IsCarriedOut}
@@ -37,11 +42,11 @@ abbrev feed : List ℕ → List ℕ
 feed line = line ++ 10 ∷ []
 
 -- the words are no command line
-usage : IsCarriedOut NoJob 8 Usage None None (Some (codes "x")) (Some (codes "x" ++ feed (codes "usage"))) (Some [])
+usage : IsCarriedOut NoJob 8 Usage None None (Some (codes "x")) (Some (codes "x" ++ feed (codes "usage"))) []
 usage = (refl, refl, (feed (codes "usage"), refl, inl (refl, refl)))
 
 -- an empty script
-empty : IsCarriedOut (Reads (routes 8)) 8 Done (Some []) (Some []) (Some []) (Some (feed (codes "end rules 0 entries 0 writes 0 pending 0"))) (Some [])
+empty : IsCarriedOut (Reads (routes 8)) 8 Done (Some []) (Some []) (Some []) (Some (feed (codes "end rules 0 entries 0 writes 0 pending 0"))) []
 unfolding digits
 empty = (
   record { taken = []; parts = refl; all = λ _. refl },
@@ -89,7 +94,7 @@ one-pending = record (start 8) { batch = Add (route_rule (ipv4_route_rank (ipv4_
 abbrev two-pending : Progress
 two-pending = record one-pending { batch = Add (route_rule (ipv4_route_rank (ipv4_block 0x0a000000 8)) (ipv4_block 0x0a000000 8) 7) ∷ Add (route_rule (ipv4_route_rank (ipv4_block 0x0b000000 8)) (ipv4_block 0x0b000000 8) 8) ∷ [] }
 
-refused : IsCarriedOut (Reads (routes 1)) 8 Refused (Some two-routes) (Some []) (Some []) (Some (feed (codes "commit 1 refused slots 2 1") ++ feed (codes "end rules 0 entries 0 writes 0 pending 0"))) (Some [])
+refused : IsCarriedOut (Reads (routes 1)) 8 Refused (Some two-routes) (Some []) (Some []) (Some (feed (codes "commit 1 refused slots 2 1") ++ feed (codes "end rules 0 entries 0 writes 0 pending 0"))) []
 unfolding digits
 refused = (
   record { taken = two-routes; parts = refl; all = λ _. refl },
@@ -129,7 +134,7 @@ refused = (
 abbrev at-fault : List ℕ
 at-fault = feed (codes "route add 10.0.0.0/8 7") ++ feed (codes "route add 10.0.0.1/8 x") ++ codes "more"
 
-faulty : IsCarriedOut (Reads (routes 8)) 8 ScriptFault (Some at-fault) (Some (codes "more")) (Some []) (Some (feed (codes "line 2 host bits"))) (Some [])
+faulty : IsCarriedOut (Reads (routes 8)) 8 ScriptFault (Some at-fault) (Some (codes "more")) (Some []) (Some (feed (codes "line 2 host bits"))) []
 unfolding digits
 faulty = (
   record { taken = feed (codes "route add 10.0.0.0/8 7") ++ feed (codes "route add 10.0.0.1/8 x"); parts = refl; all = λ either. elim either [ inl is ↦ cc | inr is ↦ cc ] },
@@ -178,6 +183,7 @@ nothing-made =
             on_the_way = record { before = blank-shows; during = λ n key is. inl (rw take-nil refl) };
             after = blank-shows;
           };
+      turns = λ none key is. (0, record { before = λ n early. absurd (omega arith); since = λ n late. rw take-nil refl });
       order =
           record {
             inserting = λ n within. (0, rw take-nil blank-ordered);
@@ -208,10 +214,65 @@ nothing-made =
       tight = λ chain is. tt;
     }
 
+none-distinct : IsDistinct nat_eq []
+unfolding IsDistinct
+none-distinct = tt
+
+-- eight slots where no id stands
+abbrev no-ids : Slots
+no-ids = replicate 8 None
+
+none-arranged : AreArranged [] no-ids
+none-arranged =
+    record {
+      few = lit≤ tt;
+      apart = record { small = tt; once = none-distinct };
+      standing =
+          record {
+            within = λ at id held. absurd (let none : None ≡ Some id = sym (empty_slot {E = ℕ} 8 at) ∙ held in cc);
+            placed = λ id live. absurd (cc);
+            once = λ i j id here there. absurd (let none : None ≡ Some id = sym (empty_slot {E = ℕ} 8 i) ∙ here in cc);
+          };
+      order = λ i j first second less here there. absurd (let none : None ≡ Some first = sym (empty_slot {E = ℕ} 8 i) ∙ here in cc);
+    }
+
+nothing-placed : IsPlacedBy Middle [] [] (State.blank 8) []
+nothing-placed =
+    record {
+      live = [];
+      arrangement = no-ids;
+      entries = [];
+      planned = [];
+      rewrites = [];
+      erased = [];
+      stands = refl;
+      commit =
+          record {
+            is_set = tt;
+            right = tt;
+            changes = tt;
+            sound = refl;
+            arranged = none-arranged;
+            entries_are =
+                record {
+                  of_piece = λ one member. absurd (contains_none one member);
+                  has_id = λ ranked member. absurd (contains_none ranked member);
+                  once = λ a b member. absurd (contains_none a member);
+                };
+            inserted = refl;
+            have_entries = tt;
+            are_planned = tt;
+            rewrites_are = tt;
+            erased_are = tt;
+          };
+      aims = refl;
+      writes_are = refl;
+    }
+
 abbrev committed : Progress
 committed = after_segment (routes 8) (start 8) []
 
-accepted : IsCarriedOut (Reads (routes 8)) 8 Done (Some empty-commit) (Some []) (Some []) (Some (feed (codes "commit 1 ok writes 0 words 0 most 0 span 0") ++ feed (codes "end rules 0 entries 0 writes 0 pending 0"))) (Some [])
+accepted : IsCarriedOut (Reads (routes 8)) 8 Done (Some empty-commit) (Some []) (Some []) (Some (feed (codes "commit 1 ok writes 0 words 0 most 0 span 0") ++ feed (codes "end rules 0 entries 0 writes 0 pending 0"))) []
 unfolding digits
 accepted = (
   record { taken = empty-commit; parts = refl; all = λ _. refl },
@@ -230,6 +291,7 @@ accepted = (
             made = [];
             counts = none-counted;
             segment = nothing-made;
+            placed = nothing-placed;
             of_family = (tt, tt);
             in_use = tt;
             numbers =

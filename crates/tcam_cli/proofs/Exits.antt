@@ -40,7 +40,7 @@ closes-script line result before after now (inl c) (inr d) = let e : ScriptFault
 closes-script line result before after now (inr c) (inl d) = let e : WriteFault ≡ Done = sym c.0 ∙ d in absurd (cc)
 closes-script line result before after now (inr c) (inr d) = let e : WriteFault ≡ Refused = sym c.0 ∙ d in absurd (cc)
 
-module _ (setting : Setting) (slots : ℕ) (bytes : List ℕ) (old : Held) (left : List ℕ) (last : Progress) (journal : Option (List Write)) (start before : Option (List ℕ)) (s : SoFar setting slots bytes old left last journal start before) where
+module _ (setting : Setting) (slots : ℕ) (bytes : List ℕ) (old : Held) (left : List ℕ) (last : Progress) (journal : List Write) (start before : Option (List ℕ)) (s : SoFar setting slots bytes old left last journal start before) where
   -- a fault of a byte
   pub exit-bytes : (taken now : List ℕ) (after : Option (List ℕ)) (result : Status) (found : LineFault) (number : ℕ) (text : List ℕ) → byte_end (Faulty found) ≡ FaultAt number text
       → Again old.over (Err found) → (old.over ≡ over.Going → lines_held old left ≡ ends_at (Faulty found)) → Closes (fault_line number text) ScriptFault result before after
@@ -127,7 +127,7 @@ module _ (setting : Setting) (slots : ℕ) (bytes : List ℕ) (old : Held) (left
         (closes-script (fault_line line.number text) result before after now closes)
 
     -- its act is carried out, or cut
-    module _ (act : Act) (is : reading setting.family (numbered line).text ≡ Ok (Some act)) (room : limit_fault act (length last.batch) (length last.probes) ≡ None) (journal_new : Option (List Write)) (after : Option (List ℕ)) where
+    module _ (act : Act) (is : reading setting.family (numbered line).text ≡ Ok (Some act)) (room : limit_fault act (length last.batch) (length last.probes) ≡ None) (journal_new : List Write) (after : Option (List ℕ)) where
       pub goes-on : (next : Progress) → (IsAt slots journal last → Carries setting last act next journal journal_new before after) → SoFar setting slots bytes new now next journal_new start after
       goes-on next carries =
           goes-act setting slots bytes left old (numbered line) new now act s.acts s.effects last next journal journal_new start before after going.1 (hands going.0) s.run s.journal_is s.report is room

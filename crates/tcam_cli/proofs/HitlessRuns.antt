@@ -145,17 +145,16 @@ outcome_answers setting slots script came Memory effects partial first is =
 outcome_answers setting slots script came Usage effects partial first is = absurd is
 
 -- so of a job that is carried out
-pub hitless-job : (job : Job) (slots : ℕ) (status : Status) (left_old left_new taken_old taken_new : Option (List ℕ)) (journal : Option (List Write))
+pub hitless-job : (job : Job) (slots : ℕ) (status : Status) (left_old left_new taken_old taken_new : Option (List ℕ)) (journal : List Write)
     → IsCarriedOut job slots status left_old left_new taken_old taken_new journal → IsHitlessJob job slots status left_old left_new journal
 hitless-job NoJob slots status left_old left_new taken_old taken_new journal is = is.1
 hitless-job (Tells text) slots status left_old left_new taken_old taken_new journal is = is.1
 hitless-job (Reads setting) slots status None left_new taken_old taken_new journal is = tt
 hitless-job (Reads setting) slots status (Some old) None taken_old taken_new journal is = tt
-hitless-job (Reads setting) slots status (Some old) (Some new) taken_old taken_new None is = tt
-hitless-job (Reads setting) slots status (Some old) (Some new) taken_old taken_new (Some writes) is =
+hitless-job (Reads setting) slots status (Some old) (Some new) taken_old taken_new journal is =
     let n = length old - length new in
     let came : Script = script_so_far (reading setting.family) (take n old) in
     let first : came.last ≡ Whole → AreFirstActs (acts_of came) (acts_of (script_of (reading setting.family) old)) =
     λ sound. subst (λ bytes. AreFirstActs (acts_of came) (acts_of (script_of (reading setting.family) bytes))) (take-append-drop n old) (first-acts (reading setting.family) (take n old) (drop n old) sound) in
-    subst (λ journal. IsHitlessRun setting slots (script_of (reading setting.family) old) came status journal) (sym is.1.journal_is)
+    subst (λ writes. IsHitlessRun setting slots (script_of (reading setting.family) old) came status writes) (sym is.1.journal_is)
     (outcome_answers setting slots (script_of (reading setting.family) old) came status is.1.effects is.1.partial first is.1.outcome)

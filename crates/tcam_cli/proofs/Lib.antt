@@ -19,7 +19,11 @@ mod Begun
 mod Corners
 mod Examples
 mod Wrong
+mod Padded
 mod AllTheWay
 mod FirstActs
 mod HitlessRuns
 mod SetExamples
+mod GivenRuns
+mod InTime
+mod GivenExamples

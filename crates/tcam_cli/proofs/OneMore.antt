@@ -1,5 +1,5 @@
 -- One act more.
-use Rattle.std.proofs.Common.{rules, ◌≡◌, ℕ, Option, Some, None, IfSome, IsSome, option_map, List, [], ◌∷◌, ◌++◌, length, refl, ap, sym, ◌∙◌, subst, append_assoc, append-nil, length-append}
+use Rattle.std.proofs.Common.{◌≡◌, ℕ, Option, List, [], ◌∷◌, ◌++◌, length, refl, ap, sym, ◌∙◌, subst, append_assoc, append-nil, length-append}
 use Rattle.std.specs.Io.KnownBytes.{Appends}
 use Rattle.std.proofs.KnownBytes.{Appends-trans}
 use Rattle.rule_store.specs.Verdict.{Verdict, Accepted, Unsound, OutOfBits, OutOfSlots, verdict}
@@ -55,10 +55,9 @@ pub run-state : (setting : Setting) (slots : ℕ) (acts : List Act) (effects : L
 run-state setting slots acts effects last run = run-state-from setting (start slots) acts effects last run
 
 -- so the device is where the run stands
-pub run-at : (setting : Setting) (slots : ℕ) (acts : List Act) (effects : List Effect) (last : Progress) (journal : Option (List Write)) → Runs setting slots acts effects last
-    → IfSome journal (λ writes. writes ≡ written effects) → IsAt slots journal last
-run-at setting slots acts effects last None run told = tt
-run-at setting slots acts effects last (Some writes) run told = run-state setting slots acts effects last run ∙ ap (replay slots) (sym told)
+pub run-at : (setting : Setting) (slots : ℕ) (acts : List Act) (effects : List Effect) (last : Progress) (journal : List Write) → Runs setting slots acts effects last
+    → journal ≡ written effects → IsAt slots journal last
+run-at setting slots acts effects last journal run told = run-state setting slots acts effects last run ∙ ap (replay slots) (sym told)
 
 -- one act more
 run-more-from : (setting : Setting) (old : Progress) (acts : List Act) (effects : List Effect) (mid : Progress) (act : Act) (front : List Effect) (new : Progress)
@@ -109,21 +108,15 @@ none-probed setting old (Commit ∷ acts) effects new none (front, mid, back, st
     none-probed setting mid acts back new none.1 rest ∙ judged-probes setting old (verdict setting.slots setting.mode old.rules old.batch) front mid step
 
 -- journal and report after more effects
-pub does-journal : (effects more : List Effect) (partial : List ℕ) (journal_old journal_new : Option (List Write)) (taken_old taken_new : Option (List ℕ))
-    → Does more partial journal_old journal_new taken_old taken_new → IfSome journal_old (λ writes. writes ≡ written effects) → IfSome journal_new (λ writes. writes ≡ written (effects ++ more))
-does-journal effects more partial None journal_new taken_old taken_new does was = rw does.journal tt
-does-journal effects more partial (Some writes) journal_new taken_old taken_new does was =
+pub does-journal : (effects more : List Effect) (partial : List ℕ) (journal_old journal_new : List Write) (taken_old taken_new : Option (List ℕ))
+    → Does more partial journal_old journal_new taken_old taken_new → journal_old ≡ written effects → journal_new ≡ written (effects ++ more)
+does-journal effects more partial journal_old journal_new taken_old taken_new does was =
     rw does.journal (ap (λ w. w ++ written more) was ∙ sym (written-append effects more))
 
-pub told-back : (journal_old journal_new : Option (List Write)) (added : List Write) → journal_new ≡ option_map (λ writes. writes ++ added) journal_old → IsSome journal_new → IsSome journal_old
-told-back None journal_new added e some = rw e at some
-told-back (Some writes) journal_new added e some = search rules
-
-pub does-report : (effects more : List Effect) (partial : List ℕ) (journal_old journal_new : Option (List Write)) (start taken_old taken_new : Option (List ℕ))
-    → Does more partial journal_old journal_new taken_old taken_new → (IsSome journal_old → Appends start taken_old (printed effects))
-    → IsSome journal_new → Appends start taken_new (printed (effects ++ more) ++ partial)
-does-report effects more partial journal_old journal_new start taken_old taken_new does was some =
-    let told = told-back journal_old journal_new (written more) does.journal some in
+pub does-report : (effects more : List Effect) (partial : List ℕ) (journal_old journal_new : List Write) (start taken_old taken_new : Option (List ℕ))
+    → Does more partial journal_old journal_new taken_old taken_new → Appends start taken_old (printed effects)
+    → Appends start taken_new (printed (effects ++ more) ++ partial)
+does-report effects more partial journal_old journal_new start taken_old taken_new does was =
     let same : printed effects ++ (printed more ++ partial) ≡ printed (effects ++ more) ++ partial =
     sym (append_assoc (printed effects) (printed more) partial) ∙ ap (λ p. p ++ partial) (sym (printed-append effects more)) in
-    subst (Appends start taken_new) same (Appends-trans start taken_old taken_new (printed effects) (printed more ++ partial) (was told) (does.report told))
+    subst (Appends start taken_new) same (Appends-trans start taken_old taken_new (printed effects) (printed more ++ partial) was does.report)

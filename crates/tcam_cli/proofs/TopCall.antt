@@ -13,14 +13,13 @@ nothing-told : (text : List ℕ) (last : Status) (taken : Option (List ℕ)) →
 nothing-told text last None = tt
 nothing-told text last (Some bytes) = ([], sym (append-nil bytes), inr (inr (refl, refl)))
 
-nothing-done : (setting : Setting) (slots : ℕ) (script came : Script) (taken : Option (List ℕ)) (journal : Option (List Write)) → IfSome journal (λ writes. writes ≡ [])
-    → IfSome journal (λ writes. MatchesOutcome setting slots script came Memory writes taken taken)
-nothing-done setting slots script came taken None blank = tt
-nothing-done setting slots script came taken (Some writes) blank =
+nothing-done : (setting : Setting) (slots : ℕ) (script came : Script) (taken : Option (List ℕ)) (journal : List Write) → journal ≡ []
+    → MatchesOutcome setting slots script came Memory journal taken taken
+nothing-done setting slots script came taken journal blank =
     record { effects = []; partial = []; outcome = (inl refl, refl); journal_is = blank; report_is = Appends-nil taken }
 
 -- memory was wanting before anything was done
-pub memory-carried : (job : Job) (slots : ℕ) (left taken : Option (List ℕ)) (journal : Option (List Write)) → IfSome journal (λ writes. writes ≡ []) → IsCarriedOut job slots Memory left left taken taken journal
+pub memory-carried : (job : Job) (slots : ℕ) (left taken : Option (List ℕ)) (journal : List Write) → journal ≡ [] → IsCarriedOut job slots Memory left left taken taken journal
 memory-carried NoJob slots left taken journal blank = (refl, blank, nothing-told _ Usage taken)
 memory-carried (Tells text) slots left taken journal blank = (refl, blank, nothing-told text Done taken)
 memory-carried (Reads setting) slots None taken journal blank = tt
@@ -34,6 +33,6 @@ told-text text last result (Some b) None closes = tt
 told-text text last result (Some b) (Some a) (inl (e, line)) = (text, line, inl (e, refl))
 told-text text last result (Some b) (Some a) (inr (e, (partial, rest, part, line))) = (partial, line, inr (inl (e, (rest, part))))
 
-pub told-alone : (text : List ℕ) (last result : Status) (left before after : Option (List ℕ)) (journal : Option (List Write)) → IfSome journal (λ writes. writes ≡ []) → Closes text last result before after
+pub told-alone : (text : List ℕ) (last result : Status) (left before after : Option (List ℕ)) (journal : List Write) → journal ≡ [] → Closes text last result before after
     → IsToldAlone text last result left left before after journal
 told-alone text last result left before after journal blank closes = (refl, blank, told-text text last result before after closes)

@@ -1,10 +1,10 @@
 -- A script from its start to the end of the run.
-use Rattle.std.proofs.Common.{◌≡◌, ◌≢◌, ℕ, ◌-◌, ◌≤◌, Option, Some, None, IfSome, IsSome, List, [], ◌++◌, length, take, refl, ap, sym, ◌∙◌, subst, arith, length-append}
+use Rattle.std.proofs.Common.{◌≡◌, ◌≢◌, ℕ, ◌-◌, ◌≤◌, Option, Some, None, IsSome, List, [], ◌++◌, length, take, refl, ap, sym, ◌∙◌, subst, arith, length-append}
 use Rattle.std.specs.Io.KnownBytes.{Consumes}
 use Rattle.std.proofs.KnownBytes.{Appends-nil}
 use Rattle.std.proofs.lemmas.List.{take-append-le}
 use Rattle.std.proofs.Math.Seq.{take-length}
-use Rattle.script_lines.specs.Cause.{Rose}
+use Rattle.script_lines.specs.Cause.{IsCounted}
 use Rattle.tcam_device.specs.declared.Write.{Write}
 use Rattle.replay.specs.Script.{script_of}
 use Rattle.replay.specs.Run.{Setting, Progress, start}
@@ -24,8 +24,8 @@ abbrev pub TakesSome : Option (List ℕ) → Option (List ℕ) → Type 0
 TakesSome old new = (bytes : List ℕ) × Consumes old new bytes
 
 -- nothing is read, and nothing done
-pub starts : (setting : Setting) (slots : ℕ) (bytes : List ℕ) (held : Held) (left : List ℕ) (progress : Progress) (journal : Option (List Write)) (taken : Option (List ℕ))
-    → held ≡ fresh → Some bytes ≡ Some left → progress ≡ start slots → IfSome journal (λ writes. writes ≡ []) → SoFar setting slots bytes held left progress journal taken taken
+pub starts : (setting : Setting) (slots : ℕ) (bytes : List ℕ) (held : Held) (left : List ℕ) (progress : Progress) (journal : List Write) (taken : Option (List ℕ))
+    → held ≡ fresh → Some bytes ≡ Some left → progress ≡ start slots → journal ≡ [] → SoFar setting slots bytes held left progress journal taken taken
 starts setting slots bytes held left progress journal taken new all begun blank =
     let same : bytes ≡ left = cc in
     let read : IsGoing (reading setting.family) bytes fresh left [] 0 0 = record {
@@ -40,7 +40,7 @@ starts setting slots bytes held left progress journal taken new all begun blank 
       effects = [];
       run = (refl, refl);
       journal_is = blank;
-      report = λ some. Appends-nil taken;
+      report = Appends-nil taken;
       read = read;
     } in
     let whole : SoFar setting slots bytes fresh left progress journal taken taken =
@@ -58,8 +58,11 @@ told-source None b takes some = absurd (cc)
 told-source (Some x) None takes some = absurd takes.1
 told-source (Some x) (Some y) takes some = refl
 
-pub rose-later : (old mid new : ℕ) → old ≤ mid → Rose mid new → Rose old new
-rose-later old mid new le rose = omega (arith, rose)
+-- a count that stayed before the last turn
+pub counted-last : (old mid new : ℕ) (status fault : Status) → mid ≡ old → IsCounted (Some status ≡ Some fault) mid new → IsCounted (status ≡ fault) old new
+counted-last old mid new status fault same is =
+    let last : IsCounted (Some status ≡ Some fault) old new = subst (λ (count : ℕ). IsCounted (Some status ≡ Some fault) count new) same is in
+    record { later = last.later; once = last.once; failed = λ e. last.failed (ap Some e); stayed = λ other. last.stayed (λ e. other (cc)) }
 
 taken-of : (old taken new : List ℕ) → old ≡ taken ++ new → taken ≡ take (length old - length new) old
 taken-of old taken new e =
@@ -69,25 +72,24 @@ taken-of old taken new e =
     sym (ap (λ k. take k old) n ∙ ap (take (length taken)) e ∙ take-append-le (length taken) taken new le ∙ take-length taken)
 
 -- how a run over a told script ends
-abbrev pub EndsTold : Setting → ℕ → Status → Option (List ℕ) → Option (List ℕ) → Option (List Write) → Option (List ℕ) → Option (List ℕ) → Type 0
+abbrev pub EndsTold : Setting → ℕ → Status → Option (List ℕ) → Option (List ℕ) → List Write → Option (List ℕ) → Option (List ℕ) → Type 0
 EndsTold setting slots status left_old left_new journal taken_old taken_new =
     (left taken now : List ℕ) → left_old ≡ Some left → left_new ≡ Some now → left ≡ taken ++ now → Ends setting slots left taken now status journal taken_old taken_new
 
-matches : (setting : Setting) (slots : ℕ) (status : Status) (old taken new : List ℕ) (journal : Option (List Write)) (taken_old taken_new : Option (List ℕ)) → old ≡ taken ++ new
+matches : (setting : Setting) (slots : ℕ) (status : Status) (old taken new : List ℕ) (journal : List Write) (taken_old taken_new : Option (List ℕ)) → old ≡ taken ++ new
     → Ends setting slots old taken new status journal taken_old taken_new
-    → IfSome journal (λ writes. MatchesOutcome setting slots (script_of (reading setting.family) old) (script_so_far (reading setting.family) (take (length old - length new) old)) status writes taken_old taken_new)
-matches setting slots status old taken new None taken_old taken_new parts ends = tt
-matches setting slots status old taken new (Some writes) taken_old taken_new parts ends =
+    → MatchesOutcome setting slots (script_of (reading setting.family) old) (script_so_far (reading setting.family) (take (length old - length new) old)) status journal taken_old taken_new
+matches setting slots status old taken new journal taken_old taken_new parts ends =
     let P : List ℕ → Type 0 = λ t. IsOutcome setting slots (script_of (reading setting.family) old) (script_so_far (reading setting.family) t) status ends.effects ends.partial in
     record {
       effects = ends.effects;
       partial = ends.partial;
       outcome = subst P (taken-of old taken new parts) ends.outcome;
       journal_is = ends.journal_is;
-      report_is = ends.report refl;
+      report_is = ends.report;
     }
 
-pub carried : (setting : Setting) (slots : ℕ) (status : Status) (left_old left_new : Option (List ℕ)) (journal : Option (List Write)) (taken_old taken_new : Option (List ℕ)) → TakesSome left_old left_new
+pub carried : (setting : Setting) (slots : ℕ) (status : Status) (left_old left_new : Option (List ℕ)) (journal : List Write) (taken_old taken_new : Option (List ℕ)) → TakesSome left_old left_new
     → EndsTold setting slots status left_old left_new journal taken_old taken_new
     → IsCarriedOut (Reads setting) slots status left_old left_new taken_old taken_new journal
 carried setting slots status None left_new journal taken_old taken_new takes ends = tt
@@ -96,7 +98,7 @@ carried setting slots status (Some old) (Some new) journal taken_old taken_new t
     let is = ends old takes.0 new refl refl takes.1 in
     (record { taken = takes.0; parts = takes.1; all = is.all }, matches setting slots status old takes.0 new journal taken_old taken_new takes.1 is)
 
-decided-by : (setting : Setting) (slots : ℕ) (status : Status) (left_old left_new : Option (List ℕ)) (journal : Option (List Write)) (taken_old taken_new : Option (List ℕ)) → TakesSome left_old left_new
+decided-by : (setting : Setting) (slots : ℕ) (status : Status) (left_old left_new : Option (List ℕ)) (journal : List Write) (taken_old taken_new : Option (List ℕ)) → TakesSome left_old left_new
     → EndsTold setting slots status left_old left_new journal taken_old taken_new
     → ((left taken now : List ℕ) → (e : Ends setting slots left taken now status journal taken_old taken_new) → status ≡ decided setting (script_of (reading setting.family) left))
     → IsDecided status (Reads setting) left_old
@@ -105,7 +107,7 @@ decided-by setting slots status (Some old) None journal taken_old taken_new take
 decided-by setting slots status (Some old) (Some new) journal taken_old taken_new takes ends so =
     sym (so old takes.0 new (ends old takes.0 new refl refl takes.1))
 
-pub may-end : (setting : Setting) (slots : ℕ) (status : Status) (left_old left_new : Option (List ℕ)) (journal : Option (List Write)) (taken_old taken_new : Option (List ℕ)) → TakesSome left_old left_new
+pub may-end : (setting : Setting) (slots : ℕ) (status : Status) (left_old left_new : Option (List ℕ)) (journal : List Write) (taken_old taken_new : Option (List ℕ)) → TakesSome left_old left_new
     → status ≢ Usage → EndsTold setting slots status left_old left_new journal taken_old taken_new → MayEnd status (Reads setting) left_old
 may-end setting slots Done left_old left_new journal taken_old taken_new takes other ends =
     decided-by setting slots Done left_old left_new journal taken_old taken_new takes ends (λ left taken now e. complete-decided setting slots _ Done e.effects e.outcome.0)

@@ -2,6 +2,7 @@
 use Rattle.std.proofs.Common.{◌≡◌, false, List, [], ◌∷◌, ◌++◌, Some, None, refl, inl, inr, ◌∙◌, ap}
 use Rattle.std.specs.Prelude.{codes}
 use Rattle.rule_store.specs.declared.Mode.TheVariants.{Cover}
+use Rattle.batch_order.specs.declared.Placement.TheVariants.{Middle}
 use Rattle.replay.specs.declared.Family.TheVariants.{Route}
 use Rattle.tcam_device.specs.declared.Write.{Write}
 use Rattle.replay.specs.declared.Act.{Act}
@@ -10,18 +11,18 @@ use Rattle.tcam_cli.specs.declared.Status.TheVariants.{Done, Refused, Script as 
 use Rattle.tcam_cli.specs.Headline.{NoJob, Reads, IsCarriedOut, MayEnd}
 
 abbrev setting : Setting
-setting = record { slots = 8; mode = Cover; family = Route; trace = false }
+setting = record { slots = 8; mode = Cover; placement = Middle; family = Route; trace = false }
 
 -- a line at fault was taken, and then a read failed: nothing is printed, status 3
-passed-over : IsCarriedOut (Reads setting) 8 ReadFault (Some (codes "frob" ++ 10 ∷ codes "more")) (Some (codes "more")) (Some []) (Some []) (Some []) → ⊥
+passed-over : IsCarriedOut (Reads setting) 8 ReadFault (Some (codes "frob" ++ 10 ∷ codes "more")) (Some (codes "more")) (Some []) (Some []) [] → ⊥
 passed-over claim = let sound = claim.1.outcome.0.sound in cc
 
 -- the same of a byte that no script has, in a line that hasn't come whole
-passed-byte : IsCarriedOut (Reads setting) 8 ReadFault (Some (200 ∷ codes "more")) (Some (codes "more")) (Some []) (Some []) (Some []) → ⊥
+passed-byte : IsCarriedOut (Reads setting) 8 ReadFault (Some (200 ∷ codes "more")) (Some (codes "more")) (Some []) (Some []) [] → ⊥
 passed-byte claim = let sound = claim.1.outcome.0.sound in cc
 
 -- unread input
-unread : IsCarriedOut (Reads setting) 8 Done (Some (codes "more")) (Some (codes "e")) (Some []) (Some []) (Some []) → ⊥
+unread : IsCarriedOut (Reads setting) 8 Done (Some (codes "more")) (Some (codes "e")) (Some []) (Some []) [] → ⊥
 unread claim = let all = claim.0.all (inl refl) in cc
 
 -- the last line is left out, or an end line is printed where the script is at fault
@@ -55,21 +56,21 @@ no-act : (done : List Act) (act : Act) (later : List Act) → [] ≡ done ++ act
 no-act [] act later same = cc
 no-act (first ∷ done) act later same = cc
 
-writes-on : (write : Write) → IsCarriedOut (Reads setting) 8 WriteFault (Some []) (Some []) (Some []) (Some []) (Some (write ∷ [])) → ⊥
+writes-on : (write : Write) → IsCarriedOut (Reads setting) 8 WriteFault (Some []) (Some []) (Some []) (Some []) (write ∷ []) → ⊥
 writes-on write claim = elim claim.1.outcome.due [
   | inl at ↦ no-act at.done at.act at.later at.acts
   | inr end ↦ let same : write ∷ [] ≡ [] = claim.1.journal_is ∙ ap written end.run.0 in cc
 ]
 
 -- a device's fault where no write is due
-not-due : IsCarriedOut (Reads setting) 8 DeviceFault (Some []) (Some []) (Some []) (Some []) (Some []) → ⊥
+not-due : IsCarriedOut (Reads setting) 8 DeviceFault (Some []) (Some []) (Some []) (Some []) [] → ⊥
 not-due claim = elim claim.1.outcome.0.due [
   | inl at ↦ no-act at.done at.act at.later at.acts
   | inr end ↦ let same = end.due_is in cc
 ]
 
 -- the act of a last line without a line feed, and then a failed read
-late-read : IsCarriedOut (Reads setting) 8 ReadFault (Some (codes "packet 1.2.3.4 1.2.3.4 6 1 1")) (Some []) (Some []) (Some (codes "packet none" ++ 10 ∷ [])) (Some []) → ⊥
+late-read : IsCarriedOut (Reads setting) 8 ReadFault (Some (codes "packet 1.2.3.4 1.2.3.4 6 1 1")) (Some []) (Some []) (Some (codes "packet none" ++ 10 ∷ [])) [] → ⊥
 late-read claim =
     let nothing = claim.1.outcome.0.run.0 in
     let part = claim.1.outcome.1 in

@@ -100,11 +100,11 @@ pub record IsHitlessRun (setting : Setting) (device_slots : ℕ) (script came : 
   pub answers : AnswersAllTheWay (blank device_slots) (sets_of setting script) journal
   pub ends : EndsAs (blank device_slots) setting script came status journal
 
--- what packets see of a job, by what source and a device that was blank tell: a job without a script writes nothing
-abbrev pub IsHitlessJob : Job → ℕ → Status → Option (List ℕ) → Option (List ℕ) → Option (List Write) → Type 0
-IsHitlessJob NoJob device_slots status left_old left_new journal = IfSome journal (λ writes. writes ≡ [])
-IsHitlessJob (Tells text) device_slots status left_old left_new journal = IfSome journal (λ writes. writes ≡ [])
+-- what packets see of a job over a device that was blank, where the source is told: a job without a script writes nothing
+abbrev pub IsHitlessJob : Job → ℕ → Status → Option (List ℕ) → Option (List ℕ) → List Write → Type 0
+IsHitlessJob NoJob device_slots status left_old left_new journal = journal ≡ []
+IsHitlessJob (Tells text) device_slots status left_old left_new journal = journal ≡ []
 IsHitlessJob (Reads setting) device_slots status left_old left_new journal =
-    IfSome left_old (λ old. IfSome left_new (λ new. IfSome journal (λ writes.
+    IfSome left_old (λ old. IfSome left_new (λ new.
     IsHitlessRun setting device_slots (script_of (reading setting.family) old)
-    (script_so_far (reading setting.family) (take (length old - length new) old)) status writes)))
+    (script_so_far (reading setting.family) (take (length old - length new) old)) status journal))

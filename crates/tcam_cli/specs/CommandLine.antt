@@ -12,6 +12,7 @@ use Rattle.clap.specs.declared.error.kind.ErrorKind.TheVariants as kind
 use Rattle.clap.specs.declared.builder.action.ArgAction.TheVariants.{Set, SetTrue}
 use Rattle.clap.specs.declared.builder.value_parser.ValueParser.TheVariants.{Unsigned}
 use Rattle.rule_store.specs.declared.Mode.TheVariants.{Cover}
+use Rattle.batch_order.specs.declared.Placement.TheVariants.{Middle}
 use Rattle.replay.specs.declared.Family.{Family}
 use Rattle.replay.specs.declared.Family.TheVariants.{Route, Acl}
 use Rattle.replay.specs.Run.{Setting}
@@ -19,9 +20,10 @@ use Rattle.tcam_cli.specs.declared.command_line.Asked.{Asked}
 use Rattle.tcam_cli.specs.declared.command_line.Asked.TheVariants as asked
 use Rattle.tcam_cli.specs.Headline.{Job, NoJob, Tells, Reads}
 
--- a script of a family over so many slots in use, with a trace or without
+-- a script of a family over so many slots in use, each insertion aiming at the middle of its gap, with a trace or without
 abbrev pub script_setting : Family → ℕ → Bool → Setting
-script_setting family slots trace = record { slots = slots; mode = Cover; family = family; trace = trace }
+script_setting family slots trace =
+    record { slots = slots; mode = Cover; placement = Middle; family = family; trace = trace }
 
 -- --slots, a number from 1 to 4096, by default 4096
 unfoldable pub slots_option : Rule

@@ -3,7 +3,7 @@
 -- one; a refused commit writes nothing; and an insertion takes at most 1 + 2 m (1 + c) writes.
 use Rattle.std.specs.Prelude.{◌≡◌, ℕ, ◌-◌, ◌==◌, true, false, Bool, Option, Some, option_map, IfSome, List, [], ◌∷◌, ◌++◌, length, take, map, ◌⊎◌}
 use Rattle.std.specs.Io.KnownBytes.{Appends}
-use Rattle.script_lines.specs.Cause.{Rose}
+use Rattle.script_lines.specs.Cause.{IsCounted}
 use Rattle.script_lines.specs.Lines.{line_feed, lines_of}
 use Rattle.rule_model.specs.declared.Rule.{Rule}
 use Rattle.rule_store.specs.declared.Command.{Command as Change}
@@ -138,7 +138,7 @@ IsTold text last status report =
     ⊎ (((status ≡ WriteFault) × ((rest : List ℕ) × (text ≡ report ++ rest)))
     ⊎ ((status ≡ Memory) × (report ≡ [])))
 
--- The journal, where it is told, and the report, where it is told too, are those of an outcome.
+-- The journal, and the report where it is told, are those of an outcome.
 pub record MatchesOutcome (setting : Setting) (device_slots : ℕ) (script came : Script) (status : Status) (journal : List Write) (taken_old taken_new : Option (List ℕ)) : Type 0 where
   pub effects : List Effect
   pub partial : List ℕ
@@ -153,13 +153,13 @@ pub record TakesFrom (status : Status) (old new : List ℕ) : Type 0 where
   pub all : (status ≡ Done) ⊎ (status ≡ Refused) → new ≡ []
 
 -- A job that touches neither source nor device, and prints one text.
-abbrev pub IsToldAlone : List ℕ → Status → Status → Option (List ℕ) → Option (List ℕ) → Option (List ℕ) → Option (List ℕ) → Option (List Write) → Type 0
+abbrev pub IsToldAlone : List ℕ → Status → Status → Option (List ℕ) → Option (List ℕ) → Option (List ℕ) → Option (List ℕ) → List Write → Type 0
 IsToldAlone text last status left_old left_new taken_old taken_new journal =
-    (left_new ≡ left_old) × IfSome journal (λ writes. writes ≡ [])
+    (left_new ≡ left_old) × (journal ≡ [])
     × IfSome taken_old (λ before. IfSome taken_new (λ after. (report : List ℕ) × (after ≡ before ++ report) × IsTold text last status report))
 
--- the promise of a job, by what source, sink and a device that was blank tell, each part where what it rests on is told
-abbrev pub IsCarriedOut : Job → ℕ → Status → Option (List ℕ) → Option (List ℕ) → Option (List ℕ) → Option (List ℕ) → Option (List Write) → Type 0
+-- the promise of a job over a device that was blank, each part where what it rests on is told of source and sink
+abbrev pub IsCarriedOut : Job → ℕ → Status → Option (List ℕ) → Option (List ℕ) → Option (List ℕ) → Option (List ℕ) → List Write → Type 0
 IsCarriedOut NoJob device_slots status left_old left_new taken_old taken_new journal =
     IsToldAlone usage_line Usage status left_old left_new taken_old taken_new journal
 IsCarriedOut (Tells text) device_slots status left_old left_new taken_old taken_new journal =
@@ -167,9 +167,8 @@ IsCarriedOut (Tells text) device_slots status left_old left_new taken_old taken_
 IsCarriedOut (Reads setting) device_slots status left_old left_new taken_old taken_new journal =
     IfSome left_old (λ old. IfSome left_new (λ new.
     TakesFrom status old new
-    × IfSome journal (λ writes.
-    MatchesOutcome setting device_slots (script_of (reading setting.family) old)
-    (script_so_far (reading setting.family) (take (length old - length new) old)) status writes taken_old taken_new)))
+    × MatchesOutcome setting device_slots (script_of (reading setting.family) old)
+    (script_so_far (reading setting.family) (take (length old - length new) old)) status journal taken_old taken_new))
 
 -- whether a commit of the acts is refused, by the rule lists alone: the set before them and the batch that is pending
 abbrev pub any_refused : Setting → List Rule → List Change → List Act → Bool
@@ -224,9 +223,10 @@ MayEnd Done job left = IsDecided Done job left
 MayEnd Refused job left = IsDecided Refused job left
 MayEnd ScriptFault job left = ReadsSource job × IsDecided ScriptFault job left
 
--- a fault of the outside only where its count rose; else want of memory, or the status that words and script decide
+-- A fault of the outside exactly where its count rose, by one: none is passed over in silence, and none tried again. Else
+-- it is want of memory, or the status that words and script decide.
 pub record HasCauses (job : Job) (left : Option (List ℕ)) (status : Status) (source_old source_new sink_old sink_new device_old device_new : ℕ) : Type 0 where
-  pub read : status ≡ ReadFault → Rose source_old source_new
-  pub write : status ≡ WriteFault → Rose sink_old sink_new
-  pub device : status ≡ DeviceFault → Rose device_old device_new
+  pub read : IsCounted (status ≡ ReadFault) source_old source_new
+  pub write : IsCounted (status ≡ WriteFault) sink_old sink_new
+  pub device : IsCounted (status ≡ DeviceFault) device_old device_new
   pub ends : MayEnd status job left

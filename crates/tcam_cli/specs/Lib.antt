@@ -4,3 +4,4 @@ pub mod CommandLine
 pub mod Turns
 pub mod ExitCodes
 pub mod AllTheWay
+pub mod Given

@@ -1,5 +1,5 @@
 -- Where a run over a script stands between two lines, how it ends, and what a command of it has.
-use Rattle.std.specs.Prelude.{◌≡◌, ◌⊎◌, ℕ, ◌++◌, Option, IfSome, IsSome, List, [], length, map}
+use Rattle.std.specs.Prelude.{◌≡◌, ◌⊎◌, ℕ, ◌++◌, Option, List, [], length, map}
 use Rattle.std.specs.Io.KnownBytes.{Appends}
 use Rattle.script_lines.specs.Lines.{limits, ScriptLines, lines_from, lines_of}
 use Rattle.rule_model.specs.AddressBlock.{IsIpv4Block}
@@ -57,21 +57,21 @@ abbrev pub acts_only : List NumberedAct → List Act
 acts_only acts = map (λ numbered. numbered.act) acts
 
 -- the acts so far are carried out, also where no device tells of it
-pub record SoFar (setting : Setting) (slots : ℕ) (bytes : List ℕ) (held : Held) (left : List ℕ) (progress : Progress) (journal : Option (List Write)) (taken_old taken_new : Option (List ℕ)) : Type 0 where
+pub record SoFar (setting : Setting) (slots : ℕ) (bytes : List ℕ) (held : Held) (left : List ℕ) (progress : Progress) (journal : List Write) (taken_old taken_new : Option (List ℕ)) : Type 0 where
   pub acts : List NumberedAct
   pub effects : List Effect
   pub run : Runs setting slots (acts_only acts) effects progress
-  pub journal_is : IfSome journal (λ writes. writes ≡ written effects)
-  pub report : IsSome journal → Appends taken_old taken_new (printed effects)
+  pub journal_is : journal ≡ written effects
+  pub report : Appends taken_old taken_new (printed effects)
   pub read : IsRead held.over (reading setting.family) bytes held left acts (length progress.batch) (length progress.probes)
 
 -- a run over a script ends, with these bytes taken of it
-pub record Ends (setting : Setting) (slots : ℕ) (bytes taken left : List ℕ) (status : Status) (journal : Option (List Write)) (taken_old taken_new : Option (List ℕ)) : Type 0 where
+pub record Ends (setting : Setting) (slots : ℕ) (bytes taken left : List ℕ) (status : Status) (journal : List Write) (taken_old taken_new : Option (List ℕ)) : Type 0 where
   pub effects : List Effect
   pub partial : List ℕ
   pub outcome : IsOutcome setting slots (script_of (reading setting.family) bytes) (script_so_far (reading setting.family) taken) status effects partial
-  pub journal_is : IfSome journal (λ writes. writes ≡ written effects)
-  pub report : IsSome journal → Appends taken_old taken_new (printed effects ++ partial)
+  pub journal_is : journal ≡ written effects
+  pub report : Appends taken_old taken_new (printed effects ++ partial)
   pub all : (status ≡ Done) ⊎ (status ≡ Refused) → left ≡ []
 
 -- a last line was written, or a part of it where the sink failed

@@ -5,7 +5,7 @@ use crate::tests::{ONE, THREE, TWO, carried_out, check, check_line, words_of};
 use crate::top::run;
 use script_lines::{MemSink, MemSource};
 use std::test::Fail;
-use tcam_device::{Device, FlakyTcam};
+use tcam_device::FlakyTcam;
 
 const EIGHT: &str = "tcam route --slots 8";
 
@@ -103,6 +103,16 @@ fn probed_in_a_list(rt: HostRuntime) -> Result<(), Fail> {
         report,
         4,
     )
+}
+
+/// Rule 50 is replaced, and its old entry is moved past the new one: the probe sees old, new, old, new.
+#[test]
+fn turned_back(rt: HostRuntime) -> Result<(), Fail> {
+    let script =
+        "acl add 50 permit any any any any any\ncommit\nacl add 90 deny any any any any any\ncommit\nacl add 80 deny any 128.0.0.0/1 any any any\ncommit\nprobe 0.0.0.0 10.1.2.3 0 0 0\nacl del 50\nacl add 50 deny any 0.0.0.0/1 any any any\nacl add 70 deny any 128.0.0.0/2 any any any\ncommit\n";
+    let report =
+        "commit 1 ok writes 1 words 0 most 1 span 0\ncommit 2 ok writes 1 words 0 most 1 span 0\ncommit 3 ok writes 1 words 0 most 1 span 0\nw 1 p 1 50 deny\nw 2 p 1 50 permit\nw 3 p 1 50 permit\nw 4 p 1 50 deny\ncommit 4 ok writes 4 words 0 most 2 span 0\nend rules 4 entries 4 writes 7 pending 0\n";
+    check(&rt, "tcam acl --slots 8", script, Status::Done, report, 7)
 }
 
 #[test]

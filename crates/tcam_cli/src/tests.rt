@@ -8,7 +8,7 @@ use script_lines::{FailSink, FailSource, MemSink, MemSource};
 use std::alloc::{AllocError, Global};
 use std::process::Abort;
 use std::test::Fail;
-use tcam_device::{Device, FlakyTcam, MemTcam};
+use tcam_device::{FlakyTcam, MemTcam, Writable};
 
 /// The words of a command line that blanks part.
 pub(crate) fn words_of(alloc: Global, line: &str) -> Result<Vec<String>, AllocError> {

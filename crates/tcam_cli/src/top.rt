@@ -1,9 +1,12 @@
 //! The top call: a command line, a source, a sink and a device.
 
-ghost use Rattle.std.specs.Prelude.{◌≡◌, ◌≢◌, ◌*◌, ◌<◌, ◌≤◌, ◌++◌, ℕ, List, Option, [], Ok, Err, Some, None, IsSome, IfNone, IfSome, IfOk, IfErr, length, map, string_bytes};
+ghost use Rattle.std.specs.Prelude.{Bool, ◌≡◌, ◌≢◌, ◌⊎◌, ◌*◌, ◌<◌, ◌≤◌, ◌++◌, ℕ, List, Option, [], Ok, Err, Some, None, IsSome, IfNone, IfSome, IfOk, IfErr, length, map, string_bytes};
 ghost use Rattle.std.specs.Io.KnownBytes.{Consumes};
-ghost use Rattle.script_lines.specs.Cause.{Rose};
+ghost use Rattle.script_lines.specs.Cause.{IsCounted};
 ghost use Rattle.script_lines.specs.Lines.{numbered};
+ghost use Rattle.script_lines.specs.Given.{GivesPieces, counted};
+ghost use Rattle.script_lines.specs.declared.Over.TheVariants.{Going};
+ghost use Rattle.tcam_cli.specs.Given.{IsPromisedByGiven, ReadsInTime, TurnsBy};
 ghost use Rattle.line_words.specs.Texts.{word_fault_text};
 ghost use Rattle.replay.specs.Run.{IsActOf, start, ending};
 ghost use Rattle.replay.specs.Running.{progress_of, setting_of};
@@ -13,13 +16,13 @@ ghost use Rattle.tcam_cli.specs.AllTheWay.{IsHitlessJob};
 ghost use Rattle.tcam_cli.specs.CommandLine.{job_of, script_setting};
 ghost use Rattle.tcam_cli.specs.Headline.{IsCarriedOut, HasCauses, Reads, status_of};
 ghost use Rattle.tcam_cli.specs.Readings.{acl_act, reading, route_act};
-ghost use Rattle.tcam_cli.specs.Turns.{SoFar, Ends, Closes, IsIpv4Command};
+ghost use Rattle.tcam_cli.specs.Turns.{Closes, IsIpv4Command};
 
 use crate::Status;
 use crate::command_line::{Asked, HELP, VERSION, WordsFault, read_words};
 use acl_reader::{AclCommand, read_acl};
 use line_words::WordFault;
-use replay::{Act, Family, Mode, Run, RunFault, write_fault, write_text};
+use replay::{Act, Family, Mode, Placement, Run, RunFault, write_fault, write_text};
 use route_reader::{RouteCommand, read_route};
 use rule_model::{ipv4_route_rank, list_rank, route_rule, rule_conditions};
 use rule_store::Command;
@@ -33,11 +36,11 @@ use tcam_device::Device;
 /// After every single device write each packet key has the answer of the set before the commit or of the one after it,
 /// and after a commit's last write that of the one after it; a refused commit writes nothing. The answer is `Done` or
 /// `Refused` where the script was read to its end, `Refused` where some commit was refused; `Script` where a line is at
-/// fault, which the last line of the report names. `ReadFault`, `WriteFault` and `DeviceFault` come only where the
+/// fault, which the last line of the report names. `ReadFault`, `WriteFault` and `DeviceFault` come exactly where the
 /// count of failures of source, sink or device rose, and then nothing more is read, written or printed. `Memory` comes
 /// for want of memory alone, before a commit's first write. `Usage` comes where the words are no command line, and
 /// there nothing else comes but a failing sink and want of memory. The lines of an act are handed to the sink before the
-/// next act is carried out.
+/// next act is carried out, and every line of the script is carried out as soon as it is known, before the next read.
 pub fn run<S: Source, K: Sink, D: Device>(
     alloc: Global,
     words: &[String],
@@ -46,13 +49,16 @@ pub fn run<S: Source, K: Sink, D: Device>(
     device: &mut D,
 ) -> Status
     requires slots { 4096 ≤ D.slot_count device.old }
-    requires blank { IfSome (D.journal device.old) (λ writes. writes ≡ []) }
+    requires blank { D.journal device.old ≡ [] }
     ensures carried_out { IsCarriedOut (job_of (map (λ w. string_bytes w) words.now)) (D.slot_count device.old) result
         (S.left source.old) (S.left source.new) (K.taken sink.old) (K.taken sink.new) (D.journal device.new) }
     ensures hitless { IsHitlessJob (job_of (map (λ w. string_bytes w) words.now)) (D.slot_count device.old) result
         (S.left source.old) (S.left source.new) (D.journal device.new) }
-    ensures told { (IsSome (S.left source.old) → IsSome (S.left source.new)) × (IsSome (K.taken sink.old) → IsSome (K.taken sink.new))
-        × (IsSome (D.journal device.old) → IsSome (D.journal device.new)) }
+    ensures given { (which : Bool) → IsPromisedByGiven (job_of (map (λ w. string_bytes w) words.now)) (D.slot_count device.old) result
+        (S.given source.old) (S.given source.new) (counted which (K.taken sink.old) (K.accepted sink.old)) (counted which (K.taken sink.new) (K.accepted sink.new)) (D.journal device.new) }
+    ensures in_time { ReadsInTime (job_of (map (λ w. string_bytes w) words.now)) (D.slot_count device.old)
+        (S.given source.old) (S.given source.new) (D.journal device.new) (K.accepted sink.old) (K.accepted sink.new) }
+    ensures told { (IsSome (S.left source.old) → IsSome (S.left source.new)) × (IsSome (K.taken sink.old) → IsSome (K.taken sink.new)) }
     ensures slot_count { D.slot_count device.new ≡ D.slot_count device.old }
     ensures causes { HasCauses (job_of (map (λ w. string_bytes w) words.now)) (S.left source.old) result
         (S.faults source.old) (S.faults source.new) (K.faults sink.old) (K.faults sink.new)
@@ -86,17 +92,20 @@ fn run_family<S: Source, K: Sink, D: Device>(
     requires least { 1 ≤ slots }
     requires most { slots ≤ 4096 }
     requires device { 4096 ≤ D.slot_count device.old }
-    requires blank { IfSome (D.journal device.old) (λ writes. writes ≡ []) }
+    requires blank { D.journal device.old ≡ [] }
     ensures carried_out { IsCarriedOut (Reads (script_setting family slots trace)) (D.slot_count device.old) result
         (S.left source.old) (S.left source.new) (K.taken sink.old) (K.taken sink.new) (D.journal device.new) }
-    ensures told { (IsSome (S.left source.old) → IsSome (S.left source.new)) × (IsSome (K.taken sink.old) → IsSome (K.taken sink.new))
-        × (IsSome (D.journal device.old) → IsSome (D.journal device.new)) }
+    ensures given { (which : Bool) → IsPromisedByGiven (Reads (script_setting family slots trace)) (D.slot_count device.old) result
+        (S.given source.old) (S.given source.new) (counted which (K.taken sink.old) (K.accepted sink.old)) (counted which (K.taken sink.new) (K.accepted sink.new)) (D.journal device.new) }
+    ensures in_time { ReadsInTime (Reads (script_setting family slots trace)) (D.slot_count device.old)
+        (S.given source.old) (S.given source.new) (D.journal device.new) (K.accepted sink.old) (K.accepted sink.new) }
+    ensures told { (IsSome (S.left source.old) → IsSome (S.left source.new)) × (IsSome (K.taken sink.old) → IsSome (K.taken sink.new)) }
     ensures slot_count { D.slot_count device.new ≡ D.slot_count device.old }
     ensures causes { HasCauses (Reads (script_setting family slots trace)) (S.left source.old) result
         (S.faults source.old) (S.faults source.new) (K.faults sink.old) (K.faults sink.new)
         (D.faults device.old) (D.faults device.new) }
 {
-    match Run::new(alloc, slots, Mode::Cover, family, trace) {
+    match Run::new(alloc, slots, Mode::Cover, Placement::Middle, family, trace) {
         Ok(mut run) => run_script(&mut run, source, sink, device),
         Err(_) => Status::Memory,
     }
@@ -112,11 +121,14 @@ fn run_script<S: Source, K: Sink, D: Device>(
     requires slots { run.old.manager.slots ≤ D.slot_count device.old }
     requires idle { run.old.manager.held ≡ None }
     requires begun { progress_of (D.slot_count device.old) run.old ≡ start (D.slot_count device.old) }
-    requires blank { IfSome (D.journal device.old) (λ writes. writes ≡ []) }
+    requires blank { D.journal device.old ≡ [] }
     ensures carried_out { IsCarriedOut (Reads (setting_of run.old)) (D.slot_count device.old) result
         (S.left source.old) (S.left source.new) (K.taken sink.old) (K.taken sink.new) (D.journal device.new) }
-    ensures told { (IsSome (S.left source.old) → IsSome (S.left source.new)) × (IsSome (K.taken sink.old) → IsSome (K.taken sink.new))
-        × (IsSome (D.journal device.old) → IsSome (D.journal device.new)) }
+    ensures given { (which : Bool) → IsPromisedByGiven (Reads (setting_of run.old)) (D.slot_count device.old) result
+        (S.given source.old) (S.given source.new) (counted which (K.taken sink.old) (K.accepted sink.old)) (counted which (K.taken sink.new) (K.accepted sink.new)) (D.journal device.new) }
+    ensures in_time { ReadsInTime (Reads (setting_of run.old)) (D.slot_count device.old)
+        (S.given source.old) (S.given source.new) (D.journal device.new) (K.accepted sink.old) (K.accepted sink.new) }
+    ensures told { (IsSome (S.left source.old) → IsSome (S.left source.new)) × (IsSome (K.taken sink.old) → IsSome (K.taken sink.new)) }
     ensures slot_count { D.slot_count device.new ≡ D.slot_count device.old }
     ensures causes { HasCauses (Reads (setting_of run.old)) (S.left source.old) result
         (S.faults source.old) (S.faults source.new) (K.faults sink.old) (K.faults sink.new)
@@ -150,25 +162,15 @@ fn turn<S: Source, K: Sink, D: Device>(
     ensures idle { IfNone result (run.new.manager.held ≡ None) }
     ensures setting { setting_of run.new ≡ setting_of run.old }
     ensures slot_count { D.slot_count device.new ≡ D.slot_count device.old }
-    ensures goes { IfNone result ((bytes begun now : List ℕ) (start : Option (List ℕ)) → S.left source.old ≡ Some begun → S.left source.new ≡ Some now
-        → SoFar (setting_of run.old) (D.slot_count device.old) bytes lines.old begun (progress_of (D.slot_count device.old) run.old)
-        (D.journal device.old) start (K.taken sink.old)
-        → SoFar (setting_of run.old) (D.slot_count device.old) bytes lines.new now (progress_of (D.slot_count device.old) run.new)
-        (D.journal device.new) start (K.taken sink.new)) }
-    ensures ends { IfSome result (λ status. (bytes taken begun now : List ℕ) (start : Option (List ℕ)) → S.left source.old ≡ Some begun → S.left source.new ≡ Some now
-        → bytes ≡ taken ++ now
-        → SoFar (setting_of run.old) (D.slot_count device.old) bytes lines.old begun (progress_of (D.slot_count device.old) run.old)
-        (D.journal device.old) start (K.taken sink.old)
-        → Ends (setting_of run.old) (D.slot_count device.old) bytes taken now status (D.journal device.new) start (K.taken sink.new)) }
-    ensures takes { (bytes : List ℕ) × Consumes (S.left source.old) (S.left source.new) bytes }
-    ensures told { (IsSome (D.journal device.old) → IsSome (D.journal device.new)) × (IsSome (K.taken sink.old) → IsSome (K.taken sink.new)) }
-    ensures reads { S.faults source.old ≤ S.faults source.new }
-    ensures writes { K.faults sink.old ≤ K.faults sink.new }
-    ensures makes { D.faults device.old ≤ D.faults device.new }
+    ensures gives { (pieces : List (List ℕ)) × GivesPieces (S.given source.old) (S.given source.new) (S.left source.old) (S.left source.new) pieces
+        × ((which : Bool) → TurnsBy (setting_of run.old) (D.slot_count device.old) lines.old (progress_of (D.slot_count device.old) run.old) pieces result
+        lines.new (progress_of (D.slot_count device.old) run.new) (D.journal device.old) (D.journal device.new) (counted which (K.taken sink.old) (K.accepted sink.old)) (counted which (K.taken sink.new) (K.accepted sink.new))) }
+    ensures rests { lines.old.over ≢ Going → (S.left source.new ≡ S.left source.old) × (lines.new ≡ lines.old) }
+    ensures told { IsSome (K.taken sink.old) → IsSome (K.taken sink.new) }
     ensures no_usage { result ≢ Some Status.Usage }
-    ensures read { result ≡ Some Status.ReadFault → Rose (S.faults source.old) (S.faults source.new) }
-    ensures write { result ≡ Some Status.WriteFault → Rose (K.faults sink.old) (K.faults sink.new) }
-    ensures device { result ≡ Some Status.DeviceFault → Rose (D.faults device.old) (D.faults device.new) }
+    ensures read { IsCounted (result ≡ Some Status.ReadFault) (S.faults source.old) (S.faults source.new) }
+    ensures write { IsCounted (result ≡ Some Status.WriteFault) (K.faults sink.old) (K.faults sink.new) }
+    ensures device { IsCounted (result ≡ Some Status.DeviceFault) (D.faults device.old) (D.faults device.new) }
 {
     let line = match lines.next(source) {
         Err(LineFault::Read) => return Some(Status::ReadFault),
@@ -292,12 +294,11 @@ fn fault_text(fault: &WordFault) -> &'static str
 /// Writes the end line of a script that was read to its end.
 fn finish<K: Sink>(run: &mut Run, sink: &mut K) -> Status
     ensures run { run.new ≡ run.old }
-    ensures closes { (device_slots : ℕ) → Closes (ending (setting_of run.old) (progress_of device_slots run.old)) (status_of (progress_of device_slots run.old) Whole)
-        result (K.taken sink.old) (K.taken sink.new) }
+    ensures closes { (which : Bool) → (device_slots : ℕ) → Closes (ending (setting_of run.old) (progress_of device_slots run.old)) (status_of (progress_of device_slots run.old) Whole)
+        result (counted which (K.taken sink.old) (K.accepted sink.old)) (counted which (K.taken sink.new) (K.accepted sink.new)) }
     ensures kind { (result ≢ Status.Usage) × (result ≢ Status.ReadFault) × (result ≢ Status.DeviceFault) }
     ensures told { IsSome (K.taken sink.old) → IsSome (K.taken sink.new) }
-    ensures later { K.faults sink.old ≤ K.faults sink.new }
-    ensures cause { result ≡ Status.WriteFault → Rose (K.faults sink.old) (K.faults sink.new) }
+    ensures cause { IsCounted (result ≡ Status.WriteFault) (K.faults sink.old) (K.faults sink.new) }
 {
     match run.finish(sink) {
         Ok(false) => Status::Done,
@@ -309,9 +310,10 @@ fn finish<K: Sink>(run: &mut Run, sink: &mut K) -> Status
 /// Writes the line that names the fault of a script's line.
 fn fault<K: Sink>(line: u32, text: &str, sink: &mut K) -> Status
     requires { length text.now ≤ 32 }
-    ensures closes { Closes (fault_line line text.now) Status.Script result (K.taken sink.old) (K.taken sink.new) }
-    ensures later { K.faults sink.old ≤ K.faults sink.new }
-    ensures cause { result ≡ Status.WriteFault → Rose (K.faults sink.old) (K.faults sink.new) }
+    ensures closes { (which : Bool) → Closes (fault_line line text.now) Status.Script result (counted which (K.taken sink.old) (K.accepted sink.old)) (counted which (K.taken sink.new) (K.accepted sink.new)) }
+    ensures kind { (result ≢ Status.Usage) × (result ≢ Status.ReadFault) × (result ≢ Status.DeviceFault) }
+    ensures told { IsSome (K.taken sink.old) → IsSome (K.taken sink.new) }
+    ensures cause { IsCounted (result ≡ Status.WriteFault) (K.faults sink.old) (K.faults sink.new) }
 {
     match write_fault(sink, line, text) {
         Ok(()) => Status::Script,
@@ -322,9 +324,10 @@ fn fault<K: Sink>(line: u32, text: &str, sink: &mut K) -> Status
 /// Writes a text, and answers the status that follows, which is no failure of the sink.
 fn tell<K: Sink>(sink: &mut K, text: &str, last: Status) -> Status
     requires { last ≢ Status.WriteFault }
-    ensures closes { Closes text.now last result (K.taken sink.old) (K.taken sink.new) }
-    ensures later { K.faults sink.old ≤ K.faults sink.new }
-    ensures cause { result ≡ Status.WriteFault → Rose (K.faults sink.old) (K.faults sink.new) }
+    ensures closes { (which : Bool) → Closes text.now last result (counted which (K.taken sink.old) (K.accepted sink.old)) (counted which (K.taken sink.new) (K.accepted sink.new)) }
+    ensures kind { (result ≡ last) ⊎ (result ≡ Status.WriteFault) }
+    ensures told { IsSome (K.taken sink.old) → IsSome (K.taken sink.new) }
+    ensures cause { IsCounted (result ≡ Status.WriteFault) (K.faults sink.old) (K.faults sink.new) }
 {
     match write_text(sink, text) {
         Ok(()) => last,

@@ -1,9 +1,12 @@
-use Rattle.std.proofs.Common.{◌≡◌, ◌++◌, [], Some, refl, ap, sym, ◌∙◌, arith}
-use Rattle.std.proofs.KnownBytes.{Consumes-nil, Consumes-trans}
+use Rattle.std.proofs.Common.{true, false, ◌≡◌, ◌++◌, [], Some, refl, ap, ◌∙◌, arith}
+use Rattle.std.specs.List.{concat}
+use Rattle.script_lines.specs.Given.{HasEnd, counted}
+use Rattle.tcam_cli.proofs.GivenRuns.{gives-none, gives-trans, may-first, may-second, ended-both, no-more, may-all, ends-told, promised}
+use Rattle.tcam_cli.proofs.InTime.{in-time-none, turn-in-time, reads-in-time}
 use Rattle.script_lines.specs.Reader.{Held}
 use Rattle.replay.specs.Run.{Progress}
-use Rattle.replay.specs.Running.{setting_of}
-use Rattle.tcam_cli.proofs.WholeRun.{starts, told-forward, rose-later, carried, may-end}
+use Rattle.replay.specs.Running.{progress_of, setting_of}
+use Rattle.tcam_cli.proofs.WholeRun.{starts, told-source, counted-last, carried, may-end}
 use Rattle.tcam_cli.proofs.top.run_script.Goals as goal
 
 pub acts-init : goal.acts-init
@@ -13,12 +16,11 @@ acts-init g c = record {
   idle = c.requires.idle;
   commits = let none : c.args.run.now.commits ≡ 0 = ap (λ (p : Progress). p.commits) c.requires.begun in omega (arith, none);
   within = let none = ap (λ (h : Held). h.before) c.new-lines.ensures in omega (arith, none);
-  goes = λ left now el en. starts _ _ left _ now _ _ _ c.new-lines.ensures (sym el ∙ en) c.requires.begun c.requires.blank;
-  takes = ([], Consumes-nil _);
-  told = (λ some. some, λ some. some);
-  reads = omega arith;
-  writes = omega arith;
-  makes = omega arith;
+  gives = ([], gives-none _ _, λ e. absurd e, λ which left now may. starts _ _ left _ now _ _ _ c.new-lines.ensures (ap Some may.bytes) c.requires.begun c.requires.blank, in-time-none _ _ _ _ _);
+  told = λ some. some;
+  reads = refl;
+  writes = refl;
+  makes = refl;
 }
 
 pub acts-preserved : goal.acts-preserved
@@ -31,36 +33,85 @@ acts-preserved g c =
       idle = t.idle;
       commits = t.commits;
       within = t.within;
-      goes = λ left now el en.
-          let mid = told-forward _ _ left i.takes el in
-          let s = i.goes left mid.0 el mid.1 in
-          rw (← i.setting, ← i.slot_count) (t.goes left mid.0 now _ mid.1 en (rw (i.setting, i.slot_count) s));
-      takes = (i.takes.0 ++ t.takes.0, Consumes-trans _ _ _ _ _ i.takes.1 t.takes.1);
-      told = (λ some. t.told.0 (i.told.0 some), λ some. t.told.1 (i.told.1 some));
-      reads = omega arith;
-      writes = omega arith;
-      makes = omega arith;
+      gives = (
+        i.gives.0 ++ t.gives.0,
+        gives-trans _ _ _ _ _ _ i.gives.0 t.gives.0 i.gives.1 t.gives.1 (λ e. (t.gives.2 true).rests (no-more _ (i.gives.2 e))) (λ e. (t.rests (no-more _ (i.gives.2 e))).0),
+        λ e. ended-both _ _ i.gives.0 t.gives.0 e i.gives.2 (λ o. (t.rests o).1) (t.gives.2 true).ended,
+        λ which left now may.
+            let stays : HasEnd i.gives.0 → t.gives.0 ≡ [] = λ e. (t.gives.2 true).rests (no-more _ (i.gives.2 e)) in
+            let s = i.gives.3 which left (concat t.gives.0 ++ now) (may-first left now i.gives.0 t.gives.0 may stays) in
+            rw (← i.setting, ← i.slot_count) ((t.gives.2 which).goes left (concat t.gives.0 ++ now) now _ (may-second left now i.gives.0 t.gives.0 may) (rw (i.setting, i.slot_count) s)),
+        let turn = t.gives.2 false in
+            let stays : HasEnd i.gives.0 → t.gives.0 ≡ [] = λ e. turn.rests (no-more _ (i.gives.2 e)) in
+            let may = may-all (i.gives.0 ++ t.gives.0) in
+            let s = i.gives.3 false _ (concat t.gives.0 ++ []) (may-first _ [] i.gives.0 t.gives.0 may stays) in
+            turn-in-time (setting_of c.args.run.now) (g.D.Writable.slot_count c.args.device.now) i.gives.0 t.gives.0 c.acts.lines (progress_of (g.D.Writable.slot_count c.args.device.now) c.acts.run) (g.D.Writable.journal c.acts.device) _ _ _ _ (i.gives.3 false) stays turn.rests turn.last
+            (turn.grows (concat (i.gives.0 ++ t.gives.0)) (concat t.gives.0 ++ []) [] (Some (g.K.Sink.accepted c.args.sink.now)) (may-second _ [] i.gives.0 t.gives.0 may) (rw (i.setting, i.slot_count) s)) i.gives.4,
+      );
+      told = λ some. t.told (i.told some);
+      reads = t.read.stayed (λ e. cc) ∙ i.reads;
+      writes = t.write.stayed (λ e. cc) ∙ i.writes;
+      makes = t.device.stayed (λ e. cc) ∙ i.makes;
     }
 
 pub returns-in-Some-clause-carried_out : goal.returns-in-Some-clause-carried_out
 returns-in-Some-clause-carried_out g c =
     let i = c.acts.invariant in
     let t = c.in-Some.ensures in
-    carried (setting_of c.args.run.now) (g.D.Device.slot_count c.args.device.now) c.in-Some.status (g.S.Source.left c.args.source.now) (g.S.Source.left c.turn.new.source) (g.D.Device.journal c.turn.new.device) (g.K.Sink.taken c.args.sink.now) (g.K.Sink.taken c.turn.new.sink)
-    (i.takes.0 ++ t.takes.0, Consumes-trans _ _ _ _ _ i.takes.1 t.takes.1) (λ left taken now el en parts.
-    let mid = told-forward _ _ left i.takes el in
-    rw (← i.setting, ← i.slot_count) (t.ends left taken mid.0 now _ mid.1 en parts (rw (i.setting, i.slot_count) (i.goes left mid.0 el mid.1))))
+    let stays : HasEnd i.gives.0 → t.gives.0 ≡ [] = λ e. (t.gives.2 true).rests (no-more _ (i.gives.2 e)) in
+    let all = gives-trans _ _ _ _ _ _ i.gives.0 t.gives.0 i.gives.1 t.gives.1 stays (λ e. (t.rests (no-more _ (i.gives.2 e))).0) in
+    carried (setting_of c.args.run.now) (g.D.Writable.slot_count c.args.device.now) c.in-Some.status (g.S.Source.left c.args.source.now) (g.S.Source.left c.turn.new.source) (g.D.Writable.journal c.turn.new.device) (g.K.Sink.taken c.args.sink.now) (g.K.Sink.taken c.turn.new.sink)
+    (concat (i.gives.0 ++ t.gives.0), all.taken) (ends-told _ _ c.in-Some.status _ _ _ _ (i.gives.0 ++ t.gives.0) _ _ _ all (λ left taken now may parts.
+    let s = i.gives.3 true left (concat t.gives.0 ++ now) (may-first left now i.gives.0 t.gives.0 may stays) in
+    rw (← i.setting, ← i.slot_count) ((t.gives.2 true).ends left taken (concat t.gives.0 ++ now) now _ (may-second left now i.gives.0 t.gives.0 may) parts (rw (i.setting, i.slot_count) s))))
+
+pub returns-in-Some-clause-given : goal.returns-in-Some-clause-given
+returns-in-Some-clause-given g c = λ which.
+    let i = c.acts.invariant in
+    let t = c.in-Some.ensures in
+    let stays : HasEnd i.gives.0 → t.gives.0 ≡ [] = λ e. (t.gives.2 true).rests (no-more _ (i.gives.2 e)) in
+    let all = gives-trans _ _ _ _ _ _ i.gives.0 t.gives.0 i.gives.1 t.gives.1 stays (λ e. (t.rests (no-more _ (i.gives.2 e))).0) in
+    promised (setting_of c.args.run.now) (g.D.Writable.slot_count c.args.device.now) c.in-Some.status (g.S.Source.given c.args.source.now) (g.S.Source.given c.turn.new.source) (g.S.Source.left c.args.source.now) (g.S.Source.left c.turn.new.source) (i.gives.0 ++ t.gives.0)
+    (g.D.Writable.journal c.turn.new.device) (counted which (g.K.Sink.taken c.args.sink.now) (g.K.Sink.accepted c.args.sink.now)) (counted which (g.K.Sink.taken c.turn.new.sink) (g.K.Sink.accepted c.turn.new.sink))
+    (λ e. t.no_usage (ap Some e)) all (λ left taken now may parts.
+    let s = i.gives.3 which left (concat t.gives.0 ++ now) (may-first left now i.gives.0 t.gives.0 may stays) in
+    rw (← i.setting, ← i.slot_count) ((t.gives.2 which).ends left taken (concat t.gives.0 ++ now) now _ (may-second left now i.gives.0 t.gives.0 may) parts (rw (i.setting, i.slot_count) s)))
 
 pub returns-in-Some-clause-causes : goal.returns-in-Some-clause-causes
 returns-in-Some-clause-causes g c =
     let i = c.acts.invariant in
     let t = c.in-Some.ensures in
+    let stays : HasEnd i.gives.0 → t.gives.0 ≡ [] = λ e. (t.gives.2 true).rests (no-more _ (i.gives.2 e)) in
+    let all = gives-trans _ _ _ _ _ _ i.gives.0 t.gives.0 i.gives.1 t.gives.1 stays (λ e. (t.rests (no-more _ (i.gives.2 e))).0) in
     record {
-      read = λ e. rose-later (g.S.Source.faults c.args.source.now) (g.S.Source.faults c.acts.source) (g.S.Source.faults c.turn.new.source) i.reads (t.read (ap Some e));
-      write = λ e. rose-later (g.K.Sink.faults c.args.sink.now) (g.K.Sink.faults c.acts.sink) (g.K.Sink.faults c.turn.new.sink) i.writes (t.write (ap Some e));
-      device = λ e. rose-later (g.D.Device.faults c.args.device.now) (g.D.Device.faults c.acts.device) (g.D.Device.faults c.turn.new.device) i.makes (t.device (ap Some e));
-      ends = may-end (setting_of c.args.run.now) (g.D.Device.slot_count c.args.device.now) c.in-Some.status (g.S.Source.left c.args.source.now) (g.S.Source.left c.turn.new.source) (g.D.Device.journal c.turn.new.device) (g.K.Sink.taken c.args.sink.now) (g.K.Sink.taken c.turn.new.sink)
-          (i.takes.0 ++ t.takes.0, Consumes-trans _ _ _ _ _ i.takes.1 t.takes.1) (λ e. t.no_usage (ap Some e)) (λ left taken now el en parts.
-          let mid = told-forward _ _ left i.takes el in
-          rw (← i.setting, ← i.slot_count) (t.ends left taken mid.0 now _ mid.1 en parts (rw (i.setting, i.slot_count) (i.goes left mid.0 el mid.1))));
+      read = counted-last (g.S.Source.faults c.args.source.now) (g.S.Source.faults c.acts.source) (g.S.Source.faults c.turn.new.source) c.in-Some.status _ i.reads t.read;
+      write = counted-last (g.K.Sink.faults c.args.sink.now) (g.K.Sink.faults c.acts.sink) (g.K.Sink.faults c.turn.new.sink) c.in-Some.status _ i.writes t.write;
+      device = counted-last (g.D.Writable.faults c.args.device.now) (g.D.Writable.faults c.acts.device) (g.D.Writable.faults c.turn.new.device) c.in-Some.status _ i.makes t.device;
+      ends = may-end (setting_of c.args.run.now) (g.D.Writable.slot_count c.args.device.now) c.in-Some.status (g.S.Source.left c.args.source.now) (g.S.Source.left c.turn.new.source) (g.D.Writable.journal c.turn.new.device) (g.K.Sink.taken c.args.sink.now) (g.K.Sink.taken c.turn.new.sink)
+          (concat (i.gives.0 ++ t.gives.0), all.taken) (λ e. t.no_usage (ap Some e)) (ends-told _ _ c.in-Some.status _ _ _ _ (i.gives.0 ++ t.gives.0) _ _ _ all (λ left taken now may parts.
+          let s = i.gives.3 true left (concat t.gives.0 ++ now) (may-first left now i.gives.0 t.gives.0 may stays) in
+          rw (← i.setting, ← i.slot_count) ((t.gives.2 true).ends left taken (concat t.gives.0 ++ now) now _ (may-second left now i.gives.0 t.gives.0 may) parts (rw (i.setting, i.slot_count) s))));
     }
+
+-- what was told stays told
+pub returns-in-Some-clause-told : goal.returns-in-Some-clause-told
+returns-in-Some-clause-told g c =
+    let i = c.acts.invariant in
+    let t = c.in-Some.ensures in (
+      λ some. told-source _ _ (concat t.gives.0, t.gives.1.taken) (told-source _ _ (concat i.gives.0, i.gives.1.taken) some),
+      λ some. t.told (i.told some),
+    )
+
+-- the last turn too comes in time
+pub returns-in-Some-clause-in_time : goal.returns-in-Some-clause-in_time
+returns-in-Some-clause-in_time g c =
+    let i = c.acts.invariant in
+    let t = c.in-Some.ensures in
+    let turn = t.gives.2 false in
+    let stays : HasEnd i.gives.0 → t.gives.0 ≡ [] = λ e. turn.rests (no-more _ (i.gives.2 e)) in
+    let all = gives-trans _ _ _ _ _ _ i.gives.0 t.gives.0 i.gives.1 t.gives.1 stays (λ e. (t.rests (no-more _ (i.gives.2 e))).0) in
+    let may = may-all (i.gives.0 ++ t.gives.0) in
+    let s = i.gives.3 false _ (concat t.gives.0 ++ []) (may-first _ [] i.gives.0 t.gives.0 may stays) in
+    reads-in-time (setting_of c.args.run.now) (g.D.Writable.slot_count c.args.device.now) _ _ (i.gives.0 ++ t.gives.0) _ _ _ all.given
+    (turn-in-time (setting_of c.args.run.now) (g.D.Writable.slot_count c.args.device.now) i.gives.0 t.gives.0 c.acts.lines (progress_of (g.D.Writable.slot_count c.args.device.now) c.acts.run) (g.D.Writable.journal c.acts.device) _ _ _ _ (i.gives.3 false) stays turn.rests turn.last
+    (turn.grows (concat (i.gives.0 ++ t.gives.0)) (concat t.gives.0 ++ []) [] (Some (g.K.Sink.accepted c.args.sink.now)) (may-second _ [] i.gives.0 t.gives.0 may) (rw (i.setting, i.slot_count) s)) i.gives.4)

@@ -1,0 +1,144 @@
+-- A run by what its source gave.
+use Rattle.std.proofs.Common.{◌≡◌, ◌≢◌, inl, inr, ℕ, Option, Some, None, Result, List, [], ◌++◌, refl, ap, sym, ◌∙◌, append_assoc, append-nil, subst}
+use Rattle.std.specs.List.{concat}
+use Rattle.std.specs.Io.KnownBytes.{Consumes, IsAtEnd}
+use Rattle.std.proofs.KnownBytes.{Consumes-nil, Consumes-trans}
+use Rattle.script_lines.specs.declared.Line.{Line}
+use Rattle.script_lines.specs.declared.LineFault.{LineFault}
+use Rattle.script_lines.specs.declared.Over.{Over}
+use Rattle.script_lines.specs.declared.Over.TheVariants as over
+use Rattle.script_lines.specs.Given.{HasEnd, MayGive, GivesPieces}
+use Rattle.script_lines.specs.Reader.{Held, HandsByGiven}
+use Rattle.script_lines.proofs.Pieces.{concat-append, end-left, end-right, end-either}
+use Rattle.tcam_device.specs.declared.Write.{Write}
+use Rattle.replay.specs.Run.{Setting, Progress}
+use Rattle.tcam_cli.specs.declared.Status.{Status}
+use Rattle.tcam_cli.specs.declared.Status.TheVariants.{Done, Usage}
+use Rattle.tcam_cli.specs.Headline.{Job, NoJob, Tells, Reads, IsCarriedOut, MayEnd}
+use Rattle.tcam_cli.specs.Turns.{SoFar, Ends, Closes}
+use Rattle.tcam_cli.specs.Given.{IsPromisedByGiven, TurnsBy, Grows}
+use Rattle.tcam_cli.proofs.WholeRun.{EndsTold, carried, may-end}
+use Rattle.tcam_cli.proofs.HitlessRuns.{hitless-job}
+
+-- a turn that ends the run
+pub turns-some : (setting : Setting) (slots : ℕ) (old : Held) (before : Progress) (pieces : List (List ℕ)) (answer : Result (Option Line) LineFault) (held : Held) (status : Status) (new : Held) (after : Progress) (journal_old journal_new : List Write) (taken_old taken_new : Option (List ℕ))
+    → HandsByGiven old pieces answer held
+    → ((bytes left now : List ℕ) (start : Option (List ℕ)) → MayGive left pieces now → SoFar setting slots bytes old left before journal_old start taken_old → Grows journal_old journal_new taken_old taken_new)
+    → ((bytes taken left now : List ℕ) (start : Option (List ℕ)) → MayGive left pieces now → bytes ≡ taken ++ now → SoFar setting slots bytes old left before journal_old start taken_old → Ends setting slots bytes taken now status journal_new start taken_new)
+    → TurnsBy setting slots old before pieces (Some status) new after journal_old journal_new taken_old taken_new
+turns-some setting slots old before pieces answer held status new after journal_old journal_new taken_old taken_new by grows ends =
+    record { goes = tt; ends = ends; ended = λ _. tt; rests = by.rests; last = by.last; grows = grows }
+
+-- a turn after which it goes on
+pub turns-none : (setting : Setting) (slots : ℕ) (old : Held) (before : Progress) (pieces : List (List ℕ)) (answer : Result (Option Line) LineFault) (new : Held) (after : Progress) (journal_old journal_new : List Write) (taken_old taken_new : Option (List ℕ))
+    → HandsByGiven old pieces answer new
+    → ((bytes left now : List ℕ) (start : Option (List ℕ)) → MayGive left pieces now → SoFar setting slots bytes old left before journal_old start taken_old → Grows journal_old journal_new taken_old taken_new)
+    → ((bytes left now : List ℕ) (start : Option (List ℕ)) → MayGive left pieces now → SoFar setting slots bytes old left before journal_old start taken_old → SoFar setting slots bytes new now after journal_new start taken_new)
+    → TurnsBy setting slots old before pieces None new after journal_old journal_new taken_old taken_new
+turns-none setting slots old before pieces answer new after journal_old journal_new taken_old taken_new by grows goes =
+    record { goes = goes; ends = tt; ended = by.ended; rests = by.rests; last = by.last; grows = grows }
+
+-- a reader that was over leaves all as it was
+pub rests-same : (old : Held) (pieces : List (List ℕ)) (answer : Result (Option Line) LineFault) (new : Held) (left now : List ℕ) → HandsByGiven old pieces answer new → MayGive left pieces now → old.over ≢ over.Going → left ≡ now
+rests-same old pieces answer new left now by may other = may.bytes ∙ ap (λ p. concat p ++ now) (by.rests other)
+
+-- ---- several turns
+
+-- nothing was read
+pub gives-none : (given : List (List ℕ)) (a : Option (List ℕ)) → GivesPieces given given a a []
+gives-none given a = record { given = sym (append-nil given); taken = Consumes-nil a; end = λ e. absurd e }
+
+pub gives-trans : (given0 given1 given2 : List (List ℕ)) (a b c : Option (List ℕ)) (p q : List (List ℕ)) → GivesPieces given0 given1 a b p → GivesPieces given1 given2 b c q → (HasEnd p → q ≡ []) → (HasEnd p → c ≡ b) → GivesPieces given0 given2 a c (p ++ q)
+gives-trans given0 given1 given2 a b c p q x y stays same = record {
+  given = y.given ∙ ap (λ g. g ++ q) x.given ∙ append_assoc given0 p q;
+  taken = subst (λ bytes. Consumes a c bytes) (sym (concat-append p q)) (Consumes-trans a b c (concat p) (concat q) x.taken y.taken);
+  end = λ e. elim (end-either p q e) [
+    | inl l ↦ subst IsAtEnd (sym (same l)) (x.end l)
+    | inr r ↦ y.end r
+  ];
+}
+
+-- what comes after the first pieces
+pub may-first : (left now : List ℕ) (p q : List (List ℕ)) → MayGive left (p ++ q) now → (HasEnd p → q ≡ []) → MayGive left p (concat q ++ now)
+may-first left now p q may stays = record {
+  bytes = may.bytes ∙ ap (λ l. l ++ now) (concat-append p q) ∙ append_assoc (concat p) (concat q) now;
+  end = λ e. ap (λ r. concat r ++ now) (stays e) ∙ may.end (end-left p q e);
+}
+
+-- these pieces, and nothing after them
+pub may-all : (pieces : List (List ℕ)) → MayGive (concat pieces) pieces []
+may-all pieces = record { bytes = sym (append-nil (concat pieces)); end = λ _. refl }
+
+pub may-second : (left now : List ℕ) (p q : List (List ℕ)) → MayGive left (p ++ q) now → MayGive (concat q ++ now) q now
+may-second left now p q may = record { bytes = refl; end = λ e. may.end (end-right p q e) }
+
+-- ---- at the end
+
+-- the bytes that a source told are some that it may have given
+pub may-told : (given0 given1 : List (List ℕ)) (a b : Option (List ℕ)) (pieces : List (List ℕ)) (left now : List ℕ) → GivesPieces given0 given1 a b pieces → a ≡ Some left → b ≡ Some now → MayGive left pieces now
+may-told given0 given1 a b pieces left now is ea eb =
+    let takes : Consumes (Some left) (Some now) (concat pieces) = subst (λ b. Consumes (Some left) b (concat pieces)) eb (subst (λ a. Consumes a b (concat pieces)) ea is.taken) in
+    record { bytes = takes; end = λ e. subst IsAtEnd eb (is.end e) }
+
+abbrev pub EndsGiven : Setting → ℕ → Status → List (List ℕ) → List Write → Option (List ℕ) → Option (List ℕ) → Type 0
+EndsGiven setting slots status pieces journal taken_old taken_new =
+    (left taken now : List ℕ) → MayGive left pieces now → left ≡ taken ++ now → Ends setting slots left taken now status journal taken_old taken_new
+
+pub ends-told : (setting : Setting) (slots : ℕ) (status : Status) (given0 given1 : List (List ℕ)) (a b : Option (List ℕ)) (pieces : List (List ℕ)) (journal : List Write) (taken_old taken_new : Option (List ℕ))
+    → GivesPieces given0 given1 a b pieces → EndsGiven setting slots status pieces journal taken_old taken_new → EndsTold setting slots status a b journal taken_old taken_new
+ends-told setting slots status given0 given1 a b pieces journal taken_old taken_new is ends = λ left taken now ea eb parts. ends left taken now (may-told given0 given1 a b pieces left now is ea eb) parts
+
+-- the promise of a script by what was given
+pub promised : (setting : Setting) (slots : ℕ) (status : Status) (given0 given1 : List (List ℕ)) (a b : Option (List ℕ)) (pieces : List (List ℕ)) (journal : List Write) (taken_old taken_new : Option (List ℕ))
+    → status ≢ Usage → GivesPieces given0 given1 a b pieces → EndsGiven setting slots status pieces journal taken_old taken_new
+    → IsPromisedByGiven (Reads setting) slots status given0 given1 taken_old taken_new journal
+promised setting slots status given0 given1 a b pieces journal taken_old taken_new other is ends = (
+  pieces,
+  is.given,
+  λ left now may.
+      let gp : GivesPieces [] pieces (Some left) (Some now) pieces = record { given = refl; taken = may.bytes; end = may.end } in
+      let told = ends-told setting slots status [] pieces (Some left) (Some now) pieces journal taken_old taken_new gp ends in
+      let carries = carried setting slots status (Some left) (Some now) journal taken_old taken_new (concat pieces, may.bytes) told in
+      record {
+        carried_out = carries;
+        hitless = hitless-job (Reads setting) slots status (Some left) (Some now) taken_old taken_new journal carries;
+        ends = may-end setting slots status (Some left) (Some now) journal taken_old taken_new (concat pieces, may.bytes) other told;
+      },
+)
+
+-- ---- a job that reads nothing
+
+may-none : (left now : List ℕ) → MayGive left [] now → Some left ≡ Some now
+may-none left now may = ap Some may.bytes
+
+pub promised-none : (job : Job) (slots : ℕ) (status : Status) (given : List (List ℕ)) (taken_old taken_new : Option (List ℕ)) (journal : List Write)
+    → ((left : Option (List ℕ)) → IsCarriedOut job slots status left left taken_old taken_new journal) → ((left : Option (List ℕ)) → MayEnd status job left)
+    → IsPromisedByGiven job slots status given given taken_old taken_new journal
+promised-none job slots status given taken_old taken_new journal carries ends = (
+  [],
+  sym (append-nil given),
+  λ left now may.
+      let same = may-none left now may in
+      let here = subst (λ n. IsCarriedOut job slots status (Some left) n taken_old taken_new journal) same (carries (Some left)) in
+      record { carried_out = here; hitless = hitless-job job slots status (Some left) (Some now) taken_old taken_new journal here; ends = ends (Some left) },
+)
+
+pub may-tell : (text line : List ℕ) (result : Status) (before after : Option (List ℕ)) (left : Option (List ℕ)) → Closes line Done result before after → MayEnd result (Tells text) left
+may-tell text line result before after left (inl (e, whole)) = subst (λ s. MayEnd s (Tells text) left) (sym e) refl
+may-tell text line result before after left (inr (e, part)) = subst (λ s. MayEnd s (Tells text) left) (sym e) tt
+
+pub may-usage : (line : List ℕ) (result : Status) (before after : Option (List ℕ)) (left : Option (List ℕ)) → Closes line Usage result before after → MayEnd result NoJob left
+may-usage line result before after left (inl (e, whole)) = subst (λ s. MayEnd s NoJob left) (sym e) refl
+may-usage line result before after left (inr (e, part)) = subst (λ s. MayEnd s NoJob left) (sym e) tt
+
+-- ---- an end stays
+
+pub no-more : (o : Over) → o ≡ over.Ended → o ≢ over.Going
+no-more o e going = let bad : over.Ended ≡ over.Going = sym e ∙ going in absurd (cc)
+
+-- the input is at its end after the first pieces, and nothing was read then, or after the second
+pub ended-both : (mid new : Held) (p q : List (List ℕ)) → HasEnd (p ++ q) → (HasEnd p → mid.over ≡ over.Ended) → (mid.over ≢ over.Going → new ≡ mid) → (HasEnd q → new.over ≡ over.Ended) → new.over ≡ over.Ended
+ended-both mid new p q e before still more = elim (end-either p q e) [
+  | inl l ↦ ap (λ (h : Held). h.over) (still (no-more mid.over (before l))) ∙ before l
+  | inr r ↦ more r
+]

@@ -1,0 +1,53 @@
+-- A run that pads an insertion doesn't keep the promise: the first route of a set takes one write, and no other.
+use Rattle.std.proofs.Common.{◌≡◌, false, Some, None, List, [], ◌∷◌, ◌++◌, length, refl, ap, subst, ◌∙◌, arith}
+use Rattle.std.specs.Prelude.{codes}
+use Rattle.std.proofs.lemmas.List.{append-nil}
+use Rattle.rule_model.specs.AddressBlock.{ipv4_block}
+use Rattle.rule_model.specs.Rank.{ipv4_route_rank}
+use Rattle.rule_model.specs.Rule.{route_rule}
+use Rattle.rule_store.specs.declared.Command.TheVariants.{Add}
+use Rattle.rule_store.specs.Verdict.{verdict}
+use Rattle.ternary_word.specs.declared.Entry.{Entry}
+use Rattle.tcam_device.specs.declared.Write.TheVariants.{Slot}
+use Rattle.batch_order.proofs.Padded.{one-write}
+use Rattle.replay.specs.declared.Family.TheVariants.{Route}
+use Rattle.replay.specs.Run.{Setting, Effect, Prints, Progress, Commits, Judged, start, written, writes_of, slots_in_use}
+use Rattle.replay.proofs.Effects.{written-append, written-writes}
+use Rattle.tcam_cli.specs.declared.Status.TheVariants.{Done}
+use Rattle.tcam_cli.specs.CommandLine.{script_setting}
+use Rattle.tcam_cli.specs.Headline.{Reads, IsCarriedOut}
+
+abbrev setting : Setting
+setting = script_setting Route 8 false
+
+-- the addition of a route, pending
+abbrev pending : Progress
+pending = record (start 8) { batch = Add (route_rule (ipv4_route_rank (ipv4_block 0x0a000000 8)) (ipv4_block 0x0a000000 8) 7) ∷ [] }
+
+-- its commit makes one write
+one-commit : (effects : List Effect) (new : Progress) → Commits setting pending effects new → length (written effects) ≡ 1
+one-commit effects new commits =
+    let made : written effects ≡ commits.made =
+    ap written commits.effects_are
+    ∙ (written-append (writes_of setting [] 1 pending.state commits.made) (Prints _ ∷ [])
+    ∙ (append-nil _ ∙ written-writes setting [] 1 pending.state commits.made)) in
+    ap length made ∙ one-write setting.placement pending.batch (slots_in_use setting pending.state) commits.made refl refl commits.placed
+
+judged : (before : Progress) (effects : List Effect) (new : Progress) → before ≡ pending → Judged setting before (verdict setting.slots setting.mode before.rules before.batch) effects new → length (written effects) ≡ 1
+judged before effects new is commits =
+    one-commit effects new (subst (λ (p : Progress). Judged setting p (verdict setting.slots setting.mode p.rules p.batch) effects new) is commits)
+
+-- the entry goes into one slot, and is moved once more
+padded : (entry : Entry) → IsCarriedOut (Reads setting) 8 Done (Some (codes "route add 10.0.0.0/8 7" ++ 10 ∷ codes "commit")) (Some []) (Some []) (Some []) (Slot 2 (Some entry) ∷ Slot 3 (Some entry) ∷ Slot 2 None ∷ []) → ⊥
+padded entry claim =
+    let outcome = claim.1 in
+    let whole = outcome.outcome.0 in
+    let add = whole.run in
+    let commit = add.4 in
+    let one : length (written commit.0) ≡ 1 = judged add.1 commit.0 commit.1 add.3.1 commit.3 in
+    let body : whole.body ≡ commit.0 =
+    add.5 ∙ (ap (λ (front : List Effect). front ++ add.2) add.3.0 ∙ (commit.5 ∙ (ap (λ (back : List Effect). commit.0 ++ back) commit.4.0 ∙ append-nil commit.0))) in
+    let made : written outcome.effects ≡ written commit.0 =
+    ap written whole.effects_are ∙ (written-append whole.body (Prints _ ∷ []) ∙ (append-nil (written whole.body) ∙ ap written body)) in
+    let count : 3 ≡ 1 = ap length outcome.journal_is ∙ (ap length made ∙ one) in
+    omega (arith, count)
