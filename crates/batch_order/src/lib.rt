@@ -14,7 +14,7 @@
 //!
 //! **Where an entry goes.** Of the free slots between the entries that it has to stand between, a new one takes the slot
 //! nearest to its aim, by the manager's [`Placement`]. The middle of that gap leaves room on both sides, as routes that
-//! come one by one want it. The slot of its rank keeps an access list in its order, so that lines that have nothing in
+//! come one by one want it. The slot of its rank keeps an access list in its order, so that rules that have nothing in
 //! common don't stand against it and cross others later. All that is promised holds of both, and the writes are those of
 //! the one that was chosen: no insertion takes a write more.
 //!

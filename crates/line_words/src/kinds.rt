@@ -21,7 +21,7 @@ pub fn result_of(word: &[u8]) -> Result<u32, WordFault>
     number_up_to(u32::MAX, word).ok_or(WordFault::BadResult)
 }
 
-/// The sequence number of a line of an access list: a number of 32 bits that isn't 0, or BadSequence.
+/// The sequence number of a rule of an access list: a number of 32 bits that isn't 0, or BadSequence.
 pub fn sequence_of(word: &[u8]) -> Result<u32, WordFault>
     ensures { result ≡ sequence_of word.now }
 {
@@ -31,7 +31,7 @@ pub fn sequence_of(word: &[u8]) -> Result<u32, WordFault>
     }
 }
 
-/// The result of a line of an access list: 1 for `permit` and 0 for `deny`, or BadAction.
+/// The result of a rule of an access list: 1 for `permit` and 0 for `deny`, or BadAction.
 pub fn action_of(word: &[u8]) -> Result<u32, WordFault>
     ensures { result ≡ action_of word.now }
 {

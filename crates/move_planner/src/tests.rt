@@ -14,7 +14,7 @@ fn route(addr: u32, len: u8, aim: Aim) -> Result<(Piece, Rank, Aim), Fail> {
     Ok((Piece::whole(&rule), rule.priority, aim))
 }
 
-// A line of an access list to the addresses of a prefix.
+// A rule of an access list to the addresses of a prefix.
 fn line(sequence: u32, addr: u32, len: u8) -> Result<(Piece, Rank, Aim), Fail> {
     let rule = route_rule(Prefix::v4(addr, len).ok().ok_or("no prefix")?, 0);
     Ok((Piece::whole(&rule), list_rank(sequence), Aim::Middle))

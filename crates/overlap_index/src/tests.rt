@@ -9,7 +9,7 @@ use rule_model::{Piece, Prefix, Rank, list_rank, piece_overlaps, route_rule};
 use std::alloc::{AllocError, Global};
 use std::test::Fail;
 
-// A line of an access list to the addresses of a prefix.
+// A rule of an access list to the addresses of a prefix.
 fn line(sequence: u32, addr: u32, len: u8) -> Result<(Piece, Rank), Fail> {
     let prefix = Prefix::v4(addr, len).ok().ok_or("no prefix")?;
     Ok((Piece::whole(&route_rule(prefix, 0)), list_rank(sequence)))

@@ -306,7 +306,7 @@ impl ReportLine {
     }
 }
 
-// The sequence number of a line of an access list, by its priority.
+// The sequence number of a rule of an access list, by its priority.
 fn sequence_number(priority: Rank) -> u64
     ensures { decimal result ≡ rule_name family_is.Acl priority }
 {

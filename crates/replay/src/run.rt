@@ -84,7 +84,8 @@ impl Run {
     ///
     /// A change joins the pending batch. With 4,096 changes pending the answer is `BatchFull`, and nothing has
     /// changed. A probe is looked up after each later write. With 16 probes the answer is `ProbesFull`, and nothing has
-    /// changed. A packet is looked up in the device, which answers as the set does, and its line is written.
+    /// changed. A packet's line is what the set answers; the device is asked, which holds the run's writes and so answers
+    /// the same.
     ///
     /// A commit is judged by the set, the batch and the slots alone. A refused one writes nothing to the device: its
     /// line is written, with the first reason, and the set stays. An accepted one makes its writes one at a time, and
@@ -94,8 +95,8 @@ impl Run {
     /// and drops the batch.
     ///
     /// `Memory` comes at a change, or at a commit that would be accepted. Nothing was done then, and the run is as
-    /// before. `Sink` comes only where the sink's count of failures rose: all that comes before the line was done, and
-    /// a part of the line was taken, perhaps none or all of it. `Device` comes only where the device's count of
+    /// before. `Sink` comes exactly where the sink's count of failures rose: all that comes before the line was done,
+    /// and a part of the line was taken, perhaps none or all of it. `Device` comes exactly where the device's count of
     /// failures rose: the writes of the commit before the failed one were made and told, and its line wasn't written.
     /// No act may follow one that answered `Device` or `Sink`, since its commit may still be under way.
     pub fn apply<K: Sink, D: Device>(

@@ -39,7 +39,7 @@ use thiserror::Error;
 pub type Addr = u128;
 
 /// A priority of a rule, also the tag of its entries. Ranks are ordered by `high`, then by `low`: of a route these are
-/// the length and the address, of a line of an access list 0 and 2^32 less its sequence number.
+/// the length and the address, of a rule of an access list 0 and 2^32 less its sequence number.
 #[derive(Clone, Copy, Debug)]
 pub struct Rank {
     pub high: u8,
@@ -414,7 +414,7 @@ pub fn ipv4_route_rank(prefix: &Prefix) -> Rank
     }
 }
 
-/// The priority of a line of an access list, so that a lower sequence number is greater.
+/// The priority of a rule of an access list, so that a lower sequence number is greater.
 pub fn list_rank(sequence: u32) -> Rank
     ensures { result ≡ rank.list_rank sequence }
 {

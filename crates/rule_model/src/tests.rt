@@ -1,7 +1,7 @@
 use super::*;
 use std::test::Fail;
 
-/// A line of an access list that takes packets to one address, by one protocol and one range of ports.
+/// A rule of an access list that takes packets to one address, by one protocol and one range of ports.
 fn line(address: u32, proto: Option<u8>, ports: Ports) -> Result<Rule, PrefixFault> {
     Ok(Rule {
         priority: list_rank(10),

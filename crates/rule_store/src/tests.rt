@@ -6,7 +6,7 @@ use std::alloc::Global;
 use std::process::Abort;
 use std::test::Fail;
 
-// The rank of a line of an access list.
+// The rank of a rule of an access list.
 fn rank(sequence: u32) -> Rank {
     Rank {
         high: 0,
@@ -14,7 +14,7 @@ fn rank(sequence: u32) -> Rank {
     }
 }
 
-// A line of an access list on the destination ports alone.
+// A rule of an access list on the destination ports alone.
 fn line(sequence: u32, lo: u16, hi: u16, answer: u32) -> Rule {
     Rule {
         priority: rank(sequence),

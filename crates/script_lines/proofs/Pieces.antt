@@ -42,15 +42,15 @@ gathers-none before held left given = record {
   last = inl refl;
 }
 
--- one more, where what was held and read before is a part of one line
+-- one more, where what was held and read before is a part of one line, and not the end
 pub gathers-more : (before : ℕ) (old mid new : List ℕ) (a b c : Option (List ℕ)) (given0 given1 given2 : List (List ℕ)) (pieces : List (List ℕ)) (piece : List ℕ)
-    → Gathers before old mid a b given0 given1 pieces → IsOpenLine before mid → new ≡ mid ++ piece → Consumes b c piece → given2 ≡ given1 ++ piece ∷ []
+    → Gathers before old mid a b given0 given1 pieces → (HasEnd pieces → ⊥) → IsOpenLine before mid → new ≡ mid ++ piece → Consumes b c piece → given2 ≡ given1 ++ piece ∷ []
     → Gathers before old new a c given0 given2 (pieces ++ piece ∷ [])
-gathers-more before old mid new a b c given0 given1 given2 pieces piece is plain grown taken given = record {
+gathers-more before old mid new a b c given0 given1 given2 pieces piece is open_end plain grown taken given = record {
   grown = grown ∙ ap (λ l. l ++ piece) is.grown ∙ append_assoc old (concat pieces) piece ∙ ap (λ l. old ++ l) (sym (concat-one pieces piece));
   given = given ∙ ap (λ l. l ++ piece ∷ []) is.given ∙ append_assoc given0 pieces (piece ∷ []);
   taken = subst (λ bytes. Consumes a c bytes) (sym (concat-one pieces piece)) (Consumes-trans a b c (concat pieces) piece is.taken taken);
-  last = inr (pieces, piece, refl, subst (λ l. IsOpenLine before l) is.grown plain);
+  last = inr (pieces, piece, refl, subst (λ l. IsOpenLine before l) is.grown plain, open_end);
 }
 
 -- a failed read

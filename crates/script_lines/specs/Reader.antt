@@ -93,10 +93,10 @@ Again over.Going result = Unit {0}
 Again over.Ended result = result ≡ Ok None
 Again (over.Stopped stopped) result = result ≡ Err stopped
 
--- at the last of these reads the bytes held and read before were a part of one line
+-- at the last of these reads the bytes held and read before were a part of one line, and no read before it was the end
 abbrev pub LastAtOpenLine : ℕ → List ℕ → List (List ℕ) → Type 0
 LastAtOpenLine before held pieces =
-    (pieces ≡ []) ⊎ ((front : List (List ℕ)) × (last : List ℕ) × (pieces ≡ front ++ last ∷ []) × IsOpenLine before (held ++ concat front))
+    (pieces ≡ []) ⊎ ((front : List (List ℕ)) × (last : List ℕ) × (pieces ≡ front ++ last ∷ []) × IsOpenLine before (held ++ concat front) × (HasEnd front → ⊥))
 
 -- what it answers by the pieces that its source gave: the answer is right whatever bytes come after them, and none
 -- come after an end; it reads only where it holds no whole line, and not at all once it is over

@@ -15,7 +15,8 @@ use Rattle.tcam_cli.specs.Headline.{acts_of, whole_lines, script_so_far, last_li
 use Rattle.tcam_cli.specs.Readings.{reading}
 use Rattle.script_lines.specs.Reader.{Held, HandsWhole, HandsLast, KeepsAll}
 use Rattle.replay.specs.Carried.{Carries, CutsAtLine, CutsAtWrite, Wants}
-use Rattle.tcam_cli.specs.Turns.{onto_all, acts_next, IsGoing, IsAllRead, IsRead, acts_only, SoFar, Ends, Closes}
+use Rattle.tcam_cli.specs.Turns.{onto_all, acts_next, IsGoing, IsAllRead, IsRead, acts_only, Ends, Closes}
+use Rattle.tcam_cli.specs.Given.{GoesOn}
 use Rattle.script_lines.proofs.FirstLines.{lines-whole, lines-pending, lines-last}
 use Rattle.tcam_cli.proofs.WholeLines.{whole-line, whole-none}
 use Rattle.tcam_cli.proofs.OneMore.{run-more, does-journal, does-report, step-pending, step-probes, written-append, printed-append}
@@ -270,7 +271,7 @@ pub goes-act : (setting : Setting) (slots : ℕ) (bytes left : List ℕ) (old : 
     → Runs setting slots (acts_only acts) effects last → journal_old ≡ written effects → Appends start before (printed effects)
     → reading setting.family line.text ≡ Ok (Some act) → limit_fault act (length last.batch) (length last.probes) ≡ None
     → Carries setting last act next journal_old journal_new before later
-    → SoFar setting slots bytes new after next journal_new start later
+    → GoesOn setting slots acts bytes new after next journal_new start later
 goes-act setting slots bytes left old line new after act acts effects last next journal_old journal_new start before later going hands run told report is room made =
     let p = length last.batch in
     let q = length last.probes in
@@ -279,16 +280,20 @@ goes-act setting slots bytes left old line new after act acts effects last next 
     let e : pending_after act p ≡ length next.batch = sym (step-pending setting last act made.effects next made.step) in
     let f : probes_after act q ≡ length next.probes = sym (step-probes setting last act made.effects next made.step) in
     record {
-      acts = acts2;
-      effects = effects ++ made.effects;
-      run = subst P (only-more acts line.number act) (run-more setting slots (acts_only acts) effects last act made.effects next run made.step);
-      journal_is = does-journal effects made.effects [] journal_old journal_new before later made.does told;
-      report = subst (Appends start later) (append-nil (printed (effects ++ made.effects))) (does-report effects made.effects [] journal_old journal_new start before later made.does report);
-      read = next-line (reading setting.family) bytes old left line new after acts acts2 p q (length next.batch) (length next.probes) going hands (λ rest.
-          ap (onto_all acts) (line-act (reading setting.family) p q line rest act is room)
-          ∙ onto-more acts line.number act (acts_next (reading setting.family) (pending_after act p) (probes_after act q) rest)
-          ∙ ap (λ n. onto_all acts2 (acts_next (reading setting.family) n (probes_after act q) rest)) e
-          ∙ ap (λ n. onto_all acts2 (acts_next (reading setting.family) (length next.batch) n rest)) f);
+      so_far = record {
+        acts = acts2;
+        effects = effects ++ made.effects;
+        run = subst P (only-more acts line.number act) (run-more setting slots (acts_only acts) effects last act made.effects next run made.step);
+        journal_is = does-journal effects made.effects [] journal_old journal_new before later made.does told;
+        report = subst (Appends start later) (append-nil (printed (effects ++ made.effects))) (does-report effects made.effects [] journal_old journal_new start before later made.does report);
+        read = next-line (reading setting.family) bytes old left line new after acts acts2 p q (length next.batch) (length next.probes) going hands (λ rest.
+            ap (onto_all acts) (line-act (reading setting.family) p q line rest act is room)
+            ∙ onto-more acts line.number act (acts_next (reading setting.family) (pending_after act p) (probes_after act q) rest)
+            ∙ ap (λ n. onto_all acts2 (acts_next (reading setting.family) n (probes_after act q) rest)) e
+            ∙ ap (λ n. onto_all acts2 (acts_next (reading setting.family) (length next.batch) n rest)) f);
+      };
+      more = act ∷ [];
+      acts_are = sym (only-more acts line.number act);
     }
 
 -- the acts of the script around this one

@@ -1,5 +1,5 @@
 -- What a turn comes to, by what its callees answer.
-use Rattle.std.proofs.Common.{◌≡◌, ◌≢◌, ◌⊎◌, inl, inr, ℕ, ◌++◌, Option, Some, None, Result, Ok, Err, List, [], length, refl, ap, sym, ◌∙◌}
+use Rattle.std.proofs.Common.{◌≡◌, ◌≢◌, ◌⊎◌, inl, inr, ℕ, ◌++◌, Option, Some, None, Result, Ok, Err, List, [], length, refl, ap, sym, ◌∙◌, append-nil}
 use Rattle.script_lines.specs.declared.Line.{Line}
 use Rattle.script_lines.specs.declared.LineFault.{LineFault}
 use Rattle.script_lines.specs.declared.LineFault.TheVariants as fault
@@ -17,7 +17,8 @@ use Rattle.script_lines.specs.declared.Over.{Over}
 use Rattle.script_lines.specs.declared.Over.TheVariants as over
 use Rattle.script_lines.specs.Reader.{Held, lines_held, HandsWhole, HandsLast, Hands, Again}
 use Rattle.replay.specs.Carried.{IsAt, Carries, CutsAtLine, CutsAtWrite, Wants}
-use Rattle.tcam_cli.specs.Turns.{onto_all, IsGoing, IsAllRead, IsRead, SoFar, Ends, Closes}
+use Rattle.tcam_cli.specs.Turns.{onto_all, IsGoing, IsAllRead, IsRead, acts_only, SoFar, Ends, Closes}
+use Rattle.tcam_cli.specs.Given.{GoesOn, WantsNext}
 use Rattle.tcam_cli.proofs.OneMore.{run-at}
 use Rattle.tcam_cli.proofs.Endings.{line-none, line-fault, line-full, next-line, line-here, bytes-fault, bytes-end, so-far, onto-nil, ends-closed, ends-read, goes-act, act-here, ends-line, ends-device, ends-memory}
 
@@ -90,17 +91,21 @@ module _ (setting : Setting) (slots : ℕ) (bytes : List ℕ) (old : Held) (left
         still-going old.over (reading setting.family) bytes old left s.acts (length last.batch) (length last.probes) (Ok (Some line)) other again s.read
 
     -- it is skipped
-    pub goes-none : reading setting.family (numbered line).text ≡ Ok None → SoFar setting slots bytes new now last journal start before
+    pub goes-none : reading setting.family (numbered line).text ≡ Ok None → GoesOn setting slots s.acts bytes new now last journal start before
     goes-none is =
         let p = length last.batch in
         let q = length last.probes in
         record {
-          acts = s.acts;
-          effects = s.effects;
-          run = s.run;
-          journal_is = s.journal_is;
-          report = s.report;
-          read = next-line (reading setting.family) bytes old left (numbered line) new now s.acts s.acts p q p q going.1 (hands going.0) (λ rest. ap (onto_all s.acts) (line-none (reading setting.family) p q (numbered line) rest is));
+          so_far = record {
+            acts = s.acts;
+            effects = s.effects;
+            run = s.run;
+            journal_is = s.journal_is;
+            report = s.report;
+            read = next-line (reading setting.family) bytes old left (numbered line) new now s.acts s.acts p q p q going.1 (hands going.0) (λ rest. ap (onto_all s.acts) (line-none (reading setting.family) p q (numbered line) rest is));
+          };
+          more = [];
+          acts_are = sym (append-nil (acts_only s.acts));
         }
 
     -- it has no sense
@@ -128,7 +133,7 @@ module _ (setting : Setting) (slots : ℕ) (bytes : List ℕ) (old : Held) (left
 
     -- its act is carried out, or cut
     module _ (act : Act) (is : reading setting.family (numbered line).text ≡ Ok (Some act)) (room : limit_fault act (length last.batch) (length last.probes) ≡ None) (journal_new : List Write) (after : Option (List ℕ)) where
-      pub goes-on : (next : Progress) → (IsAt slots journal last → Carries setting last act next journal journal_new before after) → SoFar setting slots bytes new now next journal_new start after
+      pub goes-on : (next : Progress) → (IsAt slots journal last → Carries setting last act next journal journal_new before after) → GoesOn setting slots s.acts bytes new now next journal_new start after
       goes-on next carries =
           goes-act setting slots bytes left old (numbered line) new now act s.acts s.effects last next journal journal_new start before after going.1 (hands going.0) s.run s.journal_is s.report is room
           (carries (run-at setting slots _ s.effects last journal s.run s.journal_is))
@@ -149,3 +154,8 @@ module _ (setting : Setting) (slots : ℕ) (bytes : List ℕ) (old : Held) (left
       exit-memory taken wants =
           let (later, e) = act-here (reading setting.family) bytes old left (numbered line) new now act s.acts _ _ going.1 (hands going.0) is room in
           ends-memory setting slots bytes taken now act s.acts later s.effects last journal journal_new start before after e s.run s.journal_is s.report wants
+
+      pub wants-next : Wants setting last act journal journal_new before after → WantsNext setting s.acts bytes last journal journal_new before after
+      wants-next wants =
+          let (later, e) = act-here (reading setting.family) bytes old left (numbered line) new now act s.acts _ _ going.1 (hands going.0) is room in
+          record { act = act; later = later; acts_are = e; wants = wants }

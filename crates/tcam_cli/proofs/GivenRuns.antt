@@ -13,30 +13,40 @@ use Rattle.script_lines.proofs.Pieces.{concat-append, end-left, end-right, end-e
 use Rattle.tcam_device.specs.declared.Write.{Write}
 use Rattle.replay.specs.Run.{Setting, Progress}
 use Rattle.tcam_cli.specs.declared.Status.{Status}
-use Rattle.tcam_cli.specs.declared.Status.TheVariants.{Done, Usage}
+use Rattle.tcam_cli.specs.declared.Status.TheVariants.{Done, Memory, Usage}
 use Rattle.tcam_cli.specs.Headline.{Job, NoJob, Tells, Reads, IsCarriedOut, MayEnd}
 use Rattle.tcam_cli.specs.Turns.{SoFar, Ends, Closes}
-use Rattle.tcam_cli.specs.Given.{IsPromisedByGiven, TurnsBy, Grows}
+use Rattle.tcam_cli.specs.Given.{IsPromisedByGiven, TurnsBy, GoesOn, WantsNext, Grows}
 use Rattle.tcam_cli.proofs.WholeRun.{EndsTold, carried, may-end}
 use Rattle.tcam_cli.proofs.HitlessRuns.{hitless-job}
 
--- a turn that ends the run
-pub turns-some : (setting : Setting) (slots : ℕ) (old : Held) (before : Progress) (pieces : List (List ℕ)) (answer : Result (Option Line) LineFault) (held : Held) (status : Status) (new : Held) (after : Progress) (journal_old journal_new : List Write) (taken_old taken_new : Option (List ℕ))
+-- a turn that ends the run, for want of memory
+pub turns-memory : (setting : Setting) (slots : ℕ) (old : Held) (before : Progress) (pieces : List (List ℕ)) (answer : Result (Option Line) LineFault) (held : Held) (status : Status) (new : Held) (after : Progress) (journal_old journal_new : List Write) (taken_old taken_new : Option (List ℕ))
     → HandsByGiven old pieces answer held
     → ((bytes left now : List ℕ) (start : Option (List ℕ)) → MayGive left pieces now → SoFar setting slots bytes old left before journal_old start taken_old → Grows journal_old journal_new taken_old taken_new)
     → ((bytes taken left now : List ℕ) (start : Option (List ℕ)) → MayGive left pieces now → bytes ≡ taken ++ now → SoFar setting slots bytes old left before journal_old start taken_old → Ends setting slots bytes taken now status journal_new start taken_new)
+    → ((bytes left now : List ℕ) (start : Option (List ℕ)) → MayGive left pieces now → (s : SoFar setting slots bytes old left before journal_old start taken_old) → WantsNext setting s.acts bytes before journal_old journal_new taken_old taken_new)
     → TurnsBy setting slots old before pieces (Some status) new after journal_old journal_new taken_old taken_new
-turns-some setting slots old before pieces answer held status new after journal_old journal_new taken_old taken_new by grows ends =
-    record { goes = tt; ends = ends; ended = λ _. tt; rests = by.rests; last = by.last; grows = grows }
+turns-memory setting slots old before pieces answer held status new after journal_old journal_new taken_old taken_new by grows ends wants =
+    record { goes = tt; ends = ends; wants = λ e. wants; ended = λ _. tt; rests = by.rests; last = by.last; grows = grows }
+
+-- for another reason
+pub turns-some : (setting : Setting) (slots : ℕ) (old : Held) (before : Progress) (pieces : List (List ℕ)) (answer : Result (Option Line) LineFault) (held : Held) (status : Status) (new : Held) (after : Progress) (journal_old journal_new : List Write) (taken_old taken_new : Option (List ℕ))
+    → HandsByGiven old pieces answer held → status ≢ Memory
+    → ((bytes left now : List ℕ) (start : Option (List ℕ)) → MayGive left pieces now → SoFar setting slots bytes old left before journal_old start taken_old → Grows journal_old journal_new taken_old taken_new)
+    → ((bytes taken left now : List ℕ) (start : Option (List ℕ)) → MayGive left pieces now → bytes ≡ taken ++ now → SoFar setting slots bytes old left before journal_old start taken_old → Ends setting slots bytes taken now status journal_new start taken_new)
+    → TurnsBy setting slots old before pieces (Some status) new after journal_old journal_new taken_old taken_new
+turns-some setting slots old before pieces answer held status new after journal_old journal_new taken_old taken_new by other grows ends =
+    record { goes = tt; ends = ends; wants = λ e. absurd (other (cc)); ended = λ _. tt; rests = by.rests; last = by.last; grows = grows }
 
 -- a turn after which it goes on
 pub turns-none : (setting : Setting) (slots : ℕ) (old : Held) (before : Progress) (pieces : List (List ℕ)) (answer : Result (Option Line) LineFault) (new : Held) (after : Progress) (journal_old journal_new : List Write) (taken_old taken_new : Option (List ℕ))
     → HandsByGiven old pieces answer new
     → ((bytes left now : List ℕ) (start : Option (List ℕ)) → MayGive left pieces now → SoFar setting slots bytes old left before journal_old start taken_old → Grows journal_old journal_new taken_old taken_new)
-    → ((bytes left now : List ℕ) (start : Option (List ℕ)) → MayGive left pieces now → SoFar setting slots bytes old left before journal_old start taken_old → SoFar setting slots bytes new now after journal_new start taken_new)
+    → ((bytes left now : List ℕ) (start : Option (List ℕ)) → MayGive left pieces now → (s : SoFar setting slots bytes old left before journal_old start taken_old) → GoesOn setting slots s.acts bytes new now after journal_new start taken_new)
     → TurnsBy setting slots old before pieces None new after journal_old journal_new taken_old taken_new
 turns-none setting slots old before pieces answer new after journal_old journal_new taken_old taken_new by grows goes =
-    record { goes = goes; ends = tt; ended = by.ended; rests = by.rests; last = by.last; grows = grows }
+    record { goes = goes; ends = tt; wants = λ e. absurd (cc); ended = by.ended; rests = by.rests; last = by.last; grows = grows }
 
 -- a reader that was over leaves all as it was
 pub rests-same : (old : Held) (pieces : List (List ℕ)) (answer : Result (Option Line) LineFault) (new : Held) (left now : List ℕ) → HandsByGiven old pieces answer new → MayGive left pieces now → old.over ≢ over.Going → left ≡ now

@@ -1,5 +1,5 @@
 -- Lines are carried out and told before the next read.
-use Rattle.std.proofs.Common.{◌≡◌, ◌≢◌, inl, inr, ℕ, Option, Some, List, [], ◌∷◌, ◌++◌, refl, ap, sym, ◌∙◌, subst, append_assoc, append-nil}
+use Rattle.std.proofs.Common.{◌≡◌, ◌≢◌, inl, inr, ℕ, Option, Some, None, List, [], ◌∷◌, ◌++◌, refl, ap, sym, ◌∙◌, subst, append_assoc, append-nil}
 use Rattle.std.specs.List.{concat}
 use Rattle.std.specs.Io.KnownBytes.{Appends}
 use Rattle.std.proofs.KnownBytes.{Appends-nil}
@@ -7,18 +7,21 @@ use Rattle.std.proofs.lemmas.List.{append_cancel_left, same_from_push}
 use Rattle.script_lines.specs.declared.Over.{Over}
 use Rattle.script_lines.specs.declared.Over.TheVariants as over
 use Rattle.script_lines.specs.Given.{HasEnd, MayGive}
-use Rattle.script_lines.specs.Reader.{Held, KeepsAll, LastAtOpenLine}
-use Rattle.script_lines.proofs.Pieces.{concat-append}
+use Rattle.script_lines.specs.Reader.{Held, IsOpenLine, KeepsAll, LastAtOpenLine}
+use Rattle.script_lines.proofs.Pieces.{concat-append, concat-one, end-either}
 use Rattle.tcam_device.specs.declared.Write.{Write}
+use Rattle.replay.specs.declared.Act.{Act}
 use Rattle.replay.specs.Script.{Script, Reading, NumberedAct, Whole}
 use Rattle.replay.specs.Run.{Setting, Effect, Progress, Runs, written, printed}
 use Rattle.replay.specs.Carried.{IsAt, Does}
 use Rattle.tcam_cli.specs.declared.Status.{Status}
-use Rattle.tcam_cli.specs.Headline.{Job, NoJob, Tells, Reads, acts_of, script_so_far}
+use Rattle.tcam_cli.specs.declared.Status.TheVariants.{Memory}
+use Rattle.tcam_cli.specs.Headline.{Job, NoJob, Tells, Reads, acts_of}
 use Rattle.tcam_cli.specs.Readings.{reading}
 use Rattle.tcam_cli.specs.Turns.{IsGoing, IsRead, acts_only, SoFar, Closes}
-use Rattle.tcam_cli.specs.Given.{IsInTime, ReadsInTime, Grows}
+use Rattle.tcam_cli.specs.Given.{given_so_far, IsInTime, WantsInTime, ReadsInTime, Grows, TurnsBy}
 use Rattle.tcam_cli.proofs.OneMore.{run-at}
+use Rattle.tcam_cli.proofs.GivenRuns.{may-second}
 use Rattle.tcam_cli.proofs.Endings.{so-far}
 
 -- ---- journal and report only grow
@@ -49,7 +52,7 @@ so-far-at setting slots bytes held left last journal start taken s = run-at sett
 -- the lines that were whole before the last read are carried out and told
 abbrev pub InTime : Setting → ℕ → List (List ℕ) → List Write → List ℕ → List ℕ → Type 0
 InTime setting slots pieces journal accepted_old accepted_new =
-    (front : List (List ℕ)) (last : List ℕ) → pieces ≡ front ++ last ∷ [] → IsInTime setting slots (concat front) journal accepted_old accepted_new
+    (front : List (List ℕ)) (last : List ℕ) → pieces ≡ front ++ last ∷ [] → IsInTime setting slots front journal accepted_old accepted_new
 
 no-push : (front : List (List ℕ)) (last : List ℕ) → [] ≢ front ++ last ∷ []
 no-push [] last e = absurd (cc)
@@ -59,9 +62,10 @@ pub in-time-none : (setting : Setting) (slots : ℕ) (journal : List Write) (acc
 in-time-none setting slots journal accepted_old accepted_new = λ front last e. absurd (no-push front last e)
 
 -- in time, and in time still
-still-in-time : (setting : Setting) (slots : ℕ) (before : List ℕ) (journal more : List Write) (old mid new bytes : List ℕ) → new ≡ mid ++ bytes
+still-in-time : (setting : Setting) (slots : ℕ) (before : List (List ℕ)) (journal more : List Write) (old mid new bytes : List ℕ) → new ≡ mid ++ bytes
     → IsInTime setting slots before journal old mid → IsInTime setting slots before (journal ++ more) old new
 still-in-time setting slots before journal more old mid new bytes grown is = record {
+  open_end = is.open_end;
   sound = is.sound;
   effects = is.effects;
   progress = is.progress;
@@ -78,7 +82,22 @@ still-going over.Going reads bytes old left acts p q other read = read
 still-going over.Ended reads bytes old left acts p q other read = absurd (other (λ e. let bad : over.Ended ≡ over.Going = e in cc))
 still-going (over.Stopped stopped) reads bytes old left acts p q other read = absurd read
 
--- a read comes while a part of one line is held: all lines before it are carried out and told
+-- a read comes while a part of one line is held: the acts of what was given are those that are carried out
+known-before : (setting : Setting) (slots : ℕ) (p front : List (List ℕ)) (bytes left rest : List ℕ) (old : Held) (before : Progress) (writes : List Write) (start taken : Option (List ℕ))
+    → (s : SoFar setting slots bytes old left before writes start taken)
+    → bytes ≡ concat p ++ left → left ≡ concat front ++ rest → (old.over ≢ over.Going → ⊥) → IsOpenLine old.before (old.pending ++ concat front)
+    → given_so_far setting (p ++ front) ≡ record { acts = s.acts; last = Whole }
+known-before setting slots p front bytes left rest old before writes start taken s given come going plain =
+    let kept : KeepsAll old left (record old { pending = old.pending ++ concat front }) rest = record {
+      bytes = ap (λ l. old.pending ++ l) come ∙ sym (append_assoc old.pending (concat front) rest);
+      one_line = plain;
+    } in
+    let read = still-going old.over (reading setting.family) bytes old left s.acts _ _ going s.read in
+    let parts : bytes ≡ concat (p ++ front) ++ rest =
+    given ∙ ap (λ l. concat p ++ l) come ∙ sym (append_assoc (concat p) (concat front) rest) ∙ ap (λ l. l ++ rest) (sym (concat-append p front)) in
+    so-far (reading setting.family) bytes (concat (p ++ front)) old left (record old { pending = old.pending ++ concat front }) rest s.acts _ _ read kept parts
+
+-- so all lines before it are carried out and told
 module _ (setting : Setting) (slots : ℕ) (p front : List (List ℕ)) (last : List ℕ) (old : Held) (before : Progress) (writes : List Write) (accepted_old accepted_new : List ℕ)
     (so_far : (left now : List ℕ) → MayGive left p now → SoFar setting slots left old now before writes (Some accepted_old) (Some accepted_new))
     (open_end : HasEnd p → ⊥) (going : old.over ≢ over.Going → ⊥) where
@@ -88,22 +107,12 @@ module _ (setting : Setting) (slots : ℕ) (p front : List (List ℕ)) (last : L
   s : SoFar setting slots (concat p ++ all) old all before writes (Some accepted_old) (Some accepted_new)
   s = so_far (concat p ++ all) all (record { bytes = refl; end = λ e. absurd (open_end e) })
 
-  parts : concat p ++ all ≡ concat (p ++ front) ++ last
-  parts = sym (append_assoc (concat p) (concat front) last) ∙ ap (λ l. l ++ last) (sym (concat-append p front))
-
-  pub read-in-time : LastAtOpenLine old.before old.pending (front ++ last ∷ []) → IsInTime setting slots (concat (p ++ front)) writes accepted_old accepted_new
-  read-in-time (inl none) = absurd (no-push front last (sym none))
-  read-in-time (inr (first, piece, is, plain)) =
-      let same = same_from_push front first last piece is in
-      let kept : KeepsAll old all (record old { pending = old.pending ++ concat front }) last = record {
-        bytes = sym (append_assoc old.pending (concat front) last);
-        one_line = rw same.0 plain;
-      } in
-      let read = still-going old.over (reading setting.family) (concat p ++ all) old all s.acts _ _ going s.read in
-      let here : script_so_far (reading setting.family) (concat (p ++ front)) ≡ record { acts = s.acts; last = Whole } =
-      so-far (reading setting.family) (concat p ++ all) (concat (p ++ front)) old all (record old { pending = old.pending ++ concat front }) last s.acts _ _ read kept parts in
+  pub read-in-time : IsOpenLine old.before (old.pending ++ concat front) → (HasEnd front → ⊥) → IsInTime setting slots (p ++ front) writes accepted_old accepted_new
+  read-in-time plain open_front =
+      let here = known-before setting slots p front (concat p ++ all) all last old before writes (Some accepted_old) (Some accepted_new) s refl refl going plain in
       let P : Script → Type 0 = λ script. Runs setting slots (acts_of script) s.effects before in
       record {
+        open_end = λ e. elim (end-either p front e) [ inl l ↦ open_end l | inr r ↦ open_front r ];
         sound = ap (λ script. script.last) here;
         effects = s.effects;
         progress = before;
@@ -121,24 +130,97 @@ pub turn-in-time : (setting : Setting) (slots : ℕ) (p q : List (List ℕ)) (ol
     → InTime setting slots p journal_old accepted_old accepted_mid → InTime setting slots (p ++ q) journal_new accepted_old accepted_new
 turn-in-time setting slots p q old before writes journal_new accepted_old accepted_mid accepted_new so_far ends rests (inl none) grows is =
     rw grows.journal (λ front piece e.
-    still-in-time setting slots (concat front) writes grows.writes accepted_old accepted_mid accepted_new grows.bytes grows.report
+    still-in-time setting slots front writes grows.writes accepted_old accepted_mid accepted_new grows.bytes grows.report
     (is front piece (sym (append-nil p) ∙ ap (λ l. p ++ l) (sym none) ∙ e)))
-turn-in-time setting slots p q old before writes journal_new accepted_old accepted_mid accepted_new so_far ends rests (inr (first, last, parts, plain)) grows is =
+turn-in-time setting slots p q old before writes journal_new accepted_old accepted_mid accepted_new so_far ends rests (inr (first, last, parts, plain, open_first)) grows is =
     rw grows.journal (λ front piece e.
     let some : q ≢ [] = λ none. no-push first last (sym none ∙ parts) in
     let same = same_from_push (p ++ first) front last piece (append_assoc p first (last ∷ []) ∙ ap (λ l. p ++ l) (sym parts) ∙ e) in
-    let here = read-in-time setting slots p first last old before writes accepted_old accepted_mid so_far (λ end. some (ends end)) (λ other. some (rests other)) (inr (first, last, refl, plain)) in
-    still-in-time setting slots (concat front) writes grows.writes accepted_old accepted_mid accepted_new grows.bytes grows.report
-    (subst (λ f. IsInTime setting slots (concat f) writes accepted_old accepted_mid) same.0 here))
+    let here = read-in-time setting slots p first last old before writes accepted_old accepted_mid so_far (λ end. some (ends end)) (λ other. some (rests other)) plain open_first in
+    still-in-time setting slots front writes grows.writes accepted_old accepted_mid accepted_new grows.bytes grows.report
+    (subst (λ f. IsInTime setting slots f writes accepted_old accepted_mid) same.0 here))
 
--- by what the source gave
-pub reads-in-time : (setting : Setting) (slots : ℕ) (given_old given_new pieces : List (List ℕ)) (journal : List Write) (accepted_old accepted_new : List ℕ) → given_new ≡ given_old ++ pieces
-    → InTime setting slots pieces journal accepted_old accepted_new → ReadsInTime (Reads setting) slots given_old given_new journal accepted_old accepted_new
-reads-in-time setting slots given_old given_new pieces journal accepted_old accepted_new given is =
-    λ front last e. is front last (append_cancel_left given_old pieces (front ++ last ∷ []) (sym given ∙ e ∙ append_assoc given_old front (last ∷ [])))
+-- ---- the acts that are carried out begin with those that were known before the last read
+
+abbrev Begins : Setting → List (List ℕ) → List NumberedAct → Type 0
+Begins setting pieces acts =
+    (front : List (List ℕ)) (last : List ℕ) → pieces ≡ front ++ last ∷ [] → (more : List Act) × (acts_only acts ≡ acts_of (given_so_far setting front) ++ more)
+
+pub record StandsAt (setting : Setting) (slots : ℕ) (pieces : List (List ℕ)) (bytes : List ℕ) (held : Held) (left : List ℕ) (progress : Progress) (journal : List Write) (taken_old taken_new : Option (List ℕ)) : Type 0 where
+  pub so_far : SoFar setting slots bytes held left progress journal taken_old taken_new
+  pub begins : Begins setting pieces so_far.acts
+
+-- before any read
+pub stands-first : (setting : Setting) (slots : ℕ) (bytes : List ℕ) (held : Held) (left : List ℕ) (progress : Progress) (journal : List Write) (taken_old taken_new : Option (List ℕ))
+    → SoFar setting slots bytes held left progress journal taken_old taken_new → StandsAt setting slots [] bytes held left progress journal taken_old taken_new
+stands-first setting slots bytes held left progress journal taken_old taken_new s = record { so_far = s; begins = λ front last e. absurd (no-push front last e) }
+
+-- with the reads of one turn more
+begins-read : (setting : Setting) (slots : ℕ) (p q : List (List ℕ)) (old : Held) (before : Progress) (writes : List Write) (start taken : Option (List ℕ)) (left now : List ℕ)
+    → (s : SoFar setting slots left old (concat q ++ now) before writes start taken)
+    → (old.over ≢ over.Going → q ≡ []) → LastAtOpenLine old.before old.pending q → MayGive left (p ++ q) now → Begins setting p s.acts → Begins setting (p ++ q) s.acts
+begins-read setting slots p q old before writes start taken left now s rests (inl none) may is =
+    λ front last e. is front last (sym (append-nil p) ∙ ap (λ l. p ++ l) (sym none) ∙ e)
+begins-read setting slots p q old before writes start taken left now s rests (inr (first, piece, parts, plain, open_first)) may is =
+    λ front last e.
+    let some : q ≢ [] = λ none. no-push first piece (sym none ∙ parts) in
+    let same = same_from_push (p ++ first) front piece last (append_assoc p first (piece ∷ []) ∙ ap (λ l. p ++ l) (sym parts) ∙ e) in
+    let given : left ≡ concat p ++ (concat q ++ now) = may.bytes ∙ ap (λ l. l ++ now) (concat-append p q) ∙ append_assoc (concat p) (concat q) now in
+    let come : concat q ++ now ≡ concat first ++ (piece ++ now) = ap (λ l. concat l ++ now) parts ∙ ap (λ l. l ++ now) (concat-one first piece) ∙ append_assoc (concat first) piece now in
+    let here = known-before setting slots p first left (concat q ++ now) (piece ++ now) old before writes start taken s given come (λ other. some (rests other)) plain in
+    ([], sym (ap acts_of here) ∙ ap (λ f. acts_of (given_so_far setting f)) same.0 ∙ sym (append-nil (acts_of (given_so_far setting front))))
+
+-- and with its act
+begins-more : (setting : Setting) (pieces : List (List ℕ)) (old new : List NumberedAct) (more : List Act) → acts_only new ≡ acts_only old ++ more → Begins setting pieces old → Begins setting pieces new
+begins-more setting pieces old new more grown is =
+    λ front last e. let (some, first) = is front last e in
+    (some ++ more, grown ∙ ap (λ l. l ++ more) first ∙ append_assoc (acts_of (given_so_far setting front)) some more)
+
+pub stands-next : (setting : Setting) (slots : ℕ) (p q : List (List ℕ)) (old : Held) (before : Progress) (new : Held) (after : Progress) (journal_old journal_new : List Write) (start mid end : Option (List ℕ)) (left now : List ℕ)
+    → TurnsBy setting slots old before q None new after journal_old journal_new mid end → MayGive left (p ++ q) now
+    → StandsAt setting slots p left old (concat q ++ now) before journal_old start mid → StandsAt setting slots (p ++ q) left new now after journal_new start end
+stands-next setting slots p q old before new after journal_old journal_new start mid end left now turn may s =
+    let on = turn.goes left (concat q ++ now) now start (may-second left now p q may) s.so_far in
+    record {
+      so_far = on.so_far;
+      begins = begins-more setting (p ++ q) s.so_far.acts on.so_far.acts on.more on.acts_are
+          (begins-read setting slots p q old before journal_old start mid left now s.so_far turn.rests turn.last may s.begins);
+    }
+
+-- memory was wanting at an act that was not known before the last read
+abbrev WantsAll : Setting → ℕ → List (List ℕ) → List Write → List ℕ → List ℕ → Type 0
+WantsAll setting slots pieces journal accepted_old accepted_new =
+    (front : List (List ℕ)) (last : List ℕ) → pieces ≡ front ++ last ∷ [] → (left after : List ℕ) → MayGive left pieces after → WantsInTime setting slots front left journal accepted_old accepted_new
+
+pub wants-in-time : (setting : Setting) (slots : ℕ) (p q : List (List ℕ)) (old : Held) (before : Progress) (status : Status) (new : Held) (after : Progress) (journal_old journal_new : List Write) (accepted_old accepted_mid accepted_new left now front_last : List ℕ) (front : List (List ℕ))
+    → TurnsBy setting slots old before q (Some status) new after journal_old journal_new (Some accepted_mid) (Some accepted_new) → status ≡ Memory → MayGive left (p ++ q) now
+    → StandsAt setting slots p left old (concat q ++ now) before journal_old (Some accepted_old) (Some accepted_mid) → p ++ q ≡ front ++ front_last ∷ []
+    → WantsInTime setting slots front left journal_new accepted_old accepted_new
+wants-in-time setting slots p q old before status new after journal_old journal_new accepted_old accepted_mid accepted_new left now last front turn memory may s is =
+    let next = turn.wants (ap Some memory) left (concat q ++ now) now (Some accepted_old) (may-second left now p q may) s.so_far in
+    let (more, begins) = begins-read setting slots p q old before journal_old (Some accepted_old) (Some accepted_mid) left now s.so_far turn.rests turn.last may s.begins front last is in
+    record {
+      effects = s.so_far.effects;
+      wants = record { done = acts_only s.so_far.acts; act = next.act; later = next.later; acts = next.acts_are; before = before; run = s.so_far.run; needs = next.wants.needs };
+      more = more;
+      done_is = begins;
+      journal_is = next.wants.does.journal ∙ append-nil journal_old ∙ s.so_far.journal_is;
+      report_is = next.wants.does.report ∙ append-nil accepted_mid ∙ s.so_far.report;
+    }
+
+-- ---- by what the source gave
+
+pub reads-in-time : (setting : Setting) (slots : ℕ) (status : Status) (given_old given_new pieces : List (List ℕ)) (journal : List Write) (accepted_old accepted_new : List ℕ) → given_new ≡ given_old ++ pieces
+    → InTime setting slots pieces journal accepted_old accepted_new → (status ≡ Memory → WantsAll setting slots pieces journal accepted_old accepted_new)
+    → ReadsInTime (Reads setting) slots status given_old given_new journal accepted_old accepted_new
+reads-in-time setting slots status given_old given_new pieces journal accepted_old accepted_new given is wants =
+    λ front last e.
+    let same : pieces ≡ front ++ last ∷ [] = append_cancel_left given_old pieces (front ++ last ∷ []) (sym given ∙ e ∙ append_assoc given_old front (last ∷ [])) in
+    (is front last same, λ memory left after may. wants memory front last same left after (subst (λ l. MayGive left l after) (sym same) may))
 
 -- a job that reads nothing
-pub nothing-read : (job : Job) (slots : ℕ) (given : List (List ℕ)) (journal : List Write) (accepted : List ℕ) → ReadsInTime job slots given given journal accepted accepted
-nothing-read NoJob slots given journal accepted = refl
-nothing-read (Tells text) slots given journal accepted = refl
-nothing-read (Reads setting) slots given journal accepted = reads-in-time setting slots given given [] journal accepted accepted (sym (append-nil given)) (in-time-none setting slots journal accepted accepted)
+pub nothing-read : (job : Job) (slots : ℕ) (status : Status) (given : List (List ℕ)) (journal : List Write) (accepted : List ℕ) → ReadsInTime job slots status given given journal accepted accepted
+nothing-read NoJob slots status given journal accepted = refl
+nothing-read (Tells text) slots status given journal accepted = refl
+nothing-read (Reads setting) slots status given journal accepted =
+    reads-in-time setting slots status given given [] journal accepted accepted (sym (append-nil given)) (in-time-none setting slots journal accepted accepted) (λ memory front last e. absurd (no-push front last e))

@@ -100,7 +100,8 @@ pub record IsHitlessRun (setting : Setting) (device_slots : ℕ) (script came : 
   pub answers : AnswersAllTheWay (blank device_slots) (sets_of setting script) journal
   pub ends : EndsAs (blank device_slots) setting script came status journal
 
--- what packets see of a job over a device that was blank, where the source is told: a job without a script writes nothing
+-- What packets see of a job over a device that was blank, where the source is told; of one that foretells nothing
+-- specs/Given.antt speaks. A job without a script writes nothing.
 abbrev pub IsHitlessJob : Job → ℕ → Status → Option (List ℕ) → Option (List ℕ) → List Write → Type 0
 IsHitlessJob NoJob device_slots status left_old left_new journal = journal ≡ []
 IsHitlessJob (Tells text) device_slots status left_old left_new journal = journal ≡ []

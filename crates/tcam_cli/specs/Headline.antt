@@ -158,7 +158,8 @@ IsToldAlone text last status left_old left_new taken_old taken_new journal =
     (left_new ≡ left_old) × (journal ≡ [])
     × IfSome taken_old (λ before. IfSome taken_new (λ after. (report : List ℕ) × (after ≡ before ++ report) × IsTold text last status report))
 
--- the promise of a job over a device that was blank, each part where what it rests on is told of source and sink
+-- The promise of a job over a device that was blank, each part where what it rests on is told of source and sink. Of a
+-- source that foretells nothing specs/Given.antt speaks.
 abbrev pub IsCarriedOut : Job → ℕ → Status → Option (List ℕ) → Option (List ℕ) → Option (List ℕ) → Option (List ℕ) → List Write → Type 0
 IsCarriedOut NoJob device_slots status left_old left_new taken_old taken_new journal =
     IsToldAlone usage_line Usage status left_old left_new taken_old taken_new journal

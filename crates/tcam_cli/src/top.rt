@@ -40,7 +40,8 @@ use tcam_device::Device;
 /// count of failures of source, sink or device rose, and then nothing more is read, written or printed. `Memory` comes
 /// for want of memory alone, before a commit's first write. `Usage` comes where the words are no command line, and
 /// there nothing else comes but a failing sink and want of memory. The lines of an act are handed to the sink before the
-/// next act is carried out, and every line of the script is carried out as soon as it is known, before the next read.
+/// next act is carried out. No input is taken in vain: of the lines that were whole before the last read none is at fault
+/// or wants memory, journal and accepted report begin with their effects, and no read before it was the end of the input.
 pub fn run<S: Source, K: Sink, D: Device>(
     alloc: Global,
     words: &[String],
@@ -56,7 +57,7 @@ pub fn run<S: Source, K: Sink, D: Device>(
         (S.left source.old) (S.left source.new) (D.journal device.new) }
     ensures given { (which : Bool) → IsPromisedByGiven (job_of (map (λ w. string_bytes w) words.now)) (D.slot_count device.old) result
         (S.given source.old) (S.given source.new) (counted which (K.taken sink.old) (K.accepted sink.old)) (counted which (K.taken sink.new) (K.accepted sink.new)) (D.journal device.new) }
-    ensures in_time { ReadsInTime (job_of (map (λ w. string_bytes w) words.now)) (D.slot_count device.old)
+    ensures in_time { ReadsInTime (job_of (map (λ w. string_bytes w) words.now)) (D.slot_count device.old) result
         (S.given source.old) (S.given source.new) (D.journal device.new) (K.accepted sink.old) (K.accepted sink.new) }
     ensures told { (IsSome (S.left source.old) → IsSome (S.left source.new)) × (IsSome (K.taken sink.old) → IsSome (K.taken sink.new)) }
     ensures slot_count { D.slot_count device.new ≡ D.slot_count device.old }
@@ -97,7 +98,7 @@ fn run_family<S: Source, K: Sink, D: Device>(
         (S.left source.old) (S.left source.new) (K.taken sink.old) (K.taken sink.new) (D.journal device.new) }
     ensures given { (which : Bool) → IsPromisedByGiven (Reads (script_setting family slots trace)) (D.slot_count device.old) result
         (S.given source.old) (S.given source.new) (counted which (K.taken sink.old) (K.accepted sink.old)) (counted which (K.taken sink.new) (K.accepted sink.new)) (D.journal device.new) }
-    ensures in_time { ReadsInTime (Reads (script_setting family slots trace)) (D.slot_count device.old)
+    ensures in_time { ReadsInTime (Reads (script_setting family slots trace)) (D.slot_count device.old) result
         (S.given source.old) (S.given source.new) (D.journal device.new) (K.accepted sink.old) (K.accepted sink.new) }
     ensures told { (IsSome (S.left source.old) → IsSome (S.left source.new)) × (IsSome (K.taken sink.old) → IsSome (K.taken sink.new)) }
     ensures slot_count { D.slot_count device.new ≡ D.slot_count device.old }
@@ -126,7 +127,7 @@ fn run_script<S: Source, K: Sink, D: Device>(
         (S.left source.old) (S.left source.new) (K.taken sink.old) (K.taken sink.new) (D.journal device.new) }
     ensures given { (which : Bool) → IsPromisedByGiven (Reads (setting_of run.old)) (D.slot_count device.old) result
         (S.given source.old) (S.given source.new) (counted which (K.taken sink.old) (K.accepted sink.old)) (counted which (K.taken sink.new) (K.accepted sink.new)) (D.journal device.new) }
-    ensures in_time { ReadsInTime (Reads (setting_of run.old)) (D.slot_count device.old)
+    ensures in_time { ReadsInTime (Reads (setting_of run.old)) (D.slot_count device.old) result
         (S.given source.old) (S.given source.new) (D.journal device.new) (K.accepted sink.old) (K.accepted sink.new) }
     ensures told { (IsSome (S.left source.old) → IsSome (S.left source.new)) × (IsSome (K.taken sink.old) → IsSome (K.taken sink.new)) }
     ensures slot_count { D.slot_count device.new ≡ D.slot_count device.old }
@@ -296,7 +297,7 @@ fn finish<K: Sink>(run: &mut Run, sink: &mut K) -> Status
     ensures run { run.new ≡ run.old }
     ensures closes { (which : Bool) → (device_slots : ℕ) → Closes (ending (setting_of run.old) (progress_of device_slots run.old)) (status_of (progress_of device_slots run.old) Whole)
         result (counted which (K.taken sink.old) (K.accepted sink.old)) (counted which (K.taken sink.new) (K.accepted sink.new)) }
-    ensures kind { (result ≢ Status.Usage) × (result ≢ Status.ReadFault) × (result ≢ Status.DeviceFault) }
+    ensures kind { (result ≢ Status.Usage) × (result ≢ Status.ReadFault) × (result ≢ Status.DeviceFault) × (result ≢ Status.Memory) }
     ensures told { IsSome (K.taken sink.old) → IsSome (K.taken sink.new) }
     ensures cause { IsCounted (result ≡ Status.WriteFault) (K.faults sink.old) (K.faults sink.new) }
 {
@@ -311,7 +312,7 @@ fn finish<K: Sink>(run: &mut Run, sink: &mut K) -> Status
 fn fault<K: Sink>(line: u32, text: &str, sink: &mut K) -> Status
     requires { length text.now ≤ 32 }
     ensures closes { (which : Bool) → Closes (fault_line line text.now) Status.Script result (counted which (K.taken sink.old) (K.accepted sink.old)) (counted which (K.taken sink.new) (K.accepted sink.new)) }
-    ensures kind { (result ≢ Status.Usage) × (result ≢ Status.ReadFault) × (result ≢ Status.DeviceFault) }
+    ensures kind { (result ≢ Status.Usage) × (result ≢ Status.ReadFault) × (result ≢ Status.DeviceFault) × (result ≢ Status.Memory) }
     ensures told { IsSome (K.taken sink.old) → IsSome (K.taken sink.new) }
     ensures cause { IsCounted (result ≡ Status.WriteFault) (K.faults sink.old) (K.faults sink.new) }
 {

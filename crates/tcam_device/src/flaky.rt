@@ -2,7 +2,7 @@
 ghost use Rattle.std.specs.Prelude.{◌≡◌, ◌<◌, ◌≤◌, ◌+◌, ◌-◌, ◌^◌, [], ◌↔◌, min, IfOk, true};
 ghost use Rattle.slot_order.specs.Order as order;
 ghost use Rattle.tcam_device.specs.State.{replay};
-ghost use Rattle.tcam_device.specs.Tcam.{IsNextListed};
+ghost use Rattle.script_lines.specs.Memory.{IsNextListed};
 
 use crate::{Device, DeviceFault, MemTcam, Writable, Write};
 use rule_model::{Key, Rank};
@@ -61,7 +61,7 @@ impl<'a> FlakyTcam<'a> {
     /// Counts a write call, and says whether it is one of those that fail. A call past the greatest number
     /// has none, and doesn't fail.
     fn fails(&mut self) -> bool
-        ensures fails { (result ≡ true) ↔ IsNextListed self.old.calls self.old.made }
+        ensures fails { (result ≡ true) ↔ IsNextListed (record { listed = self.old.calls; made = self.old.made }) }
         ensures counted { self.new ≡ record self.old { made = min (self.old.made + 1) (2 ^ 64 - 1) } }
     {
         let Some(call) = self.made.checked_add(1) else {
@@ -76,7 +76,7 @@ impl<'a> Writable for FlakyTcam<'a> {
     ghost use Rattle.std.specs.Prelude.{◌≡◌, ◌<◌, ◌≤◌, ◌+◌, ◌-◌, ◌^◌, ◌++◌, ◌∷◌, [], ◌↔◌, min, IsErr, OnOk, OnErr};
     ghost use Rattle.script_lines.specs.Cause.{HasCause};
     ghost use Rattle.tcam_device.specs.State.{IsInUse};
-    ghost use Rattle.tcam_device.specs.Tcam.{IsNextListed};
+    ghost use Rattle.script_lines.specs.Memory.{IsNextListed};
 
     ghost slot_count = { λ f. f.device.slots };
 
@@ -106,7 +106,7 @@ impl<'a> Writable for FlakyTcam<'a> {
     fn write(&mut self, write: Write) -> Result<(), DeviceFault>
         requires room { 0 < self.old.device.spare }
         requires place { IsInUse self.old.device.slots write }
-        ensures listed { IsErr result ↔ IsNextListed self.old.calls self.old.made }
+        ensures listed { IsErr result ↔ IsNextListed (record { listed = self.old.calls; made = self.old.made }) }
         ensures calls { self.new.calls ≡ self.old.calls }
         ensures made { self.new.made ≡ min (self.old.made + 1) (2 ^ 64 - 1) }
         ensures raised { OnErr result (self.new.faults ≡ min (self.old.faults + 1) (2 ^ 64 - 1)) }

@@ -13,7 +13,7 @@ returns-in-Ok-eq0-clause-gives g c =
     let plain = all-scanned c.args.before c.scan.result _ _ c.bytes-held.ensures c.scan.ensures.scan used in
     let none : length x.got ≡ 0 = omega (arith, x.count, c.in-Ok-eq0.field-0-is, c.in-Ok-eq0.field-0-test) in (
       i.gives.0 ++ x.got ∷ [],
-      gathers-more _ _ _ _ _ _ _ _ _ _ i.gives.0 x.got i.gives.1 plain x.grown x.taken x.given,
+      gathers-more _ _ _ _ _ _ _ _ _ _ i.gives.0 x.got i.gives.1 i.gives.2 plain x.grown x.taken x.given,
       λ e. refl,
       λ e. end-right i.gives.0 (x.got ∷ []) (inl (none-of x.got none)),
     )
@@ -24,7 +24,7 @@ reads-preserved g c =
     let x = c.in-Ok.ensures.ok in
     let used = rw c.in-Open.is at c.found_at.ensures in
     let plain = all-scanned c.args.before c.scan.result _ _ c.bytes-held.ensures c.scan.ensures.scan used in
-    let more = gathers-more _ _ _ _ _ _ _ _ _ _ i.gives.0 x.got i.gives.1 plain x.grown x.taken x.given in
+    let more = gathers-more _ _ _ _ _ _ _ _ _ _ i.gives.0 x.got i.gives.1 i.gives.2 plain x.grown x.taken x.given in
     record {
       scan = scanned-more c.args.before c.scan.result _ _ _ x.got c.bytes-held.ensures c.scan.ensures.scan x.grown;
       grown = (concat (i.gives.0 ++ x.got ∷ []), more.grown, more.taken);

@@ -82,4 +82,4 @@ returns-in-Err-Usage-clause-in_time g c =
     rw is refl
 
 pub returns-in-Err-Memory-clause-in_time : goal.returns-in-Err-Memory-clause-in_time
-returns-in-Err-Memory-clause-in_time g c = nothing-read _ _ _ _ _
+returns-in-Err-Memory-clause-in_time g c = nothing-read _ _ _ _ _ _

@@ -34,8 +34,8 @@ returns-in-Err-clause-given g c = λ which.
 
 pub returns-in-Ok-clause-in_time : goal.returns-in-Ok-clause-in_time
 returns-in-Ok-clause-in_time g c =
-    subst (λ (s : Setting). ReadsInTime (Reads s) (g.D.Writable.slot_count c.args.device.now) (g.S.Source.given c.args.source.now) (g.S.Source.given c.run_script.new.source)
+    subst (λ (s : Setting). ReadsInTime (Reads s) (g.D.Writable.slot_count c.args.device.now) c.run_script.result (g.S.Source.given c.args.source.now) (g.S.Source.given c.run_script.new.source)
     (g.D.Writable.journal c.run_script.new.device) (g.K.Sink.accepted c.args.sink.now) (g.K.Sink.accepted c.run_script.new.sink)) (ap setting_of c.in-Ok.ensures) c.run_script.ensures.in_time
 
 pub returns-in-Err-clause-in_time : goal.returns-in-Err-clause-in_time
-returns-in-Err-clause-in_time g c = nothing-read (Reads (script_setting c.args.family c.args.slots c.args.trace)) _ _ _ _
+returns-in-Err-clause-in_time g c = nothing-read (Reads (script_setting c.args.family c.args.slots c.args.trace)) _ _ _ _ _

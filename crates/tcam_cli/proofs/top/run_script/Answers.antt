@@ -2,7 +2,7 @@ use Rattle.std.proofs.Common.{true, false, ◌≡◌, ◌++◌, [], Some, refl, 
 use Rattle.std.specs.List.{concat}
 use Rattle.script_lines.specs.Given.{HasEnd, counted}
 use Rattle.tcam_cli.proofs.GivenRuns.{gives-none, gives-trans, may-first, may-second, ended-both, no-more, may-all, ends-told, promised}
-use Rattle.tcam_cli.proofs.InTime.{in-time-none, turn-in-time, reads-in-time}
+use Rattle.tcam_cli.proofs.InTime.{in-time-none, stands-first, stands-next, turn-in-time, wants-in-time, reads-in-time}
 use Rattle.script_lines.specs.Reader.{Held}
 use Rattle.replay.specs.Run.{Progress}
 use Rattle.replay.specs.Running.{progress_of, setting_of}
@@ -16,7 +16,7 @@ acts-init g c = record {
   idle = c.requires.idle;
   commits = let none : c.args.run.now.commits ≡ 0 = ap (λ (p : Progress). p.commits) c.requires.begun in omega (arith, none);
   within = let none = ap (λ (h : Held). h.before) c.new-lines.ensures in omega (arith, none);
-  gives = ([], gives-none _ _, λ e. absurd e, λ which left now may. starts _ _ left _ now _ _ _ c.new-lines.ensures (ap Some may.bytes) c.requires.begun c.requires.blank, in-time-none _ _ _ _ _);
+  gives = ([], gives-none _ _, λ e. absurd e, λ which left now may. stands-first _ _ _ _ _ _ _ _ _ (starts _ _ left _ now _ _ _ c.new-lines.ensures (ap Some may.bytes) c.requires.begun c.requires.blank), in-time-none _ _ _ _ _);
   told = λ some. some;
   reads = refl;
   writes = refl;
@@ -40,13 +40,13 @@ acts-preserved g c =
         λ which left now may.
             let stays : HasEnd i.gives.0 → t.gives.0 ≡ [] = λ e. (t.gives.2 true).rests (no-more _ (i.gives.2 e)) in
             let s = i.gives.3 which left (concat t.gives.0 ++ now) (may-first left now i.gives.0 t.gives.0 may stays) in
-            rw (← i.setting, ← i.slot_count) ((t.gives.2 which).goes left (concat t.gives.0 ++ now) now _ (may-second left now i.gives.0 t.gives.0 may) (rw (i.setting, i.slot_count) s)),
+            rw (← i.setting, ← i.slot_count) (stands-next _ _ i.gives.0 t.gives.0 _ _ _ _ _ _ _ _ _ left now (t.gives.2 which) may (rw (i.setting, i.slot_count) s)),
         let turn = t.gives.2 false in
             let stays : HasEnd i.gives.0 → t.gives.0 ≡ [] = λ e. turn.rests (no-more _ (i.gives.2 e)) in
             let may = may-all (i.gives.0 ++ t.gives.0) in
             let s = i.gives.3 false _ (concat t.gives.0 ++ []) (may-first _ [] i.gives.0 t.gives.0 may stays) in
-            turn-in-time (setting_of c.args.run.now) (g.D.Writable.slot_count c.args.device.now) i.gives.0 t.gives.0 c.acts.lines (progress_of (g.D.Writable.slot_count c.args.device.now) c.acts.run) (g.D.Writable.journal c.acts.device) _ _ _ _ (i.gives.3 false) stays turn.rests turn.last
-            (turn.grows (concat (i.gives.0 ++ t.gives.0)) (concat t.gives.0 ++ []) [] (Some (g.K.Sink.accepted c.args.sink.now)) (may-second _ [] i.gives.0 t.gives.0 may) (rw (i.setting, i.slot_count) s)) i.gives.4,
+            turn-in-time (setting_of c.args.run.now) (g.D.Writable.slot_count c.args.device.now) i.gives.0 t.gives.0 c.acts.lines (progress_of (g.D.Writable.slot_count c.args.device.now) c.acts.run) (g.D.Writable.journal c.acts.device) _ _ _ _ (λ left now may. (i.gives.3 false left now may).so_far) stays turn.rests turn.last
+            (turn.grows (concat (i.gives.0 ++ t.gives.0)) (concat t.gives.0 ++ []) [] (Some (g.K.Sink.accepted c.args.sink.now)) (may-second _ [] i.gives.0 t.gives.0 may) (rw (i.setting, i.slot_count) s.so_far)) i.gives.4,
       );
       told = λ some. t.told (i.told some);
       reads = t.read.stayed (λ e. cc) ∙ i.reads;
@@ -63,7 +63,7 @@ returns-in-Some-clause-carried_out g c =
     carried (setting_of c.args.run.now) (g.D.Writable.slot_count c.args.device.now) c.in-Some.status (g.S.Source.left c.args.source.now) (g.S.Source.left c.turn.new.source) (g.D.Writable.journal c.turn.new.device) (g.K.Sink.taken c.args.sink.now) (g.K.Sink.taken c.turn.new.sink)
     (concat (i.gives.0 ++ t.gives.0), all.taken) (ends-told _ _ c.in-Some.status _ _ _ _ (i.gives.0 ++ t.gives.0) _ _ _ all (λ left taken now may parts.
     let s = i.gives.3 true left (concat t.gives.0 ++ now) (may-first left now i.gives.0 t.gives.0 may stays) in
-    rw (← i.setting, ← i.slot_count) ((t.gives.2 true).ends left taken (concat t.gives.0 ++ now) now _ (may-second left now i.gives.0 t.gives.0 may) parts (rw (i.setting, i.slot_count) s))))
+    rw (← i.setting, ← i.slot_count) ((t.gives.2 true).ends left taken (concat t.gives.0 ++ now) now _ (may-second left now i.gives.0 t.gives.0 may) parts (rw (i.setting, i.slot_count) s.so_far))))
 
 pub returns-in-Some-clause-given : goal.returns-in-Some-clause-given
 returns-in-Some-clause-given g c = λ which.
@@ -75,7 +75,7 @@ returns-in-Some-clause-given g c = λ which.
     (g.D.Writable.journal c.turn.new.device) (counted which (g.K.Sink.taken c.args.sink.now) (g.K.Sink.accepted c.args.sink.now)) (counted which (g.K.Sink.taken c.turn.new.sink) (g.K.Sink.accepted c.turn.new.sink))
     (λ e. t.no_usage (ap Some e)) all (λ left taken now may parts.
     let s = i.gives.3 which left (concat t.gives.0 ++ now) (may-first left now i.gives.0 t.gives.0 may stays) in
-    rw (← i.setting, ← i.slot_count) ((t.gives.2 which).ends left taken (concat t.gives.0 ++ now) now _ (may-second left now i.gives.0 t.gives.0 may) parts (rw (i.setting, i.slot_count) s)))
+    rw (← i.setting, ← i.slot_count) ((t.gives.2 which).ends left taken (concat t.gives.0 ++ now) now _ (may-second left now i.gives.0 t.gives.0 may) parts (rw (i.setting, i.slot_count) s.so_far)))
 
 pub returns-in-Some-clause-causes : goal.returns-in-Some-clause-causes
 returns-in-Some-clause-causes g c =
@@ -90,7 +90,7 @@ returns-in-Some-clause-causes g c =
       ends = may-end (setting_of c.args.run.now) (g.D.Writable.slot_count c.args.device.now) c.in-Some.status (g.S.Source.left c.args.source.now) (g.S.Source.left c.turn.new.source) (g.D.Writable.journal c.turn.new.device) (g.K.Sink.taken c.args.sink.now) (g.K.Sink.taken c.turn.new.sink)
           (concat (i.gives.0 ++ t.gives.0), all.taken) (λ e. t.no_usage (ap Some e)) (ends-told _ _ c.in-Some.status _ _ _ _ (i.gives.0 ++ t.gives.0) _ _ _ all (λ left taken now may parts.
           let s = i.gives.3 true left (concat t.gives.0 ++ now) (may-first left now i.gives.0 t.gives.0 may stays) in
-          rw (← i.setting, ← i.slot_count) ((t.gives.2 true).ends left taken (concat t.gives.0 ++ now) now _ (may-second left now i.gives.0 t.gives.0 may) parts (rw (i.setting, i.slot_count) s))));
+          rw (← i.setting, ← i.slot_count) ((t.gives.2 true).ends left taken (concat t.gives.0 ++ now) now _ (may-second left now i.gives.0 t.gives.0 may) parts (rw (i.setting, i.slot_count) s.so_far))));
     }
 
 -- what was told stays told
@@ -112,6 +112,9 @@ returns-in-Some-clause-in_time g c =
     let all = gives-trans _ _ _ _ _ _ i.gives.0 t.gives.0 i.gives.1 t.gives.1 stays (λ e. (t.rests (no-more _ (i.gives.2 e))).0) in
     let may = may-all (i.gives.0 ++ t.gives.0) in
     let s = i.gives.3 false _ (concat t.gives.0 ++ []) (may-first _ [] i.gives.0 t.gives.0 may stays) in
-    reads-in-time (setting_of c.args.run.now) (g.D.Writable.slot_count c.args.device.now) _ _ (i.gives.0 ++ t.gives.0) _ _ _ all.given
-    (turn-in-time (setting_of c.args.run.now) (g.D.Writable.slot_count c.args.device.now) i.gives.0 t.gives.0 c.acts.lines (progress_of (g.D.Writable.slot_count c.args.device.now) c.acts.run) (g.D.Writable.journal c.acts.device) _ _ _ _ (i.gives.3 false) stays turn.rests turn.last
-    (turn.grows (concat (i.gives.0 ++ t.gives.0)) (concat t.gives.0 ++ []) [] (Some (g.K.Sink.accepted c.args.sink.now)) (may-second _ [] i.gives.0 t.gives.0 may) (rw (i.setting, i.slot_count) s)) i.gives.4)
+    reads-in-time (setting_of c.args.run.now) (g.D.Writable.slot_count c.args.device.now) c.in-Some.status _ _ (i.gives.0 ++ t.gives.0) _ _ _ all.given
+    (turn-in-time (setting_of c.args.run.now) (g.D.Writable.slot_count c.args.device.now) i.gives.0 t.gives.0 c.acts.lines (progress_of (g.D.Writable.slot_count c.args.device.now) c.acts.run) (g.D.Writable.journal c.acts.device) _ _ _ _ (λ left now may. (i.gives.3 false left now may).so_far) stays turn.rests turn.last
+    (turn.grows (concat (i.gives.0 ++ t.gives.0)) (concat t.gives.0 ++ []) [] (Some (g.K.Sink.accepted c.args.sink.now)) (may-second _ [] i.gives.0 t.gives.0 may) (rw (i.setting, i.slot_count) s.so_far)) i.gives.4)
+    (λ memory front last e left after may.
+    rw (← i.setting, ← i.slot_count) (wants-in-time _ _ i.gives.0 t.gives.0 _ _ _ _ _ _ _ _ _ _ left after last front turn memory may
+    (rw (i.setting, i.slot_count) (i.gives.3 false left (concat t.gives.0 ++ after) (may-first left after i.gives.0 t.gives.0 may stays))) e))

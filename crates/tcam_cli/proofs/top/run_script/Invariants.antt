@@ -2,8 +2,7 @@ use Rattle.std.proofs.Common.{◌≡◌, ◌≤◌, ◌*◌, ◌-◌, ℕ, Bool,
 use Rattle.script_lines.specs.Given.{HasEnd, MayGive, GivesPieces, counted}
 use Rattle.script_lines.specs.declared.Over.TheVariants as over
 use Rattle.replay.specs.Running.{progress_of, setting_of}
-use Rattle.tcam_cli.specs.Turns.{SoFar}
-use Rattle.tcam_cli.proofs.InTime.{InTime}
+use Rattle.tcam_cli.proofs.InTime.{InTime, StandsAt}
 use Rattle.tcam_cli.proofs.top.run_script.Given as goal
 
 abbrev pub invariant-acts : goal.invariant-acts
@@ -16,7 +15,7 @@ invariant-acts g l = record {
   gives : (pieces : List (List ℕ)) × GivesPieces (g.S.Source.given l.fn.source) (g.S.Source.given l.source) (g.S.Source.left l.fn.source) (g.S.Source.left l.source) pieces
       × (HasEnd pieces → l.lines.over ≡ over.Ended)
       × ((which : Bool) (left now : List ℕ) → MayGive left pieces now
-      → SoFar (setting_of l.fn.run) (g.D.Writable.slot_count l.fn.device) left l.lines now (progress_of (g.D.Writable.slot_count l.fn.device) l.run)
+      → StandsAt (setting_of l.fn.run) (g.D.Writable.slot_count l.fn.device) pieces left l.lines now (progress_of (g.D.Writable.slot_count l.fn.device) l.run)
       (g.D.Writable.journal l.device) (counted which (g.K.Sink.taken l.fn.sink) (g.K.Sink.accepted l.fn.sink)) (counted which (g.K.Sink.taken l.sink) (g.K.Sink.accepted l.sink)))
       × InTime (setting_of l.fn.run) (g.D.Writable.slot_count l.fn.device) pieces (g.D.Writable.journal l.device) (g.K.Sink.accepted l.fn.sink) (g.K.Sink.accepted l.sink);
   told : IsSome (g.K.Sink.taken l.fn.sink) → IsSome (g.K.Sink.taken l.sink);

@@ -1,8 +1,8 @@
 use Rattle.std.proofs.Common.{ap, ◌∙◌, Err, Ok, inl, inr, refl, length}
-use Rattle.tcam_cli.proofs.Exits.{exit-bytes, exit-end, exit-read, goes-none, exit-word, exit-full, goes-on, exit-line, exit-device, exit-memory}
+use Rattle.tcam_cli.proofs.Exits.{exit-bytes, exit-end, exit-read, goes-none, exit-word, exit-full, goes-on, exit-line, exit-device, exit-memory, wants-next}
 use Rattle.tcam_cli.proofs.Limits.{room-ok, room-sink, room-device, room-memory}
 use Rattle.tcam_cli.proofs.InTime.{does-grows, same-grows, closes-grows, so-far-at}
-use Rattle.tcam_cli.proofs.GivenRuns.{turns-some, turns-none, rests-same}
+use Rattle.tcam_cli.proofs.GivenRuns.{turns-some, turns-memory, turns-none, rests-same}
 use Rattle.tcam_cli.proofs.top.turn.Goals as goal
 
 pub returns-in-Err-Read-clause-gives : goal.returns-in-Err-Read-clause-gives
@@ -10,7 +10,7 @@ returns-in-Err-Read-clause-gives g c =
     let h = c.in-Err-Read in (
       h.ensures.gives.0,
       h.ensures.gives.1,
-      λ which. turns-some _ _ _ _ _ _ _ _ _ _ _ _ _ _ h.ensures.gives.2 (λ bytes left now start may s. same-grows _ _)
+      λ which. turns-some _ _ _ _ _ _ _ _ _ _ _ _ _ _ h.ensures.gives.2 (λ e. cc) (λ bytes left now start may s. same-grows _ _)
           (λ bytes taken begun now start may parts s.
           exit-read _ _ bytes _ begun _ _ start _ s c.next.new.self taken now (rw h.field-0-is at h.ensures.again) (λ going. rw h.field-0-is at (h.ensures.gives.2.hands going begun now may)) parts),
     )
@@ -20,7 +20,7 @@ returns-in-Err-ScriptTooLong-clause-gives g c =
     let h = c.in-Err-ScriptTooLong in (
       h.ensures.gives.0,
       h.ensures.gives.1,
-      λ which. turns-some _ _ _ _ _ _ _ _ _ _ _ _ _ _ h.ensures.gives.2 (λ bytes left now start may s. closes-grows _ _ _ _ _ _ (c.fault.ensures.closes which))
+      λ which. turns-some _ _ _ _ _ _ _ _ _ _ _ _ _ _ h.ensures.gives.2 c.fault.ensures.kind.3 (λ bytes left now start may s. closes-grows _ _ _ _ _ _ (c.fault.ensures.closes which))
           (λ bytes taken begun now start may parts s.
           exit-bytes _ _ bytes _ begun _ _ start _ s taken now _ _ _ _ _ refl (rw h.field-0-is at h.ensures.again) (λ going. rw h.field-0-is at (h.ensures.gives.2.hands going begun now may)) (c.fault.ensures.closes which)),
     )
@@ -30,7 +30,7 @@ returns-in-Err-TooLong-clause-gives g c =
     let h = c.in-Err-TooLong in (
       h.ensures.gives.0,
       h.ensures.gives.1,
-      λ which. turns-some _ _ _ _ _ _ _ _ _ _ _ _ _ _ h.ensures.gives.2 (λ bytes left now start may s. closes-grows _ _ _ _ _ _ (c.fault-in-Err-TooLong.ensures.closes which))
+      λ which. turns-some _ _ _ _ _ _ _ _ _ _ _ _ _ _ h.ensures.gives.2 c.fault-in-Err-TooLong.ensures.kind.3 (λ bytes left now start may s. closes-grows _ _ _ _ _ _ (c.fault-in-Err-TooLong.ensures.closes which))
           (λ bytes taken begun now start may parts s.
           exit-bytes _ _ bytes _ begun _ _ start _ s taken now _ _ _ _ _ refl (rw h.field-0-is at h.ensures.again) (λ going. rw h.field-0-is at (h.ensures.gives.2.hands going begun now may)) (c.fault-in-Err-TooLong.ensures.closes which)),
     )
@@ -40,7 +40,7 @@ returns-in-Err-BadByte-clause-gives g c =
     let h = c.in-Err-BadByte in (
       h.ensures.gives.0,
       h.ensures.gives.1,
-      λ which. turns-some _ _ _ _ _ _ _ _ _ _ _ _ _ _ h.ensures.gives.2 (λ bytes left now start may s. closes-grows _ _ _ _ _ _ (c.fault-in-Err-BadByte.ensures.closes which))
+      λ which. turns-some _ _ _ _ _ _ _ _ _ _ _ _ _ _ h.ensures.gives.2 c.fault-in-Err-BadByte.ensures.kind.3 (λ bytes left now start may s. closes-grows _ _ _ _ _ _ (c.fault-in-Err-BadByte.ensures.closes which))
           (λ bytes taken begun now start may parts s.
           exit-bytes _ _ bytes _ begun _ _ start _ s taken now _ _ _ _ _ refl (rw h.field-0-is at h.ensures.again) (λ going. rw h.field-0-is at (h.ensures.gives.2.hands going begun now may)) (c.fault-in-Err-BadByte.ensures.closes which)),
     )
@@ -50,7 +50,7 @@ returns-in-Ok-None-clause-gives g c =
     let h = c.in-Ok-None in (
       h.ensures.gives.0,
       h.ensures.gives.1,
-      λ which. turns-some _ _ _ _ _ _ _ _ _ _ _ _ _ _ h.ensures.gives.2 (λ bytes left now start may s. closes-grows _ _ _ _ _ _ (c.finish.ensures.closes which (g.D.Writable.slot_count c.args.device.now)))
+      λ which. turns-some _ _ _ _ _ _ _ _ _ _ _ _ _ _ h.ensures.gives.2 c.finish.ensures.kind.3 (λ bytes left now start may s. closes-grows _ _ _ _ _ _ (c.finish.ensures.closes which (g.D.Writable.slot_count c.args.device.now)))
           (λ bytes taken begun now start may parts s.
           exit-end _ _ bytes _ begun _ _ start _ s c.next.new.self taken now _ _ (λ going. rw h.field-0-is at (h.ensures.gives.2.hands going begun now may))
           (λ other. rests-same _ _ _ _ begun now h.ensures.gives.2 may other) (c.finish.ensures.closes which (g.D.Writable.slot_count c.args.device.now))),
@@ -61,7 +61,7 @@ returns-in-Err-clause-gives g c =
     let h = c.in-Ok-Some in (
       h.ensures.gives.0,
       h.ensures.gives.1,
-      λ which. turns-some _ _ _ _ _ _ _ _ _ _ _ _ _ _ h.ensures.gives.2 (λ bytes left now start may s. closes-grows _ _ _ _ _ _ (c.fault-in-Err.ensures.closes which))
+      λ which. turns-some _ _ _ _ _ _ _ _ _ _ _ _ _ _ h.ensures.gives.2 c.fault-in-Err.ensures.kind.3 (λ bytes left now start may s. closes-grows _ _ _ _ _ _ (c.fault-in-Err.ensures.closes which))
           (λ bytes taken begun now start may parts s.
           exit-word _ _ bytes _ begun _ _ start _ s h.line c.next.new.self now (rw h.field-0-is at h.ensures.again) (λ going. rw h.field-0-is at (h.ensures.gives.2.hands going begun now may))
           taken _ _ _ c.in-Err.ensures.err (c.fault-in-Err.ensures.closes which)),
@@ -94,7 +94,7 @@ returns-in-Err-BatchFull-clause-gives g c =
     let h = c.in-Ok-Some in (
       h.ensures.gives.0,
       h.ensures.gives.1,
-      λ which. turns-some _ _ _ _ _ _ _ _ _ _ _ _ _ _ h.ensures.gives.2 (λ bytes left now start may s.
+      λ which. turns-some _ _ _ _ _ _ _ _ _ _ _ _ _ _ h.ensures.gives.2 c.fault-in-Err-BatchFull.ensures.kind.3 (λ bytes left now start may s.
           let same = c.in-Err-BatchFull.ensures.untouched (inl (ap Err c.in-Err-BatchFull.field-0-is)) in
           rw same.0 (closes-grows _ _ _ _ _ _ (rw (same.1, same.2) at (c.fault-in-Err-BatchFull.ensures.closes which))))
           (λ bytes taken begun now start may parts s.
@@ -109,7 +109,7 @@ returns-in-Err-ProbesFull-clause-gives g c =
     let h = c.in-Ok-Some in (
       h.ensures.gives.0,
       h.ensures.gives.1,
-      λ which. turns-some _ _ _ _ _ _ _ _ _ _ _ _ _ _ h.ensures.gives.2 (λ bytes left now start may s.
+      λ which. turns-some _ _ _ _ _ _ _ _ _ _ _ _ _ _ h.ensures.gives.2 c.fault-in-Err-ProbesFull.ensures.kind.3 (λ bytes left now start may s.
           let same = c.in-Err-ProbesFull.ensures.untouched (inr (inl (ap Err c.in-Err-ProbesFull.field-0-is))) in
           rw same.0 (closes-grows _ _ _ _ _ _ (rw (same.1, same.2) at (c.fault-in-Err-ProbesFull.ensures.closes which))))
           (λ bytes taken begun now start may parts s.
@@ -124,7 +124,7 @@ returns-in-Err-Sink-clause-gives g c =
     let h = c.in-Ok-Some in (
       h.ensures.gives.0,
       h.ensures.gives.1,
-      λ which. turns-some _ _ _ _ _ _ _ _ _ _ _ _ _ _ h.ensures.gives.2 (λ bytes left now start may s. does-grows _ _ _ _ _ _ (c.in-Err-Sink.ensures.at_line which (ap Err c.in-Err-Sink.field-0-is) (so-far-at _ _ _ _ _ _ _ _ _ s)).does)
+      λ which. turns-some _ _ _ _ _ _ _ _ _ _ _ _ _ _ h.ensures.gives.2 (λ e. cc) (λ bytes left now start may s. does-grows _ _ _ _ _ _ (c.in-Err-Sink.ensures.at_line which (ap Err c.in-Err-Sink.field-0-is) (so-far-at _ _ _ _ _ _ _ _ _ s)).does)
           (λ bytes taken begun now start may parts s.
           let is = c.in-Err-Sink.field-0-is in
           exit-line _ _ bytes _ begun _ _ start _ s h.line c.next.new.self now (rw h.field-0-is at h.ensures.again) (λ going. rw h.field-0-is at (h.ensures.gives.2.hands going begun now may))
@@ -137,7 +137,7 @@ returns-in-Err-Device-clause-gives g c =
     let h = c.in-Ok-Some in (
       h.ensures.gives.0,
       h.ensures.gives.1,
-      λ which. turns-some _ _ _ _ _ _ _ _ _ _ _ _ _ _ h.ensures.gives.2 (λ bytes left now start may s. does-grows _ _ _ _ _ _ (c.in-Err-Device.ensures.at_write which (ap Err c.in-Err-Device.field-0-is) (so-far-at _ _ _ _ _ _ _ _ _ s)).does)
+      λ which. turns-some _ _ _ _ _ _ _ _ _ _ _ _ _ _ h.ensures.gives.2 (λ e. cc) (λ bytes left now start may s. does-grows _ _ _ _ _ _ (c.in-Err-Device.ensures.at_write which (ap Err c.in-Err-Device.field-0-is) (so-far-at _ _ _ _ _ _ _ _ _ s)).does)
           (λ bytes taken begun now start may parts s.
           let is = c.in-Err-Device.field-0-is in
           exit-device _ _ bytes _ begun _ _ start _ s h.line c.next.new.self now (rw h.field-0-is at h.ensures.again) (λ going. rw h.field-0-is at (h.ensures.gives.2.hands going begun now may))
@@ -150,10 +150,15 @@ returns-in-Err-Memory-clause-gives g c =
     let h = c.in-Ok-Some in (
       h.ensures.gives.0,
       h.ensures.gives.1,
-      λ which. turns-some _ _ _ _ _ _ _ _ _ _ _ _ _ _ h.ensures.gives.2 (λ bytes left now start may s. does-grows _ _ _ _ _ _ (c.in-Err-Memory.ensures.memory which (ap Err c.in-Err-Memory.field-0-is)).does)
+      λ which. turns-memory _ _ _ _ _ _ _ _ _ _ _ _ _ _ h.ensures.gives.2 (λ bytes left now start may s. does-grows _ _ _ _ _ _ (c.in-Err-Memory.ensures.memory which (ap Err c.in-Err-Memory.field-0-is)).does)
           (λ bytes taken begun now start may parts s.
           let is = c.in-Err-Memory.field-0-is in
           exit-memory _ _ bytes _ begun _ _ start _ s h.line c.next.new.self now (rw h.field-0-is at h.ensures.again) (λ going. rw h.field-0-is at (h.ensures.gives.2.hands going begun now may))
           _ (c.in-Ok-Some-read_act.ensures.ok ∙ ap Ok c.in-Ok-Some-read_act.field-0-is) (room-memory _ c.in-Ok-Some-read_act.act (length c.args.run.now.pending) (length c.args.run.now.probes) is (c.in-Err-Memory.ensures.full, c.in-Err-Memory.ensures.probes_full)) _ _ taken
+          (c.in-Err-Memory.ensures.memory which (ap Err is)))
+          (λ bytes left now start may s.
+          let is = c.in-Err-Memory.field-0-is in
+          wants-next _ _ bytes _ left _ _ start _ s h.line c.next.new.self now (rw h.field-0-is at h.ensures.again) (λ going. rw h.field-0-is at (h.ensures.gives.2.hands going left now may))
+          _ (c.in-Ok-Some-read_act.ensures.ok ∙ ap Ok c.in-Ok-Some-read_act.field-0-is) (room-memory _ c.in-Ok-Some-read_act.act (length c.args.run.now.pending) (length c.args.run.now.probes) is (c.in-Err-Memory.ensures.full, c.in-Err-Memory.ensures.probes_full)) _ _
           (c.in-Err-Memory.ensures.memory which (ap Err is))),
     )

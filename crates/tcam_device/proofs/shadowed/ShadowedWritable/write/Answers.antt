@@ -11,7 +11,7 @@ invariant_of-self g c =
     rw c.saturating_add-self-inside.ensures record {
       size = was.size ∙ sym c.put.ensures.slots;
       follows = was.follows;
-      put = put_more g.H.Hardware.puts i.journal.items i.faults i.hardware c.put.new.self c.args.write c.put.result (Err c.in-Err.fault) was.put c.put.ensures.puts c.in-Err.is;
+      put = put_more g.H.Hardware.puts i.given.items i.journal.items i.faults i.hardware c.put.new.self c.args.write c.put.result (Err c.in-Err.fault) was.put c.put.ensures.puts c.in-Err.is;
     }
 
 pub invariant_of-self-2 : goal.invariant_of-self-2
@@ -21,5 +21,5 @@ invariant_of-self-2 g c =
     rw c.and-self-inside.ensures record {
       size = ap (λ (s : State). length s.slots) c.make.ensures ∙ (slots-apply i.memory c.args.write ∙ (was.size ∙ sym c.put.ensures.slots));
       follows = replay-apply i.memory c.make.new.self i.journal.items c.args.write was.follows c.make.ensures;
-      put = put_more g.H.Hardware.puts i.journal.items i.faults i.hardware c.put.new.self c.args.write c.put.result (Ok tt) was.put c.put.ensures.puts c.in_default.is;
+      put = put_more g.H.Hardware.puts i.given.items i.journal.items i.faults i.hardware c.put.new.self c.args.write c.put.result (Ok tt) was.put c.put.ensures.puts c.in_default.is;
     }
