@@ -1,106 +1,52 @@
--- `and_piece` makes the empty struct, with the piece's bytes behind the history's items. Assumes `Logic`.
-use Rattle.std.proofs.Common.{List, [], ◌∷◌, ◌++◌, refl}
-use seplogic.Ra.Ura.{Ura}
-use mir.Syntax.{Fn}
-use mir.Val.{Val, vptr}
-use base.Logic.{SProp, ent}
-use prog.Memory.{Memory}
-use prog.Routine.{Routine}
-use prog.Wp.{Calls, Loops, WpFn, Tables}
-use contract.Monad.{Fun}
-use contract.Running.{tables, tables_of}
-use sound.WpLaws.{WpFn-mono}
-use types.Logic.{Logic}
-use types.Kit.{‵, raw, ◌⊛◌, prop, ◌$◌, ◌∵◌, !, qed, move, keep, drop, split, fsplit, fjoin, feq_l, regoal, suffices, done}
+-- `and_piece` makes the struct, with the piece's bytes behind the history's items. Assumes `Logic`.
+use Rattle.std.proofs.Common.{◌≡◌, [], ◌∷◌, ◌++◌, refl}
+use Rattle.std.proofs.raw_atomic.Walks.{proved}
+use base.Logic.{emp}
+use base.Fml.{ftrue, fsep}
+use mir.Syntax.{named}
+use contract.Monad.{fact_i}
+use types.Kit.{‵, raw, ◌⊛◌, ◌$◌, ◌∵◌, !, qed, by, keep, split}
 use types.Part.{agg}
 use types.Run.{enter, returns, and_then, no_more}
 use types.ByLocal.{alloc_all, pass_all, free_all, look_at, get, sets}
+use denote.Builtin.{RefOf}
 use denote.Exit.{yes}
 use denote.RattleType.{RattleType, owns}
-use denote.Builtin.{RefOf}
+use denote.Ref.{shr_vals, shr_Tells}
+use denote.Shadow.{makes_shadow}
 use denote.Signature.{Slot, plain, types_at, named_lft, static_lft}
-use denote.Steps.{nothing}
-use denote.Triple.Clauses.{Clauses, Ended, closing}
 use denote.Triple.Entry.{alive}
-use denote.Triple.Spec.{Meets, triple_of}
-use denote.Triple.Table.{entered}
-use denote.Triple.Walked.{says, Stays, stay_dropped, walk_of, ends_at, walk_Meets, Goes-dropped}
-use Rattle.bytes.proofs.Walks.{none, one}
-use Rattle.script_lines.proofs.Histories.{history_made}
+use denote.Triple.Walked.{Stays, walk_of, stay_dropped, Goes-dropped}
+use Rattle.script_lines.proofs.Histories.{stored, holding, held_for_nothing, gives}
 use Rattle.script_lines.specs.contracts.history.History as History
 use Rattle.script_lines.specs.contracts.history.Piece as Piece
-use Rattle.script_lines.specs.contracts.history.History+Piece.and_piece as F
-use Rattle.script_lines.specs.contracts.history.History+Piece.and_piece.Key.{name as #self}
-use Rattle.script_lines.proofs.history.History+Piece.and_piece.Statement as stated
+use Rattle.script_lines.specs.contracts.history.History+Piece.and_piece as and_piece
+use Rattle.script_lines.proofs.history.History+Piece.and_piece.Statement.{statement}
 use Rattle.script_lines.proofs.history.History+Piece.and_piece.Code as code
 
--- the row of a history of pieces, and the two parameters
-abbrev pieces : RattleType
-pieces = History.the_row (Piece.the_row static_lft)
+-- no byte of a piece is kept, so its items are those of any lifetime
+abbrev kept : RattleType
+kept = Piece.the_row static_lft
 
-abbrev self_slot : Slot 3
-self_slot = RefOf (0 ∷ []) tt (plain (λ _. pieces)) (λ _. tt)
-
-abbrev piece_slot : Slot 3
-piece_slot = RefOf (1 ∷ []) tt (plain (λ κs. Piece.the_row (named_lft 3 2 tt κs))) (λ _. tt)
-
-abbrev function : Fn
-function = code.function
-
-abbrev ended : Ended
-ended = F.ended
-
-abbrev stayed : Stays ended.signature.params ended.kept
-stayed = (
-  stay_dropped self_slot yes,
-  (stay_dropped piece_slot yes, tt),
-)
-
-module _ {M : Type 1} {𝓤 : Ura M} (𝓛 : Logic 𝓤) (at_mem : Memory → SProp 𝓤) (run : Routine → Fun 𝓤) where
-  open 𝓛 use {H}
-
-  abbrev held : Clauses 𝓤 ended
-  held = F.clauses 𝓛 at_mem run
-
-  module _ (C : Calls 𝓤 H) (Λ : Loops 𝓤 H) (z : (walk_of 𝓛 ended stayed held).Ghost) where
-    abbrev Post : Val → SProp 𝓤
-    Post = (walk_of 𝓛 ended stayed held).post z
-
-    abbrev toks : SProp 𝓤
-    toks = alive 𝓛 ended.signature z.0.0 z.0.1
-
-    walks : ent 𝓤 ((walk_of 𝓛 ended stayed held).pre z) (WpFn 𝓤 H C Λ function ((walk_of 𝓛 ended stayed held).args z) Post)
-    walks =
-        let a = z.0.3 in
-        let vss = z.0.4 in
-        let made : pieces.Denot =
-        record { of = record {}; items = a.0.now.items ++ a.1.0.now ∷ [] } in
-        qed 𝓛 ((raw toks ⊛ ‵ (owns (types_at ended.signature.params z.0.0) a vss)) ∷ raw ((held z.0.0 a).requires z.1) ∷ []) ∵
-        keep ! (0 ∷ []) $ split ! $ move ! (1 ∷ []) $
-        fsplit ! $ fsplit ! $ feq_l ! (λ is₀. drop ! $ fsplit ! $ fsplit ! $ feq_l ! (λ is₁. drop ! $ drop ! $
-        let p = vptr a.0.ref_ptr.0 a.0.ref_ptr.1 in
-        let q = vptr a.1.0.ref_ptr.0 a.1.0.ref_ptr.1 in
-        regoal ! (λ (us : List Val). prop (WpFn 𝓤 H C Λ function (us ++ (vss.1.0 ++ [])) Post)) is₀ refl $
-        regoal ! (λ (us : List Val). prop (WpFn 𝓤 H C Λ function ((p ∷ []) ++ (us ++ [])) Post)) is₁ refl $
-        enter ! C Λ function (p ∷ q ∷ []) Post $ alloc_all ! (λ l. pass_all ! refl ((tt, tt), ((tt, tt), tt)) $
-        sets ! (agg ! (no_more !)) refl (tt, tt) $
-        sets ! (agg ! (and_then ! (get ! refl) (no_more !))) refl (tt, (tt, tt)) $
-        history_made ! (Piece.the_row static_lft) $ fjoin ! $
-        returns ! (look_at ! 0 refl) $ free_all ! refl $
-        suffices ! _ (ends_at 𝓛 ended stayed held z (one none) made (tt, (tt, tt)) (tt, (tt, tt))) $ says ! refl $
-        nothing ! $ nothing ! $ fjoin ! $ nothing ! $ fjoin ! $ move ! (2 ∷ 0 ∷ 1 ∷ []) $ done !)))
-
-  meets : (𝓣 : Tables 𝓤 H) → Meets 𝓛 ended.signature (WpFn 𝓤 H 𝓣.C 𝓣.Λ function) (closing 𝓛 ended held)
-  meets 𝓣 =
-      walk_Meets 𝓛 ended stayed (
-        Goes-dropped 𝓛 3 self_slot yes (λ κs x f. refl),
-        (Goes-dropped 𝓛 3 piece_slot yes (λ κs x f. refl), tt),
-      ) held
-      (WpFn 𝓤 H 𝓣.C 𝓣.Λ function) (WpFn-mono 𝓤 H 𝓛.laws 𝓣 function) (walks 𝓣.C 𝓣.Λ)
-
-pub and_piece_spec : {M : Type 1} → stated.statement M
-unfolding tables_of
+pub and_piece_spec : {M : Type 1} → statement M
 and_piece_spec 𝓤 𝓛 𝓜 𝓡 wired =
-    let 𝓣 : Tables 𝓤 𝓛.H = tables_of 𝓤 𝓛.H 𝓜 (tables 𝓤 𝓛.H 𝓜 𝓡 𝓡.env) in
-    entered 𝓤 𝓛.H (triple_of 𝓛 ended.signature (closing 𝓛 ended (held 𝓛 𝓜.mem 𝓡.returns))) 𝓣.C 𝓣.Λ #self function
-    (code.unfolded 𝓤 𝓛.H 𝓜 𝓡 wired) (meets 𝓛 𝓜.mem 𝓡.returns 𝓣)
+    let E = and_piece.ended in let c = and_piece.clauses 𝓛 𝓜.mem 𝓡.returns in
+    let self : Slot 3 = RefOf (0 ∷ []) tt (plain (λ κs. History.the_row kept)) (λ κs. tt) in
+    let piece : Slot 3 = RefOf (1 ∷ []) tt (plain (λ κs. Piece.the_row (named_lft 3 2 tt κs))) (λ κs. tt) in
+    let hs : Stays E.signature.params E.kept = (stay_dropped self yes, (stay_dropped piece yes, tt)) in
+    proved 𝓛 E hs c 𝓜 𝓡 (Goes-dropped 𝓛 3 self yes (λ κs x w. refl), (Goes-dropped 𝓛 3 piece yes (λ κs x w. refl), tt))
+    and_piece.Key.name code.function (code.unfolded 𝓤 𝓛.H 𝓜 𝓡 wired)
+    (λ κs. (shr_vals, (shr_vals, tt)))
+    (λ κs. (shr_Tells (named 0) κs.0 (History.the_row kept), (shr_Tells (named 1) κs.1.0 (Piece.the_row (named_lft 3 2 tt κs)), tt)))
+    (λ κs qs bounds a n are.
+    let y : (walk_of 𝓛 E hs c).Ghost = ((κs, qs, bounds, a, (shr_vals a.0, (shr_vals a.1.0, tt))), n) in
+    let both = a.0.now.items ++ a.1.0.now ∷ [] in
+    qed 𝓛 ((raw (alive 𝓛 E.signature κs qs) ⊛ ‵ (owns (types_at E.signature.params κs) a y.0.4)) ∷ raw ((c κs a).requires n) ∷ []) ∵
+    split ! $ keep ! (0 ∷ []) $
+    enter ! _ _ _ _ _ $ alloc_all ! (λ l. pass_all ! refl ((tt, tt), ((tt, tt), tt)) $
+    sets ! (agg ! (no_more !)) refl (tt, tt) $
+    sets ! (agg ! (and_then ! (get ! refl) (no_more !))) refl (tt, (tt, tt)) $
+    returns ! (look_at ! 0 refl) $ free_all ! refl $
+    by ! (gives 𝓛 E hs c y stored (holding kept both) (tt, (tt, tt)) (tt, (tt, tt))
+    (makes_shadow 𝓛 (fsep ftrue (fsep ftrue ftrue)) (tt, (tt, tt)) (tt, (tt, tt)))
+    (held_for_nothing 𝓛 kept both) (fact_i 𝓤 (both ≡ a.0.now.items ++ a.1.0.now ∷ []) (emp 𝓤) refl))))
