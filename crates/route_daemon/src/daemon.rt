@@ -1,19 +1,19 @@
 //! The daemon's side of a commit.
 
-ghost use Rattle.std.specs.Prelude.{◌≡◌, ◌<◌, ◌≤◌, ◌++◌, ◌∷◌, [], None, IfOk, IfSome, OnOk, OnErr};
-ghost use Rattle.script_lines.specs.Cause.{HasCause};
+ghost use Rattle.std.specs.Prelude.{◌≡◌, ◌≢◌, ◌↔◌, ◌<◌, ◌≤◌, ◌-◌, ◌%◌, ◌^◌, ◌++◌, ◌∷◌, [], None, Err, IfErr, OnOk, OnErr};
+ghost use Rattle.script_lines.specs.Cause.{HasCause, IsCounted};
 ghost use Rattle.tcam_device.specs.State.{Shows, replay};
 ghost use Rattle.rule_store.specs.Batch.{set_after};
-ghost use Rattle.batch_order.specs.Managed.{IsOn, Serves};
-ghost use Rattle.route_daemon.specs.Asked.{route_priority, route_to};
-ghost use Rattle.route_daemon.specs.Left.{HasRoom, left_number, made_list};
-ghost use Rattle.route_daemon.specs.Served.{IsServed, IsStep};
+ghost use Rattle.batch_order.specs.Managed.{IsOn};
+ghost use Rattle.route_daemon.specs.Asked.{IsFull, IsPrefix, route_priority, route_to};
+ghost use Rattle.route_daemon.specs.Left.{HasRoom, writes_left};
+ghost use Rattle.route_daemon.specs.Served.{IsRefused, IsServed, IsStuck, IsTaken, ahead};
 
-use anyhow::anyhow;
-use batch_order::{Manager, Step};
+use batch_order::{Manager, Refusal, Step};
 use rule_model::{Key, Prefix, PrefixFault, ipv4_route_rank, route_rule};
 use rule_store::{Batch, Command, PushFault};
-use tcam_device::{Device, Writable, Write};
+use std::io;
+use tcam_device::{Device, DeviceFault, Write};
 use thiserror::Error;
 
 /// Why a change can't join a batch.
@@ -21,24 +21,43 @@ use thiserror::Error;
 pub enum RouteFault {
     /// The prefix is none of IPv4.
     #[error(transparent)]
-    Prefix(#[from] PrefixFault),
+    Prefix(PrefixFault),
     /// The batch is full, or memory is wanting.
     #[error(transparent)]
-    Batch(#[from] PushFault),
+    Batch(PushFault),
 }
 
-/// Adds a route in the pending batch: the prefix `address/length`, whose packets go to `port`. After a refusal the batch
-/// is as before; so it is with the two below.
+/// Why a commit doesn't come to its end.
+#[derive(Clone, Copy, Debug, PartialEq, Eq, Error)]
+pub enum CommitFault {
+    /// The batch isn't taken. Nothing was written, and the manager is as before.
+    #[error(transparent)]
+    Refused(Refusal),
+    /// A write failed. The commit is still under way: [`resume`] makes that write again, and those behind it.
+    #[error("the device failed")]
+    Stuck,
+}
+
+/// Adds a route in the pending batch: packets to the prefix `address/length` go to `port`. 10.0.0.0/8 is `0x0a00_0000`
+/// and 8. It is refused exactly where that is no prefix, too long or with a bit set past its length, else exactly where
+/// the batch has 4,096 commands, and else only for want of memory. After a refusal the batch is as before.
+///
+/// Which routes there are is judged by [`commit`]. It refuses a batch that adds a route for a prefix that has one, or that
+/// changes or withdraws one that there isn't; and one that names a prefix twice, unless it withdraws the route and then
+/// adds another.
 pub fn add_route(batch: &mut Batch, address: u32, length: u8, port: u32) -> Result<(), RouteFault>
     ensures added { OnOk result (batch.new ≡ batch.old ++ Command.Add (route_to address length port) ∷ []) }
+    ensures length { (result ≡ Err (RouteFault.Prefix PrefixFault.Length)) ↔ (32 < length) }
+    ensures host_bits { (result ≡ Err (RouteFault.Prefix PrefixFault.HostBits)) ↔ ((length ≤ 32) × (address % 2 ^ (32 - length) ≢ 0)) }
+    ensures full { (result ≡ Err (RouteFault.Batch PushFault.Full)) ↔ (IsPrefix address length × IsFull batch.old) }
     ensures refused { OnErr result (batch.new ≡ batch.old) }
 {
-    let route = route_rule(Prefix::v4(address, length)?, port);
-    batch.push(Command::Add(route))?;
-    Ok(())
+    let prefix = Prefix::v4(address, length).map_err(RouteFault::Prefix)?;
+    let route = route_rule(prefix, port);
+    batch.push(Command::Add(route)).map_err(RouteFault::Batch)
 }
 
-/// Sends the packets of a route to another port, in the pending batch.
+/// Sends the packets of a route to another port, in the pending batch. It is refused as [`add_route`] is.
 pub fn change_route(
     batch: &mut Batch,
     address: u32,
@@ -46,82 +65,117 @@ pub fn change_route(
     port: u32,
 ) -> Result<(), RouteFault>
     ensures changed { OnOk result (batch.new ≡ batch.old ++ Command.Set (route_priority address length) port ∷ []) }
+    ensures length { (result ≡ Err (RouteFault.Prefix PrefixFault.Length)) ↔ (32 < length) }
+    ensures host_bits { (result ≡ Err (RouteFault.Prefix PrefixFault.HostBits)) ↔ ((length ≤ 32) × (address % 2 ^ (32 - length) ≢ 0)) }
+    ensures full { (result ≡ Err (RouteFault.Batch PushFault.Full)) ↔ (IsPrefix address length × IsFull batch.old) }
     ensures refused { OnErr result (batch.new ≡ batch.old) }
 {
-    let prefix = Prefix::v4(address, length)?;
-    batch.push(Command::Set {
+    let prefix = Prefix::v4(address, length).map_err(RouteFault::Prefix)?;
+    let change = Command::Set {
         priority: ipv4_route_rank(&prefix),
         result: port,
-    })?;
-    Ok(())
+    };
+    batch.push(change).map_err(RouteFault::Batch)
 }
 
-/// Withdraws a route, in the pending batch.
+/// Withdraws a route, in the pending batch. It is refused as [`add_route`] is.
 pub fn withdraw_route(batch: &mut Batch, address: u32, length: u8) -> Result<(), RouteFault>
     ensures withdrawn { OnOk result (batch.new ≡ batch.old ++ Command.Del (route_priority address length) ∷ []) }
+    ensures length { (result ≡ Err (RouteFault.Prefix PrefixFault.Length)) ↔ (32 < length) }
+    ensures host_bits { (result ≡ Err (RouteFault.Prefix PrefixFault.HostBits)) ↔ ((length ≤ 32) × (address % 2 ^ (32 - length) ≢ 0)) }
+    ensures full { (result ≡ Err (RouteFault.Batch PushFault.Full)) ↔ (IsPrefix address length × IsFull batch.old) }
     ensures refused { OnErr result (batch.new ≡ batch.old) }
 {
-    let prefix = Prefix::v4(address, length)?;
-    batch.push(Command::Del(ipv4_route_rank(&prefix)))?;
-    Ok(())
+    let prefix = Prefix::v4(address, length).map_err(RouteFault::Prefix)?;
+    let removal = Command::Del(ipv4_route_rank(&prefix));
+    batch.push(removal).map_err(RouteFault::Batch)
 }
 
-/// Carries a batch of changes to routes out, write by write, and looks one packet up after each. By what was written, each
-/// packet is answered as the old routes do before the first write, and after each write as the old routes or the new
-/// ones do, also where it stops at a failure. With Ok the routes are the new ones, and each packet is answered by them.
+/// Carries a batch of changes to routes out: `prepare` judges and plans it, and [`resume`] makes its writes. By what was
+/// written, each packet is answered as the old routes do before the first write, and after each write as the old routes
+/// or the new ones do. With Ok the routes are the new ones, and each packet is answered by them.
+///
+/// `Refused` says why the batch isn't taken, by the rule lists alone or for want of memory, and all is as before: the
+/// next batch may come. With any other answer the rule lists accept the batch.
+///
+/// `Stuck` comes exactly where the device's count of failures rose. What was written is the beginning of what was
+/// planned, and the write that failed comes next. Each packet is still answered as the old routes or the new ones do,
+/// even where that write was made all the same; and `resume` goes on with it. Until it has come to the end no other batch
+/// is taken.
 pub fn commit<D: Device>(
     rt: &HostRuntime,
     manager: &mut Manager,
     batch: &Batch,
     device: &mut D,
-) -> anyhow::Result<()>
+) -> Result<(), CommitFault>
     requires slots { manager.old.slots ≤ D.slot_count device.old }
     requires on { IsOn (D.slot_count device.old) (D.journal device.old) manager.old }
     requires idle { manager.old.held ≡ None }
     ensures slots { manager.new.slots ≡ manager.old.slots }
     ensures slot_count { D.slot_count device.new ≡ D.slot_count device.old }
     ensures on { IsOn (D.slot_count device.new) (D.journal device.new) manager.new }
+    ensures room { HasRoom manager.new.held (D.spare device.new) }
+    ensures before { Shows (replay (D.slot_count device.old) (D.journal device.old)) manager.old.rules }
     ensures hitless { IsServed (D.slot_count device.new) (D.journal device.old) (D.journal device.new) manager.old.rules (set_after manager.old.rules batch.now) }
     ensures idle { OnOk result (manager.new.held ≡ None) }
     ensures rules { OnOk result (manager.new.rules ≡ set_after manager.old.rules batch.now) }
     ensures shows { OnOk result (Shows (replay (D.slot_count device.new) (D.journal device.new)) (set_after manager.old.rules batch.now)) }
+    ensures taken { ((refusal : Refusal) → result ≢ Err (CommitFault.Refused refusal)) → IsTaken manager.old manager.new batch.now (D.journal device.old) (D.journal device.new) }
+    ensures refused { (refusal : Refusal) → (result ≡ Err (CommitFault.Refused refusal)) → IsRefused manager.old manager.new batch.now (D.journal device.old) (D.journal device.new) refusal }
+    ensures stuck { (result ≡ Err CommitFault.Stuck) → IsStuck (D.slot_count device.new) (D.journal device.new) manager.old.rules (set_after manager.old.rules batch.now) manager.new }
+    ensures cause { IsCounted (result ≡ Err CommitFault.Stuck) (D.faults device.old) (D.faults device.new) }
 {
     match manager.prepare(batch, device) {
-        Ok(ready) => println!(rt; "commit writes {}", ready.writes)?,
-        Err(refusal) => return Err(anyhow!("{refusal}")),
+        Ok(ready) => {
+            let _ = println!(rt; "commit writes {}", ready.writes);
+        }
+        Err(refusal) => return Err(CommitFault::Refused(refusal)),
     }
-    while let Some(write) = next_write(manager, device)? {
-        tell(rt, &write, device)?;
+    match resume(rt, manager, device) {
+        Ok(()) => Ok(()),
+        Err(DeviceFault) => Err(CommitFault::Stuck),
     }
-    Ok(())
 }
 
-/// Makes the next write of the commit under way. None: there was none left, and the routes are the new ones. After a
-/// failure the same write is next again.
-fn next_write<D: Writable>(manager: &mut Manager, device: &mut D) -> anyhow::Result<Option<Write>>
+/// Makes the writes that are left of the commit under way, in their order, and looks one packet up after each. With none
+/// under way there is nothing to do. Each packet is answered as [`commit`] says, before these writes as well, and a write
+/// that fails leaves what it says of `Stuck`: so `resume` may be called again. What can't be printed doesn't stop it.
+pub fn resume<D: Device>(
+    rt: &HostRuntime,
+    manager: &mut Manager,
+    device: &mut D,
+) -> Result<(), DeviceFault>
     requires slots { manager.old.slots ≤ D.slot_count device.old }
+    requires on { IsOn (D.slot_count device.old) (D.journal device.old) manager.old }
     requires room { HasRoom manager.old.held (D.spare device.old) }
     ensures slots { manager.new.slots ≡ manager.old.slots }
     ensures slot_count { D.slot_count device.new ≡ D.slot_count device.old }
-    ensures room { IfOk result (λ made. HasRoom manager.new.held (D.spare device.new)) }
-    ensures fewer { IfOk result (λ made. IfSome made (λ write. left_number manager.new.held < left_number manager.old.held)) }
-    ensures stepped { IfOk result (λ made. IsStep manager.old manager.new (D.journal device.old) (D.journal device.new) (made_list made)) }
-    ensures failed { OnErr result (manager.new ≡ manager.old) }
-    ensures journal_err { OnErr result (D.journal device.new ≡ D.journal device.old) }
+    ensures on { IsOn (D.slot_count device.new) (D.journal device.new) manager.new }
+    ensures room { HasRoom manager.new.held (D.spare device.new) }
+    ensures hitless { IsServed (D.slot_count device.new) (D.journal device.old) (D.journal device.new) manager.old.rules (ahead manager.old) }
+    ensures made { D.journal device.new ++ writes_left manager.new.held ≡ D.journal device.old ++ writes_left manager.old.held }
+    ensures idle { OnOk result (manager.new.held ≡ None) }
+    ensures rules { OnOk result (manager.new.rules ≡ ahead manager.old) }
+    ensures shows { OnOk result (Shows (replay (D.slot_count device.new) (D.journal device.new)) (ahead manager.old)) }
+    ensures stuck { OnErr result (IsStuck (D.slot_count device.new) (D.journal device.new) manager.old.rules (ahead manager.old) manager.new) }
     ensures cause { HasCause (D.faults device.old) (D.faults device.new) result }
-    ensures stays_on { IsOn (D.slot_count device.old) (D.journal device.old) manager.old → IsOn (D.slot_count device.new) (D.journal device.new) manager.new }
-    ensures serves { IsOn (D.slot_count device.old) (D.journal device.old) manager.old → Serves (replay (D.slot_count device.new) (D.journal device.new)) manager.new.rules manager.new.held }
 {
-    match manager.step(device) {
-        Ok(Step::Wrote(write)) => Ok(Some(write)),
-        Ok(Step::Finished(_)) => Ok(None),
-        Ok(Step::Idle) => Ok(None),
-        Err(_) => Err(anyhow!("the device failed")),
+    // Its contract says what each packet is answered before the first of these writes.
+    let _rules = manager.rules();
+    'writing: loop {
+        match manager.step(device) {
+            Ok(Step::Wrote(write)) => {
+                let _ = tell(rt, &write, device);
+            }
+            Ok(Step::Finished(_)) => return Ok(()),
+            Ok(Step::Idle) => return Ok(()),
+            Err(fault) => return Err(fault),
+        }
     }
 }
 
 /// Prints a write, and where a packet to 10.1.2.3 goes after it.
-fn tell<D: Device>(rt: &HostRuntime, write: &Write, device: &D) -> anyhow::Result<()> {
+fn tell<D: Device>(rt: &HostRuntime, write: &Write, device: &D) -> io::Result<()> {
     match write {
         Write::Slot(slot, Some(_)) => println!(rt; "  slot {slot} written")?,
         Write::Slot(slot, None) => println!(rt; "  slot {slot} erased")?,

@@ -2,14 +2,20 @@
 //!
 //! The hardware is [`Registers`]: it stands for a memory behind registers, and tells nothing. `Shadowed` makes a device of
 //! it, with slots and tables in memory that follow what was written. A commit is a batch, one `prepare`, and `step`
-//! until it has finished; packets are looked up between any two steps.
+//! until it has finished; packets are looked up between any two steps. A write that fails leaves the commit under way, and
+//! `resume` goes on with that write. To drive a memory of your own, write another `Registers`.
 #![tactic(auto)]
 
 mod daemon;
 mod registers;
 
+ghost use Rattle.std.specs.Prelude.{◌≡◌, ◌≤◌, None, OnOk};
+ghost use Rattle.rule_store.specs.Batch.{set_after};
+ghost use Rattle.batch_order.specs.Managed.{IsOn};
+
+use anyhow::anyhow;
 use batch_order::{Manager, Mode, Placement};
-use daemon::{add_route, change_route, commit, withdraw_route};
+use daemon::{CommitFault, add_route, change_route, commit, resume, withdraw_route};
 use registers::{Registers, SLOTS};
 use rule_store::Batch;
 use tcam_device::Shadowed;
@@ -29,11 +35,35 @@ fn main(rt: HostRuntime) -> anyhow::Result<()> {
     ] {
         batch.clear();
         add_route(&mut batch, address, length, port)?;
-        commit(&rt, &mut manager, &batch, &mut device)?;
+        push_batch(&rt, &mut manager, &batch, &mut device)?;
     }
     batch.clear();
     withdraw_route(&mut batch, 0x0a01_0200, 24)?;
     change_route(&mut batch, 0x0a01_0000, 20, 6)?;
-    commit(&rt, &mut manager, &batch, &mut device)?;
+    push_batch(&rt, &mut manager, &batch, &mut device)?;
     Ok(())
+}
+
+/// Commits a batch. Where a write fails it is made again, with those behind it: here once, and a daemon may try as
+/// often as it likes.
+fn push_batch(
+    rt: &HostRuntime,
+    manager: &mut Manager,
+    batch: &Batch,
+    device: &mut Shadowed<Registers>,
+) -> anyhow::Result<()>
+    requires slots { manager.old.slots ≤ device.old.slots }
+    requires on { IsOn device.old.slots device.old.journal manager.old }
+    requires idle { manager.old.held ≡ None }
+    ensures slots { manager.new.slots ≡ manager.old.slots }
+    ensures slot_count { device.new.slots ≡ device.old.slots }
+    ensures on { IsOn device.new.slots device.new.journal manager.new }
+    ensures idle { OnOk result (manager.new.held ≡ None) }
+    ensures rules { OnOk result (manager.new.rules ≡ set_after manager.old.rules batch.now) }
+{
+    match commit(rt, manager, batch, device) {
+        Ok(()) => Ok(()),
+        Err(CommitFault::Refused(refusal)) => Err(anyhow!("{refusal}")),
+        Err(CommitFault::Stuck) => Ok(resume(rt, manager, device)?),
+    }
 }
