@@ -36,7 +36,7 @@ use Rattle.tcam_cli.specs.CommandLine.{script_setting}
 use Rattle.tcam_cli.specs.Headline.{NoJob, Reads, IsCarriedOut}
 
 abbrev routes : ℕ → Setting
-routes slots = script_setting Route slots false
+routes slots = script_setting Route slots Middle false
 
 abbrev feed : List ℕ → List ℕ
 feed line = line ++ 10 ∷ []

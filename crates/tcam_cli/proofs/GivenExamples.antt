@@ -4,6 +4,7 @@ use Rattle.std.specs.Prelude.{codes}
 use Rattle.std.specs.List.{concat}
 use Rattle.script_lines.specs.Given.{HasEnd, MayGive}
 use Rattle.tcam_device.specs.declared.Write.{Write}
+use Rattle.batch_order.specs.declared.Placement.TheVariants.{Middle}
 use Rattle.replay.specs.declared.Family.TheVariants.{Route}
 use Rattle.replay.specs.Run.{Setting}
 use Rattle.tcam_cli.specs.declared.Status.{Status}
@@ -13,7 +14,7 @@ use Rattle.tcam_cli.specs.Headline.{Reads, MayEnd}
 use Rattle.tcam_cli.specs.Given.{IsPromisedByGiven}
 
 abbrev routes : Setting
-routes = script_setting Route 8 false
+routes = script_setting Route 8 Middle false
 
 -- ---- Done and Refused come only where the source said that the input is at its end
 

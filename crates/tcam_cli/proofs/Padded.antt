@@ -10,6 +10,7 @@ use Rattle.rule_store.specs.Verdict.{verdict}
 use Rattle.ternary_word.specs.declared.Entry.{Entry}
 use Rattle.tcam_device.specs.declared.Write.TheVariants.{Slot}
 use Rattle.batch_order.proofs.Padded.{one-write}
+use Rattle.batch_order.specs.declared.Placement.TheVariants.{Middle}
 use Rattle.replay.specs.declared.Family.TheVariants.{Route}
 use Rattle.replay.specs.Run.{Setting, Effect, Prints, Progress, Commits, Judged, start, written, writes_of, slots_in_use}
 use Rattle.replay.proofs.Effects.{written-append, written-writes}
@@ -18,7 +19,7 @@ use Rattle.tcam_cli.specs.CommandLine.{script_setting}
 use Rattle.tcam_cli.specs.Headline.{Reads, IsCarriedOut}
 
 abbrev setting : Setting
-setting = script_setting Route 8 false
+setting = script_setting Route 8 Middle false
 
 -- the addition of a route, pending
 abbrev pending : Progress

@@ -13,7 +13,7 @@ use Rattle.clap.specs.declared.error.kind.ErrorKind.TheVariants as kind
 use Rattle.clap.specs.declared.parser.matches.ValueSource.TheVariants.{CommandLine}
 use Rattle.clap.specs.declared.parser.matches.ValueSource.{ValueSource}
 use Rattle.std.proofs.lemmas.Slice.Eq.{bytes_eq-Decides}
-use Rattle.tcam_cli.specs.CommandLine.{slots_option, text_of, trace_flag}
+use Rattle.tcam_cli.specs.CommandLine.{placement_option, slots_option, text_of, trace_flag}
 
 abbrev pub is_ok : Text → Bool
 is_ok = is_unsigned_in 1 4096
@@ -31,7 +31,7 @@ Good rows = GoodIn (find (λ r. bytes_eq r.id slots_id) rows)
 
 -- an argument of the subcommand, as clap fills it in
 abbrev pub IsRule : Rule → Type 0
-IsRule a = (a ≡ filled slots_option) ⊎ ((a ≡ filled trace_flag) ⊎ (a ≡ filled help_rule))
+IsRule a = (a ≡ filled slots_option) ⊎ ((a ≡ filled placement_option) ⊎ ((a ≡ filled trace_flag) ⊎ (a ≡ filled help_rule)))
 
 abbrev pub AllRules : List Rule → Type 0
 AllRules [] = ⊤
@@ -125,42 +125,58 @@ slots_used (v ∷ ws) rows none =
 help_used : (again : Bool) (vs : List Text) (rows : List Row) → use_fault again (filled help_rule) vs rows ≡ [] → ⊥
 help_used again vs rows none = some_kind kind.DisplayHelp [] (or_nil _ (kind.DisplayHelp ∷ []) none).1
 
--- the rows of another argument
+abbrev pub placement_id : Text
+placement_id = codes "placement"
+
 abbrev pub trace_id : Text
 trace_id = codes "trace"
 
 abbrev slots_row : List Row → Option Row
 slots_row rows = find (λ r. bytes_eq r.id slots_id) rows
 
-trace_row : (r : Row) → bytes_eq r.id trace_id ≡ true → bytes_eq r.id slots_id ≡ false
-trace_row r is = ap (λ id. bytes_eq id slots_id) ((bytes_eq-Decides r.id trace_id).0 is)
+-- the rows of another argument
+module _ (other : Text) (apart : bytes_eq other slots_id ≡ false) where
+  other_row : (r : Row) → bytes_eq r.id other ≡ true → bytes_eq r.id slots_id ≡ false
+  other_row r is = ap (λ id. bytes_eq id slots_id) ((bytes_eq-Decides r.id other).0 is) ∙ apart
 
-elsewhere : (change : Row → List Row) (missing : List Row) → ((r : Row) (behind : List Row) → bytes_eq r.id trace_id ≡ true → slots_row (change r ++ behind) ≡ slots_row behind)
-    → slots_row missing ≡ None → (rows : List Row) → slots_row (at_row trace_id change missing rows) ≡ slots_row rows
-elsewhere change missing kept none [] = none
-elsewhere change missing kept none (r ∷ rs) = go (bytes_eq r.id trace_id) refl (elsewhere change missing kept none rs)
-  where
-    go : (b : Bool) → bytes_eq r.id trace_id ≡ b → slots_row (at_row trace_id change missing rs) ≡ slots_row rs
-        → slots_row (cond b (change r ++ rs) (r ∷ at_row trace_id change missing rs)) ≡ slots_row (r ∷ rs)
-    go true is more = kept r rs is ∙ sym (ap (λ here. cond here (Some r) (slots_row rs)) (trace_row r is))
-    go false is more = ap (λ rest. cond (bytes_eq r.id slots_id) (Some r) rest) more
+  elsewhere : (change : Row → List Row) (missing : List Row) → ((r : Row) (behind : List Row) → bytes_eq r.id other ≡ true → slots_row (change r ++ behind) ≡ slots_row behind)
+      → slots_row missing ≡ None → (rows : List Row) → slots_row (at_row other change missing rows) ≡ slots_row rows
+  elsewhere change missing kept none [] = none
+  elsewhere change missing kept none (r ∷ rs) = go (bytes_eq r.id other) refl (elsewhere change missing kept none rs)
+    where
+      go : (b : Bool) → bytes_eq r.id other ≡ b → slots_row (at_row other change missing rs) ≡ slots_row rs
+          → slots_row (cond b (change r ++ rs) (r ∷ at_row other change missing rs)) ≡ slots_row (r ∷ rs)
+      go true is more = kept r rs is ∙ sym (ap (λ here. cond here (Some r) (slots_row rs)) (other_row r is))
+      go false is more = ap (λ rest. cond (bytes_eq r.id slots_id) (Some r) rest) more
 
-pub elsewhere_values : (source : ValueSource) (values : List Text) (missing : List Row) → slots_row missing ≡ None → (rows : List Row)
-    → slots_row (at_row trace_id (more_values source values) missing rows) ≡ slots_row rows
-elsewhere_values source values missing none rows =
-    elsewhere (more_values source values) missing (λ r behind is. ap (λ here. cond here (Some (record r { values = r.values ++ values; source = Some (stronger r.source source) })) (slots_row behind)) (trace_row r is)) none rows
+  pub elsewhere_values : (source : ValueSource) (values : List Text) (missing : List Row) → slots_row missing ≡ None → (rows : List Row)
+      → slots_row (at_row other (more_values source values) missing rows) ≡ slots_row rows
+  elsewhere_values source values missing none rows =
+      elsewhere (more_values source values) missing (λ r behind is. ap (λ here. cond here (Some (record r { values = r.values ++ values; source = Some (stronger r.source source) })) (slots_row behind)) (other_row r is)) none rows
 
-elsewhere_none : (rows : List Row) → slots_row (at_row trace_id (λ _. []) [] rows) ≡ slots_row rows
-elsewhere_none rows = elsewhere (λ _. []) [] (λ r behind is. refl) refl rows
+  elsewhere_none : (rows : List Row) → slots_row (at_row other (λ _. []) [] rows) ≡ slots_row rows
+  elsewhere_none rows = elsewhere (λ _. []) [] (λ r behind is. refl) refl rows
+
+  -- a use of it
+  elsewhere_used : (values : List Text) (missing : List Row) → slots_row missing ≡ None → (rows : List Row) → Good rows
+      → GoodIn (slots_row (at_row other (more_values CommandLine values) missing (at_row other (λ _. []) [] rows)))
+  elsewhere_used values missing none rows good =
+      subst GoodIn (sym (elsewhere_values CommandLine values missing none (at_row other (λ _. []) [] rows) ∙ elsewhere_none rows)) good
+
+placement_used : (vs : List Text) (rows : List Row) → Good rows → Good (used (filled placement_option) vs rows)
+unfolding placement_option
+placement_used [] rows good = elsewhere_used placement_id refl [] _ refl rows good
+placement_used (v ∷ vs) rows good = elsewhere_used placement_id refl (v ∷ vs) _ refl rows good
 
 trace_used : (vs : List Text) (rows : List Row) → Good rows → Good (used (filled trace_flag) vs rows)
 unfolding trace_flag
-trace_used [] rows good = subst GoodIn (sym (elsewhere_values CommandLine (codes "true" ∷ []) _ refl (at_row trace_id (λ _. []) [] rows) ∙ elsewhere_none rows)) good
-trace_used (v ∷ vs) rows good = subst GoodIn (sym (elsewhere_values CommandLine (v ∷ vs) _ refl (at_row trace_id (λ _. []) [] rows) ∙ elsewhere_none rows)) good
+trace_used [] rows good = elsewhere_used trace_id refl (codes "true" ∷ []) _ refl rows good
+trace_used (v ∷ vs) rows good = elsewhere_used trace_id refl (v ∷ vs) _ refl rows good
 
 pub use_keeps : (again : Bool) → again ≡ false → (a : Rule) → IsRule a → (vs : List Text) (rows : List Row) → use_fault again a vs rows ≡ [] → Good rows → Good (used a vs rows)
-use_keeps again once a (inr (inl is)) vs rows none good = subst (λ (x : Rule). Good (used x vs rows)) (sym is) (trace_used vs rows good)
 use_keeps again once a (inl is) vs rows none good =
     let first = subst (λ (b : Bool). use_fault b a vs rows ≡ []) once none in
     subst (λ (x : Rule). Good (used x vs rows)) (sym is) (slots_used vs rows (subst (λ (x : Rule). use_fault false x vs rows ≡ []) is first))
-use_keeps again once a (inr (inr is)) vs rows none good = absurd (help_used again vs rows (subst (λ (x : Rule). use_fault again x vs rows ≡ []) is none))
+use_keeps again once a (inr (inl is)) vs rows none good = subst (λ (x : Rule). Good (used x vs rows)) (sym is) (placement_used vs rows good)
+use_keeps again once a (inr (inr (inl is))) vs rows none good = subst (λ (x : Rule). Good (used x vs rows)) (sym is) (trace_used vs rows good)
+use_keeps again once a (inr (inr (inr is))) vs rows none good = absurd (help_used again vs rows (subst (λ (x : Rule). use_fault again x vs rows ≡ []) is none))

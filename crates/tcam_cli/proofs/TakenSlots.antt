@@ -11,8 +11,8 @@ use Rattle.clap.specs.Kinds.{Kinds, or_else}
 use Rattle.clap.specs.Faults.{bundle_fault, bundle_step_fault, built_fault, entered_fault, fault_of, level_fault, flag_word_fault, flags_fault, long_fault, option_fault, other_fault, positional_fault, react_fault, settle_fault, short_fault, step_fault, stray_fault, turn_fault, use_fault, walk_fault, word_fault}
 use Rattle.clap.specs.declared.error.kind.ErrorKind.TheVariants as kind
 use Rattle.clap.specs.declared.parser.matches.ValueSource.TheVariants.{DefaultValue}
-use Rattle.tcam_cli.specs.CommandLine.{acl_command, route_command, slots_option, tcam_command, text_of, trace_flag}
-use Rattle.tcam_cli.proofs.SlotsUses.{is_ok, slots_id, Good, IsRule, AllRules, FoundOk, trace_id, or_nil, found, fresh, row_read, elsewhere_values, use_keeps}
+use Rattle.tcam_cli.specs.CommandLine.{acl_command, placement_option, route_command, slots_option, tcam_command, text_of, trace_flag}
+use Rattle.tcam_cli.proofs.SlotsUses.{is_ok, slots_id, Good, IsRule, AllRules, FoundOk, placement_id, trace_id, or_nil, found, fresh, row_read, elsewhere_values, use_keeps}
 
 -- ---- the walk
 
@@ -181,6 +181,15 @@ slots_default rows good = go (has_row slots_id rows) refl
     go false e = subst (λ (o : Option Row). is_ok (unwrap_or (option_and_then (λ r. slice_get r.values 0) o) []) ≡ true)
         (sym (fresh (more_values DefaultValue (codes "4096" ∷ [])) _ refl rows e)) refl
 
+placement_default : (rows : List Row) → is_ok (text_of slots_id rows) ≡ true → is_ok (text_of slots_id (with_default rows (filled placement_option))) ≡ true
+unfolding placement_option
+placement_default rows ok = go (has_row placement_id rows)
+  where
+    go : (b : Bool) → is_ok (text_of slots_id (cond b rows (default_rows placement_id (reading_by (filled placement_option)) (filled placement_option).defaults rows))) ≡ true
+    go true = ok
+    go false = subst (λ (o : Option Row). is_ok (unwrap_or (option_and_then (λ r. slice_get r.values 0) o) []) ≡ true)
+        (sym (elsewhere_values placement_id refl DefaultValue (codes "middle" ∷ []) _ refl rows)) ok
+
 trace_default : (rows : List Row) → is_ok (text_of slots_id rows) ≡ true → is_ok (text_of slots_id (with_default rows (filled trace_flag))) ≡ true
 unfolding trace_flag
 trace_default rows ok = go (has_row trace_id rows)
@@ -188,23 +197,24 @@ trace_default rows ok = go (has_row trace_id rows)
     go : (b : Bool) → is_ok (text_of slots_id (cond b rows (default_rows trace_id (reading_by (filled trace_flag)) (filled trace_flag).defaults rows))) ≡ true
     go true = ok
     go false = subst (λ (o : Option Row). is_ok (unwrap_or (option_and_then (λ r. slice_get r.values 0) o) []) ≡ true)
-        (sym (elsewhere_values DefaultValue (codes "false" ∷ []) _ refl rows)) ok
+        (sym (elsewhere_values trace_id refl DefaultValue (codes "false" ∷ []) _ refl rows)) ok
 
 -- the arguments of the subcommand, as clap fills them in
 abbrev pub HasRules : Shape → Type 0
-HasRules s = (s.rules ≡ filled slots_option ∷ filled trace_flag ∷ filled help_rule ∷ []) × (s.args_override_self ≡ false)
+HasRules s = (s.rules ≡ filled slots_option ∷ filled placement_option ∷ filled trace_flag ∷ filled help_rule ∷ []) × (s.args_override_self ≡ false)
 
 level_ok : (s : Shape) → HasRules s → (words : List Text) → level_fault s [] nothing_held words false [] ≡ [] → is_ok (text_of slots_id (rows_after s.rules [] words)) ≡ true
 level_ok s rules words none =
-    let all : AllRules s.rules = subst AllRules (sym rules.0) (inl refl, (inr (inl refl), (inr (inr refl), tt))) in
+    let all : AllRules s.rules = subst AllRules (sym rules.0) (inl refl, (inr (inl refl), (inr (inr (inl refl)), (inr (inr (inr refl)), tt)))) in
     let end = (walk s.rules [] nothing_held words).held in
     let walked_by = or_nil (walk_fault s [] (walk_from nothing_held) words) _ none in
     let settled_by = or_nil (settle_fault s.rules s.args_override_self end) _ walked_by.1 in
     let good : Good end.rows = walk_keeps s all rules.1 [] words (walk_from nothing_held) walked_by.0 tt in
     let kept = settled_keeps s.rules all s.args_override_self rules.1 end settled_by.0 good in
     subst (λ rs. is_ok (text_of slots_id (fold with_default (settled s.rules end).rows rs)) ≡ true) (sym rules.0)
-    (help_default (with_default (with_default (settled s.rules end).rows (filled slots_option)) (filled trace_flag))
-    (trace_default (with_default (settled s.rules end).rows (filled slots_option)) (slots_default (settled s.rules end).rows kept)))
+    (help_default (with_default (with_default (with_default (settled s.rules end).rows (filled slots_option)) (filled placement_option)) (filled trace_flag))
+    (trace_default (with_default (with_default (settled s.rules end).rows (filled slots_option)) (filled placement_option))
+    (placement_default (with_default (settled s.rules end).rows (filled slots_option)) (slots_default (settled s.rules end).rows kept))))
 
 -- each of some subcommands has them
 abbrev pub AllHaveRules : List Shape → Type 0
@@ -243,5 +253,5 @@ built_ok a all words name rows none are =
 -- where clap finds no fault and a subcommand, its number of slots is in the range
 pub slots_taken : (words : List Text) (name : Text) (rows : List Row) → fault_of tcam_command words ≡ [] → subcommand_of tcam_command words ≡ Some (name, rows)
     → is_unsigned_in 1 4096 (text_of (codes "slots") rows) ≡ true
-unfolding tcam_command route_command acl_command slots_option trace_flag
+unfolding tcam_command route_command acl_command slots_option placement_option trace_flag
 slots_taken words name rows none are = built_ok (built tcam_command) ((refl, refl), ((refl, refl), tt)) (argument_words tcam_command words) name rows none are

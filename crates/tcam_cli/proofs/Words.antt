@@ -13,28 +13,29 @@ use Rattle.clap.specs.Matches.{first_value}
 use Rattle.clap.specs.declared.error.kind.ErrorKind.{ErrorKind}
 use Rattle.clap.specs.declared.parser.matches.ArgMatches.{ArgMatches}
 use Rattle.clap.proofs.OnLiterals.{clap_on_literals}
+use Rattle.batch_order.specs.declared.Placement.{Placement}
 use Rattle.replay.specs.declared.Family.{Family}
 use Rattle.replay.specs.declared.Family.TheVariants.{Route, Acl}
 use Rattle.tcam_cli.specs.declared.command_line.Asked.{Asked}
 use Rattle.tcam_cli.specs.declared.command_line.Asked.TheVariants.{Script}
 use Rattle.tcam_cli.specs.declared.command_line.WordsFault.{WordsFault}
-use Rattle.tcam_cli.specs.CommandLine.{asked_by, job_by_faults, job_of, job_of_fault, job_of_subcommand, tested_job, number_of, script_setting, acl_command, route_command, slots_option, tcam_command, text_of, trace_flag, is_traced}
-use Rattle.tcam_cli.specs.Headline.{Job, Reads, NoJob}
+use Rattle.tcam_cli.specs.CommandLine.{asked_by, job_by_faults, job_of, job_of_fault, job_of_subcommand, tested_job, job_at, number_of, placed_by, acl_command, placement_option, route_command, slots_option, tcam_command, text_of, trace_flag, is_traced}
+use Rattle.tcam_cli.specs.Headline.{Job, NoJob}
 use Rattle.std.specs.Str.{bytes_eq}
 use Rattle.clap.specs.ValueTests.{is_unsigned_in}
 use Rattle.tcam_cli.proofs.TakenSlots.{slots_taken}
 use Rattle.tcam_cli.proofs.ClearFaults.{Clear, built-clear, fault_job}
 
 pub simple_and_free : is_simple_and_free tcam_command ≡ true
-unfolding clap_on_literals tcam_command route_command acl_command slots_option trace_flag
+unfolding clap_on_literals tcam_command route_command acl_command slots_option placement_option trace_flag
 simple_and_free = refl
 
 pub simple : is_simple tcam_command ≡ true
-unfolding clap_on_literals tcam_command route_command acl_command slots_option trace_flag
+unfolding clap_on_literals tcam_command route_command acl_command slots_option placement_option trace_flag
 simple = refl
 
 tcam-clear : (words : List Text) → Clear (fault_of tcam_command words)
-unfolding tcam_command route_command acl_command slots_option trace_flag
+unfolding tcam_command route_command acl_command slots_option placement_option trace_flag
 tcam-clear words = built-clear (built tcam_command) nothing_held (argument_words tcam_command words) refl (refl, (refl, tt))
 
 -- where clap takes the words, the test of --slots passes
@@ -44,7 +45,7 @@ tested words none None are = refl
 tested words none (Some (name, rows)) are = go (is_unsigned_in 1 4096 (text_of (codes "slots") rows)) (slots_taken words name rows none are)
   where
     asks : Family → Job
-    asks family = Reads (script_setting family (number_of (codes "slots") rows) (is_traced rows))
+    asks family = job_at family (number_of (codes "slots") rows) (placed_by rows) (is_traced rows)
 
     go : (b : Bool) → b ≡ true
         → cond (bytes_eq name (codes "route")) (asks Route) (cond (bytes_eq name (codes "acl")) (asks Acl) NoJob)
@@ -67,9 +68,9 @@ pub then_asked : (r : Result Asked WordsFault) (x y : Job) → y ≡ x → IfOk 
 then_asked (Ok job) x y is h = is ∙ h
 then_asked (Err e) x y is h = tt
 
-pub no_script : (r : Result Asked WordsFault) → IfOk r (λ job. (family : Family) (n : ℕ) (trace : Bool) → job ≡ Script family n trace → ⊥)
-    → IfOk r (λ job. (family : Family) (n : ℕ) (trace : Bool) → job ≡ Script family n trace → (1 ≤ n) × (n ≤ 4096))
-no_script (Ok job) h = λ family n trace e. absurd (h family n trace e)
+pub no_script : (r : Result Asked WordsFault) → IfOk r (λ job. (family : Family) (n : ℕ) (placement : Placement) (trace : Bool) → job ≡ Script family n placement trace → ⊥)
+    → IfOk r (λ job. (family : Family) (n : ℕ) (placement : Placement) (trace : Bool) → job ≡ Script family n placement trace → (1 ≤ n) × (n ≤ 4096))
+no_script (Ok job) h = λ family n placement trace e. absurd (h family n placement trace e)
 no_script (Err e) h = tt
 
 -- the first text of an argument, where none stands for the empty text

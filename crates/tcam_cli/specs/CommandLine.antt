@@ -12,7 +12,8 @@ use Rattle.clap.specs.declared.error.kind.ErrorKind.TheVariants as kind
 use Rattle.clap.specs.declared.builder.action.ArgAction.TheVariants.{Set, SetTrue}
 use Rattle.clap.specs.declared.builder.value_parser.ValueParser.TheVariants.{Unsigned}
 use Rattle.rule_store.specs.declared.Mode.TheVariants.{Cover}
-use Rattle.batch_order.specs.declared.Placement.TheVariants.{Middle}
+use Rattle.batch_order.specs.declared.Placement.{Placement}
+use Rattle.batch_order.specs.declared.Placement.TheVariants.{Middle, Rank}
 use Rattle.replay.specs.declared.Family.{Family}
 use Rattle.replay.specs.declared.Family.TheVariants.{Route, Acl}
 use Rattle.replay.specs.Run.{Setting}
@@ -20,10 +21,10 @@ use Rattle.tcam_cli.specs.declared.command_line.Asked.{Asked}
 use Rattle.tcam_cli.specs.declared.command_line.Asked.TheVariants as asked
 use Rattle.tcam_cli.specs.Headline.{Job, NoJob, Tells, Reads}
 
--- a script of a family over so many slots in use, each insertion aiming at the middle of its gap, with a trace or without
-abbrev pub script_setting : Family → ℕ → Bool → Setting
-script_setting family slots trace =
-    record { slots = slots; mode = Cover; placement = Middle; family = family; trace = trace }
+-- a script of a family over so many slots in use, each insertion aiming as the placement says, with a trace or without
+abbrev pub script_setting : Family → ℕ → Placement → Bool → Setting
+script_setting family slots placement trace =
+    record { slots = slots; mode = Cover; placement = placement; family = family; trace = trace }
 
 -- --slots, a number from 1 to 4096, by default 4096
 unfoldable pub slots_option : Rule
@@ -34,17 +35,25 @@ slots_option = record (new_rule (codes "slots")) {
   defaults = codes "4096" ∷ [];
 }
 
+-- --placement, a word, by default middle
+unfoldable pub placement_option : Rule
+placement_option = record (new_rule (codes "placement")) {
+  long = Some (codes "placement");
+  action = Some Set;
+  defaults = codes "middle" ∷ [];
+}
+
 -- --trace, a flag
 unfoldable pub trace_flag : Rule
 trace_flag = record (new_rule (codes "trace")) { long = Some (codes "trace"); action = Some SetTrue }
 
 -- the subcommand for route scripts
 unfoldable pub route_command : App
-route_command = with_rule (with_rule (new_app (codes "route")) slots_option) trace_flag
+route_command = with_rule (with_rule (with_rule (new_app (codes "route")) slots_option) placement_option) trace_flag
 
 -- the subcommand for access-list scripts
 unfoldable pub acl_command : App
-acl_command = with_rule (with_rule (new_app (codes "acl")) slots_option) trace_flag
+acl_command = with_rule (with_rule (with_rule (new_app (codes "acl")) slots_option) placement_option) trace_flag
 
 -- tcam with a required subcommand and a version; help is asked for by its flag alone
 unfoldable pub tcam_command : App
@@ -74,11 +83,25 @@ has_text id text rows = bytes_eq (text_of id rows) text
 abbrev pub is_traced : List Row → Bool
 is_traced rows = has_text (codes "trace") (codes "true") rows
 
+-- the placement that a word names
+abbrev pub placement_in : Text → Option Placement
+placement_in text =
+    if bytes_eq text (codes "middle") then Some Middle else if bytes_eq text (codes "rank") then Some Rank else None
+
+-- the placement that is wanted
+abbrev pub placed_by : List Row → Option Placement
+placed_by rows = placement_in (text_of (codes "placement") rows)
+
+-- a script of a family over so many slots, where the word of --placement names one
+abbrev pub job_at : Family → ℕ → Option Placement → Bool → Job
+job_at family slots None trace = NoJob
+job_at family slots (Some placement) trace = Reads (script_setting family slots placement trace)
+
 -- what a subcommand and its arguments ask for: a script of its family over so many slots
 abbrev pub job_of_rows : Text → List Row → Job
 job_of_rows name rows =
-    if bytes_eq name (codes "route") then Reads (script_setting Route (number_of (codes "slots") rows) (is_traced rows))
-    else if bytes_eq name (codes "acl") then Reads (script_setting Acl (number_of (codes "slots") rows) (is_traced rows))
+    if bytes_eq name (codes "route") then job_at Route (number_of (codes "slots") rows) (placed_by rows) (is_traced rows)
+    else if bytes_eq name (codes "acl") then job_at Acl (number_of (codes "slots") rows) (placed_by rows) (is_traced rows)
     else NoJob
 
 -- what a subcommand asks for, if there is one
@@ -88,14 +111,14 @@ job_of_subcommand (Some (name, rows)) = job_of_rows name rows
 
 -- the same for rows that may not be clap's, whose text of --slots is tested again; where clap takes
 -- the words the test passes, and the two are one
-abbrev pub job_of_slots : Family → Text → Bool → Job
-job_of_slots family text trace =
-    if is_unsigned_in 1 4096 text then Reads (script_setting family (number_in text) trace) else NoJob
+abbrev pub job_of_slots : Family → Text → Option Placement → Bool → Job
+job_of_slots family text placement trace =
+    if is_unsigned_in 1 4096 text then job_at family (number_in text) placement trace else NoJob
 
 abbrev pub tested_job_of_rows : Text → List Row → Job
 tested_job_of_rows name rows =
-    if bytes_eq name (codes "route") then job_of_slots Route (text_of (codes "slots") rows) (is_traced rows)
-    else if bytes_eq name (codes "acl") then job_of_slots Acl (text_of (codes "slots") rows) (is_traced rows)
+    if bytes_eq name (codes "route") then job_of_slots Route (text_of (codes "slots") rows) (placed_by rows) (is_traced rows)
+    else if bytes_eq name (codes "acl") then job_of_slots Acl (text_of (codes "slots") rows) (placed_by rows) (is_traced rows)
     else NoJob
 
 abbrev pub tested_job : Option (Text × List Row) → Job
@@ -107,11 +130,15 @@ unfoldable pub help_text : List ℕ
 help_text = codes "tcam: the table manager of a ternary content-addressable memory."
     ++ 10 ∷ codes "It reads a script from standard input, carries its commits out over a modelled"
     ++ 10 ∷ codes "device one write at a time, and writes a report to standard output."
-    ++ 10 ∷ 10 ∷ codes "    tcam route [--slots N] [--trace]    a script of routes; N slots in use, 1 to 4096, by default"
-    ++ 10 ∷ codes "                                        4096; --trace writes a line for each device write"
-    ++ 10 ∷ codes "    tcam acl [--slots N] [--trace]      a script of an access list, likewise"
-    ++ 10 ∷ codes "    tcam --help                         this text"
-    ++ 10 ∷ codes "    tcam --version                      name and version"
+    ++ 10 ∷ 10 ∷ codes "    tcam route [--slots N] [--placement P] [--trace]    a script of routes"
+    ++ 10 ∷ codes "    tcam acl [--slots N] [--placement P] [--trace]      a script of an access list"
+    ++ 10 ∷ codes "    tcam --help                                         this text"
+    ++ 10 ∷ codes "    tcam --version                                      name and version"
+    ++ 10 ∷ 10 ∷ codes "    --slots N        N slots in use, 1 to 4096, by default 4096"
+    ++ 10 ∷ codes "    --placement P    where a new entry aims: middle, of the gap between the entries that it must stand"
+    ++ 10 ∷ codes "                     between, which is the default, or rank, its place among all entries; rank loads"
+    ++ 10 ∷ codes "                     a table in one write an entry"
+    ++ 10 ∷ codes "    --trace          a line for each device write"
     ++ 10 ∷ 10 ∷ codes "Example:"
     ++ 10 ∷ 10 ∷ codes "    printf 'route add 10.0.0.0/8 7"
     ++ 92 ∷ codes "ncommit"
@@ -141,6 +168,6 @@ job_of words = job_by_faults (fault_of tcam_command words) (subcommand_of tcam_c
 
 -- what an answer says that words ask for
 abbrev pub asked_by : Asked → Job
-asked_by (asked.Script family slots trace) = Reads (script_setting family slots trace)
+asked_by (asked.Script family slots placement trace) = Reads (script_setting family slots placement trace)
 asked_by asked.Help = Tells help_text
 asked_by asked.Version = Tells version_text

@@ -1,15 +1,15 @@
 //! The words of the command line, as `clap` takes them.
 
-ghost use Rattle.std.specs.Prelude.{◌≡◌, ◌≤◌, codes, Err, IfOk, IsErrOf, IfSome, IsNone, false, map, string_bytes};
+ghost use Rattle.std.specs.Prelude.{◌≡◌, ◌≤◌, codes, Err, IfOk, IsErrOf, IfSome, IsNone, None, false, map, string_bytes};
 ghost use Rattle.clap.specs.Words.{app_of, rule_of, rows_of, found_of, subcommand_rows_of, kind_of};
 ghost use Rattle.clap.specs.declared.builder.command.Command.TheViews.{out-Command};
-ghost use Rattle.tcam_cli.specs.CommandLine.{asked_by, is_traced, job_of, job_of_fault, job_of_slots, script_setting, tested_job};
-ghost use Rattle.tcam_cli.specs.CommandLine.{acl_command as acl_app, route_command as route_app, slots_option, tcam_command as tcam_app, text_of, trace_flag};
-ghost use Rattle.tcam_cli.specs.Headline.{NoJob, Reads};
+ghost use Rattle.tcam_cli.specs.CommandLine.{asked_by, is_traced, job_at, job_of, job_of_fault, job_of_slots, placed_by, placement_in, tested_job};
+ghost use Rattle.tcam_cli.specs.CommandLine.{acl_command as acl_app, placement_option, route_command as route_app, slots_option, tcam_command as tcam_app, text_of, trace_flag};
+ghost use Rattle.tcam_cli.specs.Headline.{NoJob};
 
 use clap::error::ErrorKind;
 use clap::{Arg, ArgAction, ArgMatches, Command, Error};
-use replay::Family;
+use replay::{Family, Placement};
 use std::alloc::{AllocError, Global};
 
 /// What `--help` prints.
@@ -18,11 +18,16 @@ tcam: the table manager of a ternary content-addressable memory.
 It reads a script from standard input, carries its commits out over a modelled
 device one write at a time, and writes a report to standard output.
 
-    tcam route [--slots N] [--trace]    a script of routes; N slots in use, 1 to 4096, by default
-                                        4096; --trace writes a line for each device write
-    tcam acl [--slots N] [--trace]      a script of an access list, likewise
-    tcam --help                         this text
-    tcam --version                      name and version
+    tcam route [--slots N] [--placement P] [--trace]    a script of routes
+    tcam acl [--slots N] [--placement P] [--trace]      a script of an access list
+    tcam --help                                         this text
+    tcam --version                                      name and version
+
+    --slots N        N slots in use, 1 to 4096, by default 4096
+    --placement P    where a new entry aims: middle, of the gap between the entries that it must stand
+                     between, which is the default, or rank, its place among all entries; rank loads
+                     a table in one write an entry
+    --trace          a line for each device write
 
 Example:
 
@@ -35,10 +40,12 @@ pub const VERSION: &str = "tcam 0.1.0\n";
 /// What a command line asks for.
 #[derive(Clone, Copy, Debug, PartialEq, Eq)]
 pub enum Asked {
-    /// A script of this family from the source, with so many slots in use, 1 to 4,096, and with a trace or without.
+    /// A script of this family from the source, with so many slots in use, 1 to 4,096, where each insertion aims as the
+    /// placement says, and with a trace or without.
     Script {
         family: Family,
         slots: u32,
+        placement: Placement,
         trace: bool,
     },
     /// The help text.
@@ -68,6 +75,17 @@ fn slots_arg<'a>(alloc: Global) -> Arg<'a>
         .default_value("4096")
 }
 
+/// Where an insertion aims.
+fn placement_arg<'a>(alloc: Global) -> Arg<'a>
+    ensures rule { rule_of result ≡ placement_option }
+    ensures global { result.global ≡ false }
+{
+    Arg::new(alloc, "placement")
+        .long("placement")
+        .action(ArgAction::Set)
+        .default_value("middle")
+}
+
 /// Whether each device write has its line.
 fn trace_arg<'a>(alloc: Global) -> Arg<'a>
     ensures rule { rule_of result ≡ trace_flag }
@@ -86,6 +104,7 @@ fn route_command<'a>(alloc: Global) -> Result<Command<'a>, AllocError>
     Ok(
         Command::new(alloc, "route")
             .arg(slots_arg(alloc))?
+            .arg(placement_arg(alloc))?
             .arg(trace_arg(alloc))?,
     )
 }
@@ -98,6 +117,7 @@ fn acl_command<'a>(alloc: Global) -> Result<Command<'a>, AllocError>
     Ok(
         Command::new(alloc, "acl")
             .arg(slots_arg(alloc))?
+            .arg(placement_arg(alloc))?
             .arg(trace_arg(alloc))?,
     )
 }
@@ -122,7 +142,7 @@ fn tcam_command<'a>(alloc: Global) -> Result<Command<'a>, AllocError>
 pub fn read_words(alloc: Global, words: &[String]) -> Result<Asked, WordsFault>
     ensures asked { IfOk result (λ job. job_of (map string_bytes words.now) ≡ asked_by job) }
     ensures usage { IsErrOf result WordsFault.Usage → job_of (map string_bytes words.now) ≡ NoJob }
-    ensures slots { IfOk result (λ job. (family n trace : _) → job ≡ Asked.Script family n trace → (1 ≤ n) × (n ≤ 4096)) }
+    ensures slots { IfOk result (λ job. (family n placement trace : _) → job ≡ Asked.Script family n placement trace → (1 ≤ n) × (n ≤ 4096)) }
 {
     let command = match tcam_command(alloc) {
         Ok(command) => command,
@@ -138,7 +158,7 @@ pub fn read_words(alloc: Global, words: &[String]) -> Result<Asked, WordsFault>
 fn job_of_matches(matches: &ArgMatches) -> Result<Asked, WordsFault>
     ensures asked { IfOk result (λ job. tested_job (subcommand_rows_of matches.now) ≡ asked_by job) }
     ensures usage { IsErrOf result WordsFault.Usage → tested_job (subcommand_rows_of matches.now) ≡ NoJob }
-    ensures slots { IfOk result (λ job. (family n trace : _) → job ≡ Asked.Script family n trace → (1 ≤ n) × (n ≤ 4096)) }
+    ensures slots { IfOk result (λ job. (family n placement trace : _) → job ≡ Asked.Script family n placement trace → (1 ≤ n) × (n ≤ 4096)) }
 {
     match matches.subcommand() {
         Some((name, found)) if name == "route" => job_of_script(Family::Route, found),
@@ -149,26 +169,41 @@ fn job_of_matches(matches: &ArgMatches) -> Result<Asked, WordsFault>
 
 /// The job of the arguments of a subcommand for scripts of a family.
 fn job_of_script(family: Family, found: &ArgMatches) -> Result<Asked, WordsFault>
-    ensures asked { IfOk result (λ job. job_of_slots family (text_of (codes "slots") (rows_of (found_of found.now))) (is_traced (rows_of (found_of found.now))) ≡ asked_by job) }
-    ensures usage { IsErrOf result WordsFault.Usage → job_of_slots family (text_of (codes "slots") (rows_of (found_of found.now))) (is_traced (rows_of (found_of found.now))) ≡ NoJob }
-    ensures slots { IfOk result (λ job. (family n trace : _) → job ≡ Asked.Script family n trace → (1 ≤ n) × (n ≤ 4096)) }
+    ensures asked { IfOk result (λ job. job_of_slots family (text_of (codes "slots") (rows_of (found_of found.now))) (placed_by (rows_of (found_of found.now))) (is_traced (rows_of (found_of found.now))) ≡ asked_by job) }
+    ensures usage { IsErrOf result WordsFault.Usage → job_of_slots family (text_of (codes "slots") (rows_of (found_of found.now))) (placed_by (rows_of (found_of found.now))) (is_traced (rows_of (found_of found.now))) ≡ NoJob }
+    ensures slots { IfOk result (λ job. (family n placement trace : _) → job ≡ Asked.Script family n placement trace → (1 ≤ n) × (n ≤ 4096)) }
 {
     let trace = found.get_str("trace").unwrap_or("") == "true";
+    let Some(placement) = placement_of(found.get_str("placement").unwrap_or("")) else {
+        return Err(WordsFault::Usage);
+    };
     match slots_of(found.get_str("slots").unwrap_or("")) {
         Some(slots) => Ok(Asked::Script {
             family,
             slots,
+            placement,
             trace,
         }),
         None => Err(WordsFault::Usage),
     }
 }
 
+/// A placement from its word.
+fn placement_of(text: &str) -> Option<Placement>
+    ensures { result ≡ placement_in text.now }
+{
+    match text {
+        "middle" => Some(Placement::Middle),
+        "rank" => Some(Placement::Rank),
+        _ => None,
+    }
+}
+
 /// A number of slots from its text.
 fn slots_of(text: &str) -> Option<u32>
-    ensures some { IfSome result (λ n. (family trace : _) → job_of_slots family text.now trace ≡ Reads (script_setting family n trace)) }
+    ensures some { IfSome result (λ n. (family placement trace : _) → job_of_slots family text.now placement trace ≡ job_at family n placement trace) }
     ensures range { IfSome result (λ n. (1 ≤ n) × (n ≤ 4096)) }
-    ensures none { IsNone result → (family trace : _) → job_of_slots family text.now trace ≡ NoJob }
+    ensures none { IsNone result → (family placement trace : _) → job_of_slots family text.now placement trace ≡ NoJob }
 {
     match text.parse::<u32>() {
         Ok(slots) if 1 <= slots && slots <= 4096 => Some(slots),
@@ -181,7 +216,7 @@ fn job_of_error(error: &Error) -> Result<Asked, WordsFault>
     ensures asked { IfOk result (λ job. job_of_fault (kind_of error.now) ≡ asked_by job) }
     ensures usage { IsErrOf result WordsFault.Usage → job_of_fault (kind_of error.now) ≡ NoJob }
     ensures memory { kind_of error.now ≡ ErrorKind.OutOfMemory → result ≡ Err WordsFault.Memory }
-    ensures slots { IfOk result (λ job. (family n trace : _) → job ≡ Asked.Script family n trace → ⊥) }
+    ensures slots { IfOk result (λ job. (family n placement trace : _) → job ≡ Asked.Script family n placement trace → ⊥) }
 {
     match error.kind() {
         ErrorKind::DisplayHelp => Ok(Asked::Help),

@@ -25,13 +25,24 @@ fn too_many_entries(rt: HostRuntime) -> Result<(), Fail> {
     check(&rt, EIGHT, script, Status::Refused, report, 0)
 }
 
+const CROSSING: &str =
+    "acl add 100 permit any 10.0.0.0/8 any any any\ncommit\nacl add 300 deny any 11.0.0.0/8 any any any\ncommit\nacl add 200 permit any any any any any\ncommit\n";
+
 #[test]
 fn crossing(rt: HostRuntime) -> Result<(), Fail> {
-    let script =
-        "acl add 100 permit any 10.0.0.0/8 any any any\ncommit\nacl add 300 deny any 11.0.0.0/8 any any any\ncommit\nacl add 200 permit any any any any any\ncommit\n";
     let report =
         "commit 1 ok writes 1 words 0 most 1 span 0\ncommit 2 ok writes 1 words 0 most 1 span 0\ncommit 3 ok writes 4 words 0 most 4 span 1\nend rules 3 entries 3 writes 6 pending 0\n";
-    check(&rt, EIGHT, script, Status::Done, report, 6)
+    check(&rt, EIGHT, CROSSING, Status::Done, report, 6)?;
+    let middle = "tcam acl --slots 8 --placement middle";
+    check(&rt, middle, CROSSING, Status::Done, report, 6)
+}
+
+#[test]
+fn ranked(rt: HostRuntime) -> Result<(), Fail> {
+    let report =
+        "commit 1 ok writes 1 words 0 most 1 span 0\ncommit 2 ok writes 1 words 0 most 1 span 0\ncommit 3 ok writes 1 words 0 most 1 span 0\nend rules 3 entries 3 writes 3 pending 0\n";
+    let line = "tcam acl --slots 8 --placement rank";
+    check(&rt, line, CROSSING, Status::Done, report, 3)
 }
 
 #[test]

@@ -106,7 +106,13 @@ fn faults(rt: HostRuntime) -> Result<(), Fail> {
 
 #[test]
 fn usage(rt: HostRuntime) -> Result<(), Fail> {
-    check(&rt, "tcam frob", FIRST, Status::Usage, "usage\n", 0)
+    check(&rt, "tcam frob", FIRST, Status::Usage, "usage\n", 0)?;
+    let other = "tcam route --placement end";
+    check(&rt, other, FIRST, Status::Usage, "usage\n", 0)?;
+    let missing = "tcam route --placement";
+    check(&rt, missing, FIRST, Status::Usage, "usage\n", 0)?;
+    let twice = "tcam route --placement rank --placement rank";
+    check(&rt, twice, FIRST, Status::Usage, "usage\n", 0)
 }
 
 #[test]
@@ -158,6 +164,16 @@ fn nested(rt: HostRuntime) -> Result<(), Fail> {
     let report =
         "commit 1 ok writes 1 words 0 most 1 span 0\ncommit 2 ok writes 1 words 0 most 1 span 0\ncommit 3 ok writes 1 words 0 most 1 span 0\ncommit 4 ok writes 2 words 0 most 2 span 0\nend rules 4 entries 4 writes 5 pending 0\n";
     check(&rt, EIGHT, NESTED, Status::Done, report, 5)
+}
+
+#[test]
+fn ranked(rt: HostRuntime) -> Result<(), Fail> {
+    let script =
+        "route add 10.0.0.0/8 7\nroute add 10.1.2.0/24 8\nroute add 10.1.0.0/16 9\nroute add 10.1.0.0/20 5\ncommit\n";
+    let report =
+        "w 1 slot 1 set 000000000a010200000000000000000000000000 00000000ffffff00000000000000000000000000 103247053312 8\nw 2 slot 3 set 000000000a010000000000000000000000000000 00000000fffff000000000000000000000000000 86067183616 5\nw 3 slot 5 set 000000000a010000000000000000000000000000 00000000ffff0000000000000000000000000000 68887314432 9\nw 4 slot 7 set 000000000a000000000000000000000000000000 00000000ff000000000000000000000000000000 34527510528 7\ncommit 1 ok writes 4 words 0 most 1 span 0\nend rules 4 entries 4 writes 4 pending 0\n";
+    let line = "tcam route --slots 8 --placement rank --trace";
+    check(&rt, line, script, Status::Done, report, 4)
 }
 
 #[test]

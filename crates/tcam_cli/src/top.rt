@@ -70,9 +70,10 @@ pub fn run<S: Source, K: Sink, D: Device>(
             Asked::Script {
                 family,
                 slots,
+                placement,
                 trace,
             },
-        ) => run_family(alloc, family, slots, trace, source, sink, device),
+        ) => run_family(alloc, family, slots, placement, trace, source, sink, device),
         Ok(Asked::Help) => tell(sink, HELP, Status::Done),
         Ok(Asked::Version) => tell(sink, VERSION, Status::Done),
         Err(WordsFault::Usage) => tell(sink, "usage\n", Status::Usage),
@@ -80,11 +81,12 @@ pub fn run<S: Source, K: Sink, D: Device>(
     }
 }
 
-/// Carries out a script of a family from the source.
+/// Carries out a script of a family from the source, where each insertion aims as the placement says.
 fn run_family<S: Source, K: Sink, D: Device>(
     alloc: Global,
     family: Family,
     slots: u32,
+    placement: Placement,
     trace: bool,
     source: &mut S,
     sink: &mut K,
@@ -94,19 +96,19 @@ fn run_family<S: Source, K: Sink, D: Device>(
     requires most { slots ≤ 4096 }
     requires device { 4096 ≤ D.slot_count device.old }
     requires blank { D.journal device.old ≡ [] }
-    ensures carried_out { IsCarriedOut (Reads (script_setting family slots trace)) (D.slot_count device.old) result
+    ensures carried_out { IsCarriedOut (Reads (script_setting family slots placement trace)) (D.slot_count device.old) result
         (S.left source.old) (S.left source.new) (K.taken sink.old) (K.taken sink.new) (D.journal device.new) }
-    ensures given { (which : Bool) → IsPromisedByGiven (Reads (script_setting family slots trace)) (D.slot_count device.old) result
+    ensures given { (which : Bool) → IsPromisedByGiven (Reads (script_setting family slots placement trace)) (D.slot_count device.old) result
         (S.given source.old) (S.given source.new) (counted which (K.taken sink.old) (K.accepted sink.old)) (counted which (K.taken sink.new) (K.accepted sink.new)) (D.journal device.new) }
-    ensures in_time { ReadsInTime (Reads (script_setting family slots trace)) (D.slot_count device.old) result
+    ensures in_time { ReadsInTime (Reads (script_setting family slots placement trace)) (D.slot_count device.old) result
         (S.given source.old) (S.given source.new) (D.journal device.new) (K.accepted sink.old) (K.accepted sink.new) }
     ensures told { (IsSome (S.left source.old) → IsSome (S.left source.new)) × (IsSome (K.taken sink.old) → IsSome (K.taken sink.new)) }
     ensures slot_count { D.slot_count device.new ≡ D.slot_count device.old }
-    ensures causes { HasCauses (Reads (script_setting family slots trace)) (S.left source.old) result
+    ensures causes { HasCauses (Reads (script_setting family slots placement trace)) (S.left source.old) result
         (S.faults source.old) (S.faults source.new) (K.faults sink.old) (K.faults sink.new)
         (D.faults device.old) (D.faults device.new) }
 {
-    match Run::new(alloc, slots, Mode::Cover, Placement::Middle, family, trace) {
+    match Run::new(alloc, slots, Mode::Cover, placement, family, trace) {
         Ok(mut run) => run_script(&mut run, source, sink, device),
         Err(_) => Status::Memory,
     }

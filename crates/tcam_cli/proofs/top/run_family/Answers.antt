@@ -1,6 +1,5 @@
 use Rattle.script_lines.specs.Given.{counted}
 use Rattle.std.proofs.Common.{◌≤◌, ap, subst, ◌∙◌, arith}
-use Rattle.batch_order.specs.declared.Placement.TheVariants.{Middle}
 use Rattle.replay.specs.Run.{Setting}
 use Rattle.replay.specs.Running.{progress_of, setting_of}
 use Rattle.tcam_cli.specs.declared.Status.TheVariants.{Memory}
@@ -17,7 +16,7 @@ pub run_script-requires-clause-begun : goal.run_script-requires-clause-begun
 run_script-requires-clause-begun g c =
     let slots = g.D.Writable.slot_count c.args.device.now in
     let within : c.args.slots ≤ slots = omega arith in
-    ap (progress_of slots) c.in-Ok.ensures ∙ begins Middle c.args.family c.args.slots slots c.args.trace within
+    ap (progress_of slots) c.in-Ok.ensures ∙ begins c.args.placement c.args.family c.args.slots slots c.args.trace within
 
 pub returns-in-Ok-clause-given : goal.returns-in-Ok-clause-given
 returns-in-Ok-clause-given g c = λ which.
@@ -26,7 +25,7 @@ returns-in-Ok-clause-given g c = λ which.
 
 pub returns-in-Err-clause-given : goal.returns-in-Err-clause-given
 returns-in-Err-clause-given g c = λ which.
-    let job = Reads (script_setting c.args.family c.args.slots c.args.trace) in
+    let job = Reads (script_setting c.args.family c.args.slots c.args.placement c.args.trace) in
     let slots = g.D.Writable.slot_count c.args.device.now in
     let taken = counted which (g.K.Sink.taken c.args.sink.now) (g.K.Sink.accepted c.args.sink.now) in
     let journal = g.D.Writable.journal c.args.device.now in
@@ -38,4 +37,4 @@ returns-in-Ok-clause-in_time g c =
     (g.D.Writable.journal c.run_script.new.device) (g.K.Sink.accepted c.args.sink.now) (g.K.Sink.accepted c.run_script.new.sink)) (ap setting_of c.in-Ok.ensures) c.run_script.ensures.in_time
 
 pub returns-in-Err-clause-in_time : goal.returns-in-Err-clause-in_time
-returns-in-Err-clause-in_time g c = nothing-read (Reads (script_setting c.args.family c.args.slots c.args.trace)) _ _ _ _ _
+returns-in-Err-clause-in_time g c = nothing-read (Reads (script_setting c.args.family c.args.slots c.args.placement c.args.trace)) _ _ _ _ _
