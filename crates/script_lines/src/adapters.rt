@@ -1,6 +1,7 @@
-// Std's readers and writers as sources and sinks. No contract of std says what a file gives or takes, so
-// what is remembered here rests on these few lines: that at each call that answers Ok the history gets the
-// bytes that std's call put into the buffer, or took of it, and that nobody else reads or writes there.
+// Std's readers and writers as sources and sinks. The history gets exactly what a call hands out or takes,
+// and that is what std's call gave or took: both are proved, the latter since a reader may tell its bytes. On
+// these few lines rests what std keeps no count of: that it is asked once in a call, that each of its errors
+// is a failure, and that each write is flushed. No contract says what a file holds, or who else uses it.
 ghost use Rattle.std.specs.Prelude.{◌≡◌, ◌<◌, ◌≤◌, ℕ, [], length, take, IfSome, IfNone};
 ghost use Rattle.std.specs.List.{concat};
 ghost use Rattle.std.specs.Io.KnownBytes.{Appends};

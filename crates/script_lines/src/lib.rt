@@ -13,8 +13,8 @@
 //! A `History` is a list that only contracts see: an object remembers in it what happened, at no cost.
 //!
 //! What isn't told isn't claimed: std's input and output foretell nothing, and of a failed write they
-//! don't know what became of it. That what `ReadFrom` and `WriteTo` remember is what std's calls gave and
-//! took rests on their few lines.
+//! don't know what became of it. That `ReadFrom` and `WriteTo` ask std once in a call, take each of its
+//! errors for a failure, and flush each write, rests on their few lines: std keeps no count of these.
 #![tactic(auto)]
 
 mod adapters;
