@@ -3,8 +3,8 @@ use Rattle.std.proofs.Common.{◌≡◌, ℕ, ◌≤◌, List, [], length, take,
 use Rattle.std.specs.List.{AllByRecursion, AllZip}
 use Rattle.std.specs.Prelude.{reverse}
 use Rattle.std.proofs.lemmas.List.{length-map}
+use Rattle.slot_order.proofs.Lists.{filter_nothing}
 use Rattle.slot_pool.specs.Arrangement.{Slots}
-use Rattle.overlap_index.proofs.Listed.{filter_nothing}
 use Rattle.rule_model.specs.declared.Rule.{Rule}
 use Rattle.rule_model.specs.RuleSet.{rule_at}
 use Rattle.rule_store.specs.declared.Mode.{Mode}

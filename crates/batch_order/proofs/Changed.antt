@@ -3,8 +3,7 @@ use Rattle.std.proofs.Common.{◌≡◌, ℕ, true, false, ◌&&◌, cond, Optio
 use Rattle.std.specs.Prelude.{Bool, nat_eq, option_map}
 use Rattle.std.specs.List.{filter_map}
 use Rattle.std.proofs.lemmas.Bool.{cases_Bool, cond-true, cond-false, and_from, and_parts}
-use Rattle.slot_order.proofs.Rules.{contains_head, contains_tail}
-use Rattle.overlap_index.proofs.Listed.{any_is, any_from, in_filter, filter_in}
+use Rattle.slot_order.proofs.Lists.{contains_head, contains_tail, any_is, any_from, in_filter, filter_in}
 use Rattle.rule_model.specs.declared.Rule.{Rule}
 use Rattle.rule_model.specs.RuleSet.{IsRuleSet, has_priority, rule_at}
 use Rattle.rule_store.specs.declared.Command.{Command}

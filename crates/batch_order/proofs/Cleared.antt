@@ -4,13 +4,12 @@ use Rattle.std.specs.Prelude.{◌==◌, nat_eq}
 use Rattle.std.specs.List.{AllByRecursion, IsDistinct}
 use Rattle.std.proofs.lemmas.Bool.{cases_eq, false_from_ne_true, eq-eqb, and_from, lt-ltb}
 use Rattle.slot_order.specs.Order.{slot}
-use Rattle.slot_order.proofs.Rules.{contains_cases, contains_none}
+use Rattle.slot_order.proofs.Lists.{contains_cases, contains_none, in_filter}
 use Rattle.slot_order.proofs.Writes.{slot_same, slot_other, slot_inside}
 use Rattle.slot_pool.specs.Arrangement.{Slots}
 use Rattle.overlap_index.specs.declared.LivePiece.{LivePiece}
 use Rattle.overlap_index.specs.Live.{is_live, is_above, without_id}
 use Rattle.overlap_index.proofs.Above.{above_is, is_above_from}
-use Rattle.overlap_index.proofs.Listed.{in_filter}
 use Rattle.overlap_index.proofs.Live.{apart_filter}
 use Rattle.move_planner.specs.Insertion.{free_slots}
 use Rattle.move_planner.proofs.Shifted.{free_erase}

@@ -8,10 +8,8 @@ use Rattle.std.proofs.lemmas.List.{length-append}
 use Rattle.std.proofs.lemmas.List.Folds.{list_any-append}
 use Rattle.ternary_word.specs.declared.Entry.{Entry}
 use Rattle.overlap_index.specs.declared.LivePiece.{LivePiece}
-use Rattle.slot_order.proofs.Inside.{all_append}
-use Rattle.slot_order.proofs.Rules.{contains_head, contains_tail}
+use Rattle.slot_order.proofs.Lists.{contains_head, contains_tail, all_append, any_is, any_from, in_filter}
 use Rattle.overlap_index.specs.Live.{AreApart, is_live, without_id}
-use Rattle.overlap_index.proofs.Listed.{any_is, any_from, in_filter}
 use Rattle.overlap_index.proofs.Live.{all_apart, apart_more, apart_filter, apart_none}
 use Rattle.batch_order.specs.Entries.{AreKept, AreAll}
 
@@ -138,24 +136,6 @@ kept_less slots live entries entries' spare id kept now same =
     go : (ids : List ℕ) → AllByRecursion (λ other. IsFalse (is_live live other)) ids → AllByRecursion (λ other. IsFalse (is_live (without_id live id) other)) ids
     go [] absent = tt
     go (other ∷ ids) absent = (absent_without live id other absent.0, go ids absent.1)
-
--- no id is live
-pub kept_none : (slots : ℕ) (entries : List (Option Entry)) (spare : List ℕ) → length entries ≡ slots → slots ≤ 4096 → length spare ≡ slots
-    → AllByRecursion (λ id. id < slots) spare → IsDistinct nat_eq spare → AreKept slots [] entries spare
-kept_none slots entries spare places few count small once =
-    record {
-      places = places;
-      few = few;
-      count = (let all : length spare ≡ slots = count in omega arith);
-      small = small;
-      absent = go spare;
-      once = once;
-      apart = apart_none slots;
-    }
-  where
-    go : (ids : List ℕ) → AllByRecursion (λ id. IsFalse (is_live [] id)) ids
-    go [] = tt
-    go (id ∷ ids) = (refl, go ids)
 
 -- one id more, greater than the others
 pub rising_more : (ids : List ℕ) (id : ℕ) → AllByRecursion (λ other. other < id) ids → IsDistinct nat_eq ids → IsDistinct nat_eq (ids ++ id ∷ [])

@@ -10,12 +10,11 @@ use Rattle.std.proofs.lemmas.List.{length-map}
 use Rattle.std.proofs.lemmas.List.Elements.{All-contains}
 use Rattle.std.proofs.lemmas.Map.Made.{length-from_same_keys, length-le_from_is_member, is_member-Decides}
 use Rattle.std.proofs.lemmas.Slice.Zip.{AllZip-long}
-use Rattle.slot_order.proofs.Rules.{contains_head, contains_tail}
+use Rattle.slot_order.proofs.Lists.{contains_head, contains_tail, in_map, map_in}
 use Rattle.slot_pool.specs.Arrangement.{Slots}
 use Rattle.overlap_index.specs.declared.LivePiece.{LivePiece}
 use Rattle.overlap_index.specs.Live.{AreApart}
 use Rattle.overlap_index.proofs.Above.{piece_in, piece_is}
-use Rattle.overlap_index.proofs.Listed.{in_map, map_in}
 use Rattle.rule_model.specs.declared.Piece.{Piece}
 use Rattle.rule_model.specs.declared.Rule.{Rule}
 use Rattle.rule_model.proofs.Pairs.{pairs_head, pairs_tail}

@@ -3,7 +3,7 @@ use Rattle.std.proofs.Common.{◌≡◌, ℕ, Bool, true, Option, Some, None, Li
 use Rattle.std.proofs.lemmas.List.{append-nil, length-map}
 use Rattle.std.specs.List.{AllZip}
 use Rattle.slot_order.specs.Order.{slot}
-use Rattle.slot_order.proofs.Rules.{contains_none}
+use Rattle.slot_order.proofs.Lists.{contains_none}
 use Rattle.slot_pool.specs.Arrangement.{Slots, passes}
 use Rattle.slot_pool.proofs.Places.{first_slot_is}
 use Rattle.slot_pool.proofs.Scan.{last_slot_is}

@@ -2,9 +2,9 @@
 -- and ids.
 use Rattle.std.proofs.Common.{◌≡◌, Bool, true, false, ◌&&◌, cond, fold, List, [], ◌∷◌, ◌++◌, IsFalse, Contains, filter, flat_map, reverse, refl, sym, ap, ap₂, ◌∙◌}
 use Rattle.std.specs.List.{AllByRecursion}
+use Rattle.slot_order.proofs.Lists.{AllByRecursion-member}
 use Rattle.rule_model.specs.declared.Rule.{Rule}
 use Rattle.rule_model.specs.RuleSet.{has_priority, rule_at}
-use Rattle.rule_model.proofs.RuleSets.{AllByRecursion-member}
 use Rattle.rule_store.specs.declared.Mode.TheVariants.{Cover}
 use Rattle.rule_store.specs.declared.Command.{Command}
 use Rattle.rule_store.specs.Batch.{IsSound, additions, added_rule, with_rule, set_after}

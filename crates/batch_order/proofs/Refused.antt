@@ -19,16 +19,6 @@ use Rattle.batch_order.proofs.Entered.{contents_kept}
 use Rattle.batch_order.proofs.Carried.{view_of}
 use Rattle.batch_order.proofs.Unchanged.{arranged_same, settled_live}
 
--- the ids that became live are the last ones
-pub adds_last : (old new : Entries) (ids : List ℕ) → AddsIds old new ids → AreLast new.live ids
-adds_last old new ids adds =
-    let number : length adds.made ≡ length ids = sym (length-map adds.made (λ (one : LivePiece). one.id)) ∙ ap length adds.ids_are in
-    let total : length new.live ≡ length old.live + length adds.made = ap length adds.live ∙ length-append old.live adds.made in
-    let before : length new.live - length ids ≡ length old.live = omega arith in
-    let last : drop (length new.live - length ids) new.live ≡ adds.made =
-    ap (drop (length new.live - length ids)) adds.live ∙ drop_at old.live adds.made (length new.live - length ids) (sym before) in
-    (omega arith, ap (map (λ (one : LivePiece). one.id)) last ∙ adds.ids_are)
-
 -- and the others are those from before
 pub adds_first : (old new : Entries) (ids : List ℕ) → AddsIds old new ids → take (length new.live - length ids) new.live ≡ old.live
 adds_first old new ids adds =

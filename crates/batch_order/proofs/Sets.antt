@@ -3,11 +3,9 @@ use Rattle.std.proofs.Common.{◌≡◌, ℕ, ◌<◌, true, false, Option, Some
 use Rattle.std.specs.Prelude.{nat_eq, nat_lt}
 use Rattle.std.specs.Option.{option_or}
 use Rattle.std.proofs.lemmas.Bool.{cases_Bool, cond-true, cond-false, or_parts}
-use Rattle.slot_order.proofs.Rules.{contains_head, contains_tail, contains_cases, contains_none}
-use Rattle.overlap_index.proofs.Listed.{any_is}
+use Rattle.slot_order.proofs.Lists.{contains_head, contains_tail, contains_cases, contains_none, AllByRecursion-member, any_is}
 use Rattle.rule_model.specs.declared.Rule.{Rule}
 use Rattle.rule_model.specs.RuleSet.{IsRuleSet, has_priority, rule_at}
-use Rattle.rule_model.proofs.RuleSets.{AllByRecursion-member}
 use Rattle.rule_store.specs.Batch.{with_rule}
 use Rattle.rule_store.proofs.Falling.{IsRuleSet-with_rule}
 use Rattle.rule_store.proofs.Sets.{rule_at-none}

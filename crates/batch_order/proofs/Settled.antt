@@ -7,12 +7,11 @@ use Rattle.std.proofs.lemmas.Bool.Decides.{eqb_tells}
 use Rattle.std.proofs.lemmas.List.{length-append, length-map, append-nil, append_assoc, take-append-drop}
 use Rattle.std.proofs.lemmas.List.Elements.{filter-append}
 use Rattle.std.proofs.lemmas.List.Folds.{list_any-append}
-use Rattle.slot_order.proofs.Rules.{contains_head, contains_tail, contains_cases, contains_none}
+use Rattle.slot_order.proofs.Lists.{contains_head, contains_tail, contains_cases, contains_none, map_in}
 use Rattle.slot_pool.specs.Arrangement.{Slots}
 use Rattle.overlap_index.specs.declared.LivePiece.{LivePiece}
 use Rattle.overlap_index.specs.Live.{AreApart, is_live, is_above, without_id}
 use Rattle.overlap_index.proofs.Live.{apart_more, all_apart}
-use Rattle.overlap_index.proofs.Listed.{map_in}
 use Rattle.move_planner.specs.declared.Move.{Move}
 use Rattle.move_planner.proofs.Chain.{write_of, after_moves-applied}
 use Rattle.slot_order.proofs.Inside.{length-applied}

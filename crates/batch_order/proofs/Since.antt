@@ -6,7 +6,7 @@ use Rattle.std.proofs.lemmas.List.{map-append, append-nil}
 use Rattle.std.proofs.lemmas.List.Sums.{fold-append}
 use Rattle.std.proofs.lemmas.List.Concat.{flat_map-append}
 use Rattle.std.proofs.lemmas.List.Folds.{list_any-append}
-use Rattle.slot_order.proofs.Inside.{all_append}
+use Rattle.slot_order.proofs.Lists.{all_append}
 use Rattle.slot_pool.specs.Arrangement.{Slots}
 use Rattle.ternary_word.specs.declared.Entry.{Entry}
 use Rattle.ternary_word.specs.Entry.{RankedPiece, entry_for}
@@ -106,23 +106,6 @@ puts_more : (live more : List LivePiece) (planned : List Planned) → AllByRecur
     → AllByRecursion (λ insertion. AllByRecursion (PutsLive (live ++ more)) insertion.moves) planned
 puts_more live more [] puts = tt
 puts_more live more (planned ∷ rest) puts = (moves_more live more planned.moves puts.0, puts_more live more rest puts.1)
-
--- no insertion
-pub planned_none : (kept : Entries) (slots : Slots) (plan : Plan) → ArePlannedSince kept kept slots slots plan plan [] []
-planned_none kept slots plan = record {
-  planned = [];
-  are_planned = tt;
-  pieces_are = refl;
-  aims_are = refl;
-  live_is = sym (append-nil kept.live);
-  slots_are = refl;
-  have_entries = tt;
-  kept = λ id now. refl;
-  puts = tt;
-  writes = sym (append-nil plan.writes.items);
-  most = refl;
-  span = refl;
-}
 
 -- some insertions after others
 pub planned_then : (old mid new : Entries) (slots slots' slots'' : Slots) (plan plan' plan'' : Plan) (first second : List RankedPiece) (first_aims second_aims : List Aim)

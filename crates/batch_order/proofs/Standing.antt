@@ -4,7 +4,7 @@ use Rattle.std.specs.Prelude.{unwrap_or, ◌==◌, nat_eq}
 use Rattle.std.specs.List.{AllByRecursion, IsDistinct}
 use Rattle.std.proofs.lemmas.List.Sums.{fold-append}
 use Rattle.slot_order.specs.Order.{slot}
-use Rattle.slot_order.proofs.Rules.{contains_head, contains_tail}
+use Rattle.slot_order.proofs.Lists.{contains_head, contains_tail}
 use Rattle.slot_order.proofs.Writes.{slot_other, slot_inside}
 use Rattle.slot_pool.specs.Arrangement.{Slots, home_of, passes}
 use Rattle.slot_pool.proofs.Places.{find_range_none, first_slot_is}

@@ -4,9 +4,8 @@ use Rattle.std.specs.Prelude.{nat_eq}
 use Rattle.std.specs.List.{AllByRecursion, AllZip, IsDistinct}
 use Rattle.std.proofs.lemmas.List.{take_more, drop_more, get_or_default, map-append, reverse-append}
 use Rattle.std.proofs.lemmas.List.Elements.{Contains-push}
-use Rattle.slot_order.proofs.Rules.{contains_cases, contains_none}
+use Rattle.slot_order.proofs.Lists.{contains_cases, contains_none, AllByRecursion-member}
 use Rattle.overlap_index.proofs.Live.{all_apart}
-use Rattle.rule_model.proofs.RuleSets.{AllByRecursion-member}
 use Rattle.tcam_device.proofs.Wider.{all_take}
 
 -- what holds of all holds at a place
@@ -69,12 +68,3 @@ pub zip_next : {A B : Type 0} (R : A → B → Type 0) (xs : List A) (ys : List 
     → AllZip R (take place xs) ys → R x y → AllZip R (take (place + 1) xs) (ys ++ y ∷ [])
 zip_next R xs ys place x y within is all one =
     subst (λ some. AllZip R some (ys ++ y ∷ [])) (sym (take_next xs place x within is)) (zip_more R (take place xs) ys x y all one)
-
--- the same from the last place on
-pub zip_before : {A B : Type 0} (R : A → B → Type 0) (xs : List A) (ys : List B) (place : ℕ) (x : A) (y : B) → place < length xs → get_or xs place x ≡ x
-    → AllZip R (reverse (drop (place + 1) xs)) ys → R x y → AllZip R (reverse (drop place xs)) (ys ++ y ∷ [])
-zip_before R xs ys place x y within is all one =
-    subst (λ some. AllZip R some (ys ++ y ∷ [])) (sym back) (zip_more R (reverse (drop (place + 1) xs)) ys x y all one)
-  where
-    back : reverse (drop place xs) ≡ reverse (drop (place + 1) xs) ++ x ∷ []
-    back = ap reverse (drop_more xs place x within ∙ ap (λ first. first ∷ drop (place + 1) xs) is) ∙ reverse-append (x ∷ []) (drop (place + 1) xs)

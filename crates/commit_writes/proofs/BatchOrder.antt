@@ -7,7 +7,7 @@ use Rattle.std.proofs.lemmas.List.{get_or_default}
 use Rattle.std.proofs.lemmas.List.Elements.{Contains-append_left}
 use Rattle.std.proofs.lemmas.Slice.Zip.{AllZip-long}
 use Rattle.slot_order.specs.Order.{Ordered, slot}
-use Rattle.slot_order.proofs.Between.{contains_take}
+use Rattle.slot_order.proofs.Lists.{contains_take, in_map, map_in}
 use Rattle.slot_order.proofs.Once.{AllOnce}
 use Rattle.slot_order.proofs.Writes.{slot_inside}
 use Rattle.slot_order.proofs.Images as images
@@ -18,7 +18,6 @@ use Rattle.rule_store.specs.declared.Command.{Command}
 use Rattle.ternary_word.specs.Entry.{RankedPiece}
 use Rattle.overlap_index.specs.declared.LivePiece.{LivePiece}
 use Rattle.overlap_index.proofs.Above.{live_is, is_live_from}
-use Rattle.overlap_index.proofs.Listed.{in_map, map_in}
 use Rattle.overlap_index.proofs.Live.{all_apart_from}
 use Rattle.move_planner.specs.Insertion.{IsLive}
 use Rattle.move_planner.proofs.Chain.{AllKnown}

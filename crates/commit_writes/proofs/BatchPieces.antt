@@ -21,8 +21,8 @@ use Rattle.std.specs.List.{AllByRecursion}
 use Rattle.std.proofs.lemmas.List.Kept.{AllPairs-filter}
 use Rattle.std.proofs.lemmas.List.Elements.{Contains-append_cases}
 use Rattle.slot_order.specs.Order.{IsFalling, IsRising}
+use Rattle.slot_order.proofs.Lists.{AllByRecursion-member}
 use Rattle.rule_model.proofs.Pairs.{pairs_none, pairs_append}
-use Rattle.rule_model.proofs.RuleSets.{AllByRecursion-member}
 use Rattle.rule_store.proofs.Falling.{IsRuleSet-filter}
 use Rattle.commit_writes.specs.Planned.{IsPlain}
 use Rattle.commit_writes.proofs.Filters.{all_members, all_from, pairs_reverse}

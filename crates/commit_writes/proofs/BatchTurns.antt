@@ -2,7 +2,7 @@
 -- rule is replaced, no key matches two pieces that stand and have one rank.
 use Rattle.std.proofs.Common.{◌≡◌, ℕ, ◌≤◌, take, List, ◌++◌, Contains, inl, inr, ◌⊎◌, sym, ◌∙◌, subst, ap, arith, refl}
 use Rattle.std.proofs.lemmas.List.Elements.{Contains-append_left, Contains-append_right, Contains-append_cases}
-use Rattle.slot_order.proofs.Between.{contains_take, take_contains}
+use Rattle.slot_order.proofs.Lists.{contains_take, take_contains, map_in}
 use Rattle.slot_pool.specs.Arrangement.{Slots}
 use Rattle.rule_model.specs.declared.Rule.{Rule}
 use Rattle.rule_model.specs.Piece.{PiecesOverlap}
@@ -11,7 +11,6 @@ use Rattle.rule_store.specs.declared.Command.{Command}
 use Rattle.rule_store.specs.Batch.{set_after}
 use Rattle.ternary_word.specs.Entry.{RankedPiece}
 use Rattle.overlap_index.specs.declared.LivePiece.{LivePiece}
-use Rattle.overlap_index.proofs.Listed.{map_in}
 use Rattle.commit_writes.specs.declared.Rewrite.{Rewrite}
 use Rattle.commit_writes.specs.Bits.{no_bits}
 use Rattle.commit_writes.specs.Shape.{set_pieces, inserted_pieces}

@@ -3,8 +3,8 @@ use Rattle.std.proofs.Common.{◌≡◌, ℕ, ◌≤◌, length, get_or, take, L
 use Rattle.std.specs.Prelude.{◌↔◌}
 use Rattle.std.proofs.lemmas.List.Elements.{Contains-append_left, Contains-append_right, Contains-append_cases}
 use Rattle.std.proofs.lemmas.Slice.Zip.{AllZip-long}
-use Rattle.slot_order.proofs.Between.{adding, contains_take}
-use Rattle.slot_order.proofs.Rules.{contains_none}
+use Rattle.slot_order.proofs.Lists.{contains_none, contains_take, in_map}
+use Rattle.slot_order.proofs.Between.{adding}
 use Rattle.slot_pool.specs.Arrangement.{Slots}
 use Rattle.rule_model.specs.declared.Rule.{Rule}
 use Rattle.rule_store.specs.declared.Mode.TheVariants.{Cover}
@@ -12,7 +12,6 @@ use Rattle.rule_store.specs.declared.Command.{Command}
 use Rattle.rule_store.specs.Batch.{set_after}
 use Rattle.ternary_word.specs.Entry.{RankedPiece}
 use Rattle.overlap_index.specs.declared.LivePiece.{LivePiece}
-use Rattle.overlap_index.proofs.Listed.{in_map}
 use Rattle.commit_writes.specs.declared.Rewrite.{Rewrite}
 use Rattle.commit_writes.specs.Bits.{no_bits}
 use Rattle.commit_writes.specs.Shape.{set_pieces, inserted_pieces, rewritten_pieces, erased_pieces}

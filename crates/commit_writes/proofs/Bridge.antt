@@ -7,7 +7,8 @@ use Rattle.slot_order.specs.Order.{slot, Ordered}
 use Rattle.slot_order.specs.Moves.{applied, Along, BoundsChains}
 use Rattle.slot_order.proofs.End.{IsWhole, WholeKeeps, whole_keeps}
 use Rattle.slot_order.proofs.Images.{entries}
-use Rattle.slot_order.proofs.Inside.{AllInside, all_append, whole_inside}
+use Rattle.slot_order.proofs.Lists.{all_append}
+use Rattle.slot_order.proofs.Inside.{AllInside, whole_inside}
 use Rattle.slot_order.proofs.Once.{AllOnce, whole_once}
 use Rattle.slot_order.proofs.Turns.{Plus}
 use Rattle.slot_order.proofs.Walks.{Along_prefix, Along_weaker, applied_append}

@@ -4,7 +4,7 @@ use Rattle.std.specs.Prelude.{flat_map, All, AllPairs}
 use Rattle.std.specs.List.{AllByRecursion}
 use Rattle.std.proofs.lemmas.List.{reverse-append, get_or-reverse, length-reverse, get_or_default}
 use Rattle.std.proofs.lemmas.List.Elements.{All-contains, Contains-append_cases, Contains-append_left, Contains-append_right}
-use Rattle.slot_order.proofs.Rules.{contains_head, contains_tail, contains_cases, contains_none}
+use Rattle.slot_order.proofs.Lists.{contains_head, contains_tail, contains_cases, contains_none}
 use Rattle.rule_model.proofs.Pairs.{pairs_none, pairs_head, pairs_tail, pairs_append}
 
 -- what holds of each member holds of the whole list

@@ -7,10 +7,9 @@ use Rattle.std.proofs.lemmas.Map.Keys.{IsDistinct-cons}
 use Rattle.std.proofs.lemmas.Map.Steps.{length-le_from_distinct_below}
 use Rattle.slot_order.specs.Order.{slot}
 use Rattle.slot_order.specs.Moves.{IsChain, BoundsChains}
-use Rattle.slot_order.proofs.Rules.{contains_head, contains_tail, contains_cases, contains_none}
+use Rattle.slot_order.proofs.Lists.{contains_head, contains_tail, contains_cases, contains_none, any_is}
 use Rattle.slot_order.proofs.Writes.{slot_inside}
 use Rattle.slot_pool.specs.Arrangement.{Slots}
-use Rattle.overlap_index.proofs.Listed.{any_is}
 use Rattle.commit_writes.proofs.Filters.{all_members}
 
 chain_rest : (over : ℕ → ℕ → Type 0) (rank : ℕ → ℕ) (id : ℕ) (ids : List ℕ) → IsChain over rank (id ∷ ids) → IsChain over rank ids

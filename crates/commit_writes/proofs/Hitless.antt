@@ -3,14 +3,14 @@
 use Rattle.std.proofs.Common.{sym, ◌≡◌, ℕ, zero, suc, ◌≤◌, List, [], ◌∷◌, ◌++◌, length, take, map, Contains, Option, None, Some, option_map, IsFalse, inl, inr, refl, ap, ◌∙◌}
 use Rattle.std.proofs.Math.Seq.{take-length}
 use Rattle.std.specs.List.{AllByRecursion}
-use Rattle.slot_order.proofs.Inside.{all_append}
+use Rattle.slot_order.proofs.Lists.{all_append, AllByRecursion-member}
 use Rattle.slot_pool.specs.Arrangement.{Slots}
 use Rattle.rule_model.specs.declared.Key.{Key}
 use Rattle.rule_model.specs.declared.Rule.{Rule}
 use Rattle.rule_model.specs.Key.{IsKey}
 use Rattle.rule_model.specs.Rule.{HasConditions}
 use Rattle.rule_model.specs.RuleSet.{IsRuleSet, answer}
-use Rattle.rule_model.proofs.RuleSets.{AllByRecursion-member, IsRuleSet-distinct}
+use Rattle.rule_model.proofs.RuleSets.{IsRuleSet-distinct}
 use Rattle.rule_store.specs.declared.Command.{Command}
 use Rattle.rule_store.specs.Batch.{set_after}
 use Rattle.rule_store.specs.declared.Mode.TheVariants.{Cover}

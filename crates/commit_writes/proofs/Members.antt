@@ -3,14 +3,12 @@ use Rattle.std.proofs.Common.{◌≡◌, ℕ, ◌+◌, ◌<◌, ◌≤◌, Some,
 use Rattle.std.specs.List.{AllByRecursion, AllPairs}
 use Rattle.std.proofs.lemmas.List.{map-id}
 use Rattle.std.proofs.lemmas.List.Elements.{All-contains, Contains-append_left, Contains-append_right, Contains-append_cases}
-use Rattle.slot_order.proofs.Rules.{contains_cases, contains_none}
+use Rattle.slot_order.proofs.Lists.{contains_cases, contains_none, AllByRecursion-member, in_map, map_in}
 use Rattle.slot_pool.specs.Arrangement.{Slots}
 use Rattle.rule_model.proofs.Pairs.{pairs_head, pairs_tail}
-use Rattle.rule_model.proofs.RuleSets.{AllByRecursion-member}
 use Rattle.ternary_word.specs.Entry.{RankedPiece, entry_for}
 use Rattle.overlap_index.specs.declared.LivePiece.{LivePiece}
 use Rattle.overlap_index.specs.Live.{AreApart}
-use Rattle.overlap_index.proofs.Listed.{in_map, map_in}
 use Rattle.overlap_index.proofs.Live.{apart_more}
 use Rattle.move_planner.specs.Placement.{after_moves}
 use Rattle.commit_writes.specs.Planned.{Entries, Planned, ArePlanned, IsPlain, IsPlannedRow, entry_at, ranked_of, live_after}

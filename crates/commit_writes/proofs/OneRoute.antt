@@ -2,13 +2,12 @@
 use Rattle.std.proofs.Common.{◌≡◌, ◌<◌, ℕ, List, [], ◌∷◌, ◌++◌, take, None, Some, Contains, inl, inr, replicate, arith, refl, sym, ap}
 use Rattle.std.proofs.lemmas.List.Elements.{Contains-append_cases}
 use Rattle.slot_order.specs.Order.{slot}
-use Rattle.slot_order.proofs.Between.{contains_take}
+use Rattle.slot_order.proofs.Lists.{contains_take, AllByRecursion-member}
 use Rattle.rule_model.specs.declared.Rule.{Rule}
 use Rattle.rule_model.specs.AddressBlock.{ipv4_block}
 use Rattle.rule_model.specs.Rank.{ipv4_route_rank}
 use Rattle.rule_model.specs.Rule.{route_rule}
 use Rattle.rule_model.specs.Piece.{whole_piece}
-use Rattle.rule_model.proofs.RuleSets.{AllByRecursion-member}
 use Rattle.rule_store.specs.declared.Mode.TheVariants.{Cover}
 use Rattle.rule_store.specs.declared.Command.{Command}
 use Rattle.rule_store.specs.declared.Command.TheVariants.{Add, Set}

@@ -4,8 +4,7 @@ use Rattle.std.proofs.Common.{◌≡◌, ℕ, Bool, not, List, filter, reverse, 
 use Rattle.std.specs.Prelude.{nat_eq}
 use Rattle.std.specs.List.{list_any}
 use Rattle.std.proofs.lemmas.Bool.{cases_Bool, false_from_ne_true, not-true, not_from_false, both_ways}
-use Rattle.slot_order.proofs.Rules.{contains_none}
-use Rattle.overlap_index.proofs.Listed.{in_filter, filter_in}
+use Rattle.slot_order.proofs.Lists.{contains_none, in_filter, filter_in}
 use Rattle.rule_model.specs.declared.Rule.{Rule}
 use Rattle.rule_model.specs.declared.Piece.{Piece}
 use Rattle.rule_model.specs.RuleSet.{rule_at}

@@ -4,7 +4,7 @@ use Rattle.std.proofs.Common.{◌≡◌, ℕ, ◌<◌, List, [], ◌∷◌, ◌+
 use Rattle.std.specs.List.{AllByRecursion}
 use Rattle.std.proofs.lemmas.List.Elements.{Contains-append_cases, Contains-append_left, Contains-append_right}
 use Rattle.slot_order.specs.Moves.{IsChain}
-use Rattle.slot_order.proofs.Rules.{contains_head, contains_tail, contains_cases, contains_none}
+use Rattle.slot_order.proofs.Lists.{contains_head, contains_tail, contains_cases, contains_none, AllByRecursion-member}
 use Rattle.rule_model.specs.declared.Key.{Key}
 use Rattle.rule_model.specs.declared.Rule.{Rule}
 use Rattle.rule_model.specs.declared.Piece.{Piece}
@@ -18,7 +18,6 @@ use Rattle.rule_model.specs.Routes.{IsIpv4Route}
 use Rattle.rule_model.proofs.CommonKeys.{overlap_parts, overlap_from}
 use Rattle.rule_model.proofs.Parts.{piece_inside}
 use Rattle.rule_model.proofs.Routes.{ipv4_routes-nested, ipv4_chains-short}
-use Rattle.rule_model.proofs.RuleSets.{AllByRecursion-member}
 use Rattle.rule_store.specs.declared.Mode.TheVariants.{Cover}
 use Rattle.rule_store.specs.declared.Command.{Command}
 use Rattle.rule_store.specs.Batch.{additions}

@@ -11,7 +11,7 @@ use Rattle.slot_order.specs.Order.{slot, Ordered}
 use Rattle.slot_order.specs.Moves.{BoundsChains}
 use Rattle.slot_order.proofs.Images.{entries}
 use Rattle.slot_order.proofs.Once.{AllOnce}
-use Rattle.slot_order.proofs.Rules.{contains_head, contains_tail, contains_cases, contains_none}
+use Rattle.slot_order.proofs.Lists.{contains_head, contains_tail, contains_cases, contains_none}
 use Rattle.slot_order.proofs.Sets.{Ordered_same}
 use Rattle.slot_order.proofs.Turns.{Plus}
 use Rattle.slot_order.proofs.Writes.{slot_inside}

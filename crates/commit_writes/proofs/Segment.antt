@@ -5,7 +5,7 @@ use Rattle.std.proofs.Math.Nat.{mul-le-mul}
 use Rattle.std.specs.Prelude.{flat_map}
 use Rattle.std.proofs.lemmas.List.{length-map}
 use Rattle.slot_order.specs.Moves.{BoundsChains}
-use Rattle.slot_order.proofs.Rules.{contains_head, contains_tail}
+use Rattle.slot_order.proofs.Lists.{contains_head, contains_tail}
 use Rattle.slot_pool.specs.Arrangement.{Slots}
 use Rattle.ternary_word.specs.Entry.{RankedPiece, entry_for}
 use Rattle.overlap_index.specs.declared.LivePiece.{LivePiece}

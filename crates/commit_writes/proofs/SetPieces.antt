@@ -5,7 +5,7 @@ use Rattle.std.specs.List.{AllByRecursion, list_any}
 use Rattle.std.proofs.lemmas.Bool.{cases_Bool, and_parts, and_from, both_ways}
 use Rattle.std.proofs.lemmas.List.{get_or_default}
 use Rattle.std.proofs.lemmas.List.Elements.{All-contains}
-use Rattle.overlap_index.proofs.Listed.{any_is, any_from, in_map, map_in}
+use Rattle.slot_order.proofs.Lists.{AllByRecursion-member, any_is, any_from, in_map, map_in}
 use Rattle.rule_model.specs.declared.Rule.{Rule}
 use Rattle.rule_model.specs.declared.Piece.{Piece}
 use Rattle.rule_model.specs.PortRange.{is_block}
@@ -15,7 +15,6 @@ use Rattle.rule_model.specs.Piece.{same_piece, piece_matches, cover_pieces}
 use Rattle.rule_model.proofs.Pairs.{pairs_map}
 use Rattle.rule_model.proofs.CoverPieces.{piece_matches-cover, cover_pieces-right, cover_pieces-blocks}
 use Rattle.rule_model.proofs.Parts.{IsBitless, part_of, part_bitless, piece_inside, cover_pieces-apart, same_piece-self, same_piece-is}
-use Rattle.rule_model.proofs.RuleSets.{AllByRecursion-member}
 use Rattle.rule_store.specs.declared.Mode.TheVariants.{Cover}
 use Rattle.rule_store.specs.Verdict.{pieces_of}
 use Rattle.rule_store.proofs.Sets.{falls-at}

@@ -5,14 +5,13 @@ use Rattle.std.proofs.lemmas.List.Elements.{Contains-append_left, Contains-appen
 use Rattle.std.specs.Prelude.{length}
 use Rattle.slot_order.specs.Order.{Ordered}
 use Rattle.slot_order.proofs.Images.{entries}
+use Rattle.slot_order.proofs.Lists.{AllByRecursion-member, map_in}
 use Rattle.slot_pool.specs.Arrangement.{Slots}
-use Rattle.rule_model.proofs.RuleSets.{AllByRecursion-member}
 use Rattle.ternary_word.specs.Entry.{RankedPiece, HitsExactly, entry_for}
 use Rattle.tcam_device.specs.Order.{IsOrdered}
 use Rattle.ternary_word.proofs.Exact.{hits-entry_of}
 use Rattle.overlap_index.specs.declared.LivePiece.{LivePiece}
 use Rattle.overlap_index.specs.Live.{is_above}
-use Rattle.overlap_index.proofs.Listed.{map_in}
 use Rattle.move_planner.specs.Insertion.{IsLive}
 use Rattle.move_planner.proofs.Chain.{Reads, AllKnown}
 use Rattle.tcam_device.specs.State.{IsState}

@@ -1,7 +1,7 @@
 -- Two lists, each of whose members is related to its partner.
 use Rattle.std.proofs.Common.{ℕ, zero, suc, ◌<◌, List, [], ◌∷◌, length, get_or, Contains, inl, inr, subst, arith}
 use Rattle.std.specs.List.{AllZip}
-use Rattle.slot_order.proofs.Rules.{contains_head, contains_tail, contains_cases, contains_none}
+use Rattle.slot_order.proofs.Lists.{contains_head, contains_tail, contains_cases, contains_none}
 
 -- each of the first has its partner,
 pub zip_left : {X Y : Type 0} (R : X → Y → Type 0) (xs : List X) (ys : List Y) (x : X) → AllZip R xs ys → Contains xs x → (y : Y) × Contains ys y × R x y

@@ -6,16 +6,16 @@ use Rattle.ternary_word.specs.declared.Entry.{Entry}
 use Rattle.ternary_word.specs.Entry.{slot_hits, first_hitting}
 use Rattle.lane_lookup.specs.Columns.{Lane, row_hits, AreColumns}
 use Rattle.lane_lookup.proofs.Rows.{rows_hit}
-use Rattle.lane_lookup.proofs.Zeros.{none_further}
-use Rattle.lane_lookup.proofs.Places.{position_found}
+use Rattle.eight_lanes.proofs.Lanes.{none_further}
+use Rattle.slot_order.proofs.Lists.{position_found}
 
 -- none of the slots so far hits
 pub eight_passed : (slots : List (Option Entry)) (lanes : List Lane) (vacant : List ℕ) (word : Word) (start before : ℕ) → AreColumns slots lanes vacant
     → start + before ≤ length slots → ((k : ℕ) → k < start → slot_hits word (slot slots k) ≡ false)
     → ((k : ℕ) → k < before → row_hits lanes vacant word (start + k) ≡ false) → (k : ℕ) → k < start + before → slot_hits word (slot slots k) ≡ false
-eight_passed slots lanes vacant word start before are room passed fails =
-    none_further (λ k. slot_hits word (slot slots k)) start before passed
-    (λ k below. sym (rows_hit slots lanes vacant word (start + k) are (omega arith)) ∙ fails k below)
+eight_passed slots lanes vacant word start before are room passed fails k =
+    none_further (λ k. slot_hits word (slot slots k)) 0 start before (λ k from. passed k)
+    (λ k below. sym (rows_hit slots lanes vacant word (start + k) are (omega arith)) ∙ fails k below) k (omega arith)
 
 -- or the least one that does is found
 pub eight_found : (slots : List (Option Entry)) (lanes : List Lane) (vacant : List ℕ) (word : Word) (start before : ℕ) → AreColumns slots lanes vacant

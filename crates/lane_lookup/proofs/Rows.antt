@@ -1,9 +1,8 @@
 -- A slot's row in the columns hits exactly where the slot does, and writes of a slot keep the rows.
 use Rattle.std.proofs.Common.{◌≡◌, ◌≢◌, ℕ, ◌<◌, List, [], ◌∷◌, Option, Some, None, length, set, refl, sym, ◌∙◌, subst, arith, inl, inr, length-set}
-use Rattle.std.specs.Prelude.{◌&&◌, ◌==◌, bit_or, slice_index}
+use Rattle.std.specs.Prelude.{◌&&◌, ◌==◌, slice_index}
 use Rattle.std.specs.List.{AllByRecursion}
-use Rattle.std.proofs.lemmas.Bool.{cases_eq, ne_eqb}
-use Rattle.std.proofs.lemmas.Nat.{le_or_l, le_or_r}
+use Rattle.std.proofs.lemmas.Bool.{cases_eq}
 use Rattle.std.proofs.lemmas.List.{get_or-set_same, get_or-set_other}
 use Rattle.slot_order.specs.Order.{slot}
 use Rattle.slot_order.proofs.Writes.{slot_same, slot_other}
@@ -11,20 +10,6 @@ use Rattle.ternary_word.specs.declared.Word.{Word}
 use Rattle.ternary_word.specs.declared.Entry.{Entry}
 use Rattle.ternary_word.specs.Entry.{slot_hits, lanes_match}
 use Rattle.lane_lookup.specs.Columns.{Lane, lanes_agree, row_hits, HasSize, HasPlace, with_row, HoldRow, IsRow, AreColumns}
-
--- either is 0 exactly where both are
-pub or_test : (a b : ℕ) → (bit_or a b == 0) ≡ ((a == 0) && (b == 0))
-or_test a b = elim (cases_eq a 0) [
-  | inl x ↦ elim (cases_eq b 0) [
-    | inl y ↦ rw (x, y) refl
-    | inr y ↦ let over = le_or_r a b in
-        let more : bit_or a b ≢ 0 = λ e. absurd (y (omega arith)) in
-        rw (ne_eqb _ _ more, ne_eqb _ _ y) (rw x refl)
-  ]
-  | inr x ↦ let over = le_or_l a b in
-      let more : bit_or a b ≢ 0 = λ e. absurd (x (omega arith)) in
-      rw (ne_eqb _ _ more, ne_eqb _ _ x) refl
-]
 
 -- lanes that hold an entry's row agree with the words that the entry hits
 agree-is : (lanes : List Lane) (words values masks : List ℕ) (place : ℕ) → HoldRow lanes values masks place → lanes_agree lanes words place ≡ lanes_match words values masks
@@ -100,23 +85,6 @@ row_other : (place other : ℕ) (lanes : List Lane) (vacancy : ℕ) (values mask
     → IsRow lanes vacancy other here → IsRow (with_row lanes values masks place) vacancy other here
 row_other place other lanes vacancy values masks None apart is = is
 row_other place other lanes vacancy values masks (Some entry) apart is = (is.0, held_other place other lanes values masks entry.value.lane entry.mask.lane apart is.1)
-
-pub columns_emptied : (slots : List (Option Entry)) (lanes : List Lane) (vacant : List ℕ) (place : ℕ) → AreColumns slots lanes vacant → place < length slots
-    → AreColumns (set slots place None) lanes (set vacant place 1)
-columns_emptied slots lanes vacant place are below =
-    let size = length-set slots place None in record {
-      most = let m = are.most in omega arith;
-      count = are.count;
-      vacant_size = length-set vacant place 1 ∙ are.vacant_size ∙ sym size;
-      sizes = subst (λ n. AllByRecursion (HasSize n) lanes) (sym size) are.sizes;
-      rows = λ other inside. elim (cases_eq other place) [
-        | inl same ↦ subst (λ p. IsRow lanes (slice_index (set vacant place 1) p) p (slot (set slots place None) p)) (sym same)
-            (subst (λ here. IsRow lanes (slice_index (set vacant place 1) place) place here) (sym (slot_same slots place None below))
-            (get_or-set_same vacant place 1 0 (let v = are.vacant_size in omega arith)))
-        | inr apart ↦ subst (λ here. IsRow lanes (slice_index (set vacant place 1) other) other here) (sym (slot_other slots place None other apart))
-            (subst (λ vacancy. IsRow lanes vacancy other (slot slots other)) (sym (get_or-set_other vacant place other 1 0 apart)) (are.rows other (omega arith)))
-      ];
-    }
 
 pub columns_put : (slots : List (Option Entry)) (lanes : List Lane) (vacant : List ℕ) (place : ℕ) (entry : Entry) → AreColumns slots lanes vacant → place < length slots
     → length entry.value.lane ≡ 11 → length entry.mask.lane ≡ 11

@@ -1,13 +1,13 @@
 -- The lanes that aren't in use keep no slot from hitting.
 use Rattle.std.proofs.Common.{◌≡◌, ℕ, zero, suc, ◌+◌, ◌<◌, Bool, true, List, [], ◌∷◌, length, set, get_or, drop, refl, sym, ◌∙◌, ap, subst, arith, inl, inr}
-use Rattle.std.specs.Prelude.{◌&&◌, ◌==◌, bit_or, slice_index}
+use Rattle.std.specs.Prelude.{◌&&◌, ◌==◌, slice_index}
 use Rattle.std.specs.List.{AllByRecursion}
+use Rattle.std.proofs.Math.Bool.{and_assoc}
 use Rattle.std.proofs.lemmas.Bool.{cases_Bool, or_parts, not-false, eqb-true, eq-eqb}
 use Rattle.std.proofs.lemmas.Nat.{and_le_r}
 use Rattle.std.proofs.lemmas.List.{get_or_default, at_drop_more}
+use Rattle.std.proofs.lemmas.List.Elements.{All-from_recursion}
 use Rattle.lane_lookup.specs.Columns.{Lane, blank_lane, lane_off, lanes_agree, with_cell, with_row, used_from, HasSize, IsZeroUnlessUsed}
-use Rattle.lane_lookup.proofs.Rows.{or_test}
-use Rattle.lane_lookup.proofs.Steps.{and_assoc, holds_at}
 
 -- the lanes with these numbers don't keep the slot from hitting
 abbrev pub used_agree : List ℕ → List Lane → List ℕ → ℕ → Bool
@@ -64,7 +64,7 @@ used_within lanes used j listed below =
 pub used_size : (lanes : List Lane) (used : List ℕ) (j size : ℕ) (lane : Lane) → used ≡ used_from lanes 0 → j < length used → AllByRecursion (HasSize size) lanes
     → lane ≡ get_or lanes (get_or used j 0) lane → HasSize size lane
 used_size lanes used j size lane listed below sizes is_lane =
-    subst (HasSize size) (sym is_lane) (holds_at (HasSize size) lanes _ lane sizes (used_within lanes used j listed below))
+    subst (HasSize size) (sym is_lane) (All-from_recursion (HasSize size) lanes sizes _ lane (used_within lanes used j listed below))
 
 -- all lanes agree where those in use do
 pub all_agree : (lanes : List Lane) (words used : List ℕ) (place : ℕ) → used ≡ used_from lanes 0 → length words ≡ length lanes → AllByRecursion IsZeroUnlessUsed lanes
@@ -77,17 +77,16 @@ all_agree lanes words used place listed len zeros =
 
 -- what keeps a slot from hitting, with one lane in use more
 pub used_step : (used : List ℕ) (lanes : List Lane) (words : List ℕ) (place j before off now : ℕ) (row : Bool) (lane : Lane) → used ≡ used_from lanes 0 → j < length used
-    → lane ≡ get_or lanes (get_or used j 0) lane → off ≡ lane_off lane (get_or words (get_or used j 0) 0) place → now ≡ bit_or before off
+    → lane ≡ get_or lanes (get_or used j 0) lane → off ≡ lane_off lane (get_or words (get_or used j 0) 0) place → (now == 0) ≡ ((before == 0) && (off == 0))
     → row ≡ ((before == 0) && used_agree (drop j used) lanes words place)
     → row ≡ ((now == 0) && used_agree (drop (j + 1) used) lanes words place)
-used_step used lanes words place j before off now row lane listed below is_lane is_off is_now so_far =
+used_step used lanes words place j before off now row lane listed below is_lane is_off both so_far =
     let number = get_or used j 0 in
     let named : lane ≡ get_or lanes number (blank_lane 0) = is_lane ∙ get_or_default lanes number _ _ (used_within lanes used j listed below) in
     let here : off ≡ lane_off (get_or lanes number (blank_lane 0)) (get_or words number 0) place = is_off ∙ ap (λ x. lane_off x (get_or words number 0) place) named in
     let one : used_agree (drop j used) lanes words place ≡ ((off == 0) && used_agree (drop (j + 1) used) lanes words place) =
     at_drop_more (λ us. used_agree us lanes words place) used j 0 below ∙ ap (λ x. (x == 0) && used_agree (drop (j + 1) used) lanes words place) (sym here) in
-    let both : (now == 0) ≡ ((before == 0) && (off == 0)) = ap (λ x. x == 0) is_now ∙ or_test before off in
-    so_far ∙ ap (λ x. (before == 0) && x) one ∙ and_assoc (before == 0) (off == 0) (used_agree (drop (j + 1) used) lanes words place)
+    so_far ∙ ap (λ x. (before == 0) && x) one ∙ sym (and_assoc (before == 0) (off == 0) (used_agree (drop (j + 1) used) lanes words place))
     ∙ ap (λ x. x && used_agree (drop (j + 1) used) lanes words place) (sym both)
 
 zeros_set : (xs : List ℕ) (place p : ℕ) → ((q : ℕ) → get_or xs q 0 ≡ 0) → get_or (set xs place 0) p 0 ≡ 0

@@ -2,6 +2,7 @@
 ghost use Rattle.std.specs.Prelude.{◌≡◌, ℕ, ◌+◌, ◌<◌, ◌≤◌, length, slice_index, true, IfOk};
 ghost use Rattle.lane_lookup.specs.Columns.{blank_lane, lane_off, with_cell};
 
+use eight_lanes::eight;
 use std::alloc::{AllocError, Global};
 use std::marker::Model;
 use std::simd::prelude::*;
@@ -63,5 +64,5 @@ fn off_eight(values: &[u32], masks: &[u32], at: usize, word: u32) -> u32x8
     ensures len { length result ≡ 8 }
     ensures lanes { (k : ℕ) → k < 8 → slice_index result k ≡ lane_off (record { values = values.now; masks = masks.now; used = true }) word (at + k) }
 {
-    (u32x8::splat(word) ^ u32x8::from_slice(&values[at..])) & u32x8::from_slice(&masks[at..])
+    (u32x8::splat(word) ^ eight(values, at)) & eight(masks, at)
 }

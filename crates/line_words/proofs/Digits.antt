@@ -1,5 +1,5 @@
 -- Decimal digits, read from the left.
-use Rattle.std.proofs.Common.{◌≡◌, ℕ, suc, ◌+◌, ◌-◌, ◌*◌, ◌<◌, ◌≤◌, true, false, ◌&&◌, nat_le, List, [], ◌∷◌, length, drop, get_or, refl, ◌∙◌, arith, add-one, drop-cons}
+use Rattle.std.proofs.Common.{◌≡◌, ℕ, suc, ◌+◌, ◌-◌, ◌*◌, ◌<◌, ◌≤◌, false, ◌&&◌, nat_le, List, [], ◌∷◌, length, drop, get_or, arith, drop-cons}
 use Rattle.std.proofs.lemmas.Grind.{common_steps}
 use Rattle.std.specs.List.{list_all, fold}
 use Rattle.line_words.specs.Kinds.{is_digit, number_value}
@@ -23,22 +23,6 @@ with_digits-grows value (digit ∷ digits) =
 pub record AreRead (word : List ℕ) (place value : ℕ) : Type 0 where
   pub digits : list_all is_digit word ≡ list_all is_digit (drop place word)
   pub value_is : number_value word ≡ with_digits value (drop place word)
-
--- one digit more is read
-pub AreRead-more : (word : List ℕ) (place value : ℕ) → place < length word → AreRead word place value
-    → is_digit (get_or word place 0) ≡ true
-    → AreRead word (place + 1) (with_digit value (get_or word place 0))
-AreRead-more word place value inside read here =
-    let cut = drop-cons word place 0 inside in
-    record {
-      digits = rw add-one (read.digits ∙ rw (cut, here) refl);
-      value_is = rw add-one (read.value_is ∙ rw cut refl);
-    }
-
--- a byte that is no digit
-pub AreRead-stops : (word : List ℕ) (place value : ℕ) → place < length word → AreRead word place value
-    → is_digit (get_or word place 0) ≡ false → list_all is_digit word ≡ false
-AreRead-stops word place value inside read here = read.digits ∙ rw (drop-cons word place 0 inside, here) refl
 
 -- the number is at least what was read of it, with the next digit
 pub AreRead-least : (word : List ℕ) (place value : ℕ) → place < length word → AreRead word place value

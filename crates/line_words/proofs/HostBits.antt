@@ -1,5 +1,5 @@
 -- The bits of an IPv4 address past a length.
-use Rattle.std.proofs.Common.{◌≡◌, ◌≢◌, ℕ, ◌+◌, ◌-◌, ◌*◌, ◌%◌, ◌^◌, ◌≤◌, inl, inr, List, ◌∷◌, Some, None, Ok, Err, refl, arith, add-zero}
+use Rattle.std.proofs.Common.{◌≡◌, ◌≢◌, ℕ, ◌+◌, ◌-◌, ◌*◌, ◌%◌, ◌^◌, ◌≤◌, inl, inr, List, ◌∷◌, Some, None, Err, refl, arith, add-zero}
 use Rattle.std.proofs.lemmas.Grind.{common_steps}
 use Rattle.std.proofs.lemmas.Nat.{mod-pow-add, shl-shr}
 use Rattle.std.proofs.Math.Nat.{mul-mod_left}
@@ -17,11 +17,6 @@ upper-bits address len fits =
     let low = mul-mod_left address (2 ^ 96) in
     let high = shl-shr address 96 in
     rw room (rw split (rw (high, low) (add-zero (address % 2 ^ (32 - len) * 2 ^ 96))))
-
--- no bit past the length is set
-pub clear-block : (address len : ℕ) → len ≤ 32 → address % 2 ^ (32 - len) ≡ 0
-    → block_of (ipv4_block address len) ≡ Ok (ipv4_block address len)
-clear-block address len fits clear = rw (upper-bits address len fits, clear) refl
 
 -- a bit past the length is set
 pub host-bits : (address len : ℕ) → len ≤ 32 → (address % 2 ^ (32 - len) ≡ 0 → ⊥)

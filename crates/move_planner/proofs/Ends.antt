@@ -6,11 +6,11 @@ use Rattle.std.proofs.lemmas.Bool.{cases_Bool, cases_lt, or_cases, or_left, or_r
 use Rattle.std.proofs.lemmas.List.Folds.{list_any-append}
 use Rattle.std.proofs.Math.Path.{fun_ext}
 use Rattle.slot_order.specs.Order.{slot}
+use Rattle.slot_order.proofs.Lists.{any_is, any_from}
 use Rattle.slot_pool.specs.Arrangement.{Slots, passes, first_slot, last_slot, home_of}
 use Rattle.slot_pool.proofs.Places.{find_range, find_range_none}
 use Rattle.slot_pool.proofs.Scan.{find_back, find_back_none}
 use Rattle.slot_pool.proofs.Finds.{found_first, found_none, found_last, found_none_back}
-use Rattle.overlap_index.proofs.Listed.{any_is, any_from}
 use Rattle.move_planner.specs.Steps.{lesser, greater}
 
 -- the id is among some

@@ -1,9 +1,9 @@
 -- A table of eight slots that fills up, id by id.
-use Rattle.std.proofs.Common.{◌≡◌, ℕ, ◌+◌, ◌<◌, ◌≤◌, true, false, None, Some, List, [], ◌∷◌, ◌++◌, length, replicate, take, Contains, inl, inr, arith, le_refl, refl, sym, ◌∙◌, subst, ap}
+use Rattle.std.proofs.Common.{◌≡◌, ℕ, ◌+◌, ◌<◌, ◌≤◌, true, false, None, List, [], ◌∷◌, ◌++◌, length, replicate, take, Contains, inl, inr, arith, le_refl, sym, ◌∙◌, subst, ap}
 use Rattle.std.proofs.lemmas.Bool.{cases_lt, false_from_ne_true}
 use Rattle.std.proofs.lemmas.List.{get_or-replicate, get_or_past, take_all}
+use Rattle.std.proofs.lemmas.List.Elements.{Contains-push, Contains-push_cases}
 use Rattle.slot_order.specs.Order.{slot}
-use Rattle.slot_order.proofs.Rules.{contains_none}
 use Rattle.slot_pool.specs.Arrangement.{Slots}
 use Rattle.overlap_index.specs.declared.LivePiece.{LivePiece}
 use Rattle.overlap_index.specs.Live.{LivePieces, is_live, is_above}
@@ -11,7 +11,7 @@ use Rattle.overlap_index.proofs.Above.{live_is, is_live_from}
 use Rattle.move_planner.specs.declared.Move.{Move}
 use Rattle.move_planner.specs.Placement.{after_moves, IsInOrder}
 use Rattle.move_planner.specs.Insertion.{IsLive, IsOther, StandOnce, free_slots}
-use Rattle.move_planner.proofs.Settled.{pushed, pushed_last, length-after_moves, add_standing, add_order}
+use Rattle.move_planner.proofs.Settled.{length-after_moves, add_standing, add_order}
 
 -- the ids below a count are live, stand in one slot each, and in order
 pub record IsFilled (index : LivePieces) (slots : Slots) (count : ℕ) : Type 0 where
@@ -27,20 +27,6 @@ empty at = elim (cases_lt at 8) [
   | inl inside ↦ get_or-replicate 8 at None None inside
   | inr past ↦ get_or_past (replicate 8 None) at None past
 ]
-
-pub filled_none : (index : LivePieces) (slots : Slots) → slots ≡ replicate 8 None → index.live ≡ [] → index.slots ≡ 8 → IsFilled index slots 0
-filled_none index slots blank none ids = subst (λ d. IsFilled index d 0) (sym blank) record {
-  ids = ids;
-  size = refl;
-  free = refl;
-  small = λ one c. absurd (contains_none one (subst (λ live. Contains live one) none c));
-  standing = record {
-    within = λ at id s. absurd (let k : None ≡ Some id = sym (empty at) ∙ s in cc);
-    placed = λ id e. absurd (let k : false ≡ true = sym (ap (λ live. is_live live id) none) ∙ e in cc);
-    once = λ i j id s t. absurd (let k : None ≡ Some id = sym (empty i) ∙ s in cc);
-  };
-  order = λ i j first second l s t. absurd (let k : None ≡ Some first = sym (empty i) ∙ s in cc);
-}
 
 -- the next id isn't live
 pub next_absent : (index : LivePieces) (slots : Slots) (count : ℕ) → IsFilled index slots count → is_live index.live count ≡ false
@@ -61,7 +47,7 @@ next_of index more slots one w added =
     let size = w.size in
     record {
       few = omega arith;
-      live = subst (λ live. is_live live one.id ≡ true) (sym added) (is_live_from (index.live ++ one ∷ []) one (pushed_last index.live one));
+      live = subst (λ live. is_live live one.id ≡ true) (sym added) (is_live_from (index.live ++ one ∷ []) one (Contains-push index.live one));
       standing = subst (λ live. StandOnce (IsOther live one.id) slots) (sym added) (add_standing index.live one slots absent w.standing);
       order = subst (λ live. IsInOrder (is_above live) slots) (sym added) (add_order index.live one slots absent w.standing w.order);
     }
@@ -74,7 +60,7 @@ filled_more index more slots slots' one moves w added ids after order standing f
   ids = ids ∙ w.ids;
   size = ap length after ∙ (length-after_moves slots moves ∙ w.size);
   free = let f = w.free in omega arith;
-  small = λ other c. elim (pushed index.live one other (subst (λ live. Contains live other) added c)) [
+  small = λ other c. elim (Contains-push_cases index.live one other (subst (λ live. Contains live other) added c)) [
     | inl old ↦ let l = w.small other old in omega arith
     | inr same ↦ let k : one.id ≡ other.id = ap (λ x. x.id) same in omega arith
   ];

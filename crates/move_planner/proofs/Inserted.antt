@@ -1,5 +1,5 @@
 -- What the moves of a placement do: the order after each, who stands at the end, and how many there are.
-use Rattle.std.proofs.Common.{◌≡◌, ℕ, ◌+◌, ◌-◌, ◌*◌, ◌<◌, ◌≤◌, true, IsTrue, Some, List, [], ◌∷◌, ◌++◌, length, map, take, drop, Contains, inl, inr, arith, refl, sym, ◌∙◌, subst, ap, length-append, append-nil, append_assoc}
+use Rattle.std.proofs.Common.{◌≡◌, ℕ, ◌+◌, ◌-◌, ◌*◌, ◌<◌, ◌≤◌, true, IsTrue, Some, List, [], ◌∷◌, ◌++◌, length, map, take, drop, Contains, inl, inr, arith, refl, sym, ◌∙◌, subst, ap, length-append, append_assoc}
 use Rattle.std.proofs.lemmas.Bool.{cases_lt, cases_eq}
 use Rattle.std.proofs.lemmas.List.{take-map, take-append-le, take_all, length-map}
 use Rattle.slot_order.specs.Order.{slot, Ordered}
@@ -8,12 +8,11 @@ use Rattle.slot_order.proofs.Turns.{Plus}
 use Rattle.slot_order.proofs.Walks.{Along_prefix, applied_append}
 use Rattle.slot_order.proofs.End.{IsWhole, WholeKeeps, whole_keeps}
 use Rattle.slot_order.proofs.Once.{whole_once}
-use Rattle.slot_order.proofs.Rules.{contains_head, contains_tail}
+use Rattle.slot_order.proofs.Lists.{contains_head, contains_tail, in_map}
 use Rattle.slot_pool.specs.Arrangement.{Slots}
 use Rattle.rule_model.specs.Piece.{pieces_meet}
 use Rattle.overlap_index.specs.declared.LivePiece.{LivePiece}
 use Rattle.overlap_index.specs.Live.{LivePieces, is_above}
-use Rattle.overlap_index.proofs.Listed.{in_map}
 use Rattle.overlap_index.proofs.Above.{rank_in, rank_is, piece_in, piece_is, live_is, above_is}
 use Rattle.move_planner.specs.declared.Aim.{Aim}
 use Rattle.move_planner.specs.declared.Move.{Move}
@@ -144,18 +143,6 @@ inserted index id slots moves ready placement = record { order = order; standing
         (ids_bound index id slots m ready bound) in
         subst (λ n. n ≤ m * (1 + span_of (is_above index.live) slots id)) size k
 
--- nothing was done yet
-pub turned_none : (index : LivePieces) (id : ℕ) (slots : Slots) (plan : List Move) → IsReady index id slots → IsTurned index id slots slots plan plan
-turned_none index id slots plan ready = record {
-  moves = [];
-  gained = sym (append-nil plan);
-  after = refl;
-  goes_on = λ aim rest p. p;
-  ready = ready;
-  same_free = refl;
-  closer = omega arith;
-}
-
 -- turns after turns
 pub turned_more : (index : LivePieces) (id : ℕ) (a b c : Slots) (p q r : List Move) → IsTurned index id a b p q → IsTurned index id b c q r → IsTurned index id a c p r
 turned_more index id a b c p q r x y = record {
@@ -167,13 +154,6 @@ turned_more index id a b c p q r x y = record {
   same_free = y.same_free ∙ x.same_free;
   closer = let n = length-append x.moves y.moves in let s = x.closer in let t = y.closer in omega arith;
 }
-
--- what was made after the turns was made after all
-pub made_after : (index : LivePieces) (id : ℕ) (a b c : Slots) (p q r : List Move) → IsTurned index id a b p q → AreMade b c q r → AreMade a c p r
-made_after index id a b c p q r x y =
-    made_by a c p r (x.moves ++ moves_since q r)
-    (y.0 ∙ (ap (λ z. z ++ moves_since q r) x.gained ∙ append_assoc p x.moves (moves_since q r)))
-    (y.1 ∙ (ap (λ z. after_moves z (moves_since q r)) x.after ∙ sym (after_append a x.moves (moves_since q r))))
 
 -- the whole of an insertion, as the planner says it
 pub record IsWholly (index : LivePieces) (aim : Aim) (id : ℕ) (slots slots' : Slots) (plan plan' : List Move) : Type 0 where

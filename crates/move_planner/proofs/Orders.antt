@@ -1,5 +1,5 @@
 -- Who stands before whom, from the order of an arrangement alone.
-use Rattle.std.proofs.Common.{◌≡◌, ℕ, ◌<◌, ◌≤◌, true, None, Some, arith, inl, inr, sym, ◌∙◌, ap, subst}
+use Rattle.std.proofs.Common.{◌≡◌, ℕ, ◌<◌, true, Some, arith, inl, inr, sym, ◌∙◌, ap}
 use Rattle.std.proofs.lemmas.Bool.{cases_lt, cases_eq, both_ways}
 use Rattle.slot_order.specs.Order.{slot}
 use Rattle.slot_pool.specs.Arrangement.{Slots}
@@ -7,7 +7,7 @@ use Rattle.slot_pool.proofs.Places.{first_slot_is}
 use Rattle.slot_pool.proofs.Scan.{last_slot_is}
 use Rattle.overlap_index.specs.Live.{LivePieces, AreApart, is_above}
 use Rattle.overlap_index.proofs.Above.{rank_in, ranks_fall}
-use Rattle.move_planner.specs.Placement.{Above, first_lower, last_upper, lower_of_held, upper_of_held, StopsBelow, StopsAbove, IsInOrder}
+use Rattle.move_planner.specs.Placement.{Above, first_lower, last_upper, lower_of_held, upper_of_held, IsInOrder}
 use Rattle.move_planner.specs.Steps.{IsTaken, StepsDown, StepsUp}
 use Rattle.move_planner.proofs.Chain.{passes_is}
 use Rattle.move_planner.proofs.Planner.{IsRanked}
@@ -55,30 +55,8 @@ steps_down_on above rank slots free at id next ranked order here is before =
     let w = lower_after above rank slots at id next ranked order here is in
     (ap (lower_of_held above slots) here ∙ is, w.0, before, w.1)
 
-pub steps_down_past : (above : Above) (slots : Slots) (free at id next : ℕ)
-    → slot slots at ≡ Some id → first_lower above slots id ≡ Some next → free ≤ next → StepsDown above slots free at None
-steps_down_past above slots free at id next here is past = subst (StopsBelow free) (sym (ap (lower_of_held above slots) here ∙ is)) past
-
-pub steps_down_none : (above : Above) (slots : Slots) (free at id : ℕ)
-    → slot slots at ≡ Some id → first_lower above slots id ≡ None → StepsDown above slots free at None
-steps_down_none above slots free at id here is = subst (StopsBelow free) (sym (ap (lower_of_held above slots) here ∙ is)) tt
-
-pub steps_down_empty : (above : Above) (slots : Slots) (free at : ℕ) → slot slots at ≡ None → StepsDown above slots free at None
-steps_down_empty above slots free at here = subst (StopsBelow free) (sym (ap (lower_of_held above slots) here)) tt
-
 pub steps_up_on : (above : Above) (rank : ℕ → ℕ) (slots : Slots) (free at id next : ℕ) → IsRanked above rank → IsInOrder above slots
     → slot slots at ≡ Some id → last_upper above slots id ≡ Some next → free < next → StepsUp above slots free at (Some next)
 steps_up_on above rank slots free at id next ranked order here is before =
     let w = upper_before above rank slots at id next ranked order here is in
     (ap (upper_of_held above slots) here ∙ is, w.0, before, w.1)
-
-pub steps_up_past : (above : Above) (slots : Slots) (free at id next : ℕ)
-    → slot slots at ≡ Some id → last_upper above slots id ≡ Some next → next ≤ free → StepsUp above slots free at None
-steps_up_past above slots free at id next here is past = subst (StopsAbove free) (sym (ap (upper_of_held above slots) here ∙ is)) past
-
-pub steps_up_none : (above : Above) (slots : Slots) (free at id : ℕ)
-    → slot slots at ≡ Some id → last_upper above slots id ≡ None → StepsUp above slots free at None
-steps_up_none above slots free at id here is = subst (StopsAbove free) (sym (ap (upper_of_held above slots) here ∙ is)) tt
-
-pub steps_up_empty : (above : Above) (slots : Slots) (free at : ℕ) → slot slots at ≡ None → StepsUp above slots free at None
-steps_up_empty above slots free at here = subst (StopsAbove free) (sym (ap (upper_of_held above slots) here)) tt

@@ -1,9 +1,7 @@
 -- What the planner's own proof needs: one chain, and slot_order's words from its test alone.
 use Rattle.std.proofs.Common.{◌≡◌, ℕ, ◌<◌, ◌≤◌, IsTrue, Option, Some, List, [], ◌∷◌, arith, inl, inr, ◌⊎◌, refl, sym, ◌∙◌, subst, ap}
-use Rattle.std.proofs.lemmas.Bool.{both_ways}
-use Rattle.slot_order.specs.Order.{slot, Ordered}
 use Rattle.slot_pool.specs.Arrangement.{Slots}
-use Rattle.move_planner.specs.Placement.{Above, StopsBelow, StopsAbove, IsDownChain, IsUpChain, DownChain, UpChain, IsInOrder}
+use Rattle.move_planner.specs.Placement.{Above, StopsBelow, StopsAbove, IsDownChain, IsUpChain, DownChain, UpChain}
 use Rattle.move_planner.proofs.Chain.{Reads}
 
 -- from one slot to one free slot there is one chain
@@ -73,15 +71,4 @@ ranked_reads above rank Known ranked = record {
   says = λ a b ka kb e. (inl e, ranked a b e);
   told = λ a b ka kb v l. elim v [ inl e ↦ e | inr e ↦ absurd (let k = ranked b a e in omega arith) ];
   mirror = λ a b v. elim v [ inl e ↦ inr e | inr e ↦ inl e ];
-}
-
-pub in_order : (above : Above) (rank : ℕ → ℕ) (slots : Slots) → IsRanked above rank → IsInOrder above slots
-    → Ordered (Related above) rank (λ id. (at : ℕ) × (slot slots at ≡ Some id)) slots
-in_order above rank slots ranked order = record {
-  within = λ at id s. (at, s);
-  placed = λ id m. m;
-  sorted = λ i j a b l s t v. elim v [
-    | inl e ↦ let k = ranked a b e in omega arith
-    | inr e ↦ absurd (both_ways (above b a) (order i j a b l s t) e)
-  ];
 }

@@ -1,16 +1,15 @@
 -- Ids that stand in order stay so where one more is live, and where one goes.
-use Rattle.std.proofs.Common.{◌≡◌, ◌≢◌, ℕ, ◌<◌, true, false, not, None, Some, List, [], ◌∷◌, ◌++◌, length, map, set, Contains, ◌⊎◌, inl, inr, sym, ◌∙◌, subst, ap}
+use Rattle.std.proofs.Common.{◌≡◌, ◌≢◌, ℕ, ◌<◌, true, false, not, Some, List, [], ◌∷◌, ◌++◌, length, map, Contains, inl, inr, sym, ◌∙◌, subst, ap}
 use Rattle.std.specs.Prelude.{◌==◌, nat_lt}
-use Rattle.std.proofs.lemmas.Bool.{cases_eq, and_from, lt-ltb, eqb-true, eq-eqb, false_from_ne_true, not_from_false, not-true}
+use Rattle.std.proofs.lemmas.Bool.{and_from, lt-ltb, eq-eqb, false_from_ne_true, not-true}
+use Rattle.std.proofs.lemmas.List.Elements.{Contains-append_left, Contains-push_cases}
 use Rattle.slot_order.specs.Order.{slot}
-use Rattle.slot_order.proofs.Rules.{contains_head, contains_tail, contains_cases, contains_none}
-use Rattle.slot_order.proofs.Writes.{slot_same, slot_other, slot_inside}
+use Rattle.slot_order.proofs.Lists.{in_filter}
 use Rattle.slot_order.proofs.Inside.{length-applied}
 use Rattle.slot_pool.specs.Arrangement.{Slots}
 use Rattle.rule_model.specs.Piece.{pieces_meet}
 use Rattle.overlap_index.specs.declared.LivePiece.{LivePiece}
 use Rattle.overlap_index.specs.Live.{is_live, without_id, is_above}
-use Rattle.overlap_index.proofs.Listed.{in_filter, filter_in}
 use Rattle.overlap_index.proofs.Above.{above_is, is_above_from, live_is, is_live_from}
 use Rattle.move_planner.specs.declared.Move.{Move}
 use Rattle.move_planner.specs.Placement.{after_moves, IsInOrder}
@@ -21,34 +20,16 @@ use Rattle.move_planner.proofs.Chain.{write_of, after_moves-applied}
 pub length-after_moves : (slots : Slots) (moves : List Move) → length (after_moves slots moves) ≡ length slots
 length-after_moves slots moves = ap length (after_moves-applied slots moves) ∙ length-applied slots (map write_of moves)
 
-pub pushed : {A : Type 0} (xs : List A) (y x : A) → Contains (xs ++ y ∷ []) x → Contains xs x ⊎ (y ≡ x)
-pushed [] y x c = elim (contains_cases y x [] c) [ inl same ↦ inr same | inr none ↦ absurd (contains_none x none) ]
-pushed (z ∷ xs) y x c = elim (contains_cases z x (xs ++ y ∷ []) c) [
-  | inl same ↦ inl (subst (Contains (z ∷ xs)) same (contains_head z xs))
-  | inr later ↦ elim (pushed xs y x later) [ inl old ↦ inl (contains_tail z x xs old) | inr same ↦ inr same ]
-]
-
-pub pushed_last : {A : Type 0} (xs : List A) (y : A) → Contains (xs ++ y ∷ []) y
-pushed_last [] y = contains_head y []
-pushed_last (z ∷ xs) y = contains_tail z y (xs ++ y ∷ []) (pushed_last xs y)
-
-kept : {A : Type 0} (xs : List A) (y x : A) → Contains xs x → Contains (xs ++ y ∷ []) x
-kept [] y x c = absurd (contains_none x c)
-kept (z ∷ xs) y x c = elim (contains_cases z x xs c) [
-  | inl same ↦ subst (Contains (z ∷ (xs ++ y ∷ []))) same (contains_head z (xs ++ y ∷ []))
-  | inr later ↦ contains_tail z x (xs ++ y ∷ []) (kept xs y x later)
-]
-
 -- what was live stays live beside one more, and nothing else is live but that one
 live_more : (live : List LivePiece) (one : LivePiece) (id : ℕ) → IsLive live id → IsLive (live ++ one ∷ []) id
 live_more live one id e =
     let w = live_is live id e in
-    subst (IsLive (live ++ one ∷ [])) w.2 (is_live_from (live ++ one ∷ []) w.0 (kept live one w.0 w.1))
+    subst (IsLive (live ++ one ∷ [])) w.2 (is_live_from (live ++ one ∷ []) w.0 (Contains-append_left live (one ∷ []) w.0 w.1))
 
 live_less : (live : List LivePiece) (one : LivePiece) (id : ℕ) → id ≢ one.id → IsLive (live ++ one ∷ []) id → IsLive live id
 live_less live one id other e =
     let w = live_is (live ++ one ∷ []) id e in
-    elim (pushed live one w.0 w.1) [
+    elim (Contains-push_cases live one w.0 w.1) [
       | inl old ↦ subst (IsLive live) w.2 (is_live_from live w.0 old)
       | inr same ↦ absurd (other (sym w.2 ∙ ap (λ x. x.id) (sym same)))
     ]
@@ -82,14 +63,7 @@ add_order live one slots absent standing order i j first second l s t = false_fr
     apart at id s same = let k : is_live live one.id ≡ true = subst (IsLive live) same (standing.within at id s) in let v : true ≡ false = sym k ∙ absent in absurd (cc)
 
     old : (x : LivePiece) → Contains (live ++ one ∷ []) x → (one ≡ x → ⊥) → Contains live x
-    old x c other = elim (pushed live one x c) [ inl k ↦ k | inr same ↦ absurd (other same) ]
-
--- what is live but one id
-live_but : (live : List LivePiece) (gone id : ℕ) → IsLive live id → id ≢ gone → IsLive (without_id live gone) id
-live_but live gone id e other =
-    let w = live_is live id e in
-    subst (IsLive (without_id live gone)) w.2 (is_live_from (without_id live gone) w.0 (filter_in (λ one. not (one.id == gone)) live w.0 w.1
-    (not_from_false (w.0.id == gone) (false_from_ne_true (w.0.id == gone) (λ k. other (sym w.2 ∙ eqb-true w.0.id gone k))))))
+    old x c other = elim (Contains-push_cases live one x c) [ inl k ↦ k | inr same ↦ absurd (other same) ]
 
 was_live : (live : List LivePiece) (gone id : ℕ) → IsLive (without_id live gone) id → IsLive live id × (id ≢ gone)
 was_live live gone id e =
@@ -98,43 +72,3 @@ was_live live gone id e =
       subst (IsLive live) w.2 (is_live_from live w.0 f.0),
       λ same. let k : (w.0.id == gone) ≡ true = eq-eqb w.0.id gone (w.2 ∙ same) in let n : (w.0.id == gone) ≡ false = not-true (w.0.id == gone) f.1 in let v : true ≡ false = sym k ∙ n in absurd (cc),
     )
-
--- its slot is erased, and it is live no longer
-pub remove_standing : (live : List LivePiece) (gone at : ℕ) (slots : Slots) → StandOnce (IsLive live) slots → slot slots at ≡ Some gone
-    → StandOnce (IsLive (without_id live gone)) (set slots at None)
-remove_standing live gone at slots standing here = record {
-  within = λ place id s. elim (cases_eq place at) [
-    | inl same ↦ absurd (erased place id same s)
-    | inr other ↦
-        let t : slot slots place ≡ Some id = sym (slot_other slots at None place other) ∙ s in
-        live_but live gone id (standing.within place id t) (λ same. other (standing.once place at id t (here ∙ ap Some (sym same))))
-  ];
-  placed = λ id e.
-      let l = was_live live gone id e in
-      let w = standing.placed id l.0 in
-      (w.0, slot_other slots at None w.0 (λ same. l.1 (let k : Some id ≡ Some gone = sym w.1 ∙ (ap (slot slots) same ∙ here) in cc)) ∙ w.1);
-  once = λ i j id s t. elim (cases_eq i at) [
-    | inl same ↦ absurd (erased i id same s)
-    | inr other ↦ elim (cases_eq j at) [
-      | inl same ↦ absurd (erased j id same t)
-      | inr apart ↦ standing.once i j id (sym (slot_other slots at None i other) ∙ s) (sym (slot_other slots at None j apart) ∙ t)
-    ]
-  ];
-}
-  where
-    erased : (place id : ℕ) → place ≡ at → slot (set slots at None) place ≡ Some id → ⊥
-    erased place id same s = let k : None ≡ Some id = sym (slot_same slots at None (slot_inside slots at gone here)) ∙ (ap (slot (set slots at None)) (sym same) ∙ s) in cc
-
-pub remove_order : (live : List LivePiece) (gone at : ℕ) (slots : Slots) → at < length slots → IsInOrder (is_above live) slots → IsInOrder (is_above (without_id live gone)) (set slots at None)
-remove_order live gone at slots inside order i j first second l s t = false_from_ne_true (is_above (without_id live gone) second first) (λ e.
-    let w = above_is (without_id live gone) second first e in
-    let a = in_filter (λ one. not (one.id == gone)) live w.upper w.has_upper in
-    let b = in_filter (λ one. not (one.id == gone)) live w.lower w.has_lower in
-    let k : is_above live second first ≡ true = still_over live second first w.upper w.lower a.0 b.0 w.upper_id w.lower_id w.meet w.less in
-    let v = order i j first second l (stood i first s) (stood j second t) in let z : true ≡ false = sym k ∙ v in cc)
-  where
-    stood : (place id : ℕ) → slot (set slots at None) place ≡ Some id → slot slots place ≡ Some id
-    stood place id s = elim (cases_eq place at) [
-      | inl same ↦ absurd (let k : None ≡ Some id = sym (slot_same slots at None inside) ∙ (ap (slot (set slots at None)) (sym same) ∙ s) in cc)
-      | inr other ↦ sym (slot_other slots at None place other) ∙ s
-    ]

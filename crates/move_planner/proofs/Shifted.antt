@@ -1,18 +1,18 @@
 -- What the moves along the last members of a chain have left.
-use Rattle.std.proofs.Common.{◌≡◌, ◌≢◌, ℕ, suc, ◌+◌, ◌<◌, None, Some, Option, List, [], ◌∷◌, ◌++◌, length, set, Contains, inl, inr, arith, refl, sym, ◌∙◌, subst, ap, length-set, length-drop, get_or-drop, drop, append-nil, append_assoc}
+use Rattle.std.proofs.Common.{◌≡◌, ◌≢◌, ℕ, suc, ◌+◌, ◌<◌, None, Some, Option, List, [], ◌∷◌, ◌++◌, length, set, Contains, arith, refl, sym, ◌∙◌, subst, ap, length-set, length-drop, get_or-drop, drop, append_assoc}
 use Rattle.std.specs.Prelude.{slice_index_or, is_none, cond}
 use Rattle.std.proofs.Math.Seq.{drop-cons, drop-append_seam}
 use Rattle.std.proofs.lemmas.List.{get_or_default}
 use Rattle.std.proofs.lemmas.List.Sums.{sum_by-set, sum_by-cons, fold-append}
 use Rattle.slot_order.specs.Order.{slot}
 use Rattle.slot_order.proofs.Writes.{slot_same, slot_other, slot_inside}
-use Rattle.slot_order.proofs.Rules.{contains_head, contains_tail}
+use Rattle.slot_order.proofs.Lists.{contains_head, contains_tail}
 use Rattle.slot_pool.specs.Arrangement.{Slots, HasTwin}
 use Rattle.move_planner.specs.declared.Move.{Move}
 use Rattle.move_planner.specs.declared.Move.TheVariants.{Put}
 use Rattle.move_planner.specs.Placement.{after_move, after_moves, moves_along, put_held}
 use Rattle.move_planner.specs.Insertion.{free_slots, moves_since, AreMade}
-use Rattle.move_planner.specs.Steps.{IsTaken, CanMake, CanShift}
+use Rattle.move_planner.specs.Steps.{IsTaken, CanShift}
 
 abbrev pub one_if_free : Option ℕ → ℕ
 one_if_free held = cond (is_none held) 1 0
@@ -56,18 +56,9 @@ pub record Shifted (slots : Slots) (free : ℕ) (members : List ℕ) (slots' : S
   pub kept : (at : ℕ) → at ≢ free → (Contains members at → ⊥) → slot slots' at ≡ slot slots at
   pub moved : HasMoved slots slots' members
 
-pub shifted_none : (slots : Slots) (free : ℕ) → Shifted slots free [] slots
-shifted_none slots free = record { size = refl; kept = λ at n m. refl; moved = refl }
-
 -- the slot that the next one goes to
 abbrev pub goes_to : ℕ → List ℕ → ℕ
 goes_to free members = slice_index_or members 0 free
-
--- the next one can move there
-pub can_move : (slots slots' : Slots) (free id : ℕ) (members : List ℕ) → Shifted slots free members slots' → free < length slots → slot slots free ≡ None
-    → CanMake slots' (Put (goes_to free members) id)
-can_move slots slots' free id [] w room empty = (let s = w.size in omega arith, inl (ap (λ d. slot d free) w.moved ∙ empty))
-can_move slots slots' free id (at ∷ rest) w room empty = let t = w.moved.0 in (slot_inside slots' at t.0 t.2, inr t)
 
 pub shifted_more : (slots slots' : Slots) (free from id : ℕ) (members : List ℕ) → Shifted slots free members slots' → free < length slots → slot slots free ≡ None
     → slot slots from ≡ Some id → (Contains members from → ⊥) → Shifted slots free (from ∷ members) (set slots' (goes_to free members) (Some id))
@@ -116,10 +107,6 @@ pub record AreShifted (slots : Slots) (plan : List Move) (free : ℕ) (members :
   pub gained : plan' ≡ plan ++ moves_along slots free members
   pub after : slots' ≡ after_moves slots (moves_along slots free members)
   pub shifted : Shifted slots free members slots'
-
-pub are_none : (slots : Slots) (plan : List Move) (free : ℕ) (members : List ℕ) → members ≡ [] → AreShifted slots plan free members slots plan
-are_none slots plan free [] e = record { gained = sym (append-nil plan); after = refl; shifted = shifted_none slots free }
-are_none slots plan free (x ∷ members) e = absurd (cc)
 
 -- a member, and those after it
 pub record NextMember (slots : Slots) (free : ℕ) (members : List ℕ) (i n from : ℕ) : Type 0 where
@@ -176,12 +163,6 @@ shift_on slots slots' plan plan' now made free members i n from to id can m targ
   where
     here : slot slots from ≡ Some id
     here = sym (w.shifted.kept from m.away m.new) ∙ held
-
--- the whole chain
-pub shifted_twin : (slots slots' : Slots) (free : ℕ) (members : List ℕ) → 0 < length members → Shifted slots free members slots'
-    → HasTwin slots' (goes_to free members) × (free_slots slots' + 1 ≡ free_slots slots)
-shifted_twin slots slots' free [] some w = absurd (omega arith)
-shifted_twin slots slots' free (x ∷ rest) some w = w.moved
 
 -- moves that were added to a plan and made in an arrangement
 pub made_by : (slots slots' : Slots) (plan plan' moves : List Move) → plan' ≡ plan ++ moves → slots' ≡ after_moves slots moves → AreMade slots slots' plan plan'

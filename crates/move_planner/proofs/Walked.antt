@@ -13,9 +13,6 @@ pub record IsWalkedDown (above : Above) (slots : Slots) (free from last : ℕ) (
       → (all : List ℕ) × (front ++ last ∷ rest ≡ from ∷ all) × IsDownChain above slots free (from ∷ all)
   pub before : last < free
 
-pub walked_down_first : (above : Above) (slots : Slots) (free from : ℕ) → from < free → IsWalkedDown above slots free from from (from ∷ [])
-walked_down_first above slots free from before = record { front = []; are = refl; joins = λ rest c. (rest, refl, c); before = before }
-
 pub walked_down_on : (above : Above) (slots : Slots) (free from last next : ℕ) (members : List ℕ) → IsWalkedDown above slots free from last members
     → StepsDown above slots free last (Some next) → IsWalkedDown above slots free from next (members ++ next ∷ [])
 walked_down_on above slots free from last next members w s = record {
@@ -44,9 +41,6 @@ pub record IsWalkedUp (above : Above) (slots : Slots) (free from last : ℕ) (me
       → (all : List ℕ) × (front ++ last ∷ rest ≡ from ∷ all) × IsUpChain above slots free (from ∷ all)
   pub after : free < last
   pub inside : last < length slots
-
-pub walked_up_first : (above : Above) (slots : Slots) (free from : ℕ) → free < from → from < length slots → IsWalkedUp above slots free from from (from ∷ [])
-walked_up_first above slots free from after inside = record { front = []; are = refl; joins = λ rest c. (rest, refl, c); after = after; inside = inside }
 
 pub walked_up_on : (above : Above) (slots : Slots) (free from last next : ℕ) (members : List ℕ) → IsWalkedUp above slots free from last members
     → StepsUp above slots free last (Some next) → IsWalkedUp above slots free from next (members ++ next ∷ [])

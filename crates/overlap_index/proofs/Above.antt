@@ -3,11 +3,10 @@ use Rattle.std.proofs.Common.{◌≡◌, ℕ, ◌<◌, true, List, [], ◌∷◌
 use Rattle.std.specs.Prelude.{◌==◌, ◌↔◌, nat_lt, nat_eq, if◌then◌else◌}
 use Rattle.std.specs.List.{list_any, IsDistinct}
 use Rattle.std.proofs.lemmas.Bool.{and_parts, and_from, ltb-true, lt-ltb, eqb-true, eq-eqb, cond-true, cond-false, false_from_ne_true}
-use Rattle.slot_order.proofs.Rules.{contains_cases, contains_none}
+use Rattle.slot_order.proofs.Lists.{contains_cases, contains_none, any_is, any_from, in_map, map_in, in_filter, filter_in}
 use Rattle.rule_model.specs.Piece.{pieces_meet}
 use Rattle.overlap_index.specs.declared.LivePiece.{LivePiece}
 use Rattle.overlap_index.specs.Live.{is_live, is_over, with_id, ids_above, ids_below, is_above}
-use Rattle.overlap_index.proofs.Listed.{any_is, any_from, in_map, map_in, in_filter, filter_in}
 use Rattle.overlap_index.proofs.Live.{all_apart}
 
 -- what the index's test says

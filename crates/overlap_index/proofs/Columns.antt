@@ -3,12 +3,11 @@ use Rattle.std.proofs.Common.{◌≡◌, ℕ, zero, suc, Bool, true, not, ◌<�
 use Rattle.std.specs.Prelude.{◌==◌, nat_eq}
 use Rattle.std.specs.List.{IsDistinct, remove}
 use Rattle.std.proofs.lemmas.Bool.{cond-true, cond-false, false_from_ne_true, eqb-true, eq-eqb}
-use Rattle.std.proofs.lemmas.List.{get_or_default, length-map}
-use Rattle.slot_order.proofs.Rules.{contains_head, contains_tail}
+use Rattle.std.proofs.lemmas.List.{get_or_default, length-map, map_push}
+use Rattle.slot_order.proofs.Lists.{contains_head, contains_tail, map_in, map-remove}
 use Rattle.overlap_index.specs.declared.LivePiece.{LivePiece}
 use Rattle.overlap_index.specs.Live.{without_id}
 use Rattle.overlap_index.specs.Near.{AreColumns, first_of, last_of}
-use Rattle.overlap_index.proofs.Listed.{map_in}
 use Rattle.overlap_index.proofs.Live.{all_apart}
 
 abbrev ids : List LivePiece → List ℕ
@@ -39,16 +38,6 @@ remove_place (one ∷ live) id (suc k) none d inside at =
     ap (λ xs. one ∷ xs) (remove_place live id k none d.1 (omega arith) at)
     ∙ sym (cond-true _ _ _ (other_id one.id id (λ e. all_apart one.id (ids live) d.0 (subst (Contains (ids live)) (at ∙ sym e) (map_in (λ y. y.id) live found has)))))
 
-map_remove : (f : LivePiece → ℕ) (xs : List LivePiece) (k : ℕ) → remove (map f xs) k ≡ map f (remove xs k)
-map_remove f [] zero = refl
-map_remove f [] (suc k) = refl
-map_remove f (x ∷ xs) zero = refl
-map_remove f (x ∷ xs) (suc k) = ap (λ ys. f x ∷ ys) (map_remove f xs k)
-
-map_more : (f : LivePiece → ℕ) (xs : List LivePiece) (x : LivePiece) → map f xs ++ f x ∷ [] ≡ map f (xs ++ x ∷ [])
-map_more f [] x = refl
-map_more f (y ∷ xs) x = ap (λ ys. f y ∷ ys) (map_more f xs x)
-
 -- columns of no live piece, of one more, and of all but one
 pub columns_none : AreColumns [] [] []
 columns_none = record { first = refl; last = refl }
@@ -56,14 +45,14 @@ columns_none = record { first = refl; last = refl }
 pub columns_more : (firsts lasts : List ℕ) (live : List LivePiece) (one : LivePiece) → AreColumns firsts lasts live
     → AreColumns (firsts ++ first_of one.piece.dst ∷ []) (lasts ++ last_of one.piece.dst ∷ []) (live ++ one ∷ [])
 columns_more firsts lasts live one are = record {
-  first = ap (λ xs. xs ++ first_of one.piece.dst ∷ []) are.first ∙ map_more (λ x. first_of x.piece.dst) live one;
-  last = ap (λ xs. xs ++ last_of one.piece.dst ∷ []) are.last ∙ map_more (λ x. last_of x.piece.dst) live one;
+  first = ap (λ xs. xs ++ first_of one.piece.dst ∷ []) are.first ∙ sym (map_push (λ (x : LivePiece). first_of x.piece.dst) live one);
+  last = ap (λ xs. xs ++ last_of one.piece.dst ∷ []) are.last ∙ sym (map_push (λ (x : LivePiece). last_of x.piece.dst) live one);
 }
 
 pub columns_remove : (firsts lasts : List ℕ) (live : List LivePiece) (k : ℕ) → AreColumns firsts lasts live → AreColumns (remove firsts k) (remove lasts k) (remove live k)
 columns_remove firsts lasts live k are = record {
-  first = ap (λ xs. remove xs k) are.first ∙ map_remove (λ x. first_of x.piece.dst) live k;
-  last = ap (λ xs. remove xs k) are.last ∙ map_remove (λ x. last_of x.piece.dst) live k;
+  first = ap (λ xs. remove xs k) are.first ∙ sym (map-remove (λ (x : LivePiece). first_of x.piece.dst) live k);
+  last = ap (λ xs. remove xs k) are.last ∙ sym (map-remove (λ (x : LivePiece). last_of x.piece.dst) live k);
 }
 
 -- the columns are as long as the list of live pieces

@@ -1,5 +1,5 @@
 -- Live pieces that a search passes over, for those on one side or for an equal one, and the columns beside them.
-use Rattle.std.proofs.Common.{◌≡◌, ℕ, zero, suc, Bool, true, false, ◌+◌, ◌-◌, ◌<◌, ◌≤◌, Option, Some, None, List, ◌∷◌, length, map, drop, get_or, Contains, arith, inl, inr, refl, sym, ◌∙◌, ap, ap₂, subst, le-leb, eq-eqb}
+use Rattle.std.proofs.Common.{◌≡◌, ℕ, zero, suc, Bool, true, false, ◌+◌, ◌-◌, ◌<◌, ◌≤◌, Option, Some, None, List, ◌∷◌, length, map, drop, get_or, arith, inl, inr, refl, sym, ◌∙◌, ap, ap₂, subst, le-leb, eq-eqb}
 use Rattle.std.specs.Prelude.{◌==◌, ◌&&◌, nat_eq}
 use Rattle.std.specs.Option.{option_eq}
 use Rattle.std.proofs.lemmas.Bool.{cases_lt, cond-true, cond-false, and_parts, and_from, false_from_ne_true}
@@ -124,8 +124,3 @@ same_is_equal a b same = subst (λ p. equal_pieces a p ≡ true) same
   where
     two : (m n : ℕ) → (m == m && n == n) ≡ true
     two m n = and_from _ _ (eq-eqb m m refl) (eq-eqb n n refl)
-
--- past the last place there is none at all
-pub none_left : (live : List LivePiece) (piece : Piece) (priority place : ℕ) → length live ≤ place → HasNone live piece priority place
-    → (one : LivePiece) → Contains live one → one.piece ≡ piece → one.rank ≡ priority → ⊥
-none_left live piece priority place all none one (k, inside, at) same rank = none k one (omega arith) inside at same rank

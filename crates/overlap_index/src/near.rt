@@ -1,7 +1,8 @@
 // Which live pieces may overlap one, by the upper 32 bits of their destinations, eight at a time.
-ghost use Rattle.std.specs.Prelude.{◌≡◌, ℕ, ◌+◌, ◌-◌, ◌*◌, ◌/◌, ◌%◌, ◌^◌, ◌<◌, ◌≤◌, ◌==◌, true, false, length, slice_index, bit_or, nat_le};
+ghost use Rattle.std.specs.Prelude.{◌≡◌, ℕ, ◌+◌, ◌-◌, ◌*◌, ◌/◌, ◌%◌, ◌^◌, ◌<◌, ◌≤◌, ◌==◌, true, false, length, slice_index, nat_le};
 ghost use Rattle.overlap_index.specs.Near.{first_of, last_of, is_near};
 
+use eight_lanes::{eight, either, first_zero};
 use rule_model::Prefix;
 use std::simd::prelude::*;
 
@@ -73,15 +74,6 @@ fn apart_eight(firsts: &[u32], lasts: &[u32], first: u32, last: u32, at: usize) 
     )
 }
 
-/// Eight numbers of a column.
-fn eight(column: &[u32], at: usize) -> u32x8
-    requires { at + 8 ≤ length column.now }
-    ensures len { length result ≡ 8 }
-    ensures lanes { (k : ℕ) → k < 8 → slice_index result k ≡ slice_index column.now (at + k) }
-{
-    u32x8::from_slice(&column[at..])
-}
-
 /// 0 in the lanes where the first number isn't above the second.
 fn above(a: u32x8, b: u32x8) -> u32x8
     requires { (length a ≡ 8) × (length b ≡ 8) }
@@ -89,28 +81,4 @@ fn above(a: u32x8, b: u32x8) -> u32x8
     ensures lanes { (k : ℕ) → k < 8 → (slice_index result k == 0) ≡ nat_le (slice_index a k) (slice_index b k) }
 {
     a.simd_gt(b).select(u32x8::splat(1), u32x8::splat(0))
-}
-
-/// The bits of either.
-fn either(a: u32x8, b: u32x8) -> u32x8
-    requires { (length a ≡ 8) × (length b ≡ 8) }
-    ensures len { length result ≡ 8 }
-    ensures lanes { (k : ℕ) → k < 8 → slice_index result k ≡ bit_or (slice_index a k) (slice_index b k) }
-{
-    a | b
-}
-
-/// How many lanes come before the first that is 0, 8 where none is.
-fn first_zero(a: u32x8) -> u32
-    requires { length a ≡ 8 }
-    ensures bound { result ≤ 8 }
-    ensures before { (k : ℕ) → k < result → (slice_index a k == 0) ≡ false }
-    ensures at { result < 8 → (slice_index a result == 0) ≡ true }
-{
-    let zeros = a.simd_eq(u32x8::splat(0)).to_bitmask();
-    if zeros == 0 {
-        8
-    } else {
-        zeros.trailing_zeros()
-    }
 }

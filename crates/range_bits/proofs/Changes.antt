@@ -1,14 +1,14 @@
 -- What a commit does to the live ranges: new ones get the least free bits, and those that no rule has give up theirs.
-use Rattle.std.proofs.Common.{◌≡◌, ◌≢◌, ℕ, suc, ◌+◌, ◌≤◌, Option, Some, None, List, [], ◌∷◌, length, get_or, set, ◌⊎◌, inl, inr, refl, ap, sym, ◌∙◌, arith}
+use Rattle.std.proofs.Common.{◌≡◌, ◌≢◌, ℕ, suc, Option, Some, None, List, [], ◌∷◌, length, get_or, set, ◌⊎◌, inl, inr, refl, ap, sym, ◌∙◌, arith}
 use Rattle.std.specs.List.{list_any}
 use Rattle.std.proofs.lemmas.Bool.{cases_lt}
-use Rattle.std.proofs.lemmas.List.{length-set, length-map, get_or-set_other, get_or-map, get_or_past}
+use Rattle.std.proofs.lemmas.List.{length-set, length-map, get_or-map, get_or_past}
 use Rattle.std.proofs.lemmas.List.Elements.{All-tail}
 use Rattle.std.proofs.lemmas.Option.{cond_some}
 use Rattle.rule_model.specs.PortRange.{PortRange, IsPortRange, same_range}
 use Rattle.range_bits.specs.LiveRanges.{LiveRanges, bit_of, range_at, free_bit, assigned, with_ranges, kept, kept_ranges}
-use Rattle.range_bits.specs.FieldMap.{IsFieldMap, AreNewRanges, live_count, NewRangesGetOneBit, KeptRangesHaveOneBit}
-use Rattle.range_bits.proofs.FieldMaps.{IsFieldMap-given, least_free, is_full, not_live, bit_of-none, given_at, live_count-given}
+use Rattle.range_bits.specs.FieldMap.{IsFieldMap, AreNewRanges, NewRangesGetOneBit, KeptRangesHaveOneBit}
+use Rattle.range_bits.proofs.FieldMaps.{IsFieldMap-given, least_free, not_live, bit_of-none, given_at}
 
 -- with one range more, or with none where no bit is free
 cases_assigned : (live : LiveRanges) (range : PortRange)
@@ -66,40 +66,6 @@ length-with_ranges live (range ∷ ranges) = length-with_ranges (assigned live r
   | inl w ↦ ap length w.2 ∙ length-set live w.0 (Some range)
   | inr w ↦ ap length w.1
 ]
-
--- a live range keeps its bit
-pub range_at-with_ranges : (live : LiveRanges) (ranges : List PortRange) (bit : ℕ) (held : PortRange) → IsFieldMap live → AreNewRanges live ranges
-    → range_at live bit ≡ Some held → range_at (with_ranges live ranges) bit ≡ Some held
-range_at-with_ranges live [] bit held is new at = at
-range_at-with_ranges live (range ∷ ranges) bit held is new at =
-    range_at-with_ranges (assigned live range (free_bit live)) ranges bit held
-    (IsFieldMap-assigned live range is (new.right 0 range (omega arith)) (new.not_live 0 range (omega arith)))
-    (AreNewRanges-tail live range ranges is new)
-    (elim (cases_assigned live range) [
-      | inl w ↦
-          let free = (least_free live w.0 is w.1).free in
-          let other : bit ≢ w.0 = (λ same. let here : range_at live bit ≡ range_at live w.0 = ap (range_at live) same in absurd (cc)) in
-          ap (λ (l : LiveRanges). range_at l bit) w.2 ∙ get_or-set_other live w.0 bit (Some range) None other ∙ at
-      | inr w ↦ ap (λ (l : LiveRanges). range_at l bit) w.1 ∙ at
-    ])
-
--- each new range gets a bit where as many are free
-pub live_count-with_ranges : (live : LiveRanges) (ranges : List PortRange) → IsFieldMap live → AreNewRanges live ranges → live_count live + length ranges ≤ 16
-    → live_count (with_ranges live ranges) ≡ live_count live + length ranges
-live_count-with_ranges live [] is new room = omega arith
-live_count-with_ranges live (range ∷ ranges) is new room =
-    let one : live_count (assigned live range (free_bit live)) ≡ live_count live + 1 = (elim (cases_assigned live range) [
-      | inl w ↦
-          let least = least_free live w.0 is w.1 in
-          let small = least.small in
-          let size = is.places in
-          ap live_count w.2 ∙ live_count-given live w.0 range least.free (omega arith)
-      | inr w ↦ absurd (let full = is_full live is w.0 in omega arith)
-    ]) in
-    let rest = live_count-with_ranges (assigned live range (free_bit live)) ranges
-    (IsFieldMap-assigned live range is (new.right 0 range (omega arith)) (new.not_live 0 range (omega arith)))
-    (AreNewRanges-tail live range ranges is new) (omega arith) in
-    omega arith
 
 -- a range stays where it stands in the list
 kept_is : (ranges : List PortRange) (held : Option PortRange) (range : PortRange) → kept ranges held ≡ Some range → held ≡ Some range

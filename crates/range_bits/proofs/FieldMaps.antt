@@ -4,10 +4,11 @@ use Rattle.std.proofs.lemmas.Bool.{cases_lt, cases_eq, and_parts, and_from, both
 use Rattle.std.proofs.lemmas.List.{length-set, get_or-replicate, get_or-set_same, get_or-set_other, get_or_past, get_or_default}
 use Rattle.std.proofs.lemmas.List.Sums.{sum_by-set}
 use Rattle.std.proofs.lemmas.List.Quantifiers.{position-Some}
+use Rattle.slot_order.proofs.Lists.{position_found, position_none}
 use Rattle.rule_model.specs.PortRange.{PortRange, IsPortRange, same_range}
 use Rattle.range_bits.specs.LiveRanges.{LiveRanges, no_ranges, is_range, bit_of, free_bit, range_at}
 use Rattle.range_bits.specs.FieldMap.{IsFieldMap, live_count}
-use Rattle.range_bits.proofs.Places.{position_is, position_none, fails_everywhere, free-none}
+use Rattle.range_bits.proofs.Places.{fails_everywhere, free-none}
 
 -- the test for a range
 pub same_range-is : (a b : PortRange) → same_range a b ≡ true → a ≡ b
@@ -51,7 +52,7 @@ pub found_range : (ranges live : LiveRanges) (bit : ℕ) (range : PortRange) →
     → ((k : ℕ) → k < bit → is_range range (range_at ranges k) ≡ false) → range_at live bit ≡ Some range → Some bit ≡ bit_of live range
 found_range ranges live bit range same inside before held =
     let here : range_at ranges bit ≡ Some range = ap (λ (l : LiveRanges). range_at l bit) same ∙ held in
-    sym (ap (λ (l : LiveRanges). bit_of l range) (sym same) ∙ position_is (is_range range) ranges bit None inside before (is_range-at range (range_at ranges bit) here))
+    sym (ap (λ (l : LiveRanges). bit_of l range) (sym same) ∙ position_found (is_range range) ranges bit None inside before (is_range-at range (range_at ranges bit) here))
 
 no_range : (bit : ℕ) → range_at no_ranges bit ≡ None
 no_range bit =

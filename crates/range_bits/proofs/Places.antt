@@ -1,20 +1,10 @@
 -- The first place of a list that passes a test, and how many places do.
-use Rattle.std.proofs.Common.{◌≡◌, ℕ, zero, suc, ◌+◌, ◌<◌, ◌≤◌, Bool, true, false, cond, Option, Some, None, is_some, is_none, List, [], ◌∷◌, length, get_or, le_refl, inl, inr, refl, ◌↔◌, ap, sym, ◌∙◌, arith}
+use Rattle.std.proofs.Common.{◌≡◌, ℕ, zero, suc, ◌+◌, ◌<◌, ◌≤◌, Bool, true, false, cond, Option, Some, None, is_some, is_none, List, [], ◌∷◌, length, get_or, inl, inr, refl, ◌↔◌, ap, sym, ◌∙◌, arith}
 use Rattle.std.specs.List.{position, position_or_len, count_by}
-use Rattle.std.proofs.lemmas.Bool.{cases_lt, cond-true, cond-false, lt-ltb, le-ltb}
+use Rattle.std.proofs.lemmas.Bool.{cases_lt, cond-true, lt-ltb}
 use Rattle.std.proofs.lemmas.List.{get_or_read}
-use Rattle.std.proofs.lemmas.List.Sums.{position_or_len_is, fails_before_first, count_by-le-length, sum_by-cons}
-
-pub position_is : {X : Type 0} (p : X → Bool) (xs : List X) (i : ℕ) (d : X) → i < length xs → ((k : ℕ) → k < i → p (get_or xs k d) ≡ false) → p (get_or xs i d) ≡ true
-    → position p xs ≡ Some i
-position_is p xs i d inside before here =
-    let first = position_or_len_is p xs i d (omega arith) before (λ _. here) in
-    cond-true _ _ _ (lt-ltb (position_or_len p xs) (length xs) (omega arith)) ∙ ap Some first
-
-pub position_none : {X : Type 0} (p : X → Bool) (xs : List X) (d : X) → ((k : ℕ) → k < length xs → p (get_or xs k d) ≡ false) → position p xs ≡ None
-position_none p xs d all =
-    let last = position_or_len_is p xs (length xs) d (le_refl _) all (λ below. absurd (omega arith)) in
-    cond-false _ _ _ (le-ltb (position_or_len p xs) (length xs) (omega arith))
+use Rattle.std.proofs.lemmas.List.Sums.{fails_before_first, count_by-le-length, sum_by-cons}
+use Rattle.slot_order.proofs.Lists.{position_found, position_none}
 
 -- where no place is found, each fails
 pub fails_everywhere : {X : Type 0} (p : X → Bool) (xs : List X) (k : ℕ) (d : X) → position p xs ≡ None → k < length xs → p (get_or xs k d) ≡ false
@@ -29,7 +19,7 @@ pub found_first : {X : Type 0} (p : X → Bool) (xs ys : List X) (i : ℕ) (x d 
     → x ≡ get_or xs i x → p x ≡ true → Some i ≡ position p ys
 found_first p xs ys i x d same inside before at here =
     let read = get_or_read xs i x inside at d in
-    sym (ap (position p) (sym same) ∙ position_is p xs i d inside before (ap p (sym read) ∙ here))
+    sym (ap (position p) (sym same) ∙ position_found p xs i d inside before (ap p (sym read) ∙ here))
 
 pub found_none : {X : Type 0} (p : X → Bool) (xs ys : List X) (i : ℕ) (d : X) → xs ≡ ys → length xs ≤ i → ((k : ℕ) → k < i → p (get_or xs k d) ≡ false) → None ≡ position p ys
 found_none p xs ys i d same all before = sym (ap (position p) (sym same) ∙ position_none p xs d (λ k inside. before k (omega arith)))

@@ -4,7 +4,7 @@ use Rattle.std.specs.Int.{bit_at}
 use Rattle.std.specs.Int.Bits.{or_add_and, xor_add_and}
 use Rattle.std.specs.List.{fold, enumerate_from}
 use Rattle.std.proofs.lemmas.Bool.{cases_Bool, cond-true, cond-false, eqb-false}
-use Rattle.std.proofs.lemmas.List.{drop_more, drop_all}
+use Rattle.std.proofs.lemmas.List.{drop_all}
 use Rattle.std.proofs.lemmas.Nat.{and_comm, and_le_l, and-not, pow_below}
 use Rattle.std.proofs.lemmas.Nat.Bits.{bit_at_or, bit_at_xor, bit_at-pow_same, bit_at-pow_other, bit_at-lt, and_pow}
 use Rattle.std.proofs.Math.Nat.{mod-eq_of_lt}
@@ -29,6 +29,14 @@ clear_mask word bit clear =
 -- without a bit that was set, and without one that was clear
 with_bit-off_set : (word bit : ℕ) → is_bit_set word bit ≡ true → with_bit word bit false ≡ word - 2 ^ bit
 with_bit-off_set word bit set = let e = cond-true (is_bit_set word bit) (word - 2 ^ bit) word set in omega arith
+
+with_bit-flipped : (word bit : ℕ) → is_bit_set word bit ≡ true → with_bit word bit false ≡ bit_xor word (2 ^ bit)
+with_bit-flipped word bit set =
+    let mask = set_mask word bit set in
+    let within = and_le_l word (2 ^ bit) in
+    let sum = xor_add_and word (2 ^ bit) in
+    let off = with_bit-off_set word bit set in
+    omega arith
 
 with_bit-off_clear : (word bit : ℕ) → is_bit_set word bit ≡ false → with_bit word bit false ≡ word
 with_bit-off_clear word bit clear = let e = cond-false (is_bit_set word bit) (word - 2 ^ bit) word clear in omega arith
@@ -86,11 +94,7 @@ with_bit-same word bit true =
 with_bit-same word bit false =
     elim (cases_Bool (is_bit_set word bit)) [
       | inl set ↦
-          let mask = set_mask word bit set in
-          let within = and_le_l word (2 ^ bit) in
-          let sum = xor_add_and word (2 ^ bit) in
-          let off = with_bit-off_set word bit set in
-          let flipped : with_bit word bit false ≡ bit_xor word (2 ^ bit) = omega arith in
+          let flipped = with_bit-flipped word bit set in
           let was = eqb-true (bit_at word bit) 1 set in
           let none : bit_at (bit_xor word (2 ^ bit)) bit ≡ 0 =
           bit_at_xor word (2 ^ bit) bit ∙ ap (λ b. (bit_at word bit + b) % 2) (bit_at-pow_same bit) ∙ ap (λ b. (b + 1) % 2) was in
@@ -107,11 +111,7 @@ with_bit-other word bit true other apart =
 with_bit-other word bit false other apart =
     elim (cases_Bool (is_bit_set word bit)) [
       | inl set ↦
-          let mask = set_mask word bit set in
-          let within = and_le_l word (2 ^ bit) in
-          let sum = xor_add_and word (2 ^ bit) in
-          let off = with_bit-off_set word bit set in
-          let flipped : with_bit word bit false ≡ bit_xor word (2 ^ bit) = omega arith in
+          let flipped = with_bit-flipped word bit set in
           let low = bit_at-lt word other in
           let same : bit_at (bit_xor word (2 ^ bit)) other ≡ bit_at word other =
           bit_at_xor word (2 ^ bit) other ∙ ap (λ b. (bit_at word other + b) % 2) (bit_at-pow_other bit other apart) ∙ (omega arith) in
@@ -162,9 +162,6 @@ word_for-other live port old bit free = bits_free live port 0 old bit bit (omega
 -- the bits from one on are to come
 abbrev pub rest_of : LiveRanges → ℕ → ℕ → ℕ → ℕ
 rest_of live port word bit = fold (bit_for port) word (enumerate_from bit (drop bit live))
-
-pub rest_of-step : (live : LiveRanges) (port word bit : ℕ) → bit < length live → rest_of live port word bit ≡ rest_of live port (bit_for port word (bit, range_at live bit)) (bit + 1)
-rest_of-step live port word bit inside = ap (λ (l : LiveRanges). fold (bit_for port) word (enumerate_from bit l)) (drop_more live bit None inside)
 
 pub rest_of-none : (ranges live : LiveRanges) (port old word bit : ℕ) → ranges ≡ live → length ranges ≤ bit → rest_of ranges port word bit ≡ word_for ranges port old → word ≡ word_for live port old
 rest_of-none ranges live port old word bit same all made =

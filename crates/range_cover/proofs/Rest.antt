@@ -1,5 +1,5 @@
 -- A cover that is being made, block by block.
-use Rattle.std.proofs.Common.{◌≡◌, ℕ, ◌+◌, ◌-◌, ◌^◌, ◌<◌, ◌≤◌, true, false, List, [], ◌∷◌, ◌++◌, le_refl, inl, inr, length, AllPairs, Contains, ◌↔◌, length-append, append_assoc, refl, sym, ◌∙◌, subst, ap, arith}
+use Rattle.std.proofs.Common.{◌≡◌, ℕ, ◌+◌, ◌-◌, ◌^◌, ◌<◌, ◌≤◌, true, false, List, [], ◌∷◌, ◌++◌, le_refl, inl, inr, length, AllPairs, Contains, ◌↔◌, length-append, append_assoc, sym, ◌∙◌, subst, ap, arith}
 use Rattle.std.proofs.lemmas.Bool.{cases_lt, both_ways}
 use Rattle.std.proofs.lemmas.Nat.{pow_pos}
 use Rattle.std.proofs.lemmas.List.{append-nil, nil_from_length}
@@ -15,9 +15,6 @@ pub record IsMade (ports : PortRange) (made : List PortRange) (rest : PortRange)
   pub whole : cover ports ≡ made ++ cover rest
   pub low : ports.lo ≤ rest.lo
   pub high : rest.hi ≡ ports.hi
-
-pub none_made : (ports : PortRange) → IsMade ports [] ports
-none_made ports = record { whole = refl; low = omega arith; high = refl }
 
 first_port : (range block : PortRange) → IsFirstBlock range block → range.lo ≤ block.hi
 first_port range block (k, b, same) =

@@ -2,12 +2,11 @@
 use Rattle.std.proofs.Common.{◌≡◌, ℕ, ◌<◌, ◌^◌, Bool, true, false, not, ◌&&◌, IsTrue, ◌↔◌, Option, Some, None, IfSome, refl, arith, sym, ◌∙◌, subst, eqb-true, eq-eqb}
 use Rattle.std.proofs.lemmas.Bool.{and_parts, and_from}
 use Rattle.rule_model.specs.declared.Key.{Key}
-use Rattle.rule_model.specs.declared.Rule.{Rule}
 use Rattle.rule_model.specs.declared.Piece.{Piece}
 use Rattle.rule_model.specs.AddressBlock.{BlocksOverlap, block_holds}
 use Rattle.rule_model.specs.PortRange.{RangesOverlap, range_holds, is_disjoint}
-use Rattle.rule_model.specs.Rule.{AreConditions, HasConditions, Overlap, ProtosOverlap, proto_holds, protos_meet, blocks_meet, rules_meet}
-use Rattle.rule_model.specs.Piece.{PiecesOverlap, pieces_meet, whole_piece}
+use Rattle.rule_model.specs.Rule.{AreConditions, ProtosOverlap, proto_holds, protos_meet, blocks_meet}
+use Rattle.rule_model.specs.Piece.{PiecesOverlap, pieces_meet}
 use Rattle.rule_model.proofs.Prefixes.{blocks_meet-is}
 use Rattle.rule_model.proofs.PortRanges.{ranges_meet-is}
 
@@ -80,10 +79,6 @@ pieces_meet-is a b right_a right_b = (to, from)
         ((protos_meet-is a.proto b.proto right_a.proto_right right_b.proto_right).1 parts.2)
         ((ranges_meet-is a.sport b.sport right_a.sport_right right_b.sport_right).1 parts.3)
         ((ranges_meet-is a.dport b.dport right_a.dport_right right_b.dport_right).1 parts.4)
-
--- the same of rules
-pub rules_meet-is : (a b : Rule) → HasConditions a → HasConditions b → IsTrue (rules_meet a b) ↔ Overlap a b
-rules_meet-is a b right_a right_b = pieces_meet-is (whole_piece a) (whole_piece b) right_a right_b
 
 -- the parts of `&&`, each with what it tells: the second is asked where the first one passes
 pub and_then : {P Q : Type 0} (first second value : Bool) → IsTrue first ↔ P → first ≡ true → IsTrue second ↔ Q → value ≡ second → IsTrue value ↔ (P × Q)

@@ -4,7 +4,7 @@ use Rattle.std.proofs.lemmas.Bool.{cases_lt, cases_eq}
 use Rattle.std.proofs.Math.Nat.{two-pow-succ, mul-mod_left}
 use Rattle.std.proofs.lemmas.Nat.{pow_pos, le-div, mul-le, div-add-mod'}
 use Rattle.std.proofs.lemmas.List.Elements.{All-nil, All-cons, All-same, All-append, All-weaker, Contains-append_left, Contains-append_right}
-use Rattle.slot_order.proofs.Rules.{contains_head}
+use Rattle.slot_order.proofs.Lists.{contains_head}
 use Rattle.rule_model.specs.PortRange.{PortRange, block_at, cover_within}
 use Rattle.rule_model.proofs.Multiples.{multiple_lower, multiple_is, multiple_below, multiple_left, multiple_right, block_fits}
 use Rattle.rule_model.proofs.CoverLevels.{IsWhole, IsPartly, cases_whole, cover_whole, cover_port, cover_halves}

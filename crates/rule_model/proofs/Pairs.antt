@@ -1,7 +1,10 @@
 -- What holds of each element of a list and each later one, also of the products of two lists.
-use Rattle.std.proofs.Common.{◌≡◌, zero, suc, ◌*◌, List, [], ◌∷◌, ◌++◌, length, get_or, map, flat_map, All, AllPairs, sym, arith, length-append}
+use Rattle.std.proofs.Common.{◌≡◌, zero, suc, ◌*◌, Bool, ◌&&◌, ◌||◌, List, [], ◌∷◌, ◌++◌, length, get_or, map, flat_map, All, AllPairs, sym, ◌∙◌, ap, ap₂, arith, length-append}
+use Rattle.std.specs.List.{list_any}
+use Rattle.std.proofs.Math.Bool.{and-false, and-or_distrib_left, and-or_distrib_right}
 use Rattle.std.proofs.lemmas.List.{length-map}
 use Rattle.std.proofs.lemmas.List.Elements.{All-nil, All-append, All-head, All-tail, All-map, All-weaker}
+use Rattle.std.proofs.lemmas.List.Folds.{list_any-append}
 use Rattle.std.proofs.lemmas.List.Kept.{AllPairs-cons}
 
 pub pairs_none : {X : Type 0} (R : X → X → Type 0) → AllPairs R []
@@ -58,3 +61,20 @@ pairs_products {X} {Y} {Z} R Q T g (x ∷ xs) ys first second p q =
     later y =
         all_products (R (g x y)) g xs ys
         (All-weaker (Q x) (λ (z : X). All (λ (w : Y). R (g x y) (g z w)) ys) (λ z r k d l. first x z y _ r) xs (pairs_head Q x xs p))
+
+-- a test of images, and one of products that is a test of the first member and one of the second, each beside a constant
+any_beside : {X Y : Type 0} (base : Bool) (second : Y → Bool) (f : Y → X) (test : X → Bool) → ((y : Y) → test (f y) ≡ (base && second y)) → (ys : List Y)
+    → list_any test (map f ys) ≡ (base && list_any second ys)
+any_beside base second f test is [] = sym (and-false base)
+any_beside base second f test is (y ∷ ys) =
+    ap₂ (λ (a b : Bool). a || b) (is y) (any_beside base second f test is ys) ∙ sym (and-or_distrib_left base (second y) (list_any second ys))
+
+pub any_products : {X Y Z : Type 0} (base : Bool) (first : X → Bool) (second : Y → Bool) (g : X → Y → Z) (test : Z → Bool)
+    → ((x : X) (y : Y) → test (g x y) ≡ (base && first x && second y)) → (xs : List X) (ys : List Y)
+    → list_any test (products g xs ys) ≡ (base && list_any first xs && list_any second ys)
+any_products base first second g test is [] ys = sym (ap (λ (b : Bool). b && list_any second ys) (and-false base))
+any_products base first second g test is (x ∷ xs) ys =
+    list_any-append test (map (g x) ys) (products g xs ys)
+    ∙ ap₂ (λ (a b : Bool). a || b) (any_beside (base && first x) second (g x) test (is x) ys) (any_products base first second g test is xs ys)
+    ∙ sym (ap (λ (b : Bool). b && list_any second ys) (and-or_distrib_left base (first x) (list_any first xs))
+    ∙ and-or_distrib_right (base && first x) (base && list_any first xs) (list_any second ys))

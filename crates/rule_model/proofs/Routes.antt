@@ -2,7 +2,7 @@
 use Rattle.std.proofs.Common.{◌≡◌, ℕ, ◌+◌, ◌-◌, ◌*◌, ◌/◌, ◌%◌, ◌^◌, ◌<◌, ◌≤◌, List, [], ◌∷◌, length, Contains, inl, inr, arith, sym, ◌∙◌, ap, ap₂, eqb-true}
 use Rattle.std.proofs.lemmas.Bool.{cases_lt}
 use Rattle.std.proofs.lemmas.Nat.{shr_split}
-use Rattle.slot_order.proofs.Rules.{contains_head, contains_tail}
+use Rattle.slot_order.proofs.Lists.{contains_head, contains_tail}
 use Rattle.rule_model.specs.declared.Rule.{Rule}
 use Rattle.rule_model.specs.AddressBlock.{AddressBlock, IsAddressBlock, BlocksOverlap}
 use Rattle.rule_model.specs.Rank.{rank_of}

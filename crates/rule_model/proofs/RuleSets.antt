@@ -1,23 +1,14 @@
 -- The best rule of a set in words, and that a set answers the same in any order.
-use Rattle.std.proofs.Common.{◌≡◌, true, false, nat_lt, IsTrue, Option, Some, None, List, [], ◌∷◌, Contains, IsPermutation, option_map, inl, inr, refl, arith, sym, ◌∙◌, ap, subst, le-ltb, ltb-true, ltb-false}
-use Rattle.std.specs.List.{AllByRecursion}
+use Rattle.std.proofs.Common.{◌≡◌, true, false, nat_lt, IsTrue, Option, Some, None, List, [], ◌∷◌, Contains, IsPermutation, option_map, inl, inr, refl, arith, sym, ◌∙◌, ap, le-ltb, ltb-true, ltb-false}
 use Rattle.std.proofs.lemmas.Bool.{false_from_ne_true}
 use Rattle.std.proofs.lemmas.List.Sorted.{Contains-permutation, IsPermutation-sym}
 use Rattle.slot_order.specs.Order.{IsBest, Distinct}
-use Rattle.slot_order.proofs.Rules.{best_best, contains_cases, contains_none}
+use Rattle.slot_order.proofs.Lists.{contains_cases, contains_none, AllByRecursion-member}
+use Rattle.slot_order.proofs.Rules.{best_best}
 use Rattle.rule_model.specs.declared.Key.{Key}
 use Rattle.rule_model.specs.declared.Rule.{Rule}
 use Rattle.rule_model.specs.Rule.{rule_matches}
 use Rattle.rule_model.specs.RuleSet.{IsRuleSet, IsBestRule, best_rule, answer}
-
--- what holds of each element of a list holds of a member
-pub AllByRecursion-member : {X : Type 0} (P : X → Type 0) (xs : List X) (x : X) → AllByRecursion P xs → Contains xs x → P x
-AllByRecursion-member P [] x all member = absurd (contains_none x member)
-AllByRecursion-member P (y ∷ ys) x all member =
-    elim (contains_cases y x ys member) [
-      | inl same ↦ subst P same all.0
-      | inr later ↦ AllByRecursion-member P ys x all.1 later
-    ]
 
 -- the best rule of a list in words
 pub best_rule-is : (rules : List Rule) (key : Key) → IsBestRule rules key (best_rule rules key)

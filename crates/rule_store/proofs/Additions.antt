@@ -3,7 +3,7 @@ use Rattle.std.proofs.Common.{◌≡◌, fold, List, [], ◌∷◌, ◌++◌, No
 use Rattle.std.proofs.lemmas.List.{append-nil}
 use Rattle.std.proofs.lemmas.List.Sums.{fold-append}
 use Rattle.slot_order.specs.Order.{Distinct}
-use Rattle.slot_order.proofs.Rules.{contains_none}
+use Rattle.slot_order.proofs.Lists.{contains_none}
 use Rattle.rule_model.specs.declared.Rule.{Rule}
 use Rattle.rule_model.specs.RuleSet.{IsRuleSet, has_priority}
 use Rattle.rule_model.proofs.RuleSets.{IsRuleSet-distinct}

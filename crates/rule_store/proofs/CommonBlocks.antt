@@ -1,7 +1,8 @@
 -- The blocks that two covers have in common, by halves of a block of ports.
-use Rattle.std.proofs.Common.{◌≡◌, ℕ, zero, suc, ◌+◌, ◌-◌, ◌^◌, ◌<◌, ◌≤◌, Bool, true, false, ◌||◌, nat_le, nat_lt, cond, List, [], ◌∷◌, ◌++◌, count_by, All, IsTrue, IsFalse, inl, inr, refl, ap, ap₂, ◌∙◌, arith}
+use Rattle.std.proofs.Common.{◌≡◌, ℕ, zero, suc, ◌+◌, ◌-◌, ◌^◌, ◌<◌, ◌≤◌, Bool, false, ◌||◌, nat_le, nat_lt, cond, List, [], ◌∷◌, ◌++◌, count_by, All, IsTrue, IsFalse, inl, inr, refl, ap, ap₂, ◌∙◌, arith}
 use Rattle.std.specs.List.{list_any}
-use Rattle.std.proofs.lemmas.Bool.{or_cases, ltb-true, eq-eqb, and_parts, and_left, and_right, and_from, ne_eqb, leb-true}
+use Rattle.std.proofs.Math.Bool.{or-false}
+use Rattle.std.proofs.lemmas.Bool.{or_cases, ltb-true, and_parts, and_left, and_right, ne_eqb, leb-true}
 use Rattle.std.proofs.lemmas.List.Elements.{All-nil, All-cons, All-append, All-same, All-weaker}
 use Rattle.std.proofs.lemmas.List.Folds.{list_any-append, list_any_none}
 use Rattle.std.proofs.Math.Nat.{two-pow-succ}
@@ -86,19 +87,6 @@ partly-differ range k first block (inr above) inside' = differ-high block (block
 abbrev blocks_in : List PortRange → List PortRange → ℕ
 blocks_in blocks others = count_by (λ block. list_any (same_range block) others) blocks
 
-same_range-self : (block : PortRange) → IsTrue (same_range block block)
-same_range-self block = and_from _ _ (eq-eqb block.lo block.lo refl) (eq-eqb block.hi block.hi refl)
-
-or_false : (t : Bool) → (t || false) ≡ t
-or_false true = refl
-or_false false = refl
-
--- both ranges have the whole block
-pub common-both : (a b : PortRange) (k first : ℕ) → IsTrue (lies_within (block_at k first) a) → IsTrue (lies_within (block_at k first) b) → common_within a b k first ≡ 1
-common-both a b k first in_a in_b =
-    ap₂ blocks_in (cover_whole a k first (whole_from a k first in_a)) (cover_whole b k first (whole_from b k first in_b))
-    ∙ ap (λ (t : Bool). 0 + cond {A = ℕ} (t || false) 1 0) (same_range-self (block_at k first))
-
 -- the first one has it, and the second one not
 pub common-first : (a b : PortRange) (k first : ℕ) → IsTrue (lies_within (block_at k first) a) → IsFalse (lies_within (block_at k first) b) → common_within a b k first ≡ 0
 common-first a b k first in_a not_in_b =
@@ -155,7 +143,7 @@ common-halves a b k first not_in_a not_in_b =
         ∙ ap (λ (t : Bool). list_any (same_range block) (cover_within b k first) || t)
         (list_any_none (same_range block) (cover_within b k (first + 2 ^ k))
         (All-weaker (IsInside b k (first + 2 ^ k)) (λ other. same_range block other ≡ false) (λ other there. differ-low block other (λ (same : block.lo ≡ other.lo). let before = is.before in let ordered = is.ordered in let after = there.after in omega arith)) _ (inside b k (first + 2 ^ k))))
-        ∙ or_false _
+        ∙ or-false _
 
     only-upper : (block : PortRange) → IsInside a k (first + 2 ^ k) block → list_any (same_range block) (cover_within b k first ++ cover_within b k (first + 2 ^ k)) ≡ list_any (same_range block) (cover_within b k (first + 2 ^ k))
     only-upper block is =

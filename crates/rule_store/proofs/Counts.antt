@@ -1,8 +1,11 @@
 -- Counting the elements that pass a test, also of the products of two lists.
 use Rattle.std.proofs.Common.{◌≡◌, ℕ, ◌+◌, ◌*◌, Bool, true, false, not, ◌&&◌, cond, List, [], ◌∷◌, ◌++◌, length, get_or, map, filter, count_by, All, refl, sym, ap, ap₂, ◌∙◌, arith}
-use Rattle.std.proofs.lemmas.List.Sums.{sum_by-cons, sum_by-append}
-use Rattle.std.proofs.lemmas.List.Elements.{All-head, All-tail}
+use Rattle.std.proofs.Math.Bool.{not-not}
+use Rattle.std.proofs.lemmas.List.Sums.{sum_by-cons, sum_by-append, length-filter}
+use Rattle.std.proofs.lemmas.List.Elements.{All-head, All-tail, All-contains}
+use Rattle.std.proofs.lemmas.List.Filters.{length-filter_both}
 use Rattle.std.proofs.lemmas.Bool.{cond-true, cond-false}
+use Rattle.slot_order.proofs.Lists.{filter_nothing}
 use Rattle.rule_model.proofs.Pairs.{products}
 
 abbrev pub one : {X : Type 0} → (X → Bool) → X → ℕ
@@ -24,10 +27,7 @@ count_by-agree test other (x ∷ xs) agree =
 
 -- a test that no element passes
 pub count_by-none : {X : Type 0} (test : X → Bool) (xs : List X) → All (λ x. test x ≡ false) xs → count_by test xs ≡ 0
-count_by-none test [] none = refl
-count_by-none test (x ∷ xs) none =
-    count_by-cons test x xs
-    ∙ ap₂ (λ (t : Bool) (n : ℕ). cond t 1 0 + n) (All-head (λ y. test y ≡ false) x xs none) (count_by-none test xs (All-tail (λ y. test y ≡ false) x xs none))
+count_by-none test xs none = sym (length-filter test xs) ∙ ap length (filter_nothing test xs (λ x member. All-contains (λ y. test y ≡ false) xs x none member))
 
 pub count_by-map : {X Y : Type 0} (test : Y → Bool) (f : X → Y) (xs : List X) → count_by test (map f xs) ≡ count_by (λ x. test (f x)) xs
 count_by-map test f [] = refl
@@ -38,20 +38,9 @@ count_by-map test f (x ∷ xs) =
 
 -- those that pass and those that don't
 pub count_by-left : {X : Type 0} (test : X → Bool) (xs : List X) → length (filter (λ x. not (test x)) xs) + count_by test xs ≡ length xs
-count_by-left test [] = refl
-count_by-left {X} test (x ∷ xs) = at (test x) refl (count_by-left test xs)
-  where
-    at : (t : Bool) → test x ≡ t → length (filter (λ y. not (test y)) xs) + count_by test xs ≡ length xs → length (filter (λ y. not (test y)) (x ∷ xs)) + count_by test (x ∷ xs) ≡ length (x ∷ xs)
-    at true is rest =
-        let kept : filter (λ y. not (test y)) (x ∷ xs) ≡ filter (λ y. not (test y)) xs = cond-false _ _ _ (ap not is) in
-        let here = count_by-cons test x xs in
-        let passes = cond-true {A = ℕ} (test x) 1 0 is in
-        rw kept (omega (arith, here, passes, rest))
-    at false is rest =
-        let kept : filter (λ y. not (test y)) (x ∷ xs) ≡ x ∷ filter (λ y. not (test y)) xs = cond-true _ _ _ (ap not is) in
-        let here = count_by-cons test x xs in
-        let fails = cond-false {A = ℕ} (test x) 1 0 is in
-        rw kept (omega (arith, here, fails, rest))
+count_by-left test xs =
+    ap (λ n. length (filter (λ x. not (test x)) xs) + n) (sym (length-filter test xs))
+    ∙ length-filter_both (λ x. not (test x)) test (λ x. sym (not-not (test x))) xs
 
 -- a test beside a constant
 pub count_by-beside : {X : Type 0} (base : Bool) (test : X → Bool) (xs : List X) → count_by (λ x. base && test x) xs ≡ cond base (count_by test xs) 0

@@ -4,7 +4,6 @@ pub mod Best
 pub mod Counts
 mod Examples
 pub mod CommonBlocks
-pub mod Fits
 pub mod Halves
 pub mod Falling
 pub mod Faults

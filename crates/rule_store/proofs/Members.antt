@@ -1,15 +1,13 @@
 -- The members of the set after a batch, and what an addition of a sound batch replaces.
-use Rattle.std.proofs.Common.{◌≡◌, ℕ, true, not, List, [], ◌∷◌, ◌++◌, map, filter, None, IsTrue, IsFalse, IsSome, Contains, ◌⊎◌, ◌↔◌, inl, inr, refl, sym, ap, subst, ◌∙◌, ltb}
+use Rattle.std.proofs.Common.{◌≡◌, ℕ, true, not, List, [], ◌∷◌, ◌++◌, map, filter, None, IsTrue, IsFalse, Contains, ◌⊎◌, ◌↔◌, inl, inr, refl, sym, ap, subst, ◌∙◌, ltb}
 use Rattle.std.proofs.lemmas.Bool.{cond-true, cond_both, not-true, not_from_false, or_cases, or_left, or_right, eq-eqb, eqb-true}
 use Rattle.std.proofs.lemmas.List.{append_assoc}
-use Rattle.slot_order.proofs.Rules.{contains_head, contains_tail, contains_cases, contains_none}
+use Rattle.slot_order.proofs.Lists.{contains_head, contains_tail, contains_cases, contains_none}
 use Rattle.rule_model.specs.declared.Rule.{Rule}
 use Rattle.rule_model.specs.RuleSet.{has_priority}
 use Rattle.rule_store.specs.declared.Command.{Command}
 use Rattle.rule_store.specs.declared.Command.TheVariants.{Add, Set, Del}
 use Rattle.rule_store.specs.Batch.{removes, batch_fault_after, IsSound, additions, with_rule, with_result_after, set_after}
-use Rattle.rule_store.specs.Verdict.{replaced_rule}
-use Rattle.rule_store.proofs.Sets.{rule_at-none}
 use Rattle.rule_store.specs.Applied.{kept_rules}
 use Rattle.rule_store.proofs.After.{with_rules}
 use Rattle.rule_store.proofs.Sound.{taken, sound-parts, removes-append, fresh-taken}
@@ -141,12 +139,4 @@ member-has (first ∷ rules) rule member =
     elim (contains_cases first rule rules member) [
       | inl same ↦ or_left _ _ (eq-eqb first.priority rule.priority (ap (λ (r : Rule). r.priority) same))
       | inr later ↦ or_right _ _ (member-has rules rule later)
-    ]
-
--- in a sound batch an addition at a priority of the set stands for a rule that the batch removes
-pub replaced-is-removed : (rules : List Rule) (batch : List Command) (new : Rule) → IsSound rules batch → Contains (additions batch) new → IsSome (replaced_rule rules new) → IsTrue (removes new.priority batch)
-replaced-is-removed rules batch new sound member some =
-    elim (sound-gone rules batch new.priority sound (member-has (additions batch) new member)) [
-      | inl absent ↦ let none = rule_at-none rules new.priority absent in let wrong = rw none at some in absurd (cc)
-      | inr removed ↦ removed
     ]

@@ -5,6 +5,7 @@ use Rattle.std.proofs.lemmas.Bool.{cases_eq, cases_lt}
 use Rattle.std.proofs.lemmas.List.{get_or-map, length-map, map-append, take-map, drop-map, same_lists, length-set, get_or-set_same, get_or-set_other, take-set, drop-set-lt}
 use Rattle.std.proofs.lemmas.List.Elements.{All-append, All-cons, All-take, All-drop, All-from_get_or}
 use Rattle.std.proofs.lemmas.List.Edits.{get_or-remove_below, get_or-remove_above, length-remove}
+use Rattle.slot_order.proofs.Lists.{map-remove}
 use Rattle.slab.specs.Slab.{Slab, get, Updates}
 use Rattle.rule_model.specs.declared.Rule.{Rule}
 use Rattle.rule_store.specs.Store.{no_rule, rule_under, rules_under}
@@ -67,16 +68,11 @@ module _ (old new : Slab Rule) (keys : List ℕ) (key : ℕ) (slot : Option Rule
             (sym (get_or-set_other (rules_under old keys) place k (rule_under new key) none away ∙ get_or-map (rule_under old) keys k 0 none to'))
       ])
 
--- an element that comes in at a place, and one that goes
+-- an element that comes in at a place
 pub map-insert : {X Y : Type 0} (f : X → Y) (xs : List X) (place : ℕ) (x : X) → map f (insert xs place x) ≡ insert (map f xs) place (f x)
 map-insert {X} {Y} f xs place x =
     map-append f (take place xs) (x ∷ drop place xs)
     ∙ ap₂ (λ (a b : List Y). a ++ f x ∷ b) (sym (take-map f place xs)) (sym (drop-map f place xs))
-
-pub map-remove : {X Y : Type 0} (f : X → Y) (xs : List X) (place : ℕ) → map f (remove xs place) ≡ remove (map f xs) place
-map-remove {X} {Y} f xs place =
-    map-append f (take place xs) (drop (suc place) xs)
-    ∙ ap₂ (λ (a b : List Y). a ++ b) (sym (take-map f place xs)) (sym (drop-map f (suc place) xs))
 
 -- so a key brings its rule in there, and takes it away
 pub rules_under-insert : (slab : Slab Rule) (keys : List ℕ) (place key : ℕ) → rules_under slab (insert keys place key) ≡ insert (rules_under slab keys) place (rule_under slab key)

@@ -1,6 +1,7 @@
 -- A sound batch command by command: what each meets, and what it leaves to the next.
 use Rattle.std.proofs.Common.{◌≡◌, ℕ, zero, suc, ◌+◌, ◌<◌, ◌≤◌, Bool, true, false, not, ◌&&◌, ◌||◌, cond, List, [], ◌∷◌, ◌++◌, length, take, drop, map, filter, slice_get, Option, Some, None, unwrap_or, IsTrue, IsFalse, inl, inr, refl, sym, ap, ap₂, subst, ◌∙◌, arith, eqb, length-append}
 use Rattle.std.specs.List.{list_any}
+use Rattle.std.proofs.Math.Bool.{or-false}
 use Rattle.std.proofs.lemmas.Bool.{cases_Bool, cond-true, cond-false, cond_both, or_left, or_right, or_from, or_cases, eqb-true, eqb-false, eq-eqb, ne_eqb}
 use Rattle.std.proofs.lemmas.List.{append-nil, append_assoc, drop_more, take-append-drop}
 use Rattle.std.proofs.lemmas.List.Elements.{filter-append, filter_agree}
@@ -94,14 +95,10 @@ remaining-del rules earlier priority =
         ap not (removes-append rule.priority earlier (Del priority ∷ []) ∙ ap (λ (t : Bool). removes rule.priority earlier || t) (removes-del rule.priority priority))
         ∙ neither (removes rule.priority earlier) (eqb rule.priority priority)
 
-or_false : (t : Bool) → (t || false) ≡ t
-or_false true = refl
-or_false false = refl
-
 remaining-agree : (rules : List Rule) (earlier : List Command) (command : Command) → ((priority : ℕ) → removes priority (command ∷ []) ≡ false) → remaining_rules rules (earlier ++ command ∷ []) ≡ remaining_rules rules earlier
 remaining-agree rules earlier command none =
     filter_agree (λ rule. not (removes rule.priority (earlier ++ command ∷ []))) (λ rule. not (removes rule.priority earlier))
-    (λ rule. ap not (removes-append rule.priority earlier (command ∷ []) ∙ ap (λ (t : Bool). removes rule.priority earlier || t) (none rule.priority) ∙ or_false (removes rule.priority earlier))) rules
+    (λ rule. ap not (removes-append rule.priority earlier (command ∷ []) ∙ ap (λ (t : Bool). removes rule.priority earlier || t) (none rule.priority) ∙ or-false (removes rule.priority earlier))) rules
 
 -- a command more that removes nothing
 pub remaining-other : (rules : List Rule) (earlier : List Command) (command : Command) → ((priority : ℕ) → command ≡ Del priority → ⊥) → remaining_rules rules (earlier ++ command ∷ []) ≡ remaining_rules rules earlier

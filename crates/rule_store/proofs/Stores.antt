@@ -9,6 +9,7 @@ use Rattle.std.proofs.lemmas.Bool.{cases_eq}
 use Rattle.std.proofs.lemmas.List.Edits.{length-insert, length-remove}
 use Rattle.slab.specs.Slab.{Slab, get, slab_len, Updates, ContainsKey, with_value}
 use Rattle.slab.proofs.SlabLemmas.{Updates-with_value, ContainsKey-within}
+use Rattle.slot_order.proofs.Lists.{map-remove}
 use Rattle.rule_model.specs.declared.Rule.{Rule}
 use Rattle.rule_model.specs.RuleSet.{has_priority}
 use Rattle.rule_store.specs.declared.Mode.TheVariants.{Cover}
@@ -17,7 +18,7 @@ use Rattle.rule_store.specs.Batch.{with_rule}
 use Rattle.rule_store.specs.Store.{IsStored, IsSized, IsPlace, no_rule, rule_under, rules_under, with_answer, without_rule}
 use Rattle.rule_store.proofs.Sets.{IsAt, IsAt-present, with_rule-at, with_answer-at, without_rule-at}
 use Rattle.rule_store.proofs.Falling.{IsRuleSet-with_rule, IsRuleSet-with_answer, IsRuleSet-without_rule}
-use Rattle.rule_store.proofs.Slots.{ArePresent, IsFilled, read-under, count-under, vacant-differs, key-differs, rules_under-other, present-other, rules_under-at, map-insert, map-remove, rules_under-insert, rules_under-remove, present-insert, remove-set, present-remove}
+use Rattle.rule_store.proofs.Slots.{ArePresent, IsFilled, read-under, count-under, vacant-differs, key-differs, rules_under-other, present-other, rules_under-at, map-insert, rules_under-insert, rules_under-remove, present-insert, remove-set, present-remove}
 
 -- a rule comes in under a key that had none
 module _ (old new : Slab Rule) (keys : List ℕ) (capacity spare key place : ℕ) (rule : Rule) (stored : IsStored old keys capacity spare) (is : IsPlace (rules_under old keys) rule.priority place) (absent : IsFalse (has_priority (rules_under old keys) rule.priority)) (vacant : get old key ≡ None) (updates : Updates old new key (Some rule)) where

@@ -1,10 +1,10 @@
 -- Sums over a list and over a batch's additions, one element more.
-use Rattle.std.proofs.Common.{◌≡◌, ℕ, ◌+◌, ◌<◌, List, [], ◌∷◌, ◌++◌, length, get_or, take, slice_get, Option, Some, None, sum_by, inl, inr, refl, ap, ◌∙◌}
+use Rattle.std.proofs.Common.{◌≡◌, ℕ, ◌+◌, ◌<◌, List, [], ◌∷◌, ◌++◌, length, get_or, take, slice_get, Option, Some, None, sum_by, refl, ap, ◌∙◌}
 use Rattle.std.specs.List.{cons_option}
-use Rattle.std.proofs.lemmas.List.{take_more, get_or_default, append-nil}
+use Rattle.std.proofs.lemmas.List.{take_more, append-nil}
 use Rattle.std.proofs.lemmas.List.Sums.{sum_by_push}
 use Rattle.std.proofs.lemmas.List.Elements.{filter_map-append}
-use Rattle.std.proofs.lemmas.Option.{slice_get_cases}
+use Rattle.std.proofs.lemmas.Option.{slice_get_within, get_or_from_slice_get}
 use Rattle.rule_model.specs.declared.Rule.{Rule}
 use Rattle.rule_store.specs.declared.Command.{Command}
 use Rattle.rule_store.specs.declared.Command.TheVariants.{Add, Set, Del}
@@ -12,18 +12,10 @@ use Rattle.rule_store.specs.Batch.{added_rule, additions}
 
 -- what is read at a place of a list
 pub slice_get-within : {X : Type 0} (xs : List X) (place : ℕ) (x : X) → slice_get xs place ≡ Some x → place < length xs
-slice_get-within xs place x read =
-    elim (slice_get_cases xs place).1 [
-      | inl found ↦ found.1
-      | inr past ↦ let none = past.1 in absurd (cc)
-    ]
+slice_get-within xs place x read = slice_get_within xs place x read
 
 pub slice_get-read : {X : Type 0} (xs : List X) (place : ℕ) (x : X) → slice_get xs place ≡ Some x → get_or xs place x ≡ x
-slice_get-read xs place x read =
-    elim (slice_get_cases xs place).1 [
-      | inl found ↦ let is = found.2 in let same : found.0 ≡ x = cc in get_or_default xs place x found.0 found.1 ∙ found.3 ∙ same
-      | inr past ↦ let none = past.1 in absurd (cc)
-    ]
+slice_get-read xs place x read = get_or_from_slice_get xs place x x read
 
 pub take-read : {X : Type 0} (xs : List X) (place : ℕ) (x : X) → slice_get xs place ≡ Some x → take (place + 1) xs ≡ take place xs ++ x ∷ []
 take-read {X} xs place x read =

@@ -3,7 +3,7 @@ use Rattle.std.proofs.Common.{◌≡◌, ◌≢◌, ℕ, ◌<◌, Option, None, 
 use Rattle.std.proofs.lemmas.Bool.{cases_eq}
 use Rattle.slot_order.specs.Order.{slot, Ordered}
 use Rattle.slot_order.specs.Moves.{applied, chain_moves, IsDownChain, IsUpChain, Turn, Down, Up, turn_moves, turns_moves, IsTurn, IsTurns}
-use Rattle.slot_order.proofs.Writes.{slot_same, slot_other, slot_inside}
+use Rattle.slot_order.proofs.Writes.{slot_same, slot_other, slot_inside, put_here, put_away}
 use Rattle.slot_order.proofs.Chains.{applied_push, chain_keeps}
 use Rattle.slot_order.proofs.UpChains.{up_chain_keeps}
 use Rattle.slot_order.proofs.Insertion.{turn_closer, turns_keep}
@@ -23,6 +23,10 @@ pub record OneTwice {E : Type 0} (d : List (Option E)) (s : ℕ) (e : E) : Type 
   pub others : (i j : ℕ) (a : E) → slot d i ≡ Some a → slot d j ≡ Some a → (i ≡ j) ⊎ (a ≡ e)
   pub only : (i : ℕ) → slot d i ≡ Some e → (i ≡ s) ⊎ (i ≡ twin)
 
+-- the one that stands twice stands elsewhere in its twin alone
+twin_at : {E : Type 0} (b : List (Option E)) (t : ℕ) (g : E) (w : OneTwice b t g) (i : ℕ) (a : E) → i ≢ t → slot b i ≡ Some a → a ≡ g → i ≡ w.twin
+twin_at b t g w i a n s k = elim (w.only i (s ∙ ap Some k)) [ inl y ↦ absurd (n y) | inr y ↦ y ]
+
 -- what stands nowhere, or nothing, goes over the one that stands twice
 settle : {E : Type 0} (b : List (Option E)) (t : ℕ) (g : E) (x : Option E) → OneTwice b t g
     → ((j : ℕ) (a : E) → x ≡ Some a → slot b j ≡ Some a → ⊥) → AllOnce (set b t x)
@@ -31,21 +35,15 @@ settle {E} b t g x w new = once
     inside : t < length b
     inside = slot_inside b t g w.here
 
-    at : (i : ℕ) (a : E) → i ≡ t → slot (set b t x) i ≡ Some a → x ≡ Some a
-    at i a k s = sym (slot_same b t x inside) ∙ (ap (slot (set b t x)) (sym k) ∙ s)
-
-    off : (i : ℕ) (a : E) → i ≢ t → slot (set b t x) i ≡ Some a → slot b i ≡ Some a
-    off i a n s = sym (slot_other b t x i n) ∙ s
-
-    twin : (i : ℕ) (a : E) → i ≢ t → slot b i ≡ Some a → a ≡ g → i ≡ w.twin
-    twin i a n s k = elim (w.only i (s ∙ ap Some k)) [ inl y ↦ absurd (n y) | inr y ↦ y ]
-
     once : AllOnce (set b t x)
     once i j a s r = elim (cases_eq i t) [
-      | inl k ↦ elim (cases_eq j t) [ inl m ↦ k ∙ sym m | inr m ↦ absurd (new j a (at i a k s) (off j a m r)) ]
+      | inl k ↦ elim (cases_eq j t) [ inl m ↦ k ∙ sym m | inr m ↦ absurd (new j a (put_here b t x i a inside k s) (put_away b t x j a m r)) ]
       | inr k ↦ elim (cases_eq j t) [
-        | inl m ↦ absurd (new i a (at j a m r) (off i a k s))
-        | inr m ↦ elim (w.others i j a (off i a k s) (off j a m r)) [ inl y ↦ y | inr y ↦ twin i a k (off i a k s) y ∙ sym (twin j a m (off j a m r) y) ]
+        | inl m ↦ absurd (new i a (put_here b t x j a inside m r) (put_away b t x i a k s))
+        | inr m ↦
+            let y = put_away b t x i a k s in
+            let z = put_away b t x j a m r in
+            elim (w.others i j a y z) [ inl same ↦ same | inr one ↦ twin_at b t g w i a k y one ∙ sym (twin_at b t g w j a m z one) ]
       ]
     ]
 
@@ -57,29 +55,23 @@ pass {E} b s t e g w stands differ n = record {
   apart = λ k. n (sym k);
   there = slot_same b t (Some e) inside;
   others = λ i j a x y. elim (cases_eq i t) [
-    | inl k ↦ inr (let z : Some e ≡ Some a = at i a k x in cc)
+    | inl k ↦ inr (let z : Some e ≡ Some a = put_here b t (Some e) i a inside k x in cc)
     | inr k ↦ elim (cases_eq j t) [
-      | inl m ↦ inr (let z : Some e ≡ Some a = at j a m y in cc)
-      | inr m ↦ elim (w.others i j a (off i a k x) (off j a m y)) [ inl z ↦ inl z | inr z ↦ inl (twin i a k (off i a k x) z ∙ sym (twin j a m (off j a m y) z)) ]
+      | inl m ↦ inr (let z : Some e ≡ Some a = put_here b t (Some e) j a inside m y in cc)
+      | inr m ↦
+          let x' = put_away b t (Some e) i a k x in
+          let y' = put_away b t (Some e) j a m y in
+          inl (elim (w.others i j a x' y') [ inl same ↦ same | inr one ↦ twin_at b t g w i a k x' one ∙ sym (twin_at b t g w j a m y' one) ])
     ]
   ];
   only = λ i x. elim (cases_eq i t) [
     | inl k ↦ inr k
-    | inr k ↦ elim (w.others i s e (off i e k x) stands) [ inl z ↦ inl z | inr z ↦ absurd (differ z) ]
+    | inr k ↦ elim (w.others i s e (put_away b t (Some e) i e k x) stands) [ inl z ↦ inl z | inr z ↦ absurd (differ z) ]
   ];
 }
   where
     inside : t < length b
     inside = slot_inside b t g w.here
-
-    at : (i : ℕ) (a : E) → i ≡ t → slot (set b t (Some e)) i ≡ Some a → Some e ≡ Some a
-    at i a k s = sym (slot_same b t (Some e) inside) ∙ (ap (slot (set b t (Some e))) (sym k) ∙ s)
-
-    off : (i : ℕ) (a : E) → i ≢ t → slot (set b t (Some e)) i ≡ Some a → slot b i ≡ Some a
-    off i a n s = sym (slot_other b t (Some e) i n) ∙ s
-
-    twin : (i : ℕ) (a : E) → i ≢ t → slot b i ≡ Some a → a ≡ g → i ≡ w.twin
-    twin i a n s k = elim (w.only i (s ∙ ap Some k)) [ inl y ↦ absurd (n y) | inr y ↦ y ]
 
 -- into a free slot
 begin : {E : Type 0} (d : List (Option E)) (s f : ℕ) (e : E) → AllOnce d → slot d s ≡ Some e → slot d f ≡ None → f < length d → OneTwice (set d f (Some e)) s e
@@ -89,23 +81,17 @@ begin {E} d s f e once stands free inside = record {
   apart = λ k. n (sym k);
   there = slot_same d f (Some e) inside;
   others = λ i j a x y. elim (cases_eq i f) [
-    | inl k ↦ inr (let z : Some e ≡ Some a = at i a k x in cc)
+    | inl k ↦ inr (let z : Some e ≡ Some a = put_here d f (Some e) i a inside k x in cc)
     | inr k ↦ elim (cases_eq j f) [
-      | inl m ↦ inr (let z : Some e ≡ Some a = at j a m y in cc)
-      | inr m ↦ inl (once i j a (off i a k x) (off j a m y))
+      | inl m ↦ inr (let z : Some e ≡ Some a = put_here d f (Some e) j a inside m y in cc)
+      | inr m ↦ inl (once i j a (put_away d f (Some e) i a k x) (put_away d f (Some e) j a m y))
     ]
   ];
-  only = λ i x. elim (cases_eq i f) [ inl k ↦ inr k | inr k ↦ inl (once i s e (off i e k x) stands) ];
+  only = λ i x. elim (cases_eq i f) [ inl k ↦ inr k | inr k ↦ inl (once i s e (put_away d f (Some e) i e k x) stands) ];
 }
   where
     n : s ≢ f
     n k = let z : None ≡ Some e = sym free ∙ (ap (slot d) (sym k) ∙ stands) in cc
-
-    at : (i : ℕ) (a : E) → i ≡ f → slot (set d f (Some e)) i ≡ Some a → Some e ≡ Some a
-    at i a k s = sym (slot_same d f (Some e) inside) ∙ (ap (slot (set d f (Some e))) (sym k) ∙ s)
-
-    off : (i : ℕ) (a : E) → i ≢ f → slot (set d f (Some e)) i ≡ Some a → slot d i ≡ Some a
-    off i a n s = sym (slot_other d f (Some e) i n) ∙ s
 
 differ : {E : Type 0} (tag : E → ℕ) (a b : E) → tag a < tag b → b ≢ a
 differ tag a b l k = let z : tag b ≡ tag a = ap tag k in omega arith

@@ -106,10 +106,6 @@ bit_of_zeros size k = elim (cases_lt (k / 64) size) [
   | inr past ↦ bit_past (replicate size 0) k (let l : length (replicate {A = ℕ} size 0) ≡ size = length-replicate size 0 in omega arith)
 ]
 
-pub bit_below_two : (words : List ℕ) (k : ℕ) → bit_of words k < 2
-unfolding bit_of
-bit_below_two words k = bit_at-lt (slice_index_or words (k / 64) 0) (k % 64)
-
 -- a word put in place of another has its bits, and the others stay
 put_inside : (words : List ℕ) (place k word : ℕ) → place < length words → k / 64 ≡ place → bit_of (slice_set words place word) k ≡ bit_at word (k % 64)
 put_inside words place k word inside here =

@@ -18,7 +18,7 @@ use Rattle.replay.specs.Run.{Setting, Prints, Progress, start, ending, after_ref
 use Rattle.tcam_cli.specs.declared.Status.TheVariants.{Done, Refused, Script as ScriptFault, Usage}
 use Rattle.std.proofs.lemmas.Option.{none-some}
 use Rattle.std.proofs.Math.Seq.{take-nil}
-use Rattle.slot_order.proofs.Rules.{contains_none}
+use Rattle.slot_order.proofs.Lists.{contains_none}
 use Rattle.slot_pool.specs.Arrangement.{Slots}
 use Rattle.ternary_word.specs.declared.Entry.{Entry}
 use Rattle.tcam_device.specs.Order.{IsOrdered}

@@ -47,16 +47,6 @@ slots-apply state (Slot at entry) = length-set state.slots at entry
 slots-apply state (Table Src port word) = refl
 slots-apply state (Table Dst port word) = refl
 
-pub src-apply : (state : State) (write : Write) → length (apply state write).src ≡ length state.src
-src-apply state (Slot at entry) = refl
-src-apply state (Table Src port word) = length-set state.src port word
-src-apply state (Table Dst port word) = refl
-
-pub dst-apply : (state : State) (write : Write) → length (apply state write).dst ≡ length state.dst
-dst-apply state (Slot at entry) = refl
-dst-apply state (Table Src port word) = refl
-dst-apply state (Table Dst port word) = length-set state.dst port word
-
 -- memory that a journal of writes left is, after one more write, what the longer journal leaves
 pub replay-apply : (memory next : State) (journal : List Write) (write : Write) → memory ≡ replay (length memory.slots) journal
     → next ≡ apply memory write → next ≡ replay (length next.slots) (journal ++ write ∷ [])

@@ -24,9 +24,6 @@ least_found slots word place is = by (first_hit hits slots word) refl (first_hit
         let same : w.0 ≡ place = (let k : Some w.0 ≡ Some place = sym w.1 ∙ is in cc) in
         record { entry = entry; stands = subst (λ at. slot slots at ≡ Some entry) same w.2; found = some }
 
-pub least_inside : (slots : List (Option Entry)) (word : Word) (place : ℕ) → first_hitting slots word ≡ Some place → place < length slots
-least_inside slots word place is = let first = least_found slots word place is in slot_inside slots place first.entry first.stands
-
 pub none_found : (slots : List (Option Entry)) (word : Word) → first_hitting slots word ≡ None → first_hit hits slots word ≡ None
 none_found slots word is = by (first_hit hits slots word) refl (first_hitting-is slots word)
   where

@@ -83,11 +83,3 @@ pub ordered_shows : (state : State) (rules : List Rule) (Member : RankedPiece �
 ordered_shows state rules Member distinct are hit ordered key valid =
     tells state rules Member key valid (first_hit (hits_key state) state.slots key) (best_rule rules key) distinct are hit
     (lookup_best state Member key valid hit ordered) (best_best rule_matches (λ rule. rule.priority) rules key)
-
--- and so does one whose tables serve its pieces
-pub served_shows : (slots : ℕ) (state : State) (rules : List Rule) (Member : RankedPiece → Type 0) → IsState slots state
-    → ((ranked : RankedPiece) → Member ranked → AreConditions ranked.piece.src ranked.piece.dst ranked.piece.proto ranked.piece.sport ranked.piece.dport × IsEncodable ranked.piece)
-    → Distinct (λ (rule : Rule). rule.priority) rules → ArePiecesOf rules Member → ServesBits state Member → IsOrdered state Member → Shows state rules
-served_shows slots state rules Member is right distinct are serves ordered =
-    ordered_shows state rules Member distinct are
-    (hit_as_pieces slots state Member is (λ ranked m. hits-entry_of ranked.piece ranked.rank ranked.result (right ranked m).0 (right ranked m).1) serves) ordered

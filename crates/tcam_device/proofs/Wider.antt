@@ -57,13 +57,6 @@ Shows-padded more state rules shows key valid = lookup-padded more state key ∙
 pub blank_shows : (slots : ℕ) → Shows (blank slots) []
 blank_shows slots key valid = ap told (empty_hit (hits_key (blank slots)) slots key)
 
--- and is one with more slots
-pub blank_wider : (slots wide : ℕ) → slots ≤ wide → on_device wide (blank slots) ≡ blank wide
-blank_wider slots wide less =
-    ap (λ (held : List (Option Entry)). let state : State = record { slots = held; src = blank_table; dst = blank_table } in state)
-    (replicate-append-replicate slots (wide - length {A = Option Entry} (replicate slots None)) None
-    ∙ ap (λ n. replicate n None) (let size = length-replicate {A = Option Entry} slots None in omega arith))
-
 -- a write within the slots does the same
 pub apply-padded : (more : ℕ) (state : State) (write : Write) → IsInUse (length state.slots) write → apply (padded more state) write ≡ padded more (apply state write)
 apply-padded more state (Slot at entry) inside = ap (λ (held : List (Option Entry)). record state { slots = held }) (set-append_left state.slots (replicate more None) at entry inside)
@@ -84,10 +77,6 @@ state_after-padded more state (write ∷ writes) inside =
 pub slots-after : (state : State) (writes : List Write) → length (state_after state writes).slots ≡ length state.slots
 slots-after state [] = refl
 slots-after state (write ∷ writes) = slots-after (apply state write) writes ∙ slots-apply state write
-
-pub apply-on_device : (wide : ℕ) (state : State) (write : Write) → IsInUse (length state.slots) write → apply (on_device wide state) write ≡ on_device wide (apply state write)
-apply-on_device wide state write inside =
-    apply-padded (wide - length state.slots) state write inside ∙ ap (λ n. padded (wide - n) (apply state write)) (sym (slots-apply state write))
 
 pub state_after-on_device : (wide : ℕ) (state : State) (writes : List Write) → AllByRecursion (IsInUse (length state.slots)) writes
     → state_after (on_device wide state) writes ≡ on_device wide (state_after state writes)

@@ -1,7 +1,7 @@
 -- With more slots, which are empty, writes make the same insertions, of the same lengths and crossing spans.
 use Rattle.std.proofs.Common.{◌≡◌, ℕ, zero, suc, ◌≤◌, max, Bool, true, false, not, ◌||◌, List, [], ◌∷◌, ◌++◌, length, map, flat_map, fold, replicate, Contains, Option, None, Some, inl, inr, refl, sym, ◌∙◌, subst, ap}
 use Rattle.std.specs.List.{AllByRecursion, list_any}
-use Rattle.slot_order.proofs.Rules.{contains_head, contains_tail, contains_cases, contains_none}
+use Rattle.slot_order.proofs.Lists.{contains_head, contains_tail, contains_cases, contains_none}
 use Rattle.rule_model.specs.declared.Field.TheVariants.{Src, Dst}
 use Rattle.ternary_word.specs.declared.Entry.{Entry}
 use Rattle.tcam_device.specs.declared.Write.{Write}

@@ -1,6 +1,6 @@
 use Rattle.std.proofs.Common.{◌∷◌, [], take, sym, subst}
 use Rattle.std.specs.List.{AllByRecursion}
-use Rattle.slot_order.proofs.Inside.{all_append}
+use Rattle.slot_order.proofs.Lists.{all_append}
 use Rattle.rule_store.proofs.Sums.{take-read}
 use Rattle.commit_writes.specs.PlannedBatch.{ChangesRules}
 use Rattle.batch_order.proofs.manager.rules_are_right.Goals as goal

@@ -43,7 +43,7 @@ off-requires-clause-masks c =
 pub returns-then-first_zero-eq8-clause-before : goal.returns-then-first_zero-eq8-clause-before
 returns-then-first_zero-eq8-clause-before c k l =
     used_step c.args.used.now c.args.lanes.now c.args.word.now.lane (c.args.at + k) c.loop-lane.lane-index _ _ _ _ _ c.requires.listed (omega arith)
-    c.index-lanes-lane.is (c.off.ensures.lanes k l) (c.either-off.ensures.lanes k l) (c.loop-lane.invariant.same k l)
+    c.index-lanes-lane.is (c.off.ensures.lanes k l) (c.either-off.ensures.zeros k l) (c.loop-lane.invariant.same k l)
     ∙ and_left _ _ (c.first_zero.ensures.before k (omega arith))
 
 pub loop-lane-preserved : goal.loop-lane-preserved
@@ -51,5 +51,5 @@ loop-lane-preserved c = record {
   len = c.either-off.ensures.len;
   same = λ k l.
       used_step c.args.used.now c.args.lanes.now c.args.word.now.lane (c.args.at + k) c.loop-lane.lane-index _ _ _ _ _ c.requires.listed (omega arith)
-      c.index-lanes-lane.is (c.off.ensures.lanes k l) (c.either-off.ensures.lanes k l) (c.loop-lane.invariant.same k l);
+      c.index-lanes-lane.is (c.off.ensures.lanes k l) (c.either-off.ensures.zeros k l) (c.loop-lane.invariant.same k l);
 }

@@ -1,8 +1,16 @@
-use Rattle.std.proofs.Common.{◌≡◌, ℕ, List, length, replicate, get_or, ltb, eqb, cond, w32, arith, ◌∙◌, ap, ap₂}
+use Rattle.std.proofs.Common.{◌≡◌, ℕ, List, length, replicate, get_or, ltb, eqb, cond, w32, arith, ◌∙◌, sym, ap, ap₂, inl, inr, le-leb}
+use Rattle.std.specs.Prelude.{nat_le}
 use lib.Lanes.{zip2, sel_l}
+use Rattle.std.proofs.lemmas.Bool.{cases_lt, lt-ltb, lt-leb, le-ltb}
 use Rattle.std.proofs.lemmas.Simd.{length-zip2, length-sel_l, get_or-sel_l, get_or-zip2, get_or-replicate, tops_compared}
-use Rattle.overlap_index.proofs.Eights.{not_above}
 use Rattle.overlap_index.proofs.near.above.Goals as goal
+
+-- 0 stands where the first isn't above the second
+not_above : (x y : ℕ) → eqb (cond (ltb y x) 1 0) 0 ≡ nat_le x y
+not_above x y = elim (cases_lt y x) [
+  | inl above ↦ ap (λ b. eqb (cond b 1 0) 0) (lt-ltb y x above) ∙ sym (lt-leb _ _ above)
+  | inr below ↦ ap (λ b. eqb (cond b 1 0) 0) (le-ltb y x below) ∙ sym (le-leb _ _ below)
+]
 
 pub returns-clause-len : goal.returns-clause-len
 returns-clause-len c =

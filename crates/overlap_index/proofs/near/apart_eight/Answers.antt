@@ -1,11 +1,10 @@
-use Rattle.std.proofs.Common.{get_or, eqb, ◌∙◌, ap, ap₂}
+use Rattle.std.proofs.Common.{◌∙◌, ap₂}
 use Rattle.std.specs.Prelude.{◌&&◌, nat_le}
 use Rattle.std.proofs.lemmas.Simd.{get_or-replicate}
-use Rattle.overlap_index.proofs.Eights.{or_test}
 use Rattle.overlap_index.proofs.near.apart_eight.Goals as goal
 
 pub returns-clause-near : goal.returns-clause-near
 returns-clause-near c k l =
-    ap (λ n. eqb n 0) (c.either.ensures.lanes k l) ∙ or_test (get_or c.above.result k 0) (get_or c.above-2.result k 0)
+    c.either.ensures.zeros k l
     ∙ ap₂ (λ p q. p && q) (c.above.ensures.lanes k l ∙ ap₂ nat_le (c.eight.ensures.lanes k l) (get_or-replicate 8 k c.args.last 0 l))
     (c.above-2.ensures.lanes k l ∙ ap₂ nat_le (get_or-replicate 8 k c.args.first 0 l) (c.eight-2.ensures.lanes k l))

@@ -1,6 +1,6 @@
 use Rattle.std.proofs.Common.{arith, sym, ◌∙◌}
 use Rattle.overlap_index.specs.Near.{is_near}
-use Rattle.overlap_index.proofs.Eights.{none_further}
+use Rattle.eight_lanes.proofs.Lanes.{none_further}
 use Rattle.overlap_index.proofs.near.next_near.Goals as goal
 
 pub returns-then-before-lt8-clause-passed : goal.returns-then-before-lt8-clause-passed

@@ -1,7 +1,7 @@
 use Rattle.std.proofs.Common.{◌≡◌, ◌<◌, ◌≤◌, ◌+◌, ◌*◌, None, length, true, arith, sym, ◌∙◌, subst}
 use Rattle.std.proofs.lemmas.List.{get_or_default}
 use Rattle.ternary_word.specs.Entry.{slot_hits}
-use Rattle.lane_lookup.proofs.Places.{position_found, position_none}
+use Rattle.slot_order.proofs.Lists.{position_found, position_none}
 use Rattle.lane_lookup.proofs.Eights.{eight_found, eight_passed}
 use Rattle.lane_lookup.proofs.columns.Columns.first.Goals as goal
 

@@ -4,8 +4,8 @@ use lib.Count.{count_trailing_zeros}
 use lib.Lanes.{mask_l}
 use mathlib.Core.List.{map}
 use Rattle.std.proofs.lemmas.Simd.{bitmask_splat}
-use Rattle.overlap_index.proofs.Zeros.{first_zero_is}
-use Rattle.overlap_index.proofs.near.first_zero.Goals as goal
+use Rattle.eight_lanes.proofs.Zeros.{first_zero_is}
+use Rattle.eight_lanes.proofs.first_zero.Goals as goal
 
 pub returns-then-zeros-eq0 : goal.returns-then-zeros-eq0
 returns-then-zeros-eq0 c =
