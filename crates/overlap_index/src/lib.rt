@@ -1,11 +1,23 @@
 //! Which of the live ids overlap, above and below.
 //!
-//! An id is live from `add` to `remove`, with a piece of a rule and its priority. Of two live ids
-//! whose pieces overlap, as some packet key matches both, the one of higher priority is above the
-//! other. `above` and `below` name them by looking at each live piece once, and `id_of` finds one by
-//! its piece and its priority. Most are passed over eight at a time, by the upper 32 bits of their
-//! destinations' first and last addresses, which stand in columns of their own. Only `new` and
-//! `add` take memory.
+//! An id is live from `add` to `remove`, with a piece of a rule and its priority. Of two live ids whose pieces overlap,
+//! as some packet key matches both, the one of higher priority is above the other. `above` and `below` name them, and
+//! `id_of` finds one by its piece and its priority.
+//!
+//! # The one hard idea
+//! Most live pieces have nothing to do with the one that is asked for, and almost all of them are told apart by their
+//! destinations alone. So each live piece is looked at once, but eight at a time, by the upper 32 bits of its
+//! destination's first and last address, which stand in columns of their own; only those that are near are compared by
+//! priority and piece.
+//!
+//! # What it cost
+//! A question costs time by the number of live pieces, an eighth of a step each, and not by the number that overlap.
+//! First and last addresses, and not address and mask, stand in the columns, since the order of numbers is all that the
+//! proof needs then. Only `new` and `add` take memory: 8 bytes an id beside the piece.
+//!
+//! # What isn't promised
+//! Any order of the ids that are named. Lists in which many rules have one destination, `any` say, gain nothing from
+//! the columns.
 #![tactic(auto)]
 
 ghost use Rattle.std.specs.Prelude.{◌≡◌, ◌<◌, ◌≤◌, ◌↔◌, ℕ, [], ◌∷◌, ◌++◌, length, slice_index_or, IsTrue, IsFalse, IsNone, IfSome, IfOk, OnOk, OnErr, Contains, nat_lt, nat_eq};

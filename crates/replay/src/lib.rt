@@ -1,9 +1,25 @@
 //! Runs of acts over a device: the pending batch, the commits, and the lines of the report.
 //!
-//! A [`Run`] takes the acts of a script one at a time. A change joins the pending batch; a packet is looked up in
-//! the device as it stands; a commit is judged by the manager and, where it is taken, carried out write by write.
-//! Where a trace is wanted each write has its line, and each probe is looked up again after each write.
-//! Each line of the report is handed to the sink as one piece, with its line feed, as soon as it is known.
+//! A [`Run`] takes the acts of a script one at a time. A change joins the pending batch; a packet is looked up in the
+//! device as it stands; a commit is judged by the manager and, where it is taken, carried out write by write. Where a
+//! trace is wanted each write has its line, and each probe is looked up again after each write.
+//!
+//! # The one hard idea
+//! What an act does is a list of effects, device writes and report lines in one order, said of rule lists, journal and
+//! report alone (`specs/Run`). A body that prints first and writes later has other effects, and so has one that answers
+//! a probe from the set and not from the device as it stands. `apply` has exactly the effects of its act, or those
+//! before the line or the write that failed, and no memory is taken between two writes of a commit.
+//!
+//! # How it stands
+//! `run` has the acts and the commit's loop, `watch` what is told after a write, `report` the lines in fixed room. Each
+//! line goes to the sink, with its line feed, before the next effect.
+//!
+//! # What it cost
+//! A line is written as soon as it is known, so a trace takes a call of the sink for each line. A failed line of a
+//! trace or a probe may stand within a commit; the commit is then still under way, as where a write fails.
+//!
+//! # What isn't promised
+//! That a run can go on after a failed line or write: after a fault of sink or device no further act is taken.
 #![tactic(auto)]
 
 mod report;

@@ -1,14 +1,25 @@
 //! Rules, packet keys and the parts that they are made of.
 //!
-//! A rule matches a key where its five conditions hold: two address blocks, a protocol or any, two ranges of ports.
-//! A rule is stored as pieces, each with the same five conditions over parts of its ranges. Two rules, or two pieces,
-//! overlap where some key matches both; that is decided from the conditions alone, since each condition speaks of a
-//! part of the key of its own.
+//! A rule matches a key where its five conditions hold: two address blocks, a protocol or any, two ranges of ports. A
+//! rule is stored as pieces, each with the same five conditions over parts of its ranges. Two rules, or two pieces,
+//! overlap where some key matches both.
 //!
-//! Prefixes and port ranges are right by their types: no address bit past the length, no first port above the last.
-//! Both families of addresses share the types. An IPv4 address stands in the upper 32 bits, so that a prefix of
-//! length 8 is the same test for both. A rank has room for a length and a whole address; contracts see it as one
-//! number, and it is ordered as that number is.
+//! # The one hard idea
+//! Whether some key matches both is decided from the conditions alone: each condition speaks of a part of the key of
+//! its own, so a key for both is put together from one part for each, and two prefixes meet where one holds the other.
+//!
+//! # How it stands
+//! Prefixes and port ranges are right by their types: no address bit past the length, no first port above the last. The
+//! definitions of matching, of covers, of rule sets and what a set answers, and of chains of overlapping rules are in
+//! `specs/`; `matches`, `overlaps` and their kin are true exactly where these hold.
+//!
+//! # What it cost
+//! Both families of addresses share the types. An IPv4 address stands in the upper 32 bits of 128, so that a prefix of
+//! length 8 is the same test for both; each address takes 16 bytes for it. A rank has room for a length and a whole
+//! address; contracts see it as one number, and it is ordered as that number is.
+//!
+//! # What isn't here
+//! Sets of rules as a structure, and batches: those are `rule_store`'s.
 #![tactic(auto)]
 
 mod laws;

@@ -1,7 +1,20 @@
 //! The program `tcam`: it reads a script of changes to routes or to an access list from standard input, carries it out
 //! over a modelled device, and writes the report to standard output.
 //!
-//! Everything but the few lines of `main` is [`top::run`], over any source, sink and device.
+//! # The one hard idea
+//! The promise is a clause of one function, [`top::run`], over any source, sink and device. Standard input foretells
+//! nothing, and standard output doesn't say what became of a failed write; so the promise is said by what the source
+//! gave and the sink accepted, for every rest that may come behind (`specs/Given`).
+//!
+//! # How it stands
+//! `command_line` says what `clap` is to take and what its answer asks for; `top` is the loop of lines, acts and the
+//! last line. Everything but the few lines of `main` is proved.
+//!
+//! # What it cost
+//! Lines are carried out before the next read, so a source that gives one line a read is read once a line.
+//!
+//! # What isn't promised
+//! Speed, and that memory is there. What std's reader and writer do with the file is trusted.
 #![tactic(auto)]
 
 ghost use Rattle.std.specs.Prelude.{◌≡◌};
