@@ -10,7 +10,7 @@ use Rattle.ternary_word.specs.declared.Entry.{Entry}
 use Rattle.overlap_index.specs.declared.LivePiece.{LivePiece}
 use Rattle.slot_order.proofs.Lists.{contains_head, contains_tail, all_append, any_is, any_from, in_filter}
 use Rattle.overlap_index.specs.Live.{AreApart, is_live, without_id}
-use Rattle.overlap_index.proofs.Live.{all_apart, apart_more, apart_filter, apart_none}
+use Rattle.overlap_index.proofs.Live.{all_apart, apart_more, apart_filter}
 use Rattle.batch_order.specs.Entries.{AreKept, AreAll}
 
 -- the front of a list of which all members pass

@@ -2,7 +2,7 @@
 use Rattle.std.proofs.Common.{ℕ, List, [], ◌∷◌, length, map}
 use Rattle.std.specs.List.{AllByRecursion}
 use Rattle.slot_order.specs.Order.{Ordered}
-use Rattle.slot_order.proofs.End.{IsWhole}
+use Rattle.slot_order.proofs.Whole.{IsWhole}
 use Rattle.slot_order.proofs.Inside.{AllInside, whole_inside}
 use Rattle.slot_pool.specs.Arrangement.{Slots}
 use Rattle.overlap_index.specs.Live.{LivePieces, is_above}
@@ -31,6 +31,6 @@ moves_inside index id slots moves ready placement =
     let reads : Reads (Related (is_above index.live)) (rank_in index.live) (IsLive index.live) (is_above index.live) =
     ranked_reads (is_above index.live) (rank_in index.live) (IsLive index.live) (ranked index ready.apart) in
     let ordered : Ordered (Related (is_above index.live)) (rank_in index.live) (IsOther index.live id) slots = ready_ordered index id slots ready in
-    let whole : IsWhole (Related (is_above index.live)) (rank_in index.live) slots id (map write_of moves) =
+    let whole : IsWhole (Related (is_above index.live)) (rank_in index.live) (IsOther index.live id) (IsLive index.live) slots id (map write_of moves) =
     plan (Related (is_above index.live)) (rank_in index.live) (IsOther index.live id) (IsLive index.live) (is_above index.live) id slots moves reads (λ a p. p.0) ready.live ordered placement in
-    from_writes (length slots) moves (whole_inside (Related (is_above index.live)) (rank_in index.live) slots id (map write_of moves) whole)
+    from_writes (length slots) moves (whole_inside (Related (is_above index.live)) (rank_in index.live) (IsOther index.live id) (IsLive index.live) slots id (map write_of moves) whole)

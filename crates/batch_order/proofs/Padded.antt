@@ -17,7 +17,7 @@ use Rattle.overlap_index.specs.declared.LivePiece.{LivePiece}
 use Rattle.overlap_index.proofs.Above.{live_is}
 use Rattle.move_planner.specs.declared.Aim.{Aim}
 use Rattle.move_planner.specs.declared.Move.{Move}
-use Rattle.move_planner.specs.Placement.{Above, first_lower, last_upper, IsPlacement, into_gap, push_down, push_up, uncross_down, uncross_up}
+use Rattle.move_planner.specs.Placement.{Above, first_lower, last_upper, next_slot, gap_start, IsPlacement, straight_in, uncross, into_gap, push_down, push_up}
 use Rattle.tcam_device.specs.declared.Write.{Write}
 use Rattle.tcam_device.specs.declared.Write.TheVariants.{Slot}
 use Rattle.tcam_device.specs.State.{State}
@@ -54,11 +54,14 @@ no-upper above id slots upper empty is =
 
 -- among empty slots the moves of a placement are one
 one-move : (above : Above) {aim : Aim} (id : ℕ) (slots : Slots) (moves : List Move) → IsPlacement above aim id slots moves → IsEmpty slots → length moves ≡ 1
-one-move above id slots moves (into_gap at low found) empty = refl
-one-move above id slots moves (push_down lower low none is down shorter) empty = absurd (no-lower above id slots lower empty is)
-one-move above id slots moves (push_up upper low none is up shorter) empty = absurd (no-upper above id slots upper empty is)
-one-move above id slots moves (uncross_down lower upper is high less down rest) empty = absurd (no-lower above id slots lower empty is)
-one-move above id slots moves (uncross_up lower upper is high less none up rest) empty = absurd (no-lower above id slots lower empty is)
+one-move above id slots moves (straight_in (into_gap at low found)) empty = refl
+one-move above id slots moves (straight_in (push_down lower low none is down shorter)) empty = absurd (no-lower above id slots lower empty is)
+one-move above id slots moves (straight_in (push_up upper low none is up shorter)) empty = absurd (no-upper above id slots upper empty is)
+one-move above id slots moves (uncross behind before cut crossed sides best pass placing) empty = absurd (no-crossing (last_upper above slots id) refl)
+  where
+    no-crossing : (found : Option ℕ) → last_upper above slots id ≡ found → ⊥
+    no-crossing (Some upper) is = no-upper above id slots upper empty is
+    no-crossing None is = let start : gap_start above slots id ≡ 0 = ap next_slot is in omega (arith, crossed, start)
 
 one-insertion : (entries : Entries) (live : List LivePiece) (slots : Slots) (planned : List Planned) → length planned ≡ 1 → ArePlanned live slots planned → IsEmpty slots → length (planned_writes entries planned) ≡ 1
 one-insertion entries live slots [] count are empty = absurd (cc)

@@ -1,5 +1,5 @@
 -- The moves of a placement put ids that stand, or the new one.
-use Rattle.std.proofs.Common.{◌≡◌, ℕ, IsTrue, Option, Some, None, List, [], ◌∷◌, length, set, get_or-set_same, get_or-set_other, length-set, inl, inr, refl, sym, ◌∙◌, subst, ap, arith}
+use Rattle.std.proofs.Common.{◌≡◌, ℕ, Bool, IsTrue, Option, Some, None, List, [], ◌∷◌, length, set, get_or-set_same, get_or-set_other, length-set, inl, inr, refl, sym, ◌∙◌, subst, ap, arith}
 use Rattle.std.specs.List.{AllByRecursion}
 use Rattle.std.proofs.lemmas.Bool.{cases_eq, cases_lt}
 use Rattle.std.proofs.lemmas.List.{get_or_past}
@@ -11,7 +11,7 @@ use Rattle.overlap_index.specs.Live.{is_live}
 use Rattle.move_planner.specs.declared.Aim.{Aim}
 use Rattle.move_planner.specs.declared.Move.{Move}
 use Rattle.move_planner.specs.declared.Move.TheVariants.{Put, Erase}
-use Rattle.move_planner.specs.Placement.{Above, IsPlacement, into_gap, push_down, push_up, uncross_down, uncross_up, after_moves, moves_along, put_held}
+use Rattle.move_planner.specs.Placement.{Above, Pass, passed, pass_down, pass_up, IsPlacing, into_gap, push_down, push_up, IsPlacement, straight_in, uncross, after_moves, moves_along, put_held}
 use Rattle.batch_order.specs.Planning.{PutsLive}
 
 -- each id that stands is live
@@ -51,20 +51,31 @@ along_puts live slots free (at ∷ []) all = held_puts live free (slot slots at)
 along_puts live slots free (at ∷ next ∷ chain) all =
     all_append (PutsLive live) (moves_along slots free (next ∷ chain)) (put_held next (slot slots at)) (along_puts live slots free (next ∷ chain) all) (held_puts live next (slot slots at) (all.at at))
 
-pub placement_puts : (live : List LivePiece) (above : Above) {aim : Aim} (id : ℕ) (slots : Slots) (moves : List Move) → IsTrue (is_live live id) → AllLive live slots
-    → IsPlacement above aim id slots moves → AllByRecursion (PutsLive live) moves
-placement_puts live above id slots moves now all (into_gap at gap free) = (now, tt)
-placement_puts live above id slots moves now all (push_down lower gap none first down shorter) =
+placing_puts : (live : List LivePiece) (above : Above) {aim : Aim} (id : ℕ) (slots : Slots) (moves : List Move) → IsTrue (is_live live id) → AllLive live slots
+    → IsPlacing above aim id slots moves → AllByRecursion (PutsLive live) moves
+placing_puts live above id slots moves now all (into_gap at gap free) = (now, tt)
+placing_puts live above id slots moves now all (push_down lower gap none first down shorter) =
     all_append (PutsLive live) (moves_along slots down.free (lower ∷ down.rest)) (Put lower id ∷ []) (along_puts live slots down.free (lower ∷ down.rest) all) (now, tt)
-placement_puts live above id slots moves now all (push_up upper gap none last up shorter) =
+placing_puts live above id slots moves now all (push_up upper gap none last up shorter) =
     all_append (PutsLive live) (moves_along slots up.free (upper ∷ up.rest)) (Put upper id ∷ []) (along_puts live slots up.free (upper ∷ up.rest) all) (now, tt)
-placement_puts live above id slots moves now all (uncross_down {moves = later} lower upper first last less down next) =
+
+pass_puts : (live : List LivePiece) (above : Above) (behind before : ℕ → Bool) (cut : ℕ) (slots : Slots) (moves : List Move) → AllLive live slots
+    → Pass above behind before cut slots moves → AllByRecursion (PutsLive live) moves
+pass_puts live above behind before cut slots moves all (passed early late) = tt
+pass_puts live above behind before cut slots moves all (pass_down {moves = later} lower last down shorter next) =
     let along = along_puts live slots down.free (lower ∷ down.rest) all in
     let cleared = all_append (PutsLive live) (moves_along slots down.free (lower ∷ down.rest)) (Erase lower ∷ []) along (tt, tt) in
     all_append (PutsLive live) (moves_along slots down.free (lower ∷ down.rest)) (Erase lower ∷ later) along
-    (tt, placement_puts live above id _ later now (live_after_moves live slots _ all cleared) next)
-placement_puts live above id slots moves now all (uncross_up {moves = later} lower upper first last less none up next) =
+    (tt, pass_puts live above behind before cut _ later (live_after_moves live slots _ all cleared) next)
+pass_puts live above behind before cut slots moves all (pass_up {moves = later} upper first up shorter next) =
     let along = along_puts live slots up.free (upper ∷ up.rest) all in
     let cleared = all_append (PutsLive live) (moves_along slots up.free (upper ∷ up.rest)) (Erase upper ∷ []) along (tt, tt) in
     all_append (PutsLive live) (moves_along slots up.free (upper ∷ up.rest)) (Erase upper ∷ later) along
-    (tt, placement_puts live above id _ later now (live_after_moves live slots _ all cleared) next)
+    (tt, pass_puts live above behind before cut _ later (live_after_moves live slots _ all cleared) next)
+
+pub placement_puts : (live : List LivePiece) (above : Above) {aim : Aim} (id : ℕ) (slots : Slots) (moves : List Move) → IsTrue (is_live live id) → AllLive live slots
+    → IsPlacement above aim id slots moves → AllByRecursion (PutsLive live) moves
+placement_puts live above id slots moves now all (straight_in placing) = placing_puts live above id slots moves now all placing
+placement_puts live above id slots moves now all (uncross {passing = passing} {moves = later} behind before cut crossed sides best pass placing) =
+    let puts = pass_puts live above behind before cut slots passing all pass in
+    all_append (PutsLive live) passing later puts (placing_puts live above id (after_moves slots passing) later now (live_after_moves live slots passing all puts) placing)

@@ -1,7 +1,7 @@
 -- A batch that isn't taken after all: the manager is as it was.
-use Rattle.std.proofs.Common.{◌≡◌, ℕ, ◌+◌, ◌-◌, List, length, map, take, drop, None, sym, ap, ap₂, subst, ◌∙◌, arith}
+use Rattle.std.proofs.Common.{◌≡◌, ℕ, ◌+◌, ◌-◌, List, length, take, None, sym, ap, ap₂, subst, ◌∙◌, arith}
 use Rattle.std.specs.List.{AllByRecursion}
-use Rattle.std.proofs.lemmas.List.{length-append, length-map, take_at, drop_at}
+use Rattle.std.proofs.lemmas.List.{length-append, length-map, take_at}
 use Rattle.slot_pool.specs.Arrangement.{Slots}
 use Rattle.rule_model.specs.declared.Rule.{Rule}
 use Rattle.rule_model.specs.RuleSet.{IsRuleSet}
@@ -13,7 +13,7 @@ use Rattle.tcam_device.specs.State.{State}
 use Rattle.commit_writes.specs.Bits.{no_bits}
 use Rattle.commit_writes.specs.Planned.{plain_state}
 use Rattle.batch_order.specs.declared.Placement.{Placement}
-use Rattle.batch_order.specs.Entries.{Entries, AddsIds, AreLast, KeepEntries}
+use Rattle.batch_order.specs.Entries.{Entries, AddsIds, KeepEntries}
 use Rattle.batch_order.specs.Kept.{IsManaged, IsArranged}
 use Rattle.batch_order.proofs.Entered.{contents_kept}
 use Rattle.batch_order.proofs.Carried.{view_of}

@@ -5,11 +5,11 @@ use Rattle.std.proofs.lemmas.Bool.{false_from_ne_true}
 use Rattle.std.proofs.lemmas.List.{take-map, take-append-le, length-map}
 use Rattle.slot_order.specs.Order.{slot, Ordered}
 use Rattle.slot_order.specs.Moves.{applied, Along, BoundsChains}
-use Rattle.slot_order.proofs.End.{IsWhole, WholeKeeps, whole_keeps}
+use Rattle.slot_order.proofs.Whole.{IsWhole, WholeKeeps, whole_keeps, whole_once}
 use Rattle.slot_order.proofs.Images.{entries}
 use Rattle.slot_order.proofs.Lists.{all_append}
 use Rattle.slot_order.proofs.Inside.{AllInside, whole_inside}
-use Rattle.slot_order.proofs.Once.{AllOnce, whole_once}
+use Rattle.slot_order.proofs.Once.{AllOnce}
 use Rattle.slot_order.proofs.Turns.{Plus}
 use Rattle.slot_order.proofs.Walks.{Along_prefix, Along_weaker, applied_append}
 use Rattle.slot_order.proofs.Writes.{slot_same}
@@ -106,7 +106,7 @@ bridge held piece P Known above d state id moves reads apart have up known new s
     all : AllKnown Known d
     all place a s = up a (o.within place a s)
 
-    whole : IsWhole (over piece) (rank piece) d id (map write_of moves)
+    whole : IsWhole (over piece) (rank piece) P Known d id (map write_of moves)
     whole = plan (over piece) (rank piece) P Known above id d moves reads up known o placement
 
     w : WholeKeeps (over piece) (rank piece) P Known d id (map write_of moves)
@@ -122,7 +122,7 @@ bridge held piece P Known above d state id moves reads apart have up known new s
     ids = subst (Ordered (over piece) (rank piece) (Plus P id)) (sym (ap (applied d) w.parts ∙ applied_append d w.before ((w.place, Some id) ∷ []))) w.done
 
     alone_after : AllOnce (applied d (map write_of moves))
-    alone_after = whole_once (over piece) (rank piece) P d id (map write_of moves) reads.mirror o alone new whole
+    alone_after = whole_once (over piece) (rank piece) P Known d id (map write_of moves) reads.mirror o alone new whole
 
     during : (n : ℕ) → n < length moves → IsOrdered (state_after state (take n (device_writes piece moves))) (Pieces piece P)
     during n l =
@@ -137,7 +137,7 @@ bridge held piece P Known above d state id moves reads apart have up known new s
         (ordered_state piece P Known (applied d (take n (map write_of moves))) (state_after state (map (slot_write f) (take n (map write_of moves)))) apart up s.slots g)
 
     front_inside : AllInside (length d) w.before
-    front_inside = all_front w.before (subst (AllInside (length d)) w.parts (whole_inside (over piece) (rank piece) d id (map write_of moves) whole))
+    front_inside = all_front w.before (subst (AllInside (length d)) w.parts (whole_inside (over piece) (rank piece) P Known d id (map write_of moves) whole))
       where
         all_front : (ms : List (ℕ × Option ℕ)) → AllInside (length d) (ms ++ (w.place, Some id) ∷ []) → AllInside (length d) ms
         all_front [] i = tt

@@ -1,7 +1,9 @@
 -- Planned insertions write slots of the arrangement only.
-use Rattle.std.proofs.Common.{◌≡◌, ◌<◌, ◌≤◌, ◌+◌, ◌-◌, ℕ, Option, None, Some, List, [], ◌∷◌, ◌++◌, length, map, refl, sym, ◌∙◌, subst, arith}
+use Rattle.std.proofs.Common.{◌≡◌, Bool, true, ◌<◌, ◌≤◌, ◌+◌, ◌-◌, ℕ, Option, None, Some, List, [], ◌∷◌, ◌++◌, length, map, refl, sym, ◌∙◌, subst, arith}
 use Rattle.std.specs.List.{AllByRecursion}
 use Rattle.slot_order.specs.Order.{slot}
+use Rattle.slot_order.specs.Cuts.{holds}
+use Rattle.slot_order.proofs.Writes.{slot_inside}
 use Rattle.slot_order.proofs.Lists.{all_append}
 use Rattle.slot_pool.specs.Arrangement.{Slots, next_free_above, last_free_below}
 use Rattle.slot_pool.proofs.Places.{first_slot_is}
@@ -11,7 +13,7 @@ use Rattle.overlap_index.specs.Live.{is_above}
 use Rattle.move_planner.specs.declared.Aim.{Aim}
 use Rattle.move_planner.specs.declared.Move.{Move}
 use Rattle.move_planner.specs.declared.Move.TheVariants.{Put, Erase}
-use Rattle.move_planner.specs.Placement.{Above, after_moves, first_lower, last_upper, next_slot, gap_start, gap_end, span_of, lower_of_held, upper_of_held, IsDownChain, IsUpChain, put_held, moves_along, DownChain, UpChain, IsPlacement, into_gap, push_down, push_up, uncross_down, uncross_up}
+use Rattle.move_planner.specs.Placement.{Above, after_moves, first_lower, last_upper, next_slot, gap_start, gap_end, span_of, lower_of_held, upper_of_held, IsDownChain, IsUpChain, put_held, moves_along, DownChain, UpChain, Pass, passed, pass_down, pass_up, IsPlacing, into_gap, push_down, push_up, IsPlacement, straight_in, uncross}
 use Rattle.move_planner.proofs.Settled.{length-after_moves}
 use Rattle.tcam_device.specs.State.{IsInUse}
 use Rattle.commit_writes.specs.Planned.{Entries, Planned, ArePlanned, write_for, planned_writes, slots_after}
@@ -70,26 +72,43 @@ down_chain above slots from place down = down_inside above slots down.free from 
 up_chain : (above : Above) (slots : Slots) (from place : ℕ) (up : UpChain above slots from (last_free_below slots place)) → AreInside (length slots) (moves_along slots up.free (from ∷ up.rest))
 up_chain above slots from place up = up_inside above slots up.free from up.rest (last_inside slots place up.free up.to) up.chain
 
--- the moves of a placement are of slots of the arrangement
-placement_inside : (above : Above) {aim : Aim} (id : ℕ) (slots : Slots) (moves : List Move) → IsPlacement above aim id slots moves → AreInside (length slots) moves
-placement_inside above id slots moves (into_gap at low found) =
+-- the moves that place an id where nothing crosses are of slots of the arrangement
+placing_inside : (above : Above) {aim : Aim} (id : ℕ) (slots : Slots) (moves : List Move) → IsPlacing above aim id slots moves → AreInside (length slots) moves
+placing_inside above id slots moves (into_gap at low found) =
     ((nearest_free_is slots (gap_start above slots id) (gap_end above slots id) _ at found).free.inside, tt)
-placement_inside above id slots moves (push_down lower low none is down shorter) =
+placing_inside above id slots moves (push_down lower low none is down shorter) =
     both (length slots) (moves_along slots down.free (lower ∷ down.rest)) (Put lower id ∷ []) (down_chain above slots lower lower down) (lower_inside above slots id lower is, tt)
-placement_inside above id slots moves (push_up upper low none is up shorter) =
+placing_inside above id slots moves (push_up upper low none is up shorter) =
     both (length slots) (moves_along slots up.free (upper ∷ up.rest)) (Put upper id ∷ []) (up_chain above slots upper upper up) (upper_inside above slots id upper is, tt)
-placement_inside above id slots moves (uncross_down {moves = rest} lower upper is_lower is_upper less down on) =
-    both (length slots) (moves_along slots down.free (lower ∷ down.rest)) (Erase lower ∷ rest) (down_chain above slots lower upper down) (
-      lower_inside above slots id lower is_lower,
+
+held_inside : (test : ℕ → Bool) (slots : Slots) (at : ℕ) → holds test (slot slots at) ≡ true → at < length slots
+held_inside test slots at is = let h = held_by (slot slots at) is in slot_inside slots at h.0 h.1
+  where
+    held_by : (held : Option ℕ) → holds test held ≡ true → (id : ℕ) × (held ≡ Some id)
+    held_by None e = absurd (cc)
+    held_by (Some id) e = (id, refl)
+
+-- and so are those that pass a boundary
+pass_inside : (above : Above) (behind before : ℕ → Bool) (cut : ℕ) (slots : Slots) (moves : List Move) → Pass above behind before cut slots moves → AreInside (length slots) moves
+pass_inside above behind before cut slots moves (passed early late) = tt
+pass_inside above behind before cut slots moves (pass_down {moves = rest} lower last down shorter on) =
+    both (length slots) (moves_along slots down.free (lower ∷ down.rest)) (Erase lower ∷ rest) (down_chain above slots lower (cut - 1) down) (
+      held_inside behind slots lower last.passing,
       subst (λ size. AreInside size rest) (length-after_moves slots (moves_along slots down.free (lower ∷ down.rest) ++ Erase lower ∷ []))
-          (placement_inside above id (after_moves slots (moves_along slots down.free (lower ∷ down.rest) ++ Erase lower ∷ [])) rest on),
+          (pass_inside above behind before cut (after_moves slots (moves_along slots down.free (lower ∷ down.rest) ++ Erase lower ∷ [])) rest on),
     )
-placement_inside above id slots moves (uncross_up {moves = rest} lower upper is_lower is_upper less none up on) =
-    both (length slots) (moves_along slots up.free (upper ∷ up.rest)) (Erase upper ∷ rest) (up_chain above slots upper upper up) (
-      upper_inside above slots id upper is_upper,
+pass_inside above behind before cut slots moves (pass_up {moves = rest} upper first up shorter on) =
+    both (length slots) (moves_along slots up.free (upper ∷ up.rest)) (Erase upper ∷ rest) (up_chain above slots upper cut up) (
+      held_inside before slots upper first.passing,
       subst (λ size. AreInside size rest) (length-after_moves slots (moves_along slots up.free (upper ∷ up.rest) ++ Erase upper ∷ []))
-          (placement_inside above id (after_moves slots (moves_along slots up.free (upper ∷ up.rest) ++ Erase upper ∷ [])) rest on),
+          (pass_inside above behind before cut (after_moves slots (moves_along slots up.free (upper ∷ up.rest) ++ Erase upper ∷ [])) rest on),
     )
+
+placement_inside : (above : Above) {aim : Aim} (id : ℕ) (slots : Slots) (moves : List Move) → IsPlacement above aim id slots moves → AreInside (length slots) moves
+placement_inside above id slots moves (straight_in placing) = placing_inside above id slots moves placing
+placement_inside above id slots moves (uncross {passing = passing} {moves = rest} behind before cut crossed sides best pass placing) =
+    both (length slots) passing rest (pass_inside above behind before cut slots passing pass)
+    (subst (λ size. AreInside size rest) (length-after_moves slots passing) (placing_inside above id (after_moves slots passing) rest placing))
 
 writes_inside : (entries : Entries) (size : ℕ) (moves : List Move) → AreInside size moves → AllByRecursion (IsInUse size) (map (write_for entries) moves)
 writes_inside entries size [] inside = tt

@@ -1,13 +1,13 @@
 -- What the moves of a placement do: the order after each, who stands at the end, and how many there are.
-use Rattle.std.proofs.Common.{◌≡◌, ℕ, ◌+◌, ◌-◌, ◌*◌, ◌<◌, ◌≤◌, true, IsTrue, Some, List, [], ◌∷◌, ◌++◌, length, map, take, drop, Contains, inl, inr, arith, refl, sym, ◌∙◌, subst, ap, length-append, append_assoc}
+use Rattle.std.proofs.Common.{◌≡◌, ℕ, ◌+◌, ◌-◌, ◌*◌, ◌<◌, ◌≤◌, Bool, true, IsTrue, Some, List, [], ◌∷◌, ◌++◌, length, map, take, drop, Contains, inl, inr, arith, refl, sym, ◌∙◌, subst, ap, length-append, append-nil, append_assoc}
 use Rattle.std.proofs.lemmas.Bool.{cases_lt, cases_eq}
 use Rattle.std.proofs.lemmas.List.{take-map, take-append-le, take_all, length-map}
 use Rattle.slot_order.specs.Order.{slot, Ordered}
 use Rattle.slot_order.specs.Moves.{applied, IsChain, BoundsChains}
 use Rattle.slot_order.proofs.Turns.{Plus}
 use Rattle.slot_order.proofs.Walks.{Along_prefix, applied_append}
-use Rattle.slot_order.proofs.End.{IsWhole, WholeKeeps, whole_keeps}
-use Rattle.slot_order.proofs.Once.{whole_once}
+use Rattle.slot_order.proofs.Whole.{IsWhole, WholeKeeps, whole_keeps, whole_few, whole_once}
+use Rattle.slot_order.specs.Cuts.{wrong_side, HasRoomNear}
 use Rattle.slot_order.proofs.Lists.{contains_head, contains_tail, in_map}
 use Rattle.slot_pool.specs.Arrangement.{Slots}
 use Rattle.rule_model.specs.Piece.{pieces_meet}
@@ -16,16 +16,16 @@ use Rattle.overlap_index.specs.Live.{LivePieces, is_above}
 use Rattle.overlap_index.proofs.Above.{rank_in, rank_is, piece_in, piece_is, live_is, above_is}
 use Rattle.move_planner.specs.declared.Aim.{Aim}
 use Rattle.move_planner.specs.declared.Move.{Move}
-use Rattle.move_planner.specs.Placement.{after_moves, gap_start, gap_end, span_of, IsInOrder, IsPlacement}
+use Rattle.move_planner.specs.Placement.{after_moves, gap_start, gap_end, span_of, AreSides, IsCut, IsInOrder, IsPlacement, straight_in}
 use Rattle.std.proofs.Math.Seq.{drop-append_seam}
 use Rattle.move_planner.specs.Insertion.{IsLive, IsOther, StandOnce, BoundsLiveChains, AreMade, moves_since, free_slots}
-use Rattle.move_planner.specs.Steps.{IsReady, IsTurned, IsPlaced}
+use Rattle.move_planner.specs.Steps.{IsReady, IsUncrossed, IsPlaced}
 use Rattle.move_planner.proofs.Shifted.{after_append, made_by}
 use Rattle.move_planner.proofs.Chain.{write_of, after_moves-applied, Reads, floor_is, ceiling_is}
-use Rattle.move_planner.proofs.Planned.{plan}
+use Rattle.move_planner.proofs.Planned.{IsPlanned, planned}
 use Rattle.move_planner.proofs.Planner.{Related, ranked_reads}
 use Rattle.move_planner.proofs.Orders.{ranked}
-use Rattle.move_planner.proofs.Readied.{ready_ordered, order_from, start_inside}
+use Rattle.move_planner.proofs.Readied.{ready_ordered, order_from}
 
 -- a chain of live ids is one of live pieces
 live_chain : (index : LivePieces) (id : ℕ) (slots : Slots) (none : LivePiece) (chain : List ℕ) → IsReady index id slots → ((x : ℕ) → Contains chain x → IsLive index.live x)
@@ -73,10 +73,15 @@ pub record IsInserted (index : LivePieces) (id : ℕ) (slots : Slots) (moves : L
   pub order : (n : ℕ) → n ≤ length moves → IsInOrder (is_above index.live) (after_moves slots (take n moves))
   pub standing : StandOnce (IsLive index.live) (after_moves slots moves)
   pub bound : (m : ℕ) → BoundsLiveChains index.live m → length moves ≤ m * (1 + span_of (is_above index.live) slots id)
+  pub cut : (m boundary : ℕ) (behind before : ℕ → Bool) → BoundsLiveChains index.live m → AreSides (is_above index.live) slots id behind before
+      → gap_end (is_above index.live) slots id ≤ boundary → boundary ≤ gap_start (is_above index.live) slots id → HasRoomNear behind before (gap_end (is_above index.live) slots id) (gap_start (is_above index.live) slots id) boundary slots
+      → length moves ≤ m * (1 + wrong_side behind before boundary slots)
+  pub parted : (behind before : ℕ → Bool) → AreSides (is_above index.live) slots id behind before → gap_end (is_above index.live) slots id < gap_start (is_above index.live) slots id
+      → (boundary : ℕ) × IsCut (is_above index.live) slots id behind before boundary × (wrong_side behind before boundary slots ≤ span_of (is_above index.live) slots id)
 
 pub inserted : (index : LivePieces) {aim : Aim} (id : ℕ) (slots : Slots) (moves : List Move) → IsReady index id slots → IsPlacement (is_above index.live) aim id slots moves
     → IsInserted index id slots moves
-inserted index id slots moves ready placement = record { order = order; standing = standing; bound = few }
+inserted index id slots moves ready placement = record { order = order; standing = standing; bound = few; cut = cut; parted = as_planned.parted }
   where
     Over : ℕ → ℕ → Type 0
     Over a b = Related (is_above index.live) a b
@@ -87,8 +92,11 @@ inserted index id slots moves ready placement = record { order = order; standing
     ordered : Ordered (Related (is_above index.live)) (rank_in index.live) (IsOther index.live id) slots
     ordered = ready_ordered index id slots ready
 
-    whole : IsWhole (Related (is_above index.live)) (rank_in index.live) slots id (map write_of moves)
-    whole = plan (Related (is_above index.live)) (rank_in index.live) (IsOther index.live id) (IsLive index.live) (is_above index.live) id slots moves reads (λ a p. p.0) ready.live ordered placement
+    as_planned : IsPlanned (Related (is_above index.live)) (rank_in index.live) (IsOther index.live id) (IsLive index.live) (is_above index.live) id slots moves
+    as_planned = planned (Related (is_above index.live)) (rank_in index.live) (IsOther index.live id) (IsLive index.live) (is_above index.live) id slots moves reads (λ a p. p.0) ready.live ordered placement
+
+    whole : IsWhole (Related (is_above index.live)) (rank_in index.live) (IsOther index.live id) (IsLive index.live) slots id (map write_of moves)
+    whole = as_planned.whole
 
     w : WholeKeeps (Related (is_above index.live)) (rank_in index.live) (IsOther index.live id) (IsLive index.live) slots id (map write_of moves)
     w = whole_keeps (Related (is_above index.live)) (rank_in index.live) (IsOther index.live id) (IsLive index.live) slots id (map write_of moves) reads.mirror ordered (λ a p. p.0) ready.live whole
@@ -119,7 +127,7 @@ inserted index id slots moves ready placement = record { order = order; standing
     ])
 
     once : (i j other : ℕ) → slot (applied slots (map write_of moves)) i ≡ Some other → slot (applied slots (map write_of moves)) j ≡ Some other → i ≡ j
-    once = whole_once (Related (is_above index.live)) (rank_in index.live) (IsOther index.live id) slots id (map write_of moves) reads.mirror ordered ready.standing.once (λ p. p.1 refl) whole
+    once = whole_once (Related (is_above index.live)) (rank_in index.live) (IsOther index.live id) (IsLive index.live) slots id (map write_of moves) reads.mirror ordered ready.standing.once (λ p. p.1 refl) whole
 
     known : (other : ℕ) → Plus (IsOther index.live id) id other → IsLive index.live other
     known other (inl p) = p.0
@@ -143,31 +151,48 @@ inserted index id slots moves ready placement = record { order = order; standing
         (ids_bound index id slots m ready bound) in
         subst (λ n. n ≤ m * (1 + span_of (is_above index.live) slots id)) size k
 
--- turns after turns
-pub turned_more : (index : LivePieces) (id : ℕ) (a b c : Slots) (p q r : List Move) → IsTurned index id a b p q → IsTurned index id b c q r → IsTurned index id a c p r
-turned_more index id a b c p q r x y = record {
-  moves = x.moves ++ y.moves;
-  gained = y.gained ∙ (ap (λ z. z ++ y.moves) x.gained ∙ append_assoc p x.moves y.moves);
-  after = y.after ∙ (ap (λ z. after_moves z y.moves) x.after ∙ sym (after_append a x.moves y.moves));
-  goes_on = λ aim rest k. subst (IsPlacement (is_above index.live) aim id a) (sym (append_assoc x.moves y.moves rest)) (x.goes_on aim (y.moves ++ rest) (y.goes_on aim rest k));
-  ready = y.ready;
-  same_free = y.same_free ∙ x.same_free;
-  closer = let n = length-append x.moves y.moves in let s = x.closer in let t = y.closer in omega arith;
+    cut : (m boundary : ℕ) (behind before : ℕ → Bool) → BoundsLiveChains index.live m → AreSides (is_above index.live) slots id behind before
+        → gap_end (is_above index.live) slots id ≤ boundary → boundary ≤ gap_start (is_above index.live) slots id → HasRoomNear behind before (gap_end (is_above index.live) slots id) (gap_start (is_above index.live) slots id) boundary slots
+        → length moves ≤ m * (1 + wrong_side behind before boundary slots)
+    cut m boundary behind before bound sides low high room =
+        let k = whole_few (Related (is_above index.live)) (rank_in index.live) (IsOther index.live id) (IsLive index.live) slots id (map write_of moves) m (wrong_side behind before boundary slots)
+        reads.mirror ordered (λ a p. p.0) ready.live whole (ids_bound index id slots m ready bound) (as_planned.fewest behind before boundary sides low high room) in
+        subst (λ n. n ≤ m * (1 + wrong_side behind before boundary slots)) size k
+
+-- nothing crosses, and nothing was done
+pub uncrossed_none : (index : LivePieces) (id : ℕ) (slots : Slots) (plan : List Move) → IsReady index id slots
+    → gap_start (is_above index.live) slots id ≤ gap_end (is_above index.live) slots id → IsUncrossed index id slots slots plan plan
+uncrossed_none index id slots plan ready clear = record {
+  moves = [];
+  gained = sym (append-nil plan);
+  after = refl;
+  goes_on = λ aim rest p. straight_in p;
+  ready = ready;
+  same_free = refl;
+  clear = clear;
+  few = omega arith;
 }
+
+-- what was made after these moves was made after all
+pub made_after : (index : LivePieces) (id : ℕ) (a b c : Slots) (p q r : List Move) → IsUncrossed index id a b p q → AreMade b c q r → AreMade a c p r
+made_after index id a b c p q r x y =
+    made_by a c p r (x.moves ++ moves_since q r)
+    (y.0 ∙ (ap (λ z. z ++ moves_since q r) x.gained ∙ append_assoc p x.moves (moves_since q r)))
+    (y.1 ∙ (ap (λ z. after_moves z (moves_since q r)) x.after ∙ sym (after_append a x.moves (moves_since q r))))
 
 -- the whole of an insertion, as the planner says it
 pub record IsWholly (index : LivePieces) (aim : Aim) (id : ℕ) (slots slots' : Slots) (plan plan' : List Move) : Type 0 where
   pub made : AreMade slots slots' plan plan'
   pub placement : IsPlacement (is_above index.live) aim id slots (moves_since plan plan')
-  pub few : length (moves_since plan plan') ≤ 4097 * (2 + span_of (is_above index.live) slots id)
+  pub few : length (moves_since plan plan') ≤ 4097 * 4098
   pub one_fewer : free_slots slots' + 1 ≡ free_slots slots
   pub inserted : IsInserted index id slots (moves_since plan plan')
 
-pub wholly : (index : LivePieces) (aim : Aim) (id : ℕ) (a b c : Slots) (p q r : List Move) → IsReady index id a → IsTurned index id a b p q → IsPlaced index aim id b c q r → IsWholly index aim id a c p r
+pub wholly : (index : LivePieces) (aim : Aim) (id : ℕ) (a b c : Slots) (p q r : List Move) → IsReady index id a → IsUncrossed index id a b p q → IsPlaced index aim id b c q r → IsWholly index aim id a c p r
 wholly index aim id a b c p q r ready x y = record {
   made = made;
   placement = placement;
-  few = let n = length-append x.moves y.moves in let s = x.closer in let t = y.few in let e = ap length since in let k = wider in omega arith;
+  few = let n = length-append x.moves y.moves in let s = x.few in let t = y.few in let e = ap length since in omega arith;
   one_fewer = y.one_fewer ∙ x.same_free;
   inserted = inserted index id a (moves_since p r) ready placement;
 }
@@ -187,9 +212,6 @@ wholly index aim id a b c p q r ready x y = record {
     placement : IsPlacement (is_above index.live) aim id a (moves_since p r)
     placement = subst (IsPlacement (is_above index.live) aim id a) (sym since) (x.goes_on aim y.moves y.placement)
 
-    wider : gap_start (is_above index.live) a id - gap_end (is_above index.live) a id ≤ 1 + span_of (is_above index.live) a id
-    wider = omega arith
-
 -- the count of the moves
 pub record CountsMoves (index : LivePieces) (id : ℕ) (slots : Slots) (plan plan' : List Move) : Type 0 where
   pub count : length plan' - length plan ≡ length (moves_since plan plan')
@@ -198,10 +220,5 @@ pub record CountsMoves (index : LivePieces) (id : ℕ) (slots : Slots) (plan pla
 pub counted : (index : LivePieces) {aim : Aim} (id : ℕ) (slots slots' : Slots) (plan plan' : List Move) → IsReady index id slots → IsWholly index aim id slots slots' plan plan' → CountsMoves index id slots plan plan'
 counted index id slots slots' plan plan' ready w = record {
   count = let e = ap length w.made.0 in let n = length-append plan (moves_since plan plan') in omega arith;
-  small =
-      let k = w.few in
-      let s = start_inside (is_above index.live) slots id in
-      let t = ready.few in
-      let small : span_of (is_above index.live) slots id ≤ 4096 = omega arith in
-      omega arith;
+  small = let k = w.few in omega arith;
 }

@@ -1,17 +1,27 @@
+pub mod Alone
+pub mod Begun
 pub mod Chain
+pub mod Cutting
 pub mod Crossed
 pub mod Ends
 mod Examples
 pub mod Filled
 pub mod Inserted
+pub mod Leading
+pub mod Marks
 pub mod Orders
 pub mod Outcomes
+pub mod Passed
 pub mod Placed
 pub mod Planned
 pub mod Planner
+pub mod Reach
 pub mod Readied
 pub mod Settled
 pub mod Shifted
+pub mod Tallied
 pub mod Turned
+pub mod Uncrossing
+pub mod Underway
 pub mod Walked
 pub mod Ways

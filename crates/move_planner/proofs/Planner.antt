@@ -1,62 +1,72 @@
--- What the planner's own proof needs: one chain, and slot_order's words from its test alone.
-use Rattle.std.proofs.Common.{◌≡◌, ℕ, ◌<◌, ◌≤◌, IsTrue, Option, Some, List, [], ◌∷◌, arith, inl, inr, ◌⊎◌, refl, sym, ◌∙◌, subst, ap}
+-- What the planner's own proof needs: one chain, one slot next to a boundary, and slot_order's words from its test alone.
+use Rattle.std.proofs.Common.{◌≡◌, ℕ, ◌<◌, ◌≤◌, Bool, IsTrue, Option, Some, List, [], ◌∷◌, arith, inl, inr, ◌⊎◌, refl, sym, ◌∙◌, subst}
+use Rattle.std.proofs.lemmas.Bool.{cases_lt, both_ways}
 use Rattle.slot_pool.specs.Arrangement.{Slots}
-use Rattle.move_planner.specs.Placement.{Above, StopsBelow, StopsAbove, IsDownChain, IsUpChain, DownChain, UpChain}
+use Rattle.move_planner.specs.Placement.{Above, StopsBelow, StopsAbove, IsDownChain, IsUpChain, DownChain, UpChain, IsLastBefore, IsFirstFrom}
 use Rattle.move_planner.proofs.Chain.{Reads}
 
--- from one slot to one free slot there is one chain
-down_rest : (above : Above) (slots : Slots) (free first : ℕ) (xs ys : List ℕ) → IsDownChain above slots free (first ∷ xs) → IsDownChain above slots free (first ∷ ys) → xs ≡ ys
-down_rest above slots free first [] [] a b = refl
-down_rest above slots free first [] (y ∷ ys) a b =
-    let stops : free ≤ y = subst (StopsBelow free) b.1 a.1 in absurd (inside above slots free y ys b.2 stops)
-  where
-    inside : (above : Above) (slots : Slots) (free y : ℕ) (ys : List ℕ) → IsDownChain above slots free (y ∷ ys) → free ≤ y → ⊥
-    inside above slots free y [] c l = let k : y < free = c.0 in omega arith
-    inside above slots free y (z ∷ zs) c l = let k : y < free = c.0 in omega arith
-down_rest above slots free first (x ∷ xs) [] a b =
-    let stops : free ≤ x = subst (StopsBelow free) a.1 b.1 in absurd (inside above slots free x xs a.2 stops)
-  where
-    inside : (above : Above) (slots : Slots) (free y : ℕ) (ys : List ℕ) → IsDownChain above slots free (y ∷ ys) → free ≤ y → ⊥
-    inside above slots free y [] c l = let k : y < free = c.0 in omega arith
-    inside above slots free y (z ∷ zs) c l = let k : y < free = c.0 in omega arith
-down_rest above slots free first (x ∷ xs) (y ∷ ys) a b =
-    let k : Some x ≡ Some y = sym a.1 ∙ b.1 in
-    let same : x ≡ y = cc in
-    let h = down_rest above slots free y xs ys (subst (λ z. IsDownChain above slots free (z ∷ xs)) same a.2) b.2 in
-    ap (λ z. z ∷ xs) same ∙ ap (λ zs. y ∷ zs) h
+-- the first slot of a chain is on this side of the free one
+starts_below : (above : Above) (slots : Slots) (free from : ℕ) (rest : List ℕ) → IsDownChain above slots free (from ∷ rest) → from < free
+starts_below above slots free from [] chain = chain.0
+starts_below above slots free from (next ∷ rest) chain = chain.0
 
+starts_above : (above : Above) (slots : Slots) (free from : ℕ) (rest : List ℕ) → IsUpChain above slots free (from ∷ rest) → free < from
+starts_above above slots free from [] chain = chain.0
+starts_above above slots free from (next ∷ rest) chain = chain.0
+
+-- a chain that ends doesn't go on
+ends_below : (above : Above) (slots : Slots) (free from next : ℕ) (rest : List ℕ) → IsDownChain above slots free (from ∷ []) → IsDownChain above slots free (from ∷ next ∷ rest) → ⊥
+ends_below above slots free from next rest short long =
+    let a : free ≤ next = subst (StopsBelow free) long.1 short.1 in
+    let b = starts_below above slots free next rest long.2 in omega arith
+
+ends_above : (above : Above) (slots : Slots) (free from next : ℕ) (rest : List ℕ) → IsUpChain above slots free (from ∷ []) → IsUpChain above slots free (from ∷ next ∷ rest) → ⊥
+ends_above above slots free from next rest short long =
+    let a : next ≤ free = subst (StopsAbove free) long.1 short.1 in
+    let b = starts_above above slots free next rest long.2 in omega arith
+
+-- where a chain starts and where it goes determine it
+pub down_alone : (above : Above) (slots : Slots) (free from : ℕ) (a b : List ℕ) → IsDownChain above slots free (from ∷ a) → IsDownChain above slots free (from ∷ b) → a ≡ b
+down_alone above slots free from [] [] x y = refl
+down_alone above slots free from [] (next ∷ b) x y = absurd (ends_below above slots free from next b x y)
+down_alone above slots free from (next ∷ a) [] x y = absurd (ends_below above slots free from next a y x)
+down_alone above slots free from (next ∷ a) (other ∷ b) x y =
+    let same : next ≡ other = (let k : Some next ≡ Some other = sym x.1 ∙ y.1 in cc) in
+    let k = down_alone above slots free next a b x.2 (subst (λ z. IsDownChain above slots free (z ∷ b)) (sym same) y.2) in
+    cc
+
+pub up_alone : (above : Above) (slots : Slots) (free from : ℕ) (a b : List ℕ) → IsUpChain above slots free (from ∷ a) → IsUpChain above slots free (from ∷ b) → a ≡ b
+up_alone above slots free from [] [] x y = refl
+up_alone above slots free from [] (next ∷ b) x y = absurd (ends_above above slots free from next b x y)
+up_alone above slots free from (next ∷ a) [] x y = absurd (ends_above above slots free from next a y x)
+up_alone above slots free from (next ∷ a) (other ∷ b) x y =
+    let same : next ≡ other = (let k : Some next ≡ Some other = sym x.1 ∙ y.1 in cc) in
+    let k = up_alone above slots free next a b x.2 (subst (λ z. IsUpChain above slots free (z ∷ b)) (sym same) y.2) in
+    cc
+
+-- so do the slot and the target
 pub down_one : (above : Above) (slots : Slots) (from : ℕ) (target : Option ℕ) (a b : DownChain above slots from target) → a.rest ≡ b.rest
 down_one above slots from target a b =
-    let k : Some a.free ≡ Some b.free = sym a.to ∙ b.to in
-    let same : a.free ≡ b.free = cc in
-    down_rest above slots b.free from a.rest b.rest (subst (λ f. IsDownChain above slots f (from ∷ a.rest)) same a.chain) b.chain
-
--- likewise upwards
-up_rest : (above : Above) (slots : Slots) (free first : ℕ) (xs ys : List ℕ) → IsUpChain above slots free (first ∷ xs) → IsUpChain above slots free (first ∷ ys) → xs ≡ ys
-up_rest above slots free first [] [] a b = refl
-up_rest above slots free first [] (y ∷ ys) a b =
-    let stops : y ≤ free = subst (StopsAbove free) b.1 a.1 in absurd (outside above slots free y ys b.2 stops)
-  where
-    outside : (above : Above) (slots : Slots) (free y : ℕ) (ys : List ℕ) → IsUpChain above slots free (y ∷ ys) → y ≤ free → ⊥
-    outside above slots free y [] c l = let k : free < y = c.0 in omega arith
-    outside above slots free y (z ∷ zs) c l = let k : free < y = c.0 in omega arith
-up_rest above slots free first (x ∷ xs) [] a b =
-    let stops : x ≤ free = subst (StopsAbove free) a.1 b.1 in absurd (outside above slots free x xs a.2 stops)
-  where
-    outside : (above : Above) (slots : Slots) (free y : ℕ) (ys : List ℕ) → IsUpChain above slots free (y ∷ ys) → y ≤ free → ⊥
-    outside above slots free y [] c l = let k : free < y = c.0 in omega arith
-    outside above slots free y (z ∷ zs) c l = let k : free < y = c.0 in omega arith
-up_rest above slots free first (x ∷ xs) (y ∷ ys) a b =
-    let k : Some x ≡ Some y = sym a.1 ∙ b.1 in
-    let same : x ≡ y = cc in
-    let h = up_rest above slots free y xs ys (subst (λ z. IsUpChain above slots free (z ∷ xs)) same a.2) b.2 in
-    ap (λ z. z ∷ xs) same ∙ ap (λ zs. y ∷ zs) h
+    let same : a.free ≡ b.free = (let k : Some a.free ≡ Some b.free = sym a.to ∙ b.to in cc) in
+    down_alone above slots b.free from a.rest b.rest (subst (λ f. IsDownChain above slots f (from ∷ a.rest)) same a.chain) b.chain
 
 pub up_one : (above : Above) (slots : Slots) (from : ℕ) (target : Option ℕ) (a b : UpChain above slots from target) → a.rest ≡ b.rest
 up_one above slots from target a b =
-    let k : Some a.free ≡ Some b.free = sym a.to ∙ b.to in
-    let same : a.free ≡ b.free = cc in
-    up_rest above slots b.free from a.rest b.rest (subst (λ f. IsUpChain above slots f (from ∷ a.rest)) same a.chain) b.chain
+    let same : a.free ≡ b.free = (let k : Some a.free ≡ Some b.free = sym a.to ∙ b.to in cc) in
+    up_alone above slots b.free from a.rest b.rest (subst (λ f. IsUpChain above slots f (from ∷ a.rest)) same a.chain) b.chain
+
+-- one slot is the last before a boundary, and one the first from it on
+pub last_alone : (test : ℕ → Bool) (cut : ℕ) (slots : Slots) (a b : ℕ) → IsLastBefore test cut slots a → IsLastBefore test cut slots b → a ≡ b
+last_alone test cut slots a b x y = elim (cases_lt a b) [
+  | inl l ↦ absurd (both_ways _ (x.nearest b l y.inside) y.passing)
+  | inr l ↦ elim (cases_lt b a) [ inl m ↦ absurd (both_ways _ (y.nearest a m x.inside) x.passing) | inr m ↦ omega arith ]
+]
+
+pub first_alone : (test : ℕ → Bool) (cut : ℕ) (slots : Slots) (a b : ℕ) → IsFirstFrom test cut slots a → IsFirstFrom test cut slots b → a ≡ b
+first_alone test cut slots a b x y = elim (cases_lt a b) [
+  | inl l ↦ absurd (both_ways _ (y.nearest a x.inside l) x.passing)
+  | inr l ↦ elim (cases_lt b a) [ inl m ↦ absurd (both_ways _ (x.nearest b y.inside m) y.passing) | inr m ↦ omega arith ]
+]
 
 -- some ranks fall wherever an id is above another
 abbrev pub IsRanked : Above → (ℕ → ℕ) → Type 0

@@ -1,20 +1,24 @@
 -- An arrangement in which an id is to be placed, in slot_order's words.
 use Rattle.std.proofs.Common.{◌≡◌, ℕ, zero, suc, ◌+◌, ◌<◌, ◌≤◌, Option, None, Some, List, [], ◌∷◌, length, inl, inr, arith, le_refl, refl}
-use Rattle.std.specs.Prelude.{slice_index_or}
+use Rattle.std.specs.Prelude.{slice_index_or, IsTrue}
 use Rattle.std.proofs.lemmas.Bool.{false_from_ne_true, both_ways}
 use Rattle.slot_order.specs.Order.{slot, Ordered}
 use Rattle.slot_order.specs.Moves.{IsDownChain, IsUpChain}
 use Rattle.slot_pool.specs.Arrangement.{Slots}
-use Rattle.overlap_index.specs.Live.{LivePieces, is_above}
+use Rattle.overlap_index.specs.Live.{LivePieces, AreApart, is_live, is_above}
 use Rattle.overlap_index.proofs.Above.{rank_in}
 use Rattle.std.specs.Option.{unwrap_or}
 use Rattle.slot_pool.proofs.Places.{first_slot_is}
 use Rattle.slot_pool.proofs.Scan.{last_slot_is}
 use Rattle.move_planner.specs.Placement.{Above, first_lower, last_upper, next_slot, gap_start, gap_end, IsInOrder}
-use Rattle.move_planner.specs.Insertion.{IsOther}
+use Rattle.move_planner.specs.Insertion.{IsOther, StandOnce, free_slots}
 use Rattle.move_planner.specs.Steps.{IsTaken, CanShift, IsReady}
 use Rattle.move_planner.proofs.Planner.{IsRanked, Related}
 use Rattle.move_planner.proofs.Orders.{ranked}
+
+pub ready_from : (index : LivePieces) (id : ℕ) (slots : Slots) → length slots ≤ 4096 → 0 < free_slots slots → IsTrue (is_live index.live id) → AreApart index.slots index.live
+    → StandOnce (IsOther index.live id) slots → IsInOrder (is_above index.live) slots → IsReady index id slots
+ready_from index id slots few free live apart standing order = record { few = few; free = free; live = live; apart = apart; standing = standing; order = order }
 
 pub ready_ordered : (index : LivePieces) (id : ℕ) (slots : Slots) → IsReady index id slots
     → Ordered (Related (is_above index.live)) (rank_in index.live) (IsOther index.live id) slots

@@ -1,3 +1,4 @@
 pub mod Placement
 pub mod Insertion
 pub mod Steps
+pub mod Boundary

@@ -1,13 +1,18 @@
 -- What the steps of the planner need and what they leave.
-use Rattle.std.specs.Prelude.{◌≡◌, ◌≢◌, ℕ, ◌+◌, ◌-◌, ◌*◌, ◌<◌, ◌≤◌, ◌⊎◌, IsTrue, Option, None, Some, MatchOption, List, ◌∷◌, ◌++◌, [], length, min, max, slice_index_or, if◌then◌else◌, nat_lt}
+use Rattle.std.specs.Prelude.{◌≡◌, ◌≢◌, ℕ, ◌+◌, ◌-◌, ◌*◌, ◌<◌, ◌≤◌, ◌⊎◌, IsTrue, Bool, true, false}
+use Rattle.std.specs.Prelude.{Option, None, Some, MatchOption, List, ◌∷◌, ◌++◌, [], length, min, max, slice_index_or, if◌then◌else◌, nat_lt, nat_le, ◌==◌, ◌&&◌, ◌||◌, ◌↔◌}
 use Rattle.slot_order.specs.Order.{slot}
-use Rattle.slot_pool.specs.Arrangement.{Slots, HasTwin, next_free_above, last_free_below}
+use Rattle.slot_order.specs.Cuts.{holds, early, late, wrong_side, free_before, free_behind, HasRoom}
+use Rattle.slot_pool.specs.Arrangement.{Slots, HasTwin, home_of, next_free_above, last_free_below}
 use Rattle.overlap_index.specs.Live.{LivePieces, AreApart, is_live, is_above}
 use Rattle.move_planner.specs.declared.Aim.{Aim}
 use Rattle.move_planner.specs.declared.Move.{Move}
 use Rattle.move_planner.specs.declared.Move.TheVariants.{Put, Erase}
 use Rattle.move_planner.specs.declared.chains.Chain.{Chain}
-use Rattle.move_planner.specs.Placement.{Above, after_moves, moves_along, first_lower, last_upper, gap_start, gap_end, gap_slot, StopsBelow, StopsAbove, step_down, step_up, IsDownChain, IsUpChain, DownChain, UpChain, IsPlacement, IsInOrder}
+use Rattle.move_planner.specs.declared.sides.Sides.{Sides}
+use Rattle.move_planner.specs.declared.crossings.Cut.{Cut}
+use Rattle.move_planner.specs.Placement.{Above, after_moves, moves_along, first_lower, last_upper, gap_start, gap_end, gap_slot, StopsBelow, StopsAbove, step_down, step_up}
+use Rattle.move_planner.specs.Placement.{IsDownChain, IsUpChain, DownChain, UpChain, Leads, AreSides, IsLastBefore, IsFirstFrom, Pass, IsPlacing, IsPlacement, IsInOrder}
 use Rattle.move_planner.specs.Insertion.{IsOther, StandOnce, free_slots}
 
 -- the lesser of two slots, or the one that there is
@@ -95,29 +100,168 @@ pub record IsShiftedOut (slots slots' : Slots) (plan plan' : List Move) (along :
   pub after : slots' ≡ after_moves slots (moves_along slots along.free along.members.items ++ Erase (slice_index_or along.members.items 0 along.free) ∷ [])
   pub same_free : free_slots slots' ≡ free_slots slots
 
--- what turns leave: the moves so far are the first part of a placement with any aim, and the gap is wider
-pub record IsTurned (index : LivePieces) (id : ℕ) (slots slots' : Slots) (plan plan' : List Move) : Type 0 where
+-- the mark of a slot, where the marks begin with one slot
+abbrev pub mark_at : List Bool → ℕ → ℕ → Bool
+mark_at marks start at = slice_index_or marks (at - start) false
+
+-- the last marked slot before one, or none
+abbrev pub IsLastMarked : List Bool → ℕ → ℕ → Option ℕ → Type 0
+IsLastMarked marks start end found = MatchOption found ((at : ℕ) → start ≤ at → at < end → mark_at marks start at ≡ false)
+    (λ at. (start ≤ at) × (at < end) × (mark_at marks start at ≡ true) × ((other : ℕ) → at < other → other < end → mark_at marks start other ≡ false))
+
+-- the first marked slot from one on, or none
+abbrev pub IsFirstMarked : List Bool → ℕ → ℕ → ℕ → Option ℕ → Type 0
+IsFirstMarked marks start from end found = MatchOption found ((at : ℕ) → from ≤ at → at < end → mark_at marks start at ≡ false)
+    (λ at. (from ≤ at) × (at < end) × (mark_at marks start at ≡ true) × ((other : ℕ) → from ≤ other → other < at → mark_at marks start other ≡ false))
+
+-- the slot holds an entry that an id leads to, or one that leads to it
+abbrev pub LedTo : Above → Slots → ℕ → ℕ → Type 0
+LedTo above slots id at = (other : ℕ) × (slot slots at ≡ Some other) × Leads above slots id other
+
+abbrev pub LeadsFrom : Above → Slots → ℕ → ℕ → Type 0
+LeadsFrom above slots id at = (other : ℕ) × (slot slots at ≡ Some other) × Leads above slots other id
+
+-- a slot is marked, where the marks begin with one slot
+abbrev pub is_marked : Option ℕ → ℕ → List Bool → Bool
+is_marked None start marks = false
+is_marked (Some at) start marks = nat_le start at && slice_index_or marks (at - start) false
+
+-- an id is this one, or stands in a marked slot
+abbrev pub is_marked_id : Slots → ℕ → ℕ → List Bool → ℕ → Bool
+is_marked_id slots id start marks other = (other == id) || is_marked (home_of slots other) start marks
+
+-- the marks of the slots from one on and before another say which hold an entry that an id leads to
+pub record AreLedTo (above : Above) (slots : Slots) (id start end : ℕ) (marks : List Bool) : Type 0 where
+  pub many : length marks ≡ end - start
+  pub say : (at : ℕ) → start ≤ at → at < end → IsTrue (is_marked (Some at) start marks) ↔ LedTo above slots id at
+
+pub record LeadFrom (above : Above) (slots : Slots) (id start end : ℕ) (marks : List Bool) : Type 0 where
+  pub many : length marks ≡ end - start
+  pub say : (at : ℕ) → start ≤ at → at < end → IsTrue (is_marked (Some at) start marks) ↔ LeadsFrom above slots id at
+
+-- the sides of a crossed stretch, slot by slot
+pub record AreFoundSides (above : Above) (slots : Slots) (id : ℕ) (sides : Sides) : Type 0 where
+  pub start_is : sides.start ≡ gap_end above slots id
+  pub end_is : sides.end ≡ gap_start above slots id
+  pub led : AreLedTo above slots id sides.start sides.end sides.behind.items
+  pub lead : LeadFrom above slots id sides.start sides.end sides.before.items
+
+-- a cut under way: which slots are clear, and what the marks of the others say
+pub record IsUnderway (index : LivePieces) (id : ℕ) (behind before : ℕ → Bool) (slots : Slots) (sides : Sides) (cut : Cut) : Type 0 where
+  pub ready : IsReady index id slots
+  pub are : AreSides (is_above index.live) slots id behind before
+  pub room : HasRoom behind before cut.boundary slots
+  pub start_low : sides.start ≤ cut.low
+  pub low_cut : cut.low ≤ cut.boundary
+  pub cut_high : cut.boundary ≤ cut.high
+  pub high_end : cut.high ≤ sides.end
+  pub inside : sides.end ≤ length slots
+  pub many_behind : length sides.behind.items ≡ sides.end - sides.start
+  pub many_before : length sides.before.items ≡ sides.end - sides.start
+  pub marks_behind : (at : ℕ) → sides.start ≤ at → at < cut.low → mark_at sides.behind.items sides.start at ≡ holds behind (slot slots at)
+  pub clear_low : (at : ℕ) → cut.low ≤ at → at < cut.boundary → holds behind (slot slots at) ≡ false
+  pub clear_start : (at : ℕ) → at < sides.start → holds behind (slot slots at) ≡ false
+  pub marks_before : (at : ℕ) → cut.high ≤ at → at < sides.end → mark_at sides.before.items sides.start at ≡ holds before (slot slots at)
+  pub clear_high : (at : ℕ) → cut.boundary ≤ at → at < cut.high → holds before (slot slots at) ≡ false
+  pub clear_end : (at : ℕ) → sides.end ≤ at → holds before (slot slots at) ≡ false
+
+-- one entry has passed the boundary
+pub record OnePassed (index : LivePieces) (id : ℕ) (behind before : ℕ → Bool) (slots slots' : Slots) (plan plan' : List Move) (sides : Sides) (cut next : Cut) : Type 0 where
   pub moves : List Move
   pub gained : plan' ≡ plan ++ moves
   pub after : slots' ≡ after_moves slots moves
-  pub goes_on : (aim : Aim) (rest : List Move) → IsPlacement (is_above index.live) aim id slots' rest → IsPlacement (is_above index.live) aim id slots (moves ++ rest)
+  pub goes_on : (rest : List Move) → Pass (is_above index.live) behind before cut.boundary slots' rest → Pass (is_above index.live) behind before cut.boundary slots (moves ++ rest)
+  pub underway : IsUnderway index id behind before slots' sides next
+  pub same_boundary : next.boundary ≡ cut.boundary
+  pub same_free : free_slots slots' ≡ free_slots slots
+  pub fewer : wrong_side behind before cut.boundary slots' + 1 ≡ wrong_side behind before cut.boundary slots
+  pub few : length moves ≤ 4097
+
+-- the chain of the last early entry, or none, since none is early or no slot behind the boundary is free
+pub record EarlyChain (above : Above) (behind : ℕ → Bool) (slots : Slots) (sides : Sides) (cut : Cut) (chain : Chain) : Type 0 where
+  pub lower : ℕ
+  pub low : sides.start ≤ lower
+  pub less : lower < cut.low
+  pub last : IsLastBefore behind cut.boundary slots lower
+  pub down : IsDown above slots lower (next_free_above slots (cut.boundary - 1)) chain
+
+pub record NoEarlyChain (behind : ℕ → Bool) (slots : Slots) (cut : Cut) : Type 0 where
+  pub none : (lower : ℕ) → IsLastBefore behind cut.boundary slots lower → next_free_above slots (cut.boundary - 1) ≡ None
+  pub done : (early behind cut.boundary slots ≡ 0) ⊎ (free_behind cut.boundary slots ≡ 0)
+
+abbrev pub FindsEarly : Above → (ℕ → Bool) → Slots → Sides → Cut → Option Chain → Type 0
+FindsEarly above behind slots sides cut found = MatchOption found (NoEarlyChain behind slots cut) (EarlyChain above behind slots sides cut)
+
+-- the chain of the first late entry
+pub record LateChain (above : Above) (before : ℕ → Bool) (slots : Slots) (sides : Sides) (cut : Cut) (chain : Chain) : Type 0 where
+  pub upper : ℕ
+  pub high : cut.high ≤ upper
+  pub less : upper < sides.end
+  pub first : IsFirstFrom before cut.boundary slots upper
+  pub up : IsUp above slots upper (last_free_below slots cut.boundary) chain
+
+pub record NoLateChain (before : ℕ → Bool) (slots : Slots) (cut : Cut) : Type 0 where
+  pub none : (upper : ℕ) → IsFirstFrom before cut.boundary slots upper → last_free_below slots cut.boundary ≡ None
+  pub done : (late before cut.boundary slots ≡ 0) ⊎ (free_before cut.boundary slots ≡ 0)
+
+abbrev pub FindsLate : Above → (ℕ → Bool) → Slots → Sides → Cut → Option Chain → Type 0
+FindsLate above before slots sides cut found = MatchOption found (NoLateChain before slots cut) (LateChain above before slots sides cut)
+
+-- the shorter of the two, the early one's of equal ones
+pub record EarlyPasses (above : Above) (behind before : ℕ → Bool) (slots : Slots) (sides : Sides) (cut : Cut) (chain : Chain) : Type 0 where
+  pub early_one : EarlyChain above behind slots sides cut chain
+  pub shortest : (upper : ℕ) → IsFirstFrom before cut.boundary slots upper → (up : UpChain above slots upper (last_free_below slots cut.boundary)) → length early_one.down.rest ≤ length up.rest
+
+pub record LatePasses (above : Above) (behind before : ℕ → Bool) (slots : Slots) (sides : Sides) (cut : Cut) (chain : Chain) : Type 0 where
+  pub late_one : LateChain above before slots sides cut chain
+  pub shortest : (lower : ℕ) → IsLastBefore behind cut.boundary slots lower → (down : DownChain above slots lower (next_free_above slots (cut.boundary - 1))) → length late_one.up.rest < length down.rest
+
+-- no chain, and so none is on the wrong side
+pub record NonePass (behind before : ℕ → Bool) (slots : Slots) (cut : Cut) : Type 0 where
+  pub early_none : early behind cut.boundary slots ≡ 0
+  pub late_none : late before cut.boundary slots ≡ 0
+
+abbrev pub FindsPasser : Above → (ℕ → Bool) → (ℕ → Bool) → Slots → Sides → Cut → Option Chain → Type 0
+FindsPasser above behind before slots sides cut found =
+    MatchOption found (NonePass behind before slots cut) (λ chain. EarlyPasses above behind before slots sides cut chain ⊎ LatePasses above behind before slots sides cut chain)
+
+-- none is left to pass it
+pub record NonePasses (behind before : ℕ → Bool) (slots slots' : Slots) (plan plan' : List Move) (cut : Cut) : Type 0 where
+  pub early_none : early behind cut.boundary slots ≡ 0
+  pub late_none : late before cut.boundary slots ≡ 0
+  pub same_slots : slots' ≡ slots
+  pub same_plan : plan' ≡ plan
+
+abbrev pub MayPass : LivePieces → ℕ → (ℕ → Bool) → (ℕ → Bool) → Slots → Slots → List Move → List Move → Sides → Cut → Option Cut → Type 0
+MayPass index id behind before slots slots' plan plan' sides cut next =
+    MatchOption next (NonePasses behind before slots slots' plan plan' cut) (OnePassed index id behind before slots slots' plan plan' sides cut)
+
+-- how far a boundary is clear once what stood in a slot has passed it
+abbrev pub cleared : Cut → ℕ → Cut
+cleared cut slot =
+    if nat_lt slot cut.boundary then record { boundary = cut.boundary; low = slot; high = cut.high } else record { boundary = cut.boundary; low = cut.low; high = slot + 1 }
+
+-- nearer to the ends of the stretch
+abbrev pub IsFurther : Sides → Cut → Option Cut → Type 0
+IsFurther sides cut next = MatchOption next (Unit {0}) (λ further. further.low + (sides.end - further.high) < cut.low + (sides.end - cut.high))
+
+-- all that stands on the wrong side of the best boundary has passed it: the moves so far are the first part of a placement with any aim
+pub record IsUncrossed (index : LivePieces) (id : ℕ) (slots slots' : Slots) (plan plan' : List Move) : Type 0 where
+  pub moves : List Move
+  pub gained : plan' ≡ plan ++ moves
+  pub after : slots' ≡ after_moves slots moves
+  pub goes_on : (aim : Aim) (rest : List Move) → IsPlacing (is_above index.live) aim id slots' rest → IsPlacement (is_above index.live) aim id slots (moves ++ rest)
   pub ready : IsReady index id slots'
   pub same_free : free_slots slots' ≡ free_slots slots
-  pub closer : length moves + 4097 * (gap_start (is_above index.live) slots' id - gap_end (is_above index.live) slots' id)
-      ≤ 4097 * (gap_start (is_above index.live) slots id - gap_end (is_above index.live) slots id)
-
--- the last upper id of one stands past its first lower one
-pub record IsCrossed (above : Above) (slots : Slots) (id lower upper : ℕ) : Type 0 where
-  pub low : first_lower above slots id ≡ Some lower
-  pub high : last_upper above slots id ≡ Some upper
-  pub crossed : lower < upper
+  pub clear : gap_start (is_above index.live) slots' id ≤ gap_end (is_above index.live) slots' id
+  pub few : length moves ≤ 4097 * 4097
 
 -- what the last part of an insertion leaves: a placement with an aim was planned and made
 pub record IsPlaced (index : LivePieces) (aim : Aim) (id : ℕ) (slots slots' : Slots) (plan plan' : List Move) : Type 0 where
   pub moves : List Move
   pub gained : plan' ≡ plan ++ moves
   pub after : slots' ≡ after_moves slots moves
-  pub placement : IsPlacement (is_above index.live) aim id slots moves
+  pub placement : IsPlacing (is_above index.live) aim id slots moves
   pub few : length moves ≤ 4097
   pub one_fewer : free_slots slots' + 1 ≡ free_slots slots
 

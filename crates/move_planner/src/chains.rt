@@ -5,7 +5,7 @@ ghost use Rattle.slot_pool.specs.Arrangement.{HasTwin, next_free_above, last_fre
 ghost use Rattle.overlap_index.specs.Live.{is_above};
 ghost use Rattle.move_planner.specs.Placement.{IsInOrder, after_moves, moves_along};
 ghost use Rattle.move_planner.specs.Insertion.{AreMade, free_slots};
-ghost use Rattle.move_planner.specs.Steps.{IsTaken, AllLive, StepsDown, StepsUp, CanShift, IsDown, IsUp, FindsDown, FindsUp};
+ghost use Rattle.move_planner.specs.Steps.{IsTaken, AllLive, StepsDown, StepsUp, CanShift, IsDown, IsUp, FindsDown, FindsUp, shorter};
 
 use crate::places::{first_lower, last_upper};
 use crate::{Move, Plan};
@@ -105,7 +105,7 @@ pub(crate) fn up_chain(
     Ok(Some(chain))
 }
 
-// The down chain from a slot to a free one above it.
+/// The down chain from a slot to a free one above it.
 fn walk_down(
     alloc: Global,
     slots: &Arrangement,
@@ -130,7 +130,7 @@ fn walk_down(
     Ok(Chain { free, members })
 }
 
-// The up chain from a slot to a free one below it.
+/// The up chain from a slot to a free one below it.
 fn walk_up(
     alloc: Global,
     slots: &Arrangement,
@@ -156,7 +156,7 @@ fn walk_up(
     Ok(Chain { free, members })
 }
 
-// The slot that a down chain goes on to, if it is before the free one.
+/// The slot that a down chain goes on to, if it is before the free one.
 fn step_down(slots: &Arrangement, index: &Index, slot: u32, free: u32) -> Option<u32>
     requires inside { slot < length slots.now }
     requires live { AllLive index.now slots.now }
@@ -167,7 +167,7 @@ fn step_down(slots: &Arrangement, index: &Index, slot: u32, free: u32) -> Option
     if next < free { Some(next) } else { None }
 }
 
-// The slot that an up chain goes on to, if it is behind the free one.
+/// The slot that an up chain goes on to, if it is behind the free one.
 fn step_up(slots: &Arrangement, index: &Index, slot: u32, free: u32) -> Option<u32>
     requires inside { slot < length slots.now }
     requires live { AllLive index.now slots.now }
@@ -177,4 +177,21 @@ fn step_up(slots: &Arrangement, index: &Index, slot: u32, free: u32) -> Option<u
 {
     let next = last_upper(slots, index, slots.at(slot)?)?;
     if free < next { Some(next) } else { None }
+}
+
+/// The shorter of two chains, the down chain of equal ones, or the one that there is.
+pub(crate) fn shorter_of(down: Option<Chain>, up: Option<Chain>) -> Option<Chain>
+    ensures { result ≡ shorter down up }
+{
+    match (down, up) {
+        (Some(down), Some(up)) => {
+            if up.len() < down.len() {
+                Some(up)
+            } else {
+                Some(down)
+            }
+        }
+        (Some(down), None) => Some(down),
+        (None, up) => up,
+    }
 }

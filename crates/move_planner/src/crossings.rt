@@ -1,50 +1,153 @@
-//! Turns that bring the last upper id before the first lower one.
-ghost use Rattle.std.specs.Prelude.{◌≡◌, ◌-◌, ◌<◌, OnOk, OnErr};
+//! The turns that put the entries that must stand before a new id and those that must stand behind it apart.
+ghost use Rattle.std.specs.Prelude.{◌≡◌, ℕ, ◌-◌, ◌<◌, ◌≤◌, Bool, IfOk, OnOk, OnErr, length};
+ghost use Rattle.slot_pool.specs.Arrangement.{next_free_above, last_free_below};
 ghost use Rattle.overlap_index.specs.Live.{is_above};
-ghost use Rattle.move_planner.specs.Placement.{gap_start, gap_end};
+ghost use Rattle.move_planner.specs.Placement.{gap_start, gap_end, IsInOrder};
 ghost use Rattle.move_planner.specs.Insertion.{AreMade};
-ghost use Rattle.move_planner.specs.Steps.{CanShift, IsReady, IsCrossed, IsShiftedOut, IsTurned};
+ghost use Rattle.move_planner.specs.Steps.{CanShift, IsReady, IsShiftedOut, FindsEarly, FindsLate, FindsPasser, IsUnderway, MayPass, IsFurther, IsUncrossed, cleared};
 
-use crate::chains::{Chain, down_chain, up_chain};
+use crate::boundary::best_boundary;
+use crate::chains::{Chain, down_chain, shorter_of, up_chain};
+use crate::places::Gap;
+use crate::sides::{Sides, find_sides, first_marked, last_marked};
 use crate::{Move, Plan};
 use overlap_index::Index;
 use slot_pool::Arrangement;
 use std::alloc::{AllocError, Global};
 
-/// A live id, its first lower slot, and its last upper one, which is past it.
+/// A boundary, and how far it is clear on either side: no slot from `low` on and before it holds an
+/// entry that must stand behind it, and none from it on and before `high` one that must stand before.
 #[derive(Clone, Copy, Debug)]
-pub(crate) struct Crossing {
-    pub(crate) id: u32,
-    pub(crate) lower: u32,
-    pub(crate) upper: u32,
+pub(crate) struct Cut {
+    pub(crate) boundary: u32,
+    pub(crate) low: u32,
+    pub(crate) high: u32,
 }
 
-/// Moves the lower id past the upper one, or where no slot there is free the upper one before the
-/// lower. After a refusal the moves that the plan gained are made.
+/// Moves each entry that stands on the wrong side of the best boundary of a crossed gap past that
+/// boundary, the nearest first. After a refusal the moves that the plan gained are made.
 pub(crate) fn uncross(
     alloc: Global,
     slots: &mut Arrangement,
     index: &Index,
     plan: &mut Plan,
-    crossing: Crossing,
+    id: u32,
+    gap: Gap,
 ) -> Result<(), AllocError>
-    requires ready { IsReady index.now crossing.id slots.old }
-    requires crossed { IsCrossed (is_above index.now.live) slots.old crossing.id crossing.lower crossing.upper }
-    ensures turned { OnOk result (IsTurned index.now crossing.id slots.old slots.new plan.old plan.new) }
-    ensures closer { OnOk result (gap_start (is_above index.now.live) slots.new crossing.id - gap_end (is_above index.now.live) slots.new crossing.id
-        < gap_start (is_above index.now.live) slots.old crossing.id - gap_end (is_above index.now.live) slots.old crossing.id) }
+    requires ready { IsReady index.now id slots.old }
+    requires start { gap.start ≡ gap_start (is_above index.now.live) slots.old id }
+    requires end { gap.end ≡ gap_end (is_above index.now.live) slots.old id }
+    requires crossed { gap_end (is_above index.now.live) slots.old id < gap_start (is_above index.now.live) slots.old id }
+    ensures uncrossed { OnOk result (IsUncrossed index.now id slots.old slots.new plan.old plan.new) }
     ensures made { OnErr result (AreMade slots.old slots.new plan.old plan.new) }
 {
-    if let Some(down) = down_chain(alloc, slots, index, crossing.lower, crossing.upper)? {
-        return turn(slots, plan, &down);
+    let sides = find_sides(alloc, slots, index, id, gap)?;
+    let boundary = best_boundary(slots, &sides);
+    let mut cut = Cut {
+        boundary,
+        low: boundary,
+        high: boundary,
+    };
+    while let Some(next) = pass_one(alloc, slots, index, plan, &sides, cut)? {
+        cut = next;
     }
-    if let Some(up) = up_chain(alloc, slots, index, crossing.upper, crossing.upper)? {
-        return turn(slots, plan, &up);
-    }
-    unreachable!()
+    Ok(())
 }
 
-// Moves along a chain, and erases its first slot.
+/// Moves the nearest entry on the wrong side of a boundary past it: the last early or the first late
+/// one, that with the shorter chain. `None` where none is left.
+fn pass_one(
+    alloc: Global,
+    slots: &mut Arrangement,
+    index: &Index,
+    plan: &mut Plan,
+    sides: &Sides,
+    cut: Cut,
+) -> Result<Option<Cut>, AllocError>
+    requires { (id : ℕ) × (behind : ℕ → Bool) × (before : ℕ → Bool) × IsUnderway index.now id behind before slots.old sides.now cut }
+    ensures passed { IfOk result (λ next. (id : ℕ) (behind before : ℕ → Bool) → IsUnderway index.now id behind before slots.old sides.now cut
+        → MayPass index.now id behind before slots.old slots.new plan.old plan.new sides.now cut next) }
+    ensures further { IfOk result (IsFurther sides.now cut) }
+    ensures made { OnErr result (AreMade slots.old slots.new plan.old plan.new) }
+{
+    let Some(chain) = passer(alloc, slots, index, sides, cut)? else {
+        return Ok(None);
+    };
+    turn(slots, plan, &chain)?;
+    Ok(Some(cleared(cut, chain.first())))
+}
+
+/// The chain of the entry that passes next. `None` where none is left.
+fn passer(
+    alloc: Global,
+    slots: &Arrangement,
+    index: &Index,
+    sides: &Sides,
+    cut: Cut,
+) -> Result<Option<Chain>, AllocError>
+    requires { (id : ℕ) × (behind : ℕ → Bool) × (before : ℕ → Bool) × IsUnderway index.now id behind before slots.now sides.now cut }
+    ensures { IfOk result (λ found. (id : ℕ) (behind before : ℕ → Bool) → IsUnderway index.now id behind before slots.now sides.now cut
+        → FindsPasser (is_above index.now.live) behind before slots.now sides.now cut found) }
+{
+    let down = early_chain(alloc, slots, index, sides, cut)?;
+    let up = late_chain(alloc, slots, index, sides, cut)?;
+    Ok(shorter_of(down, up))
+}
+
+/// The chain of the last entry before a boundary that must stand behind it. `None` where there is
+/// none or no slot from the boundary on is free.
+fn early_chain(
+    alloc: Global,
+    slots: &Arrangement,
+    index: &Index,
+    sides: &Sides,
+    cut: Cut,
+) -> Result<Option<Chain>, AllocError>
+    requires { (id : ℕ) × (behind : ℕ → Bool) × (before : ℕ → Bool) × IsUnderway index.now id behind before slots.now sides.now cut }
+    ensures { IfOk result (λ found. (id : ℕ) (behind before : ℕ → Bool) → IsUnderway index.now id behind before slots.now sides.now cut
+        → FindsEarly (is_above index.now.live) behind slots.now sides.now cut found) }
+{
+    let Some(lower) = last_marked(sides.behind.as_slice(), sides.start, cut.low) else {
+        return Ok(None);
+    };
+    down_chain(alloc, slots, index, lower, cut.boundary - 1)
+}
+
+/// The chain of the first entry from a boundary on that must stand before it. `None` where there is
+/// none or no slot before the boundary is free.
+fn late_chain(
+    alloc: Global,
+    slots: &Arrangement,
+    index: &Index,
+    sides: &Sides,
+    cut: Cut,
+) -> Result<Option<Chain>, AllocError>
+    requires { (id : ℕ) × (behind : ℕ → Bool) × (before : ℕ → Bool) × IsUnderway index.now id behind before slots.now sides.now cut }
+    ensures { IfOk result (λ found. (id : ℕ) (behind before : ℕ → Bool) → IsUnderway index.now id behind before slots.now sides.now cut
+        → FindsLate (is_above index.now.live) before slots.now sides.now cut found) }
+{
+    let Some(upper) = first_marked(sides.before.as_slice(), sides.start, cut.high, sides.end) else {
+        return Ok(None);
+    };
+    up_chain(alloc, slots, index, upper, cut.boundary)
+}
+
+/// How far a boundary is clear once what stood in a slot has passed it.
+fn cleared(cut: Cut, slot: u32) -> Cut
+    requires { slot < 4096 }
+    ensures { result ≡ cleared cut slot }
+{
+    if slot < cut.boundary {
+        Cut { low: slot, ..cut }
+    } else {
+        Cut {
+            high: slot + 1,
+            ..cut
+        }
+    }
+}
+
+/// Moves along a chain, and erases its first slot.
 fn turn(slots: &mut Arrangement, plan: &mut Plan, chain: &Chain) -> Result<(), AllocError>
     requires { CanShift slots.old chain.now.free chain.now.members.items }
     ensures turned { OnOk result (IsShiftedOut slots.old slots.new plan.old plan.new chain.now) }

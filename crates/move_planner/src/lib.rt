@@ -13,8 +13,26 @@
 //!    aim: the middle of the gap, or a slot, which may lie in the gap or not. All that is promised holds of any aim.
 //! 2. None is: the first lower entry makes way downwards or the last upper one upwards, along the shorter of two
 //!    chains, and the new entry is put over the slot that this leaves.
-//! 3. The last upper entry stands past the first lower one, as it may where these two don't overlap: the lower one
-//!    moves past the upper one, or the upper before the lower, and its old slot is erased. Then the gap is taken anew.
+//! 3. The last upper entry stands past the first lower one, as it may where these two don't overlap. Then a cut is made
+//!    first, as below, and nothing crosses any more.
+//!
+//! # The cut
+//! An entry to which a chain of overlapping entries of falling priority leads from the new one must stand behind it, and
+//! one from which such a chain leads to the new one must stand before it. So a boundary is chosen between the first lower
+//! and the last upper entry, and each entry on its wrong side passes it: along its chain to the nearest free slot beyond,
+//! and its old slot is erased. The nearest on either side may be next, and the one with the shorter chain is. Of the
+//! boundaries with room the one is taken that the fewest have to pass, the last of equal ones. A boundary has room where
+//! the entries on either wrong side fit into the free slots beyond it and those that the other side's leave; of the free
+//! slots those between the first lower and the last upper entry count, and up to two before them and up to two behind
+//! them. One boundary always has room. Of chains of equal length the down chain is taken. In a table of 8 slots two lower
+//! entries, b and c, stand in slots 2 and 3 and an upper one, a, in slot 4:
+//!
+//! ```text
+//! slot     0    1    2    3    4    5
+//! before   .    .    b    c    a    .    before slot 2: a has to pass; behind slot 4: b and c
+//! move 1   .    a    b    c    a    .    a is put into slot 1
+//! move 2   .    a    b    c    .    .    its old slot is erased: the new entry belongs between slots 1 and 2
+//! ```
 //!
 //! # Chains
 //! An entry that moves to a free slot may pass one that it has to stand before. So that one moves first. A down chain
@@ -38,32 +56,41 @@
 //!
 //! # What it costs
 //! A chain's entries overlap one after the other at falling priorities. So with the new entry it has at most as many
-//! members as the longest such chain among the live pieces has, `m`, and an insertion of crossing span `c` takes at
-//! most `m * (1 + c)` moves: each turn of rule 3 narrows the span. The gap is found once before each turn, and a
-//! chain looks once at what overlaps each of its members; an entry's slot is looked up, not searched for.
+//! members as the longest such chain among the live pieces has, `m`. Each entry that passes the boundary takes at most `m`
+//! moves, and so does the rest: at most `m * (1 + w)` in all, `w` the number of entries on the wrong side of any boundary
+//! with room. The best one has no more of them than the crossing span `c` has slots, so there are at most `m * (1 + c)`
+//! moves. So `n` entries take at most `(n + 1)^2` moves. One move more than entries stand isn't enough, for any way to
+//! insert: a lower entry, a free slot and an upper one, in three slots, take four. Where `p` lower entries, one free slot
+//! and `q` upper ones stand in this order, all of either kind overlapping one another, a search over small `p` and `q`
+//! found `(p + 1) * (q + 1)` moves to be the least. The gap is found once before the cut and once after it, the cut looks
+//! once at what overlaps each entry of the crossed stretch on either side, and a chain at what overlaps each of its
+//! members; an entry's slot is looked up, not searched for.
 //!
 //! # What isn't promised
-//! A least number of moves. The rules look at one entry at a time; we don't know a good way to look further ahead that
-//! stays simple. The idea of ordering only entries that overlap is that of D. Shah and P. Gupta, "Fast Updating
-//! Algorithms for TCAMs", IEEE Micro 21(1), 2001.
+//! A least number of moves. The cut counts entries and not the moves that they take, and chains are taken one by one; we
+//! don't know a good way to look further ahead that stays simple. The idea of ordering only entries that overlap is that
+//! of D. Shah and P. Gupta, "Fast Updating Algorithms for TCAMs", IEEE Micro 21(1), 2001; the cut is our own.
 #![tactic(auto)]
 
-ghost use Rattle.std.specs.Prelude.{◌≡◌, ℕ, ◌+◌, ◌*◌, ◌<◌, ◌≤◌, ◌++◌, ◌∷◌, [], IsTrue, IfOk, OnOk, OnErr, length, take, slice_index_or};
+ghost use Rattle.std.specs.Prelude.{◌≡◌, ℕ, ◌+◌, ◌*◌, ◌<◌, ◌≤◌, ◌++◌, ◌∷◌, [], List, Bool, IsTrue, IfOk, OnOk, OnErr, length, take, slice_index_or};
 ghost use Rattle.overlap_index.specs.Live.{is_live, is_above};
-ghost use Rattle.move_planner.specs.Placement.{IsPlacement, IsInOrder, gap_start, gap_end, span_of, after_move, after_moves};
-ghost use Rattle.move_planner.specs.Insertion.{IsLive, IsOther, StandOnce, BoundsLiveChains, free_slots, moves_since};
-ghost use Rattle.move_planner.specs.Steps.{CanMake};
+ghost use Rattle.slot_order.specs.Cuts.{wrong_side, HasRoomNear};
+ghost use Rattle.move_planner.specs.Placement.{AreSides, IsCut, IsPlacement, IsInOrder, gap_start, gap_end, span_of, after_move, after_moves};
+ghost use Rattle.move_planner.specs.Insertion.{IsLive, IsOther, StandOnce, BoundsLiveChains, AreMade, free_slots, moves_since};
+ghost use Rattle.move_planner.specs.Steps.{CanMake, IsReady, IsUncrossed};
 
+mod boundary;
 mod chains;
 mod crossings;
 mod places;
 mod placing;
+mod sides;
 #[cfg(test)]
 mod tests;
 
-use crossings::{Crossing, uncross};
+use crossings::uncross;
 use overlap_index::Index;
-use places::find_gap;
+use places::{Gap, find_gap};
 use placing::place;
 use slot_pool::Arrangement;
 use std::alloc::{AllocError, Global};
@@ -165,10 +192,13 @@ impl Plan {
 /// `slots` has at most 4,096 slots, of which one is free. `id` is live in `index` and stands in no slot; every other live
 /// id stands in exactly one, and all in order. The plan gains the moves, each of which leaves the arrangement in order,
 /// and at the end every live id stands in exactly one slot. The answer is the number of the moves and how far the last
-/// upper entry stood past the first lower one, 0 where nothing crossed. The one refusal is want of memory: then the
-/// arrangement is the old one after the moves that the plan gained.
+/// upper entry stood past the first lower one, 0 where nothing crossed. With `m` a bound on the chains of live pieces
+/// there are at most `m` moves for each slot of that span and `m` more (`bound`), and at most `m` for each entry on the
+/// wrong side of any boundary with room, and `m` more (`cut`). The boundary that entries pass has no more of them than the
+/// span has slots (`parted`), and no other moves are a placement of the id (`alone`). The one refusal is want of memory:
+/// then the arrangement is the old one after the moves that the plan gained.
 ///
-/// Source: D. Shah and P. Gupta, "Fast Updating Algorithms for TCAMs", IEEE Micro 21(1), 2001.
+/// Source: D. Shah and P. Gupta, "Fast Updating Algorithms for TCAMs", IEEE Micro 21(1), 2001; the cut is our own.
 pub fn plan_insert(
     alloc: Global,
     slots: &mut Arrangement,
@@ -192,21 +222,48 @@ pub fn plan_insert(
         → IsInOrder (is_above index.now.live) (after_moves slots.old (take n (moves_since plan.old plan.new)))) }
     ensures standing { OnOk result (StandOnce (IsLive index.now.live) slots.new) }
     ensures bound { IfOk result (λ insert. (m : ℕ) → BoundsLiveChains index.now.live m → insert.writes ≤ m * (1 + insert.span)) }
+    ensures cut { IfOk result (λ insert. (m boundary : ℕ) (behind before : ℕ → Bool) → BoundsLiveChains index.now.live m
+        → AreSides (is_above index.now.live) slots.old id behind before
+        → gap_end (is_above index.now.live) slots.old id ≤ boundary → boundary ≤ gap_start (is_above index.now.live) slots.old id
+        → HasRoomNear behind before (gap_end (is_above index.now.live) slots.old id) (gap_start (is_above index.now.live) slots.old id) boundary slots.old
+        → insert.writes ≤ m * (1 + wrong_side behind before boundary slots.old)) }
+    ensures parted { IfOk result (λ insert. (behind before : ℕ → Bool) → AreSides (is_above index.now.live) slots.old id behind before
+        → gap_end (is_above index.now.live) slots.old id < gap_start (is_above index.now.live) slots.old id
+        → (boundary : ℕ) × IsCut (is_above index.now.live) slots.old id behind before boundary
+        × (wrong_side behind before boundary slots.old ≤ insert.span)) }
+    ensures alone { OnOk result ((moves : List Move) → IsPlacement (is_above index.now.live) aim id slots.old moves → moves ≡ moves_since plan.old plan.new) }
     ensures free { OnOk result (free_slots slots.new + 1 ≡ free_slots slots.old) }
 {
     let before = plan.len();
-    let mut gap = find_gap(slots, index, id);
+    let gap = find_gap(slots, index, id);
     let span = gap.span();
-    while gap.end < gap.start {
-        let crossing = Crossing {
-            id,
-            lower: gap.end,
-            upper: gap.start - 1,
-        };
-        uncross(alloc, slots, index, plan, crossing)?;
-        gap = find_gap(slots, index, id);
-    }
+    let gap = clear_gap(alloc, slots, index, plan, id, gap)?;
     place(alloc, slots, index, plan, id, aim, gap)?;
     let writes = (plan.len() - before) as u32;
     Ok(Insert { writes, span })
+}
+
+/// The gap of a new id, after the moves that undo its crossing, if it has one. After a refusal the moves
+/// that the plan gained are made.
+fn clear_gap(
+    alloc: Global,
+    slots: &mut Arrangement,
+    index: &Index,
+    plan: &mut Plan,
+    id: u32,
+    gap: Gap,
+) -> Result<Gap, AllocError>
+    requires ready { IsReady index.now id slots.old }
+    requires start { gap.start ≡ gap_start (is_above index.now.live) slots.old id }
+    requires end { gap.end ≡ gap_end (is_above index.now.live) slots.old id }
+    ensures clear { OnOk result (IsUncrossed index.now id slots.old slots.new plan.old plan.new) }
+    ensures start { IfOk result (λ now. now.start ≡ gap_start (is_above index.now.live) slots.new id) }
+    ensures end { IfOk result (λ now. now.end ≡ gap_end (is_above index.now.live) slots.new id) }
+    ensures made { OnErr result (AreMade slots.old slots.new plan.old plan.new) }
+{
+    if gap.start <= gap.end {
+        return Ok(gap);
+    }
+    uncross(alloc, slots, index, plan, id, gap)?;
+    Ok(find_gap(slots, index, id))
 }

@@ -37,7 +37,7 @@ pub(crate) fn last_upper(slots: &Arrangement, index: &Index, id: u32) -> Option<
     last
 }
 
-// The lesser of two slots, or the one that there is.
+/// The lesser of two slots, or the one that there is.
 fn lesser(a: Option<u32>, b: Option<u32>) -> Option<u32>
     ensures { result ≡ lesser a b }
 {
@@ -48,7 +48,7 @@ fn lesser(a: Option<u32>, b: Option<u32>) -> Option<u32>
     }
 }
 
-// The greater of two slots, or the one that there is.
+/// The greater of two slots, or the one that there is.
 fn greater(a: Option<u32>, b: Option<u32>) -> Option<u32>
     ensures { result ≡ greater a b }
 {
@@ -59,7 +59,7 @@ fn greater(a: Option<u32>, b: Option<u32>) -> Option<u32>
     }
 }
 
-// The slot behind this one, or the first of all.
+/// The slot behind this one, or the first of all.
 fn next_slot(slot: Option<u32>) -> u32
     requires { next_slot slot < 2 ^ 32 }
     ensures { result ≡ next_slot slot }
@@ -114,7 +114,7 @@ pub(crate) fn choose(slots: &Arrangement, start: u32, end: u32, aim: Aim) -> Opt
     slots.nearest_free(start, end, aimed_at(aim, start, end))
 }
 
-// The slot that an aim means in a gap from `start` on and before `end`.
+/// The slot that an aim means in a gap from `start` on and before `end`.
 fn aimed_at(aim: Aim, start: u32, end: u32) -> u32
     requires { start + end < 2 ^ 32 }
     ensures { result ≡ aimed_at aim start end }

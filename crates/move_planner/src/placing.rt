@@ -1,11 +1,11 @@
 //! The last part of an insertion: the new id's own move, and the chain that makes way for it.
-ghost use Rattle.std.specs.Prelude.{◌≡◌, ◌≤◌, None, Some, IsSome, IfOk, OnOk, OnErr};
+ghost use Rattle.std.specs.Prelude.{◌≡◌, ◌≤◌, None, IfOk, OnOk, OnErr};
 ghost use Rattle.overlap_index.specs.Live.{is_above};
 ghost use Rattle.move_planner.specs.Placement.{first_lower, last_upper, gap_start, gap_end};
 ghost use Rattle.move_planner.specs.Insertion.{AreMade};
-ghost use Rattle.move_planner.specs.Steps.{IsReady, IsFull, IsPlaced, IsWay, FindsDownFrom, FindsUpFrom, shorter};
+ghost use Rattle.move_planner.specs.Steps.{IsReady, IsFull, IsPlaced, IsWay, FindsDownFrom, FindsUpFrom};
 
-use crate::chains::{Chain, down_chain, up_chain};
+use crate::chains::{Chain, down_chain, shorter_of, up_chain};
 use crate::places::{Gap, choose, first_lower, last_upper};
 use crate::{Aim, Move, Plan};
 use overlap_index::Index;
@@ -38,7 +38,7 @@ pub(crate) fn place(
     plan.make(slots, Move::Put(chain.first(), id))
 }
 
-// The chain that makes way for a new id whose gap has no free slot.
+/// The chain that makes way for a new id whose gap has no free slot.
 fn way(alloc: Global, slots: &Arrangement, index: &Index, id: u32) -> Result<Chain, AllocError>
     requires ready { IsReady index.now id slots.now }
     requires full { IsFull (is_above index.now.live) slots.now id }
@@ -47,10 +47,13 @@ fn way(alloc: Global, slots: &Arrangement, index: &Index, id: u32) -> Result<Cha
 {
     let down = way_down(alloc, slots, index, id)?;
     let up = way_up(alloc, slots, index, id)?;
-    Ok(shorter(down, up))
+    match shorter_of(down, up) {
+        Some(chain) => Ok(chain),
+        None => unreachable!(),
+    }
 }
 
-// The down chain from the first lower id, to the least free slot above it.
+/// The down chain from the first lower id, to the least free slot above it.
 fn way_down(
     alloc: Global,
     slots: &Arrangement,
@@ -66,7 +69,7 @@ fn way_down(
     }
 }
 
-// The up chain from the last upper id, to the greatest free slot below it.
+/// The up chain from the last upper id, to the greatest free slot below it.
 fn way_up(
     alloc: Global,
     slots: &Arrangement,
@@ -79,18 +82,5 @@ fn way_up(
     match last_upper(slots, index, id) {
         Some(upper) => up_chain(alloc, slots, index, upper, upper),
         None => Ok(None),
-    }
-}
-
-// The shorter of two chains, the down chain of equal ones, or the one that there is.
-fn shorter(down: Option<Chain>, up: Option<Chain>) -> Chain
-    requires { IsSome (shorter down up) }
-    ensures { shorter down up ≡ Some result }
-{
-    match (down, up) {
-        (Some(down), Some(up)) => { if up.len() < down.len() { up } else { down } }
-        (Some(down), None) => down,
-        (None, Some(up)) => up,
-        (None, None) => unreachable!(),
     }
 }

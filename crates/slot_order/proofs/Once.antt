@@ -1,14 +1,12 @@
 -- After an insertion each entry stands in one slot again.
-use Rattle.std.proofs.Common.{◌≡◌, ◌≢◌, ℕ, ◌<◌, Option, None, Some, List, [], ◌∷◌, ◌++◌, length, arith, inl, inr, ◌⊎◌, sym, ◌∙◌, subst, ap, set}
+use Rattle.std.proofs.Common.{◌≡◌, ◌≢◌, ℕ, ◌<◌, Option, None, Some, List, [], ◌∷◌, length, arith, inl, inr, ◌⊎◌, sym, ◌∙◌, subst, ap, set}
 use Rattle.std.proofs.lemmas.Bool.{cases_eq}
 use Rattle.slot_order.specs.Order.{slot, Ordered}
-use Rattle.slot_order.specs.Moves.{applied, chain_moves, IsDownChain, IsUpChain, Turn, Down, Up, turn_moves, turns_moves, IsTurn, IsTurns}
+use Rattle.slot_order.specs.Moves.{applied, chain_moves, IsDownChain, IsUpChain}
 use Rattle.slot_order.proofs.Writes.{slot_same, slot_other, slot_inside, put_here, put_away}
 use Rattle.slot_order.proofs.Chains.{applied_push, chain_keeps}
 use Rattle.slot_order.proofs.UpChains.{up_chain_keeps}
-use Rattle.slot_order.proofs.Insertion.{turn_closer, turns_keep}
-use Rattle.slot_order.proofs.Walks.{applied_append}
-use Rattle.slot_order.proofs.End.{IsEnd, onto_free, over_down, over_up, IsWhole}
+use Rattle.slot_order.proofs.End.{IsEnd, onto_free, over_down, over_up}
 
 -- each entry that stands does so in one slot
 abbrev pub AllOnce : {E : Type 0} → List (Option E) → Type 0
@@ -129,37 +127,21 @@ up_once over tag P d f s (t ∷ rest) e o once room free stands c =
     let p = pass b s t e g h (m.before s (let q = a.2 in omega arith) ∙ stands) (differ' tag e g lt) (λ k. let q = a.2 in omega arith) in
     subst (λ z. OneTwice z s e) (ap (λ x. set b t x) (sym stands) ∙ sym (applied_push d (chain_moves d f t rest) (t, slot d s))) p
 
-pub turn_once : {E : Type 0} (over : E → E → Type 0) (tag : E → ℕ) (P : E → Type 0) (d : List (Option E)) (l u : ℕ) (e : E) (t : Turn)
-    → ((x y : E) → over x y → over y x) → Ordered over tag P d → AllOnce d → IsTurn over tag d e t → AllOnce (applied d (turn_moves d t))
-turn_once over tag P d l u e (Down f s rest) mirror o once w =
-    let m = w.moves in
-    let c = first over tag d f s rest m.3 in
-    let h = down_once over tag P d f s rest c.0 mirror o once m.1 m.2 c.1 m.3 in
-    subst AllOnce (sym (applied_push d (chain_moves d f s rest) (s, None))) (settle (applied d (chain_moves d f s rest)) s c.0 None h (λ j a k x. let z : None ≡ Some a = k in cc))
-  where
-    first : {E : Type 0} (over : E → E → Type 0) (tag : E → ℕ) (d : List (Option E)) (f s : ℕ) (rest : List ℕ) → IsDownChain over tag d f s rest → (e : E) × (slot d s ≡ Some e)
-    first over tag d f s [] c = (c.0, c.1)
-    first over tag d f s (t ∷ rest) c = (c.0.0, c.0.1)
-turn_once over tag P d l u e (Up f s rest) mirror o once w =
-    let m = w.moves in
-    let c = first over tag d f s rest m.3 in
-    let h = up_once over tag P d f s rest c.0 o once m.1 m.2 c.1 m.3 in
-    subst AllOnce (sym (applied_push d (chain_moves d f s rest) (s, None))) (settle (applied d (chain_moves d f s rest)) s c.0 None h (λ j a k x. let z : None ≡ Some a = k in cc))
-  where
-    first : {E : Type 0} (over : E → E → Type 0) (tag : E → ℕ) (d : List (Option E)) (f s : ℕ) (rest : List ℕ) → IsUpChain over tag d f s rest → (e : E) × (slot d s ≡ Some e)
-    first over tag d f s [] c = (c.0, c.1)
-    first over tag d f s (t ∷ rest) c = (c.0.0, c.0.1)
+-- the chain moved, and its first slot was erased
+pub down_clears : {E : Type 0} (over : E → E → Type 0) (tag : E → ℕ) (P : E → Type 0) (d : List (Option E)) (f s : ℕ) (rest : List ℕ) (e : E)
+    → ((x y : E) → over x y → over y x) → Ordered over tag P d → AllOnce d → f < length d → slot d f ≡ None → slot d s ≡ Some e → IsDownChain over tag d f s rest
+    → AllOnce (set (applied d (chain_moves d f s rest)) s None)
+down_clears over tag P d f s rest e mirror o once room free stands c =
+    settle (applied d (chain_moves d f s rest)) s e None (down_once over tag P d f s rest e mirror o once room free stands c) (λ j a k x. let z : None ≡ Some a = k in cc)
 
-turns_once : {E : Type 0} (over : E → E → Type 0) (tag : E → ℕ) (P : E → Type 0) (d : List (Option E)) (e : E) (ts : List Turn)
-    → ((x y : E) → over x y → over y x) → Ordered over tag P d → AllOnce d → IsTurns over tag d e ts → AllOnce (applied d (turns_moves d ts))
-turns_once over tag P d e [] mirror o once w = once
-turns_once over tag P d e (t ∷ ts) mirror o once w =
-    let b = applied d (turn_moves d t) in
-    subst AllOnce (sym (applied_append d (turn_moves d t) (turns_moves b ts)))
-    (turns_once over tag P b e ts mirror (turn_closer over tag P d e t mirror o w.0).ordered (turn_once over tag P d 0 0 e t mirror o once w.0) w.1)
+pub up_clears : {E : Type 0} (over : E → E → Type 0) (tag : E → ℕ) (P : E → Type 0) (d : List (Option E)) (f s : ℕ) (rest : List ℕ) (e : E)
+    → Ordered over tag P d → AllOnce d → f < length d → slot d f ≡ None → slot d s ≡ Some e → IsUpChain over tag d f s rest
+    → AllOnce (set (applied d (chain_moves d f s rest)) s None)
+up_clears over tag P d f s rest e o once room free stands c =
+    settle (applied d (chain_moves d f s rest)) s e None (up_once over tag P d f s rest e o once room free stands c) (λ j a k x. let z : None ≡ Some a = k in cc)
 
 -- from here on the new entry e is not of P
-end_once : {E : Type 0} (over : E → E → Type 0) (tag : E → ℕ) (P : E → Type 0) (d : List (Option E)) (e : E) (front : List (ℕ × Option E)) (place : ℕ)
+pub end_once : {E : Type 0} (over : E → E → Type 0) (tag : E → ℕ) (P : E → Type 0) (d : List (Option E)) (e : E) (front : List (ℕ × Option E)) (place : ℕ)
     → ((x y : E) → over x y → over y x) → Ordered over tag P d → AllOnce d → (P e → ⊥) → IsEnd over tag d e front place → AllOnce (set (applied d front) place (Some e))
 end_once {E} over tag P d e front place mirror o once new (onto_free l u at floor ceiling a b inside free) = fresh
   where
@@ -185,13 +167,3 @@ end_once {E} over tag P d e front place mirror o once new (over_up l u free rest
     let k = (up_chain_keeps over tag P d free l rest upper o inside empty stands chain).1 in
     settle (applied d (chain_moves d free l rest)) l upper (Some e) (up_once over tag P d free l rest upper o once inside empty stands chain)
     (λ j x y z. let q : e ≡ x = (let w : Some e ≡ Some x = y in cc) in new (subst P (sym q) (k.ordered.within j x z)))
-
-pub whole_once : {E : Type 0} (over : E → E → Type 0) (tag : E → ℕ) (P : E → Type 0) (d : List (Option E)) (e : E) (writes : List (ℕ × Option E))
-    → ((x y : E) → over x y → over y x) → Ordered over tag P d → AllOnce d → (P e → ⊥) → IsWhole over tag d e writes → AllOnce (applied d writes)
-whole_once {E} over tag P d e writes mirror o once new w =
-    let t = turns_keep over tag P d e w.turns mirror o w.are in
-    let b = applied d (turns_moves d w.turns) in
-    let h = end_once over tag P b e w.front w.place mirror t.1 (turns_once over tag P d e w.turns mirror o once w.are) new w.ends in
-    let same : applied d writes ≡ set (applied b w.front) w.place (Some e) =
-    ap (applied d) w.parts ∙ (applied_append d (turns_moves d w.turns ++ w.front) ((w.place, Some e) ∷ []) ∙ ap (λ z. set z w.place (Some e)) (applied_append d (turns_moves d w.turns) w.front)) in
-    subst AllOnce (sym same) h

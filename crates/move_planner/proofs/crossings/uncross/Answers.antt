@@ -1,65 +1,67 @@
-use Rattle.slot_order.proofs.Writes.{slot_inside}
-use Rattle.move_planner.proofs.Outcomes.{on_ok}
-use Rattle.move_planner.proofs.Crossed.{free_beside, found_down, found_up, no_down, no_up}
-use Rattle.move_planner.proofs.Turned.{low_at, high_at, down_shifts, up_shifts, down_leaves, up_leaves}
+use Rattle.std.proofs.Common.{◌≡◌, ℕ, Bool, List, Option, None, Some, arith, refl, subst}
+use Rattle.overlap_index.specs.Live.{LivePieces, is_above}
+use Rattle.slot_pool.specs.Arrangement.{Slots}
+use Rattle.move_planner.specs.declared.Move.{Move}
+use Rattle.move_planner.specs.declared.sides.Sides.{Sides}
+use Rattle.move_planner.specs.declared.crossings.Cut.{Cut}
+use Rattle.move_planner.specs.Steps.{MayPass, OnePassed, NonePasses, AreFoundSides}
+use Rattle.move_planner.proofs.Outcomes.{on_err}
+use Rattle.move_planner.proofs.Readied.{start_inside}
+use Rattle.move_planner.proofs.Reach.{is_behind, is_before}
+use Rattle.move_planner.proofs.Begun.{IsBegun, some_boundary}
+use Rattle.move_planner.proofs.Uncrossing.{uncrossing_none, uncrossing_more, uncrossed_all, made_uncrossing}
 use Rattle.move_planner.proofs.crossings.uncross.Goals as goal
 
-pub down_chain-requires-clause-inside : goal.down_chain-requires-clause-inside
-down_chain-requires-clause-inside c =
-    let h = high_at c.args.index.now c.args.crossing.id c.args.slots.now c.args.crossing.upper c.requires.ready c.requires.crossed.high in
-    slot_inside c.args.slots.now c.args.crossing.upper h.upper h.stands
+pub best_boundary-boundary-requires-clause-inside : goal.best_boundary-boundary-requires-clause-inside
+best_boundary-boundary-requires-clause-inside c =
+    let f : AreFoundSides (is_above c.args.index.now.live) c.args.slots.now c.args.id c.in_ok-sides.sides = c.in_ok-sides.ensures in
+    let e = f.end_is in
+    let k = start_inside (is_above c.args.index.now.live) c.args.slots.now c.args.id in omega arith
 
-pub down_chain-requires-clause-taken : goal.down_chain-requires-clause-taken
-down_chain-requires-clause-taken c =
-    let h = low_at c.args.index.now c.args.crossing.id c.args.slots.now c.args.crossing.lower c.requires.ready c.requires.crossed.low in
-    (h.lower, h.stands)
+pub best_boundary-boundary-requires-clause-some : goal.best_boundary-boundary-requires-clause-some
+best_boundary-boundary-requires-clause-some c =
+    some_boundary c.args.index.now c.args.id c.args.slots.now c.in_ok-sides.sides (record { ready = c.requires.ready; found = c.in_ok-sides.ensures; crossed = c.requires.crossed })
 
-pub turn-requires : goal.turn-requires
-turn-requires c =
-    let h = low_at c.args.index.now c.args.crossing.id c.args.slots.now c.args.crossing.lower c.requires.ready c.requires.crossed.low in
-    down_shifts c.args.index.now c.args.crossing.id c.args.slots.now c.args.crossing.lower c.args.crossing.upper h.lower c.in-Some.down c.requires.ready h.stands
-    (found_down _ _ _ _ _ _ c.in-Some.is c.in_ok-down.ensures)
+pub loop-sides-init : goal.loop-sides-init
+loop-sides-init c =
+    let w : IsBegun c.args.index.now c.args.id c.args.slots.now c.in_ok-sides.sides = record { ready = c.requires.ready; found = c.in_ok-sides.ensures; crossed = c.requires.crossed } in
+    record {
+      begun = w;
+      best = c.best_boundary-boundary.ensures;
+      turns = uncrossing_none c.args.index.now c.args.id c.args.slots.now c.args.plan.now c.in_ok-sides.sides c.best_boundary-boundary.result w c.best_boundary-boundary.ensures;
+    }
 
-pub returns-in-Some-clause-turned : goal.returns-in-Some-clause-turned
-returns-in-Some-clause-turned c =
-    on_ok _ _ c.turn.result (λ out. (down_leaves c.args.index.now c.args.crossing.id c.args.slots.now c.turn.new.slots c.args.plan.now c.turn.new.plan
-    c.args.crossing.lower c.args.crossing.upper c.in-Some.down c.requires.ready c.requires.crossed (found_down _ _ _ _ _ _ c.in-Some.is c.in_ok-down.ensures) out).turned) c.turn.ensures.turned
+pub returns-in_err-next-clause-made : goal.returns-in_err-next-clause-made
+returns-in_err-next-clause-made c =
+    on_err _ c.from_residual-in_err-next.result
+    (made_uncrossing c.args.index.now c.args.id c.args.slots.now c.loop-sides.slots c.pass_one.new.slots c.args.plan.now c.loop-sides.plan c.pass_one.new.plan c.in_ok-sides.sides c.best_boundary-boundary.result
+    c.loop-sides.cut c.loop-sides.invariant.turns c.in_err-next.ensures.made)
 
-pub returns-in-Some-clause-closer : goal.returns-in-Some-clause-closer
-returns-in-Some-clause-closer c =
-    on_ok _ _ c.turn.result (λ out. (down_leaves c.args.index.now c.args.crossing.id c.args.slots.now c.turn.new.slots c.args.plan.now c.turn.new.plan
-    c.args.crossing.lower c.args.crossing.upper c.in-Some.down c.requires.ready c.requires.crossed (found_down _ _ _ _ _ _ c.in-Some.is c.in_ok-down.ensures) out).closer) c.turn.ensures.turned
+pub loop-sides-preserved : goal.loop-sides-preserved
+loop-sides-preserved c =
+    let b = is_behind (is_above c.args.index.now.live) c.args.slots.now c.args.id in
+    let f = is_before (is_above c.args.index.now.live) c.args.slots.now c.args.id in
+    let m = c.in_ok-next.ensures.passed c.args.id b f c.loop-sides.invariant.turns.underway in
+    let one : OnePassed c.args.index.now c.args.id b f c.loop-sides.slots c.pass_one.new.slots c.loop-sides.plan c.pass_one.new.plan c.in_ok-sides.sides c.loop-sides.cut c.in-Some.next =
+    subst (MayPass c.args.index.now c.args.id b f c.loop-sides.slots c.pass_one.new.slots c.loop-sides.plan c.pass_one.new.plan c.in_ok-sides.sides c.loop-sides.cut) c.in-Some.is m in
+    record {
+      begun = c.loop-sides.invariant.begun;
+      best = c.loop-sides.invariant.best;
+      turns = uncrossing_more c.args.index.now c.args.id c.args.slots.now c.loop-sides.slots c.pass_one.new.slots c.args.plan.now c.loop-sides.plan c.pass_one.new.plan c.in_ok-sides.sides
+          c.best_boundary-boundary.result c.loop-sides.cut c.in-Some.next c.loop-sides.invariant.turns one;
+    }
 
-pub up_chain-requires-clause-inside : goal.up_chain-requires-clause-inside
-up_chain-requires-clause-inside c =
-    let h = high_at c.args.index.now c.args.crossing.id c.args.slots.now c.args.crossing.upper c.requires.ready c.requires.crossed.high in
-    slot_inside c.args.slots.now c.args.crossing.upper h.upper h.stands
+-- none passed
+none_passed : (index : LivePieces) (id : ℕ) (b f : ℕ → Bool) (slots slots' : Slots) (plan plan' : List Move) (sides : Sides) (cut : Cut) (found : Option Cut) → ((next : Cut) → found ≡ Some next → ⊥)
+    → MayPass index id b f slots slots' plan plan' sides cut found → NonePasses b f slots slots' plan plan' cut
+none_passed index id b f slots slots' plan plan' sides cut None none w = w
+none_passed index id b f slots slots' plan plan' sides cut (Some next) none w = absurd (none next refl)
 
-pub up_chain-requires-clause-taken : goal.up_chain-requires-clause-taken
-up_chain-requires-clause-taken c =
-    let h = high_at c.args.index.now c.args.crossing.id c.args.slots.now c.args.crossing.upper c.requires.ready c.requires.crossed.high in
-    (h.upper, h.stands)
-
-pub turn-requires-in-Some-2 : goal.turn-requires-in-Some-2
-turn-requires-in-Some-2 c =
-    let h = high_at c.args.index.now c.args.crossing.id c.args.slots.now c.args.crossing.upper c.requires.ready c.requires.crossed.high in
-    up_shifts c.args.index.now c.args.crossing.id c.args.slots.now c.args.crossing.upper c.args.crossing.upper h.upper c.in-Some-2.up c.requires.ready h.stands
-    (found_up _ _ _ _ _ _ c.in-Some-2.is c.in_ok-up.ensures)
-
-pub returns-in-Some-2-clause-turned : goal.returns-in-Some-2-clause-turned
-returns-in-Some-2-clause-turned c =
-    on_ok _ _ c.turn-in-Some-2.result (λ out. (up_leaves c.args.index.now c.args.crossing.id c.args.slots.now c.turn-in-Some-2.new.slots c.args.plan.now c.turn-in-Some-2.new.plan
-    c.args.crossing.lower c.args.crossing.upper c.in-Some-2.up c.requires.ready c.requires.crossed (no_down _ _ _ _ _ c.in_default.not-Some c.in_ok-down.ensures)
-    (found_up _ _ _ _ _ _ c.in-Some-2.is c.in_ok-up.ensures) out).turned) c.turn-in-Some-2.ensures.turned
-
-pub returns-in-Some-2-clause-closer : goal.returns-in-Some-2-clause-closer
-returns-in-Some-2-clause-closer c =
-    on_ok _ _ c.turn-in-Some-2.result (λ out. (up_leaves c.args.index.now c.args.crossing.id c.args.slots.now c.turn-in-Some-2.new.slots c.args.plan.now c.turn-in-Some-2.new.plan
-    c.args.crossing.lower c.args.crossing.upper c.in-Some-2.up c.requires.ready c.requires.crossed (no_down _ _ _ _ _ c.in_default.not-Some c.in_ok-down.ensures)
-    (found_up _ _ _ _ _ _ c.in-Some-2.is c.in_ok-up.ensures) out).closer) c.turn-in-Some-2.ensures.turned
-
-pub unreachable-requires : goal.unreachable-requires
-unreachable-requires c =
-    let h = high_at c.args.index.now c.args.crossing.id c.args.slots.now c.args.crossing.upper c.requires.ready c.requires.crossed.high in
-    free_beside c.args.slots.now c.args.crossing.upper h.upper c.requires.ready.free h.stands
-    (no_down _ _ _ _ _ c.in_default.not-Some c.in_ok-down.ensures) (no_up _ _ _ _ _ c.in_default-2.not-Some c.in_ok-up.ensures)
+pub returns-clause-uncrossed : goal.returns-clause-uncrossed
+returns-clause-uncrossed c =
+    let b = is_behind (is_above c.args.index.now.live) c.args.slots.now c.args.id in
+    let f = is_before (is_above c.args.index.now.live) c.args.slots.now c.args.id in
+    let m = c.in_ok-next.ensures.passed c.args.id b f c.loop-sides.invariant.turns.underway in
+    uncrossed_all c.args.index.now c.args.id c.args.slots.now c.loop-sides.slots c.pass_one.new.slots c.args.plan.now c.loop-sides.plan c.pass_one.new.plan c.in_ok-sides.sides
+    c.best_boundary-boundary.result c.loop-sides.cut c.loop-sides.invariant.begun c.loop-sides.invariant.best c.loop-sides.invariant.turns
+    (none_passed c.args.index.now c.args.id b f c.loop-sides.slots c.pass_one.new.slots c.loop-sides.plan c.pass_one.new.plan c.in_ok-sides.sides c.loop-sides.cut c.in_ok-next.field-0 c.in_default.not-Some m)

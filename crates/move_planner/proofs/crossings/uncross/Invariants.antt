@@ -1,0 +1,16 @@
+use Rattle.std.proofs.Common.{◌+◌, ◌-◌}
+use Rattle.move_planner.proofs.Begun.{IsBegun}
+use Rattle.move_planner.proofs.Uncrossing.{IsUncrossing}
+use Rattle.move_planner.specs.Boundary.{IsBestTo}
+use Rattle.move_planner.proofs.crossings.uncross.Given as goal
+
+-- the turns so far
+abbrev pub invariant-loop-sides : goal.invariant-loop-sides
+invariant-loop-sides l = record {
+  begun : IsBegun l.index l.id l.fn.slots l.sides;
+  best : IsBestTo l.fn.slots l.sides l.sides.end l.boundary;
+  turns : IsUncrossing l.index l.id l.fn.slots l.slots l.fn.plan l.plan l.sides l.boundary l.cut;
+}
+
+abbrev pub decreases-loop-sides : goal.decreases-loop-sides
+decreases-loop-sides l = l.cut.low + (l.sides.end - l.cut.high)

@@ -1,0 +1,152 @@
+//! The best boundary of a crossed stretch: the fewest entries on its wrong side.
+ghost use Rattle.std.specs.Prelude.{◌≡◌, ℕ, ◌+◌, ◌-◌, ◌<◌, ◌≤◌, length};
+ghost use Rattle.slot_order.specs.Cuts.{free_behind};
+ghost use Rattle.move_planner.specs.Boundary.{HasMarkedRoom, IsBestTo, IsTallied, one, count_marks, has_room, with_better};
+
+use crate::sides::Sides;
+use slot_pool::Arrangement;
+
+/// What stands on the wrong side of a boundary, and the free slots near it, before it and behind it.
+#[derive(Clone, Copy, Debug)]
+pub(crate) struct Tally {
+    pub(crate) early: u32,
+    pub(crate) late: u32,
+    pub(crate) free_before: u32,
+    pub(crate) free_behind: u32,
+}
+
+/// A boundary and how many entries stand on the wrong side of it.
+#[derive(Clone, Copy, Debug)]
+pub(crate) struct Choice {
+    pub(crate) boundary: u32,
+    pub(crate) wrong: u32,
+}
+
+/// The boundary with room that has the fewest entries on its wrong side, the last of equal ones.
+pub(crate) fn best_boundary(slots: &Arrangement, sides: &Sides) -> u32
+    requires few { length slots.now ≤ 4096 }
+    requires order { sides.now.start ≤ sides.now.end }
+    requires inside { sides.now.end ≤ length slots.now }
+    requires behind { length sides.now.behind.items ≡ sides.now.end - sides.now.start }
+    requires before { length sides.now.before.items ≡ sides.now.end - sides.now.start }
+    requires some { (cut : ℕ) × (sides.now.start ≤ cut) × (cut ≤ sides.now.end) × HasMarkedRoom slots.now sides.now cut }
+    ensures { IsBestTo slots.now sides.now sides.now.end result }
+{
+    let mut tally = tally_at_start(slots, sides);
+    let mut choice = better(None, tally, sides.start);
+    for slot in sides.start..sides.end {
+        tally = tally_past(slots, sides, tally, slot);
+        choice = better(choice, tally, slot + 1);
+    }
+    match choice {
+        Some(choice) => choice.boundary,
+        None => unreachable!(),
+    }
+}
+
+/// The tally of the first boundary.
+fn tally_at_start(slots: &Arrangement, sides: &Sides) -> Tally
+    requires few { length slots.now ≤ 4096 }
+    requires order { sides.now.start ≤ sides.now.end }
+    requires inside { sides.now.end ≤ length slots.now }
+    requires before { length sides.now.before.items ≡ sides.now.end - sides.now.start }
+    ensures { IsTallied slots.now sides.now result sides.now.start }
+{
+    let from_start = free_from(slots, sides.start);
+    let from_end = free_from(slots, sides.end);
+    Tally {
+        early: 0,
+        late: count(sides.before.as_slice()),
+        free_before: (slots.free_count() - from_start).min(2),
+        free_behind: from_start - from_end + from_end.min(2),
+    }
+}
+
+/// The tally behind a slot, from the one before it.
+fn tally_past(slots: &Arrangement, sides: &Sides, tally: Tally, slot: u32) -> Tally
+    requires few { length slots.now ≤ 4096 }
+    requires low { sides.now.start ≤ slot }
+    requires high { slot < sides.now.end }
+    requires inside { sides.now.end ≤ length slots.now }
+    requires behind { length sides.now.behind.items ≡ sides.now.end - sides.now.start }
+    requires before { length sides.now.before.items ≡ sides.now.end - sides.now.start }
+    requires tallied { IsTallied slots.now sides.now tally slot }
+    ensures { IsTallied slots.now sides.now result (slot + 1) }
+{
+    let i = (slot - sides.start) as usize;
+    let free = one_if(slots.at(slot).is_none());
+    Tally {
+        early: tally.early + one_if(sides.behind[i]),
+        late: tally.late - one_if(sides.before[i]),
+        free_before: tally.free_before + free,
+        free_behind: tally.free_behind - free,
+    }
+}
+
+/// Of a choice, if there is one, and a later boundary the better one, the later one of equal ones.
+fn better(choice: Option<Choice>, tally: Tally, boundary: u32) -> Option<Choice>
+    requires early { tally.early ≤ 4096 }
+    requires late { tally.late ≤ 4096 }
+    requires before { tally.free_before ≤ 4096 }
+    requires behind { tally.free_behind ≤ 4096 }
+    ensures { result ≡ with_better choice tally boundary }
+{
+    if !has_room(tally) {
+        return choice;
+    }
+    let wrong = tally.early + tally.late;
+    match choice {
+        Some(choice) => {
+            if choice.wrong < wrong {
+                Some(choice)
+            } else {
+                Some(Choice { boundary, wrong })
+            }
+        }
+        None => Some(Choice { boundary, wrong }),
+    }
+}
+
+/// Whether the entries of either side fit into the free slots beyond the boundary and the slots that
+/// those of the other side leave.
+fn has_room(tally: Tally) -> bool
+    requires early { tally.early ≤ 4096 }
+    requires late { tally.late ≤ 4096 }
+    requires before { tally.free_before ≤ 4096 }
+    requires behind { tally.free_behind ≤ 4096 }
+    ensures { result ≡ has_room tally }
+{
+    tally.early <= tally.free_behind + tally.late && tally.late <= tally.free_before + tally.early
+}
+
+/// 1 for what is so.
+fn one_if(so: bool) -> u32
+    ensures { result ≡ one so }
+{
+    if so { 1 } else { 0 }
+}
+
+/// How many marks are set.
+fn count(marks: &[bool]) -> u32
+    requires { length marks.now ≤ 4096 }
+    ensures { result ≡ count_marks marks.now }
+{
+    let mut count = 0;
+    for mark in marks {
+        count += one_if(*mark);
+    }
+    count
+}
+
+/// How many slots from one on are free.
+fn free_from(slots: &Arrangement, start: u32) -> u32
+    requires few { length slots.now ≤ 4096 }
+    requires inside { start ≤ length slots.now }
+    ensures { result ≡ free_behind start slots.now }
+{
+    let mut count = 0;
+    for slot in start..slots.slots() {
+        count += one_if(slots.at(slot).is_none());
+    }
+    count
+}
