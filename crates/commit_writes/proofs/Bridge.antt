@@ -4,7 +4,7 @@ use Rattle.std.specs.List.{AllByRecursion}
 use Rattle.std.proofs.lemmas.Bool.{false_from_ne_true}
 use Rattle.std.proofs.lemmas.List.{take-map, take-append-le, length-map}
 use Rattle.slot_order.specs.Order.{slot, Ordered}
-use Rattle.slot_order.specs.Moves.{applied, Along, BoundsChains}
+use Rattle.slot_order.specs.Moves.{applied, Along, BoundsMemberChains}
 use Rattle.slot_order.proofs.Whole.{IsWhole, WholeKeeps, whole_keeps, whole_once}
 use Rattle.slot_order.proofs.Images.{entries}
 use Rattle.slot_order.proofs.Lists.{all_append}
@@ -73,7 +73,7 @@ pub record IsBridged (held : Entries) (piece : ℕ → RankedPiece) (P Known : �
   pub first : (more : List Write) → insertions state (device_writes piece moves ++ more)
       ≡ record { before = state; writes = device_writes piece moves; entry = entry_by piece id } ∷ insertions (state_after state (device_writes piece moves)) more
   pub span : IsCrossingSpan state (entry_by piece id) (span_of above d id)
-  pub few : (m : ℕ) → BoundsChains (over piece) (rank piece) Known m → length (device_writes piece moves) ≤ m * (1 + span_of above d id)
+  pub few : (m : ℕ) → BoundsMemberChains (over piece) (rank piece) Known m → length (device_writes piece moves) ≤ m * (1 + span_of above d id)
   -- and the arrangement after it
   pub ids : Ordered (over piece) (rank piece) (Plus P id) (after_moves d moves)
   pub once_ids : AllOnce (after_moves d moves)

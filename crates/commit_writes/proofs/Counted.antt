@@ -2,7 +2,7 @@
 use Rattle.std.proofs.Common.{◌≡◌, ℕ, ◌+◌, ◌*◌, ◌≤◌, max, List, [], ◌∷◌, ◌++◌, length, map, fold, Contains, arith, inl, refl, sym, ◌∙◌, subst, ap, ap₂, append_assoc, append-nil}
 use Rattle.std.specs.Prelude.{flat_map, count_by}
 use Rattle.std.specs.List.{AllZip}
-use Rattle.slot_order.specs.Moves.{BoundsChains}
+use Rattle.slot_order.specs.Moves.{BoundsMemberChains}
 use Rattle.slot_order.proofs.Count.{image_bound}
 use Rattle.rule_model.specs.Piece.{PiecesOverlap}
 use Rattle.rule_store.proofs.Counts.{count_by-cons, count_by-append}
@@ -22,7 +22,7 @@ use Rattle.commit_writes.proofs.Row.{made_by, IsAsPlanned, AreNestedIds}
 
 -- chains of ids are chains of pieces
 pub chains_of_ids : (pieces : List RankedPiece) (all : List LivePiece) (held : Entries) (m : ℕ) → AreOfPieces pieces all held
-    → BoundsPieceChains pieces m → BoundsChains (over (piece_by all held)) (rank (piece_by all held)) (IsLive all) m
+    → BoundsPieceChains pieces m → BoundsMemberChains (over (piece_by all held)) (rank (piece_by all held)) (IsLive all) m
 chains_of_ids pieces all held m of =
     image_bound (over (piece_by all held)) (rank (piece_by all held)) (IsLive all) (λ a b. PiecesOverlap a.piece b.piece) (λ ranked. ranked.rank) (Contains pieces) (piece_by all held) m
     (λ id known. known_member pieces all held id of known) (λ id known. refl) (λ a b ka kb v. v)
@@ -51,7 +51,7 @@ sizes_of_made piece all (p ∷ planned) (m ∷ made) are = ap₂ (λ first rest.
 
 -- within the bound of any chains,
 pub made_within : (piece : ℕ → RankedPiece) (all : List LivePiece) (planned : List Planned) (made : List Insertion) (m : ℕ) → AllZip (IsAsPlanned piece all) planned made
-    → BoundsChains (over piece) (rank piece) (IsLive all) m → IsWithinTightBound m made
+    → BoundsMemberChains (over piece) (rank piece) (IsLive all) m → IsWithinTightBound m made
 made_within piece all [] [] m are bound = tt
 made_within piece all [] (n ∷ made) m are bound = absurd are
 made_within piece all (p ∷ planned) [] m are bound = absurd are
@@ -59,7 +59,7 @@ made_within piece all (p ∷ planned) (n ∷ made) m are bound = ((p.span, are.0
 
 -- crossing none where they are nested,
 pub made_uncrossed : (piece : ℕ → RankedPiece) (all : List LivePiece) (planned : List Planned) (made : List Insertion) (m : ℕ) → AllZip (IsAsPlanned piece all) planned made
-    → AreNestedIds piece all → BoundsChains (over piece) (rank piece) (IsLive all) m → IsUncrossed m made
+    → AreNestedIds piece all → BoundsMemberChains (over piece) (rank piece) (IsLive all) m → IsUncrossed m made
 made_uncrossed piece all [] [] m are nested bound = tt
 made_uncrossed piece all [] (n ∷ made) m are nested bound = absurd are
 made_uncrossed piece all (p ∷ planned) [] m are nested bound = absurd are

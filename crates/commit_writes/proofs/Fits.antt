@@ -6,7 +6,7 @@ use Rattle.std.proofs.lemmas.Bool.{false_from_ne_true, eqb-true}
 use Rattle.std.proofs.lemmas.Map.Keys.{IsDistinct-cons}
 use Rattle.std.proofs.lemmas.Map.Steps.{length-le_from_distinct_below}
 use Rattle.slot_order.specs.Order.{slot}
-use Rattle.slot_order.specs.Moves.{IsChain, BoundsChains}
+use Rattle.slot_order.specs.Moves.{IsChain, BoundsMemberChains}
 use Rattle.slot_order.proofs.Lists.{contains_head, contains_tail, contains_cases, contains_none, any_is}
 use Rattle.slot_order.proofs.Writes.{slot_inside}
 use Rattle.slot_pool.specs.Arrangement.{Slots}
@@ -67,7 +67,7 @@ places_of over rank slots (id ∷ ids) chain stands =
     (places_of over rank slots ids (chain_rest over rank id ids chain) (λ other member. stands other (contains_tail id other ids member)))
 
 pub standing_bound : (over : ℕ → ℕ → Type 0) (rank : ℕ → ℕ) (Standing : ℕ → Type 0) (slots : Slots)
-    → ((id : ℕ) → Standing id → (at : ℕ) × (slot slots at ≡ Some id)) → BoundsChains over rank Standing (length slots)
+    → ((id : ℕ) → Standing id → (at : ℕ) × (slot slots at ≡ Some id)) → BoundsMemberChains over rank Standing (length slots)
 standing_bound over rank Standing slots placed ids standing chain =
     let w = places_of over rank slots ids chain (λ id member. placed id (standing id member)) in
     let few : length w.places ≤ length slots = length-le_from_distinct_below w.places (length slots) w.apart (inside w) in

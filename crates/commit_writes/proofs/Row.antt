@@ -8,7 +8,7 @@ use Rattle.std.proofs.lemmas.List.{take-append-le, length-map}
 use Rattle.std.proofs.Math.Seq.{take-append-add}
 use Rattle.std.proofs.lemmas.List.Elements.{Contains-append_left, Contains-append_right, Contains-append_cases}
 use Rattle.slot_order.specs.Order.{slot, Ordered}
-use Rattle.slot_order.specs.Moves.{BoundsChains}
+use Rattle.slot_order.specs.Moves.{BoundsMemberChains}
 use Rattle.slot_order.proofs.Images.{entries}
 use Rattle.slot_order.proofs.Once.{AllOnce}
 use Rattle.slot_order.proofs.Lists.{contains_head, contains_tail, contains_cases, contains_none}
@@ -101,7 +101,7 @@ made_by held piece state (planned ∷ rest) =
 pub record IsAsPlanned (piece : ℕ → RankedPiece) (all : List LivePiece) (planned : Planned) (insertion : Insertion) : Type 0 where
   pub span : IsCrossingSpan insertion.before insertion.entry planned.span
   pub size : length insertion.writes ≡ length planned.moves
-  pub few : (m : ℕ) → BoundsChains (over piece) (rank piece) (IsLive all) m → length insertion.writes ≤ m * (1 + planned.span)
+  pub few : (m : ℕ) → BoundsMemberChains (over piece) (rank piece) (IsLive all) m → length insertion.writes ≤ m * (1 + planned.span)
   pub uncrossed : AreNestedIds piece all → planned.span ≡ 0
 
 -- how many of planned insertions are whole after so many of their writes

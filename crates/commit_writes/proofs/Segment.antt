@@ -4,7 +4,7 @@ use Rattle.std.specs.List.{AllByRecursion, AllZip}
 use Rattle.std.proofs.Math.Nat.{mul-le-mul}
 use Rattle.std.specs.Prelude.{flat_map}
 use Rattle.std.proofs.lemmas.List.{length-map}
-use Rattle.slot_order.specs.Moves.{BoundsChains}
+use Rattle.slot_order.specs.Moves.{BoundsMemberChains}
 use Rattle.slot_order.proofs.Lists.{contains_head, contains_tail}
 use Rattle.slot_pool.specs.Arrangement.{Slots}
 use Rattle.ternary_word.specs.Entry.{RankedPiece, entry_for}
@@ -85,7 +85,7 @@ planned_span standing inserted live slots entries planned row =
 
 -- their writes are as few as their bound allows
 few_made : (piece : ℕ → RankedPiece) (all : List LivePiece) (entries : Entries) (size : ℕ) (planned : List Planned) (made : List Insertion) → AllZip (IsAsPlanned piece all) planned made
-    → AllByRecursion (λ insertion. insertion.span ≤ size) planned → BoundsChains (over piece) (rank piece) (IsLive all) size
+    → AllByRecursion (λ insertion. insertion.span ≤ size) planned → BoundsMemberChains (over piece) (rank piece) (IsLive all) size
     → length (planned_writes entries planned) ≤ size * (1 + size) * length planned
 few_made piece all entries size [] [] are spans bound = omega arith
 few_made piece all entries size [] (n ∷ made) are spans bound = absurd are
@@ -125,5 +125,5 @@ planned_few standing inserted live slots entries planned row =
     wider : (size : ℕ) → size ≤ 4096 → size * (1 + size) ≤ 4096 * 4097
     wider size few = mul-le-mul few (let more : 1 + size ≤ 4097 = omega arith in more)
 
-    bound : BoundsChains (over piece) (rank piece) (IsLive all) (length slots)
-    bound = subst (BoundsChains (over piece) (rank piece) (IsLive all)) (slots_kept slots planned) (standing_bound (over piece) (rank piece) (IsLive all) (slots_after slots planned) done.placed)
+    bound : BoundsMemberChains (over piece) (rank piece) (IsLive all) (length slots)
+    bound = subst (BoundsMemberChains (over piece) (rank piece) (IsLive all)) (slots_kept slots planned) (standing_bound (over piece) (rank piece) (IsLive all) (slots_after slots planned) done.placed)

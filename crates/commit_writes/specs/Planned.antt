@@ -1,7 +1,7 @@
 -- Insertions as they are planned, over ids in slots, and what they mean on the device.
 use Rattle.std.specs.Prelude.{◌≡◌, ℕ, ◌<◌, ◌≤◌, IsFalse, Option, Some, None, List, [], ◌∷◌, ◌++◌, Contains, AllPairs, length, map, flat_map, fold, max, slice_index_or}
 use Rattle.std.specs.List.{AllByRecursion}
-use Rattle.slot_order.specs.Moves.{BoundsChains}
+use Rattle.slot_order.specs.Moves.{BoundsMemberChains}
 use Rattle.slot_pool.specs.Arrangement.{Slots}
 use Rattle.rule_model.specs.Rule.{AreConditions}
 use Rattle.rule_model.specs.Piece.{PiecesOverlap}
@@ -110,7 +110,7 @@ pub record IsPlain (ranked : RankedPiece) : Type 0 where
 
 -- no chain of these pieces, of falling rank and each overlapping the next, is longer
 abbrev pub BoundsPieceChains : List RankedPiece → ℕ → Type 0
-BoundsPieceChains pieces bound = BoundsChains (λ a b. PiecesOverlap a.piece b.piece) (λ ranked. ranked.rank) (Contains pieces) bound
+BoundsPieceChains pieces bound = BoundsMemberChains (λ a b. PiecesOverlap a.piece b.piece) (λ ranked. ranked.rank) (Contains pieces) bound
 
 -- two pieces that overlap a third, one of higher rank and one of lower, overlap too, as of routes
 abbrev pub AreNested : List RankedPiece → Type 0

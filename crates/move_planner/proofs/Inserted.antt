@@ -3,7 +3,7 @@ use Rattle.std.proofs.Common.{◌≡◌, ℕ, ◌+◌, ◌-◌, ◌*◌, ◌<◌
 use Rattle.std.proofs.lemmas.Bool.{cases_lt, cases_eq}
 use Rattle.std.proofs.lemmas.List.{take-map, take-append-le, take_all, length-map}
 use Rattle.slot_order.specs.Order.{slot, Ordered}
-use Rattle.slot_order.specs.Moves.{applied, IsChain, BoundsChains}
+use Rattle.slot_order.specs.Moves.{applied, IsChain, BoundsMemberChains}
 use Rattle.slot_order.proofs.Turns.{Plus}
 use Rattle.slot_order.proofs.Walks.{Along_prefix, applied_append}
 use Rattle.slot_order.proofs.Whole.{IsWhole, WholeKeeps, whole_keeps, whole_few, whole_once}
@@ -56,7 +56,7 @@ live_chain index id slots none (x ∷ y ∷ rest) ready all c = (
 
 -- so a bound on the chains of live pieces bounds those of live ids
 ids_bound : (index : LivePieces) (id : ℕ) (slots : Slots) (m : ℕ) → IsReady index id slots → BoundsLiveChains index.live m
-    → BoundsChains (Related (is_above index.live)) (rank_in index.live) (IsLive index.live) m
+    → BoundsMemberChains (Related (is_above index.live)) (rank_in index.live) (IsLive index.live) m
 ids_bound index id slots m ready bound chain all c =
     let none = (live_is index.live id ready.live).0 in
     let b = bound (map (piece_in none index.live) chain)

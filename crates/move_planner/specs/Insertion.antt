@@ -1,7 +1,7 @@
 -- What an insertion finds and what it leaves.
 use Rattle.std.specs.Prelude.{◌≡◌, ◌≢◌, ℕ, IsTrue, Some, List, ◌++◌, length, drop, Contains, count_by, is_none}
 use Rattle.slot_order.specs.Order.{slot}
-use Rattle.slot_order.specs.Moves.{BoundsChains}
+use Rattle.slot_order.specs.Moves.{BoundsMemberChains}
 use Rattle.slot_pool.specs.Arrangement.{Slots}
 use Rattle.rule_model.specs.Piece.{pieces_meet}
 use Rattle.overlap_index.specs.declared.LivePiece.{LivePiece}
@@ -38,4 +38,4 @@ free_slots slots = count_by (λ held. is_none held) slots
 -- no overlap chain of live pieces, each of higher priority than the next, is longer
 abbrev pub BoundsLiveChains : List LivePiece → ℕ → Type 0
 BoundsLiveChains live bound =
-    BoundsChains (λ upper lower. IsTrue (pieces_meet upper.piece lower.piece)) (λ one. one.rank) (Contains live) bound
+    BoundsMemberChains (λ upper lower. IsTrue (pieces_meet upper.piece lower.piece)) (λ one. one.rank) (Contains live) bound

@@ -15,7 +15,7 @@ fn upper(block: &Prefix) -> u32
 }
 
 /// How many addresses the block has, of those of 32 bits, 1 where its length is above 32.
-fn span(block: &Prefix) -> u64
+fn address_count(block: &Prefix) -> u64
     ensures value { result ≡ 2 ^ (32 - block.now.len) }
     ensures some { 1 ≤ result }
     ensures most { result ≤ 2 ^ 32 }
@@ -34,7 +34,7 @@ pub(crate) fn first_of(block: &Prefix) -> u32
 pub(crate) fn last_of(block: &Prefix) -> u32
     ensures { result ≡ last_of block.now }
 {
-    upper(block) + (span(block) - 1) as u32
+    upper(block) + (address_count(block) - 1) as u32
 }
 
 /// The next place from `at` on that may be near. Those that are passed over aren't; past the last eight each

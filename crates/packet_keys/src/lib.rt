@@ -12,11 +12,10 @@
 #![tactic(auto)]
 
 ghost use Rattle.std.specs.Prelude.{◌≡◌, ◌↔◌, ◌+◌, ◌<◌, ◌≤◌, length, IsTrue, IsErr, OnOk, IfOk, IfErr};
-ghost use Rattle.rule_model.specs.AddressBlock.{ipv4_address};
 ghost use Rattle.packet_keys.specs.Frame.{key_of_frame, header_len, version_of, has_ports, number_at, port_at};
 
 use byteorder::{BigEndian, ByteOrder};
-use rule_model::{Addr, Key};
+use rule_model::Key;
 use thiserror::Error;
 
 /// The bytes of an IPv4 header without options.
@@ -56,13 +55,9 @@ pub fn key_of_frame(frame: &[u8]) -> Result<Key, FrameFault>
 {
     let header_len = whole_header_len(frame)?;
     let (sport, dport) = ports_after(frame, header_len)?;
-    Ok(Key {
-        src: address_at(frame, 12),
-        dst: address_at(frame, 16),
-        proto: frame[9],
-        sport,
-        dport,
-    })
+    let src = address_at(frame, 12);
+    let dst = address_at(frame, 16);
+    Ok(Key::v4(src, dst, frame[9], sport, dport))
 }
 
 /// The length in bytes of the header that the frame begins with, the whole of which is there.
@@ -126,11 +121,11 @@ fn number_of_two(frame: &[u8], place: usize) -> u16
 }
 
 /// The address whose four bytes stand at a place.
-fn address_at(frame: &[u8], place: usize) -> Addr
+fn address_at(frame: &[u8], place: usize) -> u32
     requires { place + 4 ≤ length frame.now }
-    ensures { result ≡ ipv4_address (number_at frame.now place 4) }
+    ensures { result ≡ number_at frame.now place 4 }
 {
-    Addr::from(BigEndian::read_u32(&frame[place..])) << 96
+    BigEndian::read_u32(&frame[place..])
 }
 
 #[cfg(test)]
@@ -138,27 +133,10 @@ mod tests {
     use super::*;
     use std::test::Fail;
 
-    /// An IPv4 address, as a key has it.
-    fn ipv4(a: u8, b: u8, c: u8, d: u8) -> Addr {
-        Addr::from(u32::from_be_bytes([a, b, c, d])) << 96
-    }
-
     #[test]
     fn frames_and_their_keys(rt: HostRuntime) -> Result<(), Fail> {
-        let zeros = Key {
-            src: 0,
-            dst: 0,
-            proto: 0,
-            sport: 0,
-            dport: 0,
-        };
-        let whole = Key {
-            src: ipv4(10, 1, 2, 3),
-            dst: ipv4(10, 1, 2, 4),
-            proto: 6,
-            sport: 1234,
-            dport: 80,
-        };
+        let zeros = Key::v4(0, 0, 0, 0, 0);
+        let whole = Key::v4(0x0a01_0203, 0x0a01_0204, 6, 1234, 80);
         let fragment = Key {
             sport: 0,
             dport: 0,

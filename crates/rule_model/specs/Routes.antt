@@ -1,6 +1,6 @@
 -- IPv4 routes: of two that overlap, one lies in the other.
 use Rattle.std.specs.Prelude.{◌≡◌, ℕ, ◌<◌, IsTrue}
-use Rattle.slot_order.specs.Moves.{BoundsChains as BoundsChainsOf}
+use Rattle.slot_order.specs.Moves.{BoundsMemberChains}
 use Rattle.rule_model.specs.declared.Rule.{Rule}
 use Rattle.rule_model.specs.AddressBlock.{IsAddressBlock, IsIpv4Block, block_holds}
 use Rattle.rule_model.specs.Rank.{ipv4_route_rank}
@@ -23,4 +23,4 @@ Ipv4RoutesAreNested = (upper lower : Rule) → IsIpv4Route upper → IsIpv4Route
 
 -- a chain of overlapping IPv4 routes has a member for each length at most
 abbrev pub Ipv4ChainsAreShort : Type 0
-Ipv4ChainsAreShort = BoundsChainsOf Overlap (λ rule. rule.priority) IsIpv4Route 33
+Ipv4ChainsAreShort = BoundsMemberChains Overlap (λ rule. rule.priority) IsIpv4Route 33

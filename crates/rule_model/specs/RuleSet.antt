@@ -2,7 +2,7 @@
 use Rattle.std.specs.Prelude.{ℕ, Bool, IsTrue, IsFalse, Option, MatchOption, List, [], ◌∷◌, Contains, IsPermutation, ◌≡◌, option_map, nat_lt, nat_eq}
 use Rattle.std.specs.List.{list_any, find, AllByRecursion}
 use Rattle.slot_order.specs.Order.{best}
-use Rattle.slot_order.specs.Moves.{IsChain, BoundsChains as BoundsChainsOf}
+use Rattle.slot_order.specs.Moves.{IsChain, BoundsMemberChains}
 use Rattle.rule_model.specs.declared.Key.{Key}
 use Rattle.rule_model.specs.declared.Rule.{Rule}
 use Rattle.rule_model.specs.Rule.{rule_matches, Overlap}
@@ -53,4 +53,4 @@ IsOverlapChain rules = IsChain Overlap (λ rule. rule.priority) rules
 
 -- No overlap chain of these rules is longer.
 abbrev pub BoundsChains : List Rule → ℕ → Type 0
-BoundsChains rules bound = BoundsChainsOf Overlap (λ rule. rule.priority) (Contains rules) bound
+BoundsChains rules bound = BoundsMemberChains Overlap (λ rule. rule.priority) (Contains rules) bound

@@ -26,11 +26,11 @@ mod laws;
 #[cfg(test)]
 mod tests;
 
-ghost use Rattle.std.specs.Prelude.{◌≡◌, ◌≢◌, ◌<◌, ◌≤◌, ◌^◌, ◌%◌, ◌-◌, ◌*◌, Some, None, Ok, Err, ◌↔◌, IsNone, IfSome, IfOk, IsTrue, not, nat_eq};
+ghost use Rattle.std.specs.Prelude.{ℕ, ◌≡◌, ◌≢◌, ◌<◌, ◌≤◌, ◌^◌, ◌%◌, ◌-◌, ◌*◌, Some, None, Ok, Err, ◌↔◌, IsNone, IfSome, IfOk, IsTrue, not, nat_eq};
 ghost use Rattle.std.specs.Ordering.{nat_cmp};
 ghost use Rattle.std.specs.Cmp.Rules.{comparing};
 ghost use Rattle.std.proofs.Common.{rules};
-ghost use Rattle.rule_model.specs.AddressBlock.{IsAddressBlock, IsIpv4Block, BlocksOverlap, ipv4_block, any_address, block_holds};
+ghost use Rattle.rule_model.specs.AddressBlock.{AddressBlock, IsAddressBlock, IsIpv4Block, BlocksOverlap, ipv4_address, ipv4_block, any_address, block_holds};
 ghost use Rattle.rule_model.specs.PortRange.{IsPortRange, RangesOverlap, any_port, is_block, is_disjoint, range_holds};
 ghost use Rattle.rule_model.specs.Rank as rank;
 ghost use Rattle.rule_model.specs.Rule as spec;
@@ -49,8 +49,9 @@ use thiserror::Error;
 /// A packet's address: an IPv6 address, or an IPv4 address in the upper 32 bits.
 pub type Addr = u128;
 
-/// A priority of a rule, also the tag of its entries. Ranks are ordered by `high`, then by `low`: of a route these are
-/// the length and the address, of a rule of an access list 0 and 2^32 less its sequence number.
+/// One thing with three names: of a rule it is the priority, of a rule's pieces the rank, and of an entry in the memory
+/// the tag, by which a look-up tells whose entry hit. Ordered by `high`, then by `low`: of a route these are the length and
+/// the address, of a rule of an access list 0 and 2^32 less its sequence number.
 #[derive(Clone, Copy, Debug)]
 pub struct Rank {
     pub high: u8,
@@ -117,6 +118,22 @@ pub struct Key {
     pub proto: u8,
     pub sport: u16,
     pub dport: u16,
+}
+
+impl Key {
+    /// The key of an IPv4 packet, each address as a number of 32 bits: 10.0.0.1 is 0x0a00_0001. The fields have such a
+    /// number in their upper 32 bits, so that a key whose `src` or `dst` is the number itself matches no IPv4 prefix.
+    pub fn v4(src: u32, dst: u32, proto: u8, sport: u16, dport: u16) -> Key
+        ensures { result ≡ record { src = ipv4_address src; dst = ipv4_address dst; proto = proto; sport = sport; dport = dport } }
+    {
+        Key {
+            src: Addr::from(src) << 96,
+            dst: Addr::from(dst) << 96,
+            proto,
+            sport,
+            dport,
+        }
+    }
 }
 
 /// An address block (RFC 4632, section 3.1): the addresses that share its leading `len` bits.
@@ -433,6 +450,28 @@ pub fn list_rank(sequence: u32) -> Rank
         high: 0,
         low: (1u128 << 32) - u128::from(sequence),
     }
+}
+
+/// The prefix whose priority as an IPv4 route a rank is, and None where it is that of no IPv4 route.
+pub fn ipv4_route_of(priority: Rank) -> Option<Prefix>
+    ensures found { IfSome result (λ prefix. IsIpv4Block prefix × (rank.ipv4_route_rank prefix ≡ priority)) }
+    ensures none { IsNone result → (block : AddressBlock) → IsAddressBlock block → IsIpv4Block block → rank.ipv4_route_rank block ≢ priority }
+{
+    if priority.low >> 32 != 0 {
+        return None;
+    }
+    Prefix::v4(priority.low as u32, priority.high).ok()
+}
+
+/// The sequence number whose priority in an access list a rank is, and None where it is that of no such number.
+pub fn list_number_of(priority: Rank) -> Option<u32>
+    ensures found { IfSome result (λ sequence. rank.list_rank sequence ≡ priority) }
+    ensures none { IsNone result → (sequence : ℕ) → sequence < 2 ^ 32 → rank.list_rank sequence ≢ priority }
+{
+    if priority.high != 0 || priority.low == 0 || priority.low > 1u128 << 32 {
+        return None;
+    }
+    Some(((1u128 << 32) - priority.low) as u32)
 }
 
 /// A route: a rule on the destination address alone.

@@ -29,7 +29,26 @@ fn prefixes(rt: HostRuntime) -> Result<(), Fail> {
         );
         let rank = ipv4_route_rank(&prefix);
         assert_eq!(rt; (rank.high, rank.low), (len, u128::from(address)));
+        assert_eq!(rt; ipv4_route_of(rank), Some(prefix));
     }
+    Ok(())
+}
+
+#[test]
+fn numbers_of_priorities(rt: HostRuntime) -> Result<(), Fail> {
+    for number in [0, 10, u32::MAX] {
+        assert_eq!(rt; list_number_of(list_rank(number)), Some(number));
+    }
+    assert_eq!(rt; list_number_of(Rank { high: 0, low: 0 }), None);
+    assert_eq!(rt;
+        list_number_of(ipv4_route_rank(&Prefix::v4(0x0a00_0000, 8)?)),
+        None
+    );
+    for (high, low) in [(33, 0), (8, 0x0a00_0001), (32, 1u128 << 32)] {
+        assert_eq!(rt; ipv4_route_of(Rank { high, low }), None);
+    }
+    let key = Key::v4(0x0a00_0001, 0x0a00_0002, 6, 1234, 80);
+    assert!(rt; matches(&route_rule(Prefix::v4(0x0a00_0000, 8)?, 7), &key));
     Ok(())
 }
 

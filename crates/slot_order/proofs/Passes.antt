@@ -1,7 +1,7 @@
 -- The turns that take all past a boundary: as many as entries stand on its wrong side, of at most m writes each.
 use Rattle.std.proofs.Common.{◌≡◌, ℕ, ◌<◌, ◌+◌, ◌*◌, ◌≤◌, Bool, List, [], ◌∷◌, ◌++◌, length, Option, None, refl, arith, inl, inr, ◌⊎◌, sym, ◌∙◌, subst, ap, length-append, mul-suc, mul-le-mul_left, Contains}
 use Rattle.slot_order.specs.Order.{Ordered}
-use Rattle.slot_order.specs.Moves.{applied, Along, chain_moves, IsChain, BoundsChains, Turn, Down, Up, turn_moves, turns_moves}
+use Rattle.slot_order.specs.Moves.{applied, Along, chain_moves, IsChain, BoundsMemberChains, Turn, Down, Up, turn_moves, turns_moves}
 use Rattle.std.specs.Prelude.{count_by, is_none}
 use Rattle.slot_order.specs.Cuts.{early, late, wrong_side, free_before, free_behind, HasRoom}
 use Rattle.slot_order.proofs.Tally.{count_both}
@@ -26,7 +26,7 @@ contains_joined (p ∷ path) rest Q a b y c = elim (contains_cases p y (path ++ 
 
 -- a turn has at most m writes
 pub pass_bound : {E : Type 0} (over : E → E → Type 0) (tag : E → ℕ) (P Q : E → Type 0) (behind before : E → Bool) (cut : ℕ) (d : List (Option E)) (m : ℕ) (t : Turn)
-    → HasSides over tag P Q behind before → Ordered over tag P d → IsPass over tag behind before cut d t → BoundsChains over tag Q m → length (turn_moves d t) ≤ m
+    → HasSides over tag P Q behind before → Ordered over tag P d → IsPass over tag behind before cut d t → BoundsMemberChains over tag Q m → length (turn_moves d t) ≤ m
 pass_bound over tag P Q behind before cut d m (Down f s rest) w o is bound =
     let x = is.4.0 in
     let p = w.leads_down x (o.within s x is.4.1) is.4.2 in
@@ -67,7 +67,7 @@ pub record AllPassed {E : Type 0} (over : E → E → Type 0) (tag : E → ℕ) 
   pub once : AllOnce d → AllOnce (applied d (turns_moves d ts))
   pub size : length (applied d (turns_moves d ts)) ≡ length d
   pub count : wrong_side behind before cut d ≡ length ts + wrong_side behind before cut (applied d (turns_moves d ts))
-  pub few : (m : ℕ) → BoundsChains over tag Q m → length (turns_moves d ts) ≤ m * length ts
+  pub few : (m : ℕ) → BoundsMemberChains over tag Q m → length (turns_moves d ts) ≤ m * length ts
 
 pub passes_keep : {E : Type 0} (over : E → E → Type 0) (tag : E → ℕ) (P Q : E → Type 0) (behind before : E → Bool) (cut : ℕ) (d : List (Option E)) (ts : List Turn)
     → HasSides over tag P Q behind before → Ordered over tag P d → cut ≤ length d → ArePasses over tag behind before cut d ts
@@ -104,7 +104,7 @@ passes_keep over tag P Q behind before cut d (t ∷ ts) w o inside are =
 
 -- with the last part, of at most m writes, m for each entry on the wrong side and m more
 pub passes_writes : {E : Type 0} (over : E → E → Type 0) (tag : E → ℕ) (P Q : E → Type 0) (behind before : E → Bool) (cut m last : ℕ) (d : List (Option E)) (ts : List Turn)
-    → AllPassed over tag P Q behind before cut d ts → BoundsChains over tag Q m → last ≤ m → length (turns_moves d ts) + last ≤ m * (1 + wrong_side behind before cut d)
+    → AllPassed over tag P Q behind before cut d ts → BoundsMemberChains over tag Q m → last ≤ m → length (turns_moves d ts) + last ≤ m * (1 + wrong_side behind before cut d)
 passes_writes over tag P Q behind before cut m last d ts w bound small =
     let n : length ts ≤ wrong_side behind before cut d = (let c = w.count in omega arith) in
     let a = w.few m bound in

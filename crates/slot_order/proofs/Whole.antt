@@ -1,7 +1,7 @@
 -- The whole of an insertion: turns past a boundary, the last chain's moves, and the new entry's own write.
 use Rattle.std.proofs.Common.{◌≡◌, ℕ, ◌+◌, ◌-◌, ◌*◌, ◌≤◌, Bool, Option, Some, List, [], ◌∷◌, ◌++◌, length, arith, sym, ◌∙◌, subst, ap, set, length-append, mul-le-mul_left}
 use Rattle.slot_order.specs.Order.{Ordered}
-use Rattle.slot_order.specs.Moves.{applied, Along, IsFloor, IsCeiling, BoundsChains, Turn, turns_moves}
+use Rattle.slot_order.specs.Moves.{applied, Along, IsFloor, IsCeiling, BoundsMemberChains, Turn, turns_moves}
 use Rattle.slot_order.proofs.Turns.{Plus}
 use Rattle.slot_order.proofs.Walks.{Along_append, applied_append}
 use Rattle.slot_order.proofs.Passing.{ArePasses, HasSides}
@@ -32,7 +32,7 @@ pub record WholeKeeps {E : Type 0} (over : E → E → Type 0) (tag : E → ℕ)
   pub parts : writes ≡ before ++ (place, Some entry) ∷ []
   pub along : Along (Ordered over tag P) slots before
   pub done : Ordered over tag (Plus P entry) (set (applied slots before) place (Some entry))
-  pub few : (l u m : ℕ) → IsFloor over tag slots entry l → IsCeiling over tag slots entry u → BoundsChains over tag Q m → length writes ≤ m * (1 + ((l - 1) - u))
+  pub few : (l u m : ℕ) → IsFloor over tag slots entry l → IsCeiling over tag slots entry u → BoundsMemberChains over tag Q m → length writes ≤ m * (1 + ((l - 1) - u))
 
 -- m writes for each turn and m more
 bounded : (m n c w last : ℕ) → w ≤ m * n → n ≤ c → last ≤ m → w + last ≤ m * (1 + c)
@@ -40,7 +40,7 @@ bounded m n c w last a b l = let p = mul-le-mul_left m b in grind arith
 
 pub whole_few : {E : Type 0} (over : E → E → Type 0) (tag : E → ℕ) (P Q : E → Type 0) (slots : List (Option E)) (entry : E) (writes : List (ℕ × Option E)) (m c : ℕ)
     → ((x y : E) → over x y → over y x) → Ordered over tag P slots → ((x : E) → P x → Q x) → Q entry → (w : IsWhole over tag P Q slots entry writes)
-    → BoundsChains over tag Q m → length w.turns ≤ c → length writes ≤ m * (1 + c)
+    → BoundsMemberChains over tag Q m → length w.turns ≤ c → length writes ≤ m * (1 + c)
 whole_few {E} over tag P Q slots entry writes m c mirror o up here w bound less =
     let t = passes_keep over tag P Q w.behind w.before w.cut slots w.turns w.sides o w.inside w.are in
     let k = end_keeps over tag P Q (applied slots (turns_moves slots w.turns)) entry w.front w.place mirror t.ordered up here w.ends in

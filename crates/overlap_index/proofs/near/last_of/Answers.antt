@@ -5,5 +5,5 @@ use Rattle.overlap_index.proofs.near.last_of.Goals as goal
 pub overflow_add-result : goal.overflow_add-result
 overflow_add-result c =
     let room = span_fits c.upper.result c.args.block.now.len (omega arith) c.upper.ensures.no_host_bits in
-    let span = c.span.ensures.value in
+    let span = c.address_count.ensures.value in
     record { fits = omega arith }
