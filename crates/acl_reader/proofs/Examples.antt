@@ -9,7 +9,8 @@ use Rattle.line_words.specs.declared.WordFault.{WordFault}
 use Rattle.line_words.specs.declared.WordFault.TheVariants.{UnknownCommand, WordCount, HostBits, BadSequence, BadAction, BadProtocol, BadPorts, BadAddress}
 use Rattle.line_words.specs.Kinds.{ipv4_notation}
 use Rattle.acl_reader.specs.declared.AclCommand.{AclCommand}
-use Rattle.acl_reader.specs.declared.AclCommand.TheVariants.{Add, Set, Del, Probe}
+use Rattle.acl_reader.specs.declared.AclCommand.TheVariants.{Add, Set, Del, Common}
+use Rattle.line_words.specs.declared.commands.CommonCommand.TheVariants.{Probe}
 use Rattle.acl_reader.specs.Grammar.{acl_line}
 
 abbrev read : List ℕ → Result (Option AclCommand) WordFault
@@ -34,7 +35,7 @@ set = refl
 del : read (codes "acl del 7") ≡ Ok (Some (Del 7))
 del = refl
 
-probe : read (codes "probe 0.0.0.0 10.1.2.3 tcp 0 80") ≡ Ok (Some (Probe (record { src = 0; dst = ipv4_address 0x0a010203; proto = 6; sport = 0; dport = 80 })))
+probe : read (codes "probe 0.0.0.0 10.1.2.3 tcp 0 80") ≡ Ok (Some (Common (Probe (record { src = 0; dst = ipv4_address 0x0a010203; proto = 6; sport = 0; dport = 80 }))))
 probe = refl
 
 comment : read (codes "  # acl del 7") ≡ Ok None

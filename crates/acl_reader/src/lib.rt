@@ -16,7 +16,6 @@
 #![tactic(auto)]
 
 ghost use Rattle.std.specs.Prelude.{◌≡◌, ◌≤◌, ◌∷◌, length, take};
-ghost use Rattle.line_words.specs.Commands.{common_command};
 ghost use Rattle.line_words.specs.Kinds.{ipv4_notation};
 ghost use Rattle.acl_reader.specs.Grammar.{acl_command, acl_line, acl_words, addition, change, removal};
 
@@ -24,10 +23,10 @@ use line_words::{
     CommonCommand, WordFault, Words, action_of, command_words, common_command, ipv4_side, ports_of,
     protocol_choice, sequence_of,
 };
-use rule_model::{Key, Rule, list_rank};
+use rule_model::{Rule, list_rank};
 use script_lines::{LINE_BYTES, Line};
 
-/// A command of an access-list script. A frame is read as a packet with its key.
+/// A command of an access-list script.
 #[derive(Clone, Copy, Debug, PartialEq, Eq)]
 pub enum AclCommand {
     /// Adds a rule, whose priority is that of its sequence number.
@@ -36,12 +35,8 @@ pub enum AclCommand {
     Set(u32, u32),
     /// Removes the rule of this sequence number.
     Del(u32),
-    /// Has the answer of a packet asked for after each later write.
-    Probe(Key),
-    /// Asks for the answer of a packet.
-    Packet(Key),
-    /// Carries out the pending batch.
-    Commit,
+    /// One that both kinds of script have.
+    Common(CommonCommand),
 }
 
 /// Reads a line of an access-list script: the command that it is, or nothing where it has no word or its
@@ -66,18 +61,7 @@ fn command_of(first: &[u8], rest: Words<'_>) -> Result<AclCommand, WordFault>
 {
     match first {
         b"acl" => acl_words(rest),
-        _ => other_command(first, rest),
-    }
-}
-
-/// The command of a line that begins with a word of both kinds of script.
-fn other_command(first: &[u8], rest: Words<'_>) -> Result<AclCommand, WordFault>
-    ensures { result ≡ common_command ipv4_notation AclCommand.Probe AclCommand.Packet AclCommand.Commit first.now rest.entry }
-{
-    match common_command(first, rest)? {
-        CommonCommand::Probe(key) => Ok(AclCommand::Probe(key)),
-        CommonCommand::Packet(key) => Ok(AclCommand::Packet(key)),
-        CommonCommand::Commit => Ok(AclCommand::Commit),
+        _ => Ok(AclCommand::Common(common_command(first, rest)?)),
     }
 }
 
@@ -142,7 +126,7 @@ fn removal(mut words: Words<'_>) -> Result<AclCommand, WordFault>
 mod tests {
     use super::*;
     use packet_keys::FrameFault;
-    use rule_model::{Addr, Ports, Prefix};
+    use rule_model::{Key, Ports, Prefix};
     use std::test::Fail;
 
     /// What a line of these bytes is.
@@ -160,13 +144,7 @@ mod tests {
 
     /// The key of a TCP packet from 10.1.2.3 port 1234 to 10.1.2.4 port 80.
     fn web_key() -> Key {
-        Key {
-            src: Addr::from(0x0a01_0203u32) << 96,
-            dst: Addr::from(0x0a01_0204u32) << 96,
-            proto: 6,
-            sport: 1234,
-            dport: 80,
-        }
+        Key::v4(0x0a01_0203, 0x0a01_0204, 6, 1234, 80)
     }
 
     /// The rule of sequence number 10 that permits a protocol to these addresses and ports.
@@ -224,17 +202,17 @@ mod tests {
             (b"acl del 7", Some(AclCommand::Del(7))),
             (
                 b"probe 10.1.2.3 10.1.2.4 tcp 1234 80",
-                Some(AclCommand::Probe(web_key())),
+                Some(AclCommand::Common(CommonCommand::Probe(web_key()))),
             ),
             (
                 b"packet 10.1.2.3 10.1.2.4 6 1234 80",
-                Some(AclCommand::Packet(web_key())),
+                Some(AclCommand::Common(CommonCommand::Packet(web_key()))),
             ),
             (
                 b"frame 4500001c00000000400600000a0102030A01020404d20050",
-                Some(AclCommand::Packet(web_key())),
+                Some(AclCommand::Common(CommonCommand::Packet(web_key()))),
             ),
-            (b"commit", Some(AclCommand::Commit)),
+            (b"commit", Some(AclCommand::Common(CommonCommand::Commit))),
             (b" # acl del 7", None),
         ];
         for (text, command) in table {

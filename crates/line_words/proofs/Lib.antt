@@ -5,5 +5,4 @@ pub mod Walk
 pub mod Separators
 pub mod HostBits
 pub mod Mapped
-pub mod Renamed
 pub mod Ranges

@@ -25,7 +25,7 @@ pub enum CommonCommand {
 /// UnknownCommand where the word begins no common command, then WordCount where there are more or fewer
 /// words than the command has, and else the fault of the leftmost bad one.
 pub fn common_command(first: &[u8], rest: Words<'_>) -> Result<CommonCommand, WordFault>
-    ensures { result ≡ common_command ipv4_notation CommonCommand.Probe CommonCommand.Packet CommonCommand.Commit first.now rest.entry }
+    ensures { result ≡ common_command ipv4_notation first.now rest.entry }
 {
     match first {
         b"probe" => key_of(rest).map(CommonCommand::Probe),
@@ -38,7 +38,7 @@ pub fn common_command(first: &[u8], rest: Words<'_>) -> Result<CommonCommand, Wo
 
 /// A commit, where no word is left.
 fn commit_of(words: Words<'_>) -> Result<CommonCommand, WordFault>
-    ensures { result ≡ commit_of CommonCommand.Commit words.entry }
+    ensures { result ≡ commit_of words.entry }
 {
     words.end()?;
     Ok(CommonCommand::Commit)

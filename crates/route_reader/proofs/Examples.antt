@@ -8,7 +8,8 @@ use Rattle.line_words.specs.declared.WordFault.{WordFault}
 use Rattle.line_words.specs.declared.WordFault.TheVariants.{UnknownCommand, WordCount, BadPrefix, HostBits, BadResult, BadPorts, BadHex, Frame}
 use Rattle.line_words.specs.Kinds.{ipv4_notation}
 use Rattle.route_reader.specs.declared.RouteCommand.{RouteCommand}
-use Rattle.route_reader.specs.declared.RouteCommand.TheVariants.{Add, Set, Del, Probe, Packet, Commit}
+use Rattle.route_reader.specs.declared.RouteCommand.TheVariants.{Add, Set, Del, Common}
+use Rattle.line_words.specs.declared.commands.CommonCommand.TheVariants.{Probe, Packet, Commit}
 use Rattle.route_reader.specs.Grammar.{route_line}
 
 abbrev read : List ℕ → Result (Option RouteCommand) WordFault
@@ -62,13 +63,13 @@ lone = refl
 count : read (codes "route add 10.0.0.0/8") ≡ Err WordCount
 count = refl
 
-commit : read (codes "commit" ++ 13 ∷ []) ≡ Ok (Some Commit)
+commit : read (codes "commit" ++ 13 ∷ []) ≡ Ok (Some (Common Commit))
 commit = refl
 
-packet : read (codes "packet 0.0.0.0 10.1.2.3 tcp 0 80") ≡ Ok (Some (Packet (record { src = 0; dst = ipv4_address 0x0a010203; proto = 6; sport = 0; dport = 80 })))
+packet : read (codes "packet 0.0.0.0 10.1.2.3 tcp 0 80") ≡ Ok (Some (Common (Packet (record { src = 0; dst = ipv4_address 0x0a010203; proto = 6; sport = 0; dport = 80 }))))
 packet = refl
 
-probe : read (codes "probe 0.0.0.0 10.1.2.3 tcp 0 80") ≡ Ok (Some (Probe (record { src = 0; dst = ipv4_address 0x0a010203; proto = 6; sport = 0; dport = 80 })))
+probe : read (codes "probe 0.0.0.0 10.1.2.3 tcp 0 80") ≡ Ok (Some (Common (Probe (record { src = 0; dst = ipv4_address 0x0a010203; proto = 6; sport = 0; dport = 80 }))))
 probe = refl
 
 bad-port : read (codes "packet 0.0.0.0 10.1.2.3 0 0 65536") ≡ Err BadPorts
@@ -85,6 +86,6 @@ short-frame : read (codes "frame 45000000000000000000000000000000000000") ≡ Er
 unfolding decode_pairs
 short-frame = refl
 
-frame : read (codes "frame 4500001c00000000400600000a0102030A01020404d20050") ≡ Ok (Some (Packet (record { src = ipv4_address 0x0a010203; dst = ipv4_address 0x0a010204; proto = 6; sport = 1234; dport = 80 })))
+frame : read (codes "frame 4500001c00000000400600000a0102030A01020404d20050") ≡ Ok (Some (Common (Packet (record { src = ipv4_address 0x0a010203; dst = ipv4_address 0x0a010204; proto = 6; sport = 1234; dport = 80 }))))
 unfolding decode_pairs
 frame = refl

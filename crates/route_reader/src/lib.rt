@@ -15,17 +15,16 @@
 #![tactic(auto)]
 
 ghost use Rattle.std.specs.Prelude.{◌≡◌, ◌≤◌, ◌∷◌, length, take};
-ghost use Rattle.line_words.specs.Commands.{common_command};
 ghost use Rattle.line_words.specs.Kinds.{ipv4_notation};
 ghost use Rattle.route_reader.specs.Grammar.{addition, change, removal, route_command, route_line, route_words};
 
 use line_words::{
     CommonCommand, WordFault, Words, command_words, common_command, ipv4_prefix, result_of,
 };
-use rule_model::{Key, Prefix};
+use rule_model::Prefix;
 use script_lines::{LINE_BYTES, Line};
 
-/// A command of a route script. A frame is read as a packet with its key.
+/// A command of a route script.
 #[derive(Clone, Copy, Debug, PartialEq, Eq)]
 pub enum RouteCommand {
     /// Adds a route with its result.
@@ -34,12 +33,8 @@ pub enum RouteCommand {
     Set(Prefix, u32),
     /// Removes a route.
     Del(Prefix),
-    /// Has the answer of a packet asked for after each later write.
-    Probe(Key),
-    /// Asks for the answer of a packet.
-    Packet(Key),
-    /// Carries out the pending batch.
-    Commit,
+    /// One that both kinds of script have.
+    Common(CommonCommand),
 }
 
 /// Reads a line of a route script: the command that it is, or nothing where it has no word or its first
@@ -64,18 +59,7 @@ fn command_of(first: &[u8], rest: Words<'_>) -> Result<RouteCommand, WordFault>
 {
     match first {
         b"route" => route_words(rest),
-        _ => other_command(first, rest),
-    }
-}
-
-/// The command of a line that begins with none of the words of routes.
-fn other_command(first: &[u8], rest: Words<'_>) -> Result<RouteCommand, WordFault>
-    ensures { result ≡ common_command ipv4_notation RouteCommand.Probe RouteCommand.Packet RouteCommand.Commit first.now rest.entry }
-{
-    match common_command(first, rest)? {
-        CommonCommand::Probe(key) => Ok(RouteCommand::Probe(key)),
-        CommonCommand::Packet(key) => Ok(RouteCommand::Packet(key)),
-        CommonCommand::Commit => Ok(RouteCommand::Commit),
+        _ => Ok(RouteCommand::Common(common_command(first, rest)?)),
     }
 }
 
@@ -125,7 +109,7 @@ fn removal(mut words: Words<'_>) -> Result<RouteCommand, WordFault>
 mod tests {
     use super::*;
     use packet_keys::FrameFault;
-    use rule_model::Addr;
+    use rule_model::Key;
     use std::test::Fail;
 
     /// A line of these bytes.
@@ -144,13 +128,7 @@ mod tests {
 
     /// The key of a TCP packet from 10.1.2.3 port 1234 to 10.1.2.4 port 80.
     fn web_key() -> Key {
-        Key {
-            src: Addr::from(0x0a01_0203u32) << 96,
-            dst: Addr::from(0x0a01_0204u32) << 96,
-            proto: 6,
-            sport: 1234,
-            dport: 80,
-        }
+        Key::v4(0x0a01_0203, 0x0a01_0204, 6, 1234, 80)
     }
 
     #[test]
@@ -189,21 +167,24 @@ mod tests {
             ),
             (
                 b"packet 10.1.2.3 10.1.2.4 tcp 1234 80",
-                Ok(Some(RouteCommand::Packet(web_key()))),
+                Ok(Some(RouteCommand::Common(CommonCommand::Packet(web_key())))),
             ),
             (
                 b"probe 10.1.2.3 10.1.2.4 tcp 1234 80",
-                Ok(Some(RouteCommand::Probe(web_key()))),
+                Ok(Some(RouteCommand::Common(CommonCommand::Probe(web_key())))),
             ),
             (
                 b"packet 10.1.2.3 10.1.2.4 6 1234 80",
-                Ok(Some(RouteCommand::Packet(web_key()))),
+                Ok(Some(RouteCommand::Common(CommonCommand::Packet(web_key())))),
             ),
             (
                 b"frame 4500001c00000000400600000a0102030A01020404d20050",
-                Ok(Some(RouteCommand::Packet(web_key()))),
+                Ok(Some(RouteCommand::Common(CommonCommand::Packet(web_key())))),
             ),
-            (b"commit\r", Ok(Some(RouteCommand::Commit))),
+            (
+                b"commit\r",
+                Ok(Some(RouteCommand::Common(CommonCommand::Commit))),
+            ),
             (b"", Ok(None)),
             (b" \t\r", Ok(None)),
             (b"# route add", Ok(None)),

@@ -10,6 +10,7 @@ use Rattle.line_words.specs.declared.WordFault.{WordFault}
 use Rattle.line_words.specs.Words.{◌>>=◌, is_blank, is_word, words_of, is_skipped}
 use Rattle.line_words.specs.Kinds.{ipv4_notation}
 use Rattle.line_words.specs.Commands.{common_command}
+use Rattle.line_words.specs.declared.commands.CommonCommand.{CommonCommand}
 use Rattle.route_reader.specs.declared.RouteCommand.{RouteCommand}
 use Rattle.route_reader.specs.declared.RouteCommand.TheVariants as route
 use Rattle.route_reader.specs.Grammar.{route_command, route_line}
@@ -62,9 +63,8 @@ comes (Err fault) next found e = let bad = e in absurd (cc)
 named : (first word : List ℕ) (least : ℕ) → bytes_eq first word ≡ true → least ≤ length word → least ≤ length first
 named first word least same long = subst (λ w. least ≤ length w) (sym ((bytes_eq-Decides first word).0 same)) long
 
-common-long : {C : Type 0} (probe packet : Key → C) (commit : C) (first : List ℕ) (rest : List (List ℕ)) (command : C)
-    → common_command ipv4_notation probe packet commit first rest ≡ Ok command → 5 ≤ length first
-common-long probe packet commit first rest command is =
+common-long : (first : List ℕ) (rest : List (List ℕ)) (command : CommonCommand) → common_command ipv4_notation first rest ≡ Ok command → 5 ≤ length first
+common-long first rest command is =
     elim (cases_Bool (bytes_eq first (codes "probe"))) [
       | inl same ↦ named first (codes "probe") 5 same (lit≤ tt)
       | inr first_other ↦ elim (cases_Bool (bytes_eq first (codes "packet"))) [
@@ -86,7 +86,7 @@ route-long [] command is = let bad = is in absurd (cc)
 route-long (first ∷ rest) command is =
     let long : 5 ≤ length first = elim (cases_Bool (bytes_eq first (codes "route"))) [
       | inl same ↦ named first (codes "route") 5 same (lit≤ tt)
-      | inr other ↦ common-long route.Probe route.Packet route.Commit first rest command (rw other at is)
+      | inr other ↦ (let came = comes {A = CommonCommand} {B = RouteCommand} (common_command ipv4_notation first rest) (λ found. Ok (route.Common found)) command (rw other at is) in common-long first rest came.value came.is)
     ] in
     omega arith
 
@@ -116,7 +116,7 @@ acl-long (first ∷ rest) command is = elim (cases_Bool (bytes_eq first (codes "
       let more : 3 ≤ total rest = verb-long rest command (rw same at is) in
       omega arith
   | inr other ↦
-      let long : 5 ≤ length first = common-long acl.Probe acl.Packet acl.Commit first rest command (rw other at is) in
+      let long : 5 ≤ length first = (let came = comes {A = CommonCommand} {B = AclCommand} (common_command ipv4_notation first rest) (λ found. Ok (acl.Common found)) command (rw other at is) in common-long first rest came.value came.is) in
       omega arith
 ]
 

@@ -9,8 +9,9 @@ use Rattle.line_words.specs.declared.WordFault.TheVariants.{BadPrefix}
 use Rattle.line_words.specs.Words.{◌>>=◌, words_of}
 use Rattle.line_words.specs.Kinds.{ipv4_notation, result_of, key_of, ipv4_number, ipv4_prefix, number_up_to, is_number, number_value, block_of, parts_at}
 use Rattle.line_words.specs.Commands.{common_command, commit_of, frame_of}
+use Rattle.line_words.specs.declared.commands.CommonCommand.{CommonCommand}
 use Rattle.route_reader.specs.declared.RouteCommand.{RouteCommand}
-use Rattle.route_reader.specs.declared.RouteCommand.TheVariants.{Add, Set, Del, Probe, Packet, Commit}
+use Rattle.route_reader.specs.declared.RouteCommand.TheVariants.{Add, Set, Del, Common}
 use Rattle.route_reader.specs.Grammar.{addition, change, removal, route_words, route_command, route_line}
 use Rattle.tcam_cli.specs.Turns.{IsIpv4Command}
 use Rattle.tcam_cli.proofs.ActLines.{line-command}
@@ -96,35 +97,15 @@ route-ipv4 (verb ∷ rest) command is = elim (cases_Bool (bytes_eq verb (codes "
   ]
 ]
 
-key-ipv4 : (ask : Key → RouteCommand) → ((key : Key) → IsIpv4Command (ask key)) → (key : Result Key WordFault) (command : RouteCommand)
-    → (key >>= λ found. Ok (ask found)) ≡ Ok command → IsIpv4Command command
-key-ipv4 ask right (Ok key) command is = let same : ask key ≡ command = cc in subst IsIpv4Command same (right key)
-key-ipv4 ask right (Err fault) command is = absurd (cc)
-
-commit-ipv4 : (words : List (List ℕ)) (command : RouteCommand) → commit_of Commit words ≡ Ok command → IsIpv4Command command
-commit-ipv4 [] command is = let same : Commit ≡ command = cc in subst IsIpv4Command same tt
-commit-ipv4 (word ∷ words) command is = absurd (cc)
-
-common-ipv4 : (first : List ℕ) (rest : List (List ℕ)) (command : RouteCommand) → common_command ipv4_notation Probe Packet Commit first rest ≡ Ok command → IsIpv4Command command
-common-ipv4 first rest command is = elim (cases_Bool (bytes_eq first (codes "probe"))) [
-  | inl probe ↦ key-ipv4 Probe (λ key. tt) (key_of ipv4_notation rest) command (rw probe at is)
-  | inr first_other ↦ elim (cases_Bool (bytes_eq first (codes "packet"))) [
-    | inl packet ↦ key-ipv4 Packet (λ key. tt) (key_of ipv4_notation rest) command (rw (first_other, packet) at is)
-    | inr other ↦ elim (cases_Bool (bytes_eq first (codes "frame"))) [
-      | inl frame ↦ key-ipv4 Packet (λ key. tt) (frame_of ipv4_notation rest) command (rw (first_other, other, frame) at is)
-      | inr also ↦ elim (cases_Bool (bytes_eq first (codes "commit"))) [
-        | inl commit ↦ commit-ipv4 rest command (rw (first_other, other, also, commit) at is)
-        | inr neither ↦ let bad = rw (first_other, other, also, neither) at is in absurd (cc)
-      ]
-    ]
-  ]
-]
+common-ipv4 : (common : Result CommonCommand WordFault) (command : RouteCommand) → (common >>= λ found. Ok (Common found)) ≡ Ok command → IsIpv4Command command
+common-ipv4 (Ok found) command is = let same : Common found ≡ command = cc in subst IsIpv4Command same tt
+common-ipv4 (Err fault) command is = absurd (cc)
 
 command-ipv4 : (words : List (List ℕ)) (command : RouteCommand) → route_command ipv4_notation words ≡ Ok command → IsIpv4Command command
 command-ipv4 [] command is = absurd (cc)
 command-ipv4 (first ∷ rest) command is = elim (cases_Bool (bytes_eq first (codes "route"))) [
   | inl route ↦ route-ipv4 rest command (rw route at is)
-  | inr other ↦ common-ipv4 first rest command (rw other at is)
+  | inr other ↦ common-ipv4 (common_command ipv4_notation first rest) command (rw other at is)
 ]
 
 pub line-ipv4 : (text : List ℕ) (command : RouteCommand) → route_line ipv4_notation text ≡ Ok (Some command) → IsIpv4Command command

@@ -6,6 +6,8 @@ use Rattle.rule_store.specs.declared.Command.TheVariants.{Add as Adds, Set as Se
 use Rattle.line_words.specs.declared.WordFault.{WordFault}
 use Rattle.line_words.specs.Kinds.{ipv4_notation}
 use Rattle.line_words.specs.Texts.{word_fault_text}
+use Rattle.line_words.specs.declared.commands.CommonCommand.{CommonCommand}
+use Rattle.line_words.specs.declared.commands.CommonCommand.TheVariants as common
 use Rattle.route_reader.specs.declared.RouteCommand.{RouteCommand}
 use Rattle.route_reader.specs.declared.RouteCommand.TheVariants as route
 use Rattle.route_reader.specs.Grammar.{route_line}
@@ -18,23 +20,25 @@ use Rattle.replay.specs.declared.Family.{Family}
 use Rattle.replay.specs.declared.Family.TheVariants.{Route, Acl}
 use Rattle.replay.specs.Script.{Reading}
 
+-- a command that both kinds of script have
+abbrev pub common_act : CommonCommand → Act
+common_act (common.Probe key) = Probe key
+common_act (common.Packet key) = Packet key
+common_act common.Commit = Commit
+
 -- a route's rule has its prefix as its priority
 abbrev pub route_act : RouteCommand → Act
 route_act (route.Add block answer) = Command (Adds (route_rule (ipv4_route_rank block) block answer))
 route_act (route.Set block answer) = Command (Sets (ipv4_route_rank block) answer)
 route_act (route.Del block) = Command (Dels (ipv4_route_rank block))
-route_act (route.Probe key) = Probe key
-route_act (route.Packet key) = Packet key
-route_act route.Commit = Commit
+route_act (route.Common command) = common_act command
 
 -- a rule of an access list has its sequence number as its priority
 abbrev pub acl_act : AclCommand → Act
 acl_act (acl.Add rule) = Command (Adds rule)
 acl_act (acl.Set sequence answer) = Command (Sets (list_rank sequence) answer)
 acl_act (acl.Del sequence) = Command (Dels (list_rank sequence))
-acl_act (acl.Probe key) = Probe key
-acl_act (acl.Packet key) = Packet key
-acl_act acl.Commit = Commit
+acl_act (acl.Common command) = common_act command
 
 -- a reader's answer as an act or a fault's text
 abbrev pub reading_of : {C : Type 0} → (C → Act) → Result (Option C) WordFault → Result (Option Act) (List ℕ)

@@ -22,9 +22,7 @@ abbrev pub IsIpv4Command : RouteCommand → Type 0
 IsIpv4Command (route.Add block answer) = IsIpv4Block block
 IsIpv4Command (route.Set block answer) = Unit {0}
 IsIpv4Command (route.Del block) = Unit {0}
-IsIpv4Command (route.Probe key) = Unit {0}
-IsIpv4Command (route.Packet key) = Unit {0}
-IsIpv4Command route.Commit = Unit {0}
+IsIpv4Command (route.Common command) = Unit {0}
 
 -- a script with these acts at its front
 abbrev pub onto_all : List NumberedAct → Script → Script

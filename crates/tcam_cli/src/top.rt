@@ -15,13 +15,13 @@ ghost use Rattle.replay.specs.Text.{fault_line};
 ghost use Rattle.tcam_cli.specs.AllTheWay.{IsHitlessJob};
 ghost use Rattle.tcam_cli.specs.CommandLine.{job_of, script_setting};
 ghost use Rattle.tcam_cli.specs.Headline.{IsCarriedOut, HasCauses, Reads, status_of};
-ghost use Rattle.tcam_cli.specs.Readings.{acl_act, reading, route_act};
+ghost use Rattle.tcam_cli.specs.Readings.{acl_act, common_act, reading, route_act};
 ghost use Rattle.tcam_cli.specs.Turns.{Closes, IsIpv4Command};
 
 use crate::Status;
 use crate::command_line::{Asked, HELP, VERSION, WordsFault, read_words};
 use acl_reader::{AclCommand, read_acl};
-use line_words::WordFault;
+use line_words::{CommonCommand, WordFault};
 use replay::{Act, Family, Mode, Placement, Run, RunFault, write_fault, write_text};
 use route_reader::{RouteCommand, read_route};
 use rule_model::{ipv4_route_rank, list_rank, route_rule, rule_conditions};
@@ -257,9 +257,7 @@ fn acl_act(command: &AclCommand) -> Act
             result: *answer,
         }),
         AclCommand::Del(sequence) => Act::Command(Command::Del(list_rank(*sequence))),
-        AclCommand::Probe(key) => Act::Probe(*key),
-        AclCommand::Packet(key) => Act::Packet(*key),
-        AclCommand::Commit => Act::Commit,
+        AclCommand::Common(command) => common_act(command),
     }
 }
 
@@ -280,9 +278,19 @@ fn route_act(command: &RouteCommand) -> Act
             result: *answer,
         }),
         RouteCommand::Del(prefix) => Act::Command(Command::Del(ipv4_route_rank(prefix))),
-        RouteCommand::Probe(key) => Act::Probe(*key),
-        RouteCommand::Packet(key) => Act::Packet(*key),
-        RouteCommand::Commit => Act::Commit,
+        RouteCommand::Common(command) => common_act(command),
+    }
+}
+
+/// The act that a command of both kinds of script is.
+fn common_act(command: &CommonCommand) -> Act
+    ensures act { result ≡ common_act command.now }
+    ensures family { (family : Family) → IsActOf family result }
+{
+    match command {
+        CommonCommand::Probe(key) => Act::Probe(*key),
+        CommonCommand::Packet(key) => Act::Packet(*key),
+        CommonCommand::Commit => Act::Commit,
     }
 }
 
