@@ -173,13 +173,6 @@ uncrossed_none index id slots plan ready clear = record {
   few = omega arith;
 }
 
--- what was made after these moves was made after all
-pub made_after : (index : LivePieces) (id : ℕ) (a b c : Slots) (p q r : List Move) → IsUncrossed index id a b p q → AreMade b c q r → AreMade a c p r
-made_after index id a b c p q r x y =
-    made_by a c p r (x.moves ++ moves_since q r)
-    (y.0 ∙ (ap (λ z. z ++ moves_since q r) x.gained ∙ append_assoc p x.moves (moves_since q r)))
-    (y.1 ∙ (ap (λ z. after_moves z (moves_since q r)) x.after ∙ sym (after_append a x.moves (moves_since q r))))
-
 -- the whole of an insertion, as the planner says it
 pub record IsWholly (index : LivePieces) (aim : Aim) (id : ℕ) (slots slots' : Slots) (plan plan' : List Move) : Type 0 where
   pub made : AreMade slots slots' plan plan'

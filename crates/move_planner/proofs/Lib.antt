@@ -2,7 +2,6 @@ pub mod Alone
 pub mod Begun
 pub mod Chain
 pub mod Cutting
-pub mod Crossed
 pub mod Ends
 mod Examples
 pub mod Filled

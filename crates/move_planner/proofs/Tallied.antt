@@ -1,5 +1,5 @@
 -- The tallies of the boundaries of a crossed stretch, and the choice among them.
-use Rattle.std.proofs.Common.{◌≡◌, ℕ, ◌+◌, ◌-◌, ◌<◌, ◌≤◌, Bool, true, Option, None, Some, length, take, drop, inl, inr, arith, refl, sym, subst, ap}
+use Rattle.std.proofs.Common.{◌≡◌, ℕ, ◌+◌, ◌-◌, ◌<◌, ◌≤◌, Bool, true, Option, None, Some, length, take, drop, inl, inr, arith, sym, subst, ap}
 use Rattle.std.specs.Prelude.{cond, count_by, min, is_none, nat_lt, nat_le, slice_index_or}
 use Rattle.std.proofs.lemmas.Bool.{cases_Bool, cases_eq, cond-true, cond-false, and_parts, and_from, le-leb, leb-true, ltb-true, ltb-false, both_ways}
 use Rattle.std.proofs.lemmas.List.Sums.{sum_by_more, sum_by-drop_more, sum_by-take-le, sum_by-take-drop, count_by-le-length}
@@ -10,7 +10,7 @@ use Rattle.slot_pool.specs.Arrangement.{Slots}
 use Rattle.move_planner.specs.declared.sides.Sides.{Sides}
 use Rattle.move_planner.specs.declared.boundary.Tally.{Tally}
 use Rattle.move_planner.specs.declared.boundary.Choice.{Choice}
-use Rattle.move_planner.specs.Boundary.{one, count_marks, marked_early, marked_late, marked_wrong, HasMarkedRoom, IsBestTo, IsChosenTo, IsTallied, has_room, with_fitting, with_better}
+use Rattle.move_planner.specs.Boundary.{one, count_marks, marked_early, marked_late, marked_wrong, HasMarkedRoom, IsChosenTo, IsTallied, has_room, with_fitting, with_better}
 
 -- one slot fewer
 pub free_step : (slots : Slots) (at : ℕ) → at < length slots → free_behind at slots ≡ one (is_none (slot slots at)) + free_behind (at + 1) slots
@@ -116,32 +116,6 @@ chosen_more slots sides tally choice to next tallied on low chosen = elim (cases
           }
     ]
 
--- the first boundary
-pub chosen_first : (slots : Slots) (sides : Sides) (tally : Tally) → IsTallied slots sides tally sides.start → IsChosenTo slots sides sides.start (with_better None tally sides.start)
-chosen_first slots sides tally tallied = elim (cases_Bool (has_room tally)) [
-  | inr none ↦ subst (IsChosenTo slots sides sides.start) (sym (cond-false _ _ _ none)) (λ other a b r.
-      let k : other ≡ sides.start = omega arith in both_ways _ none (room_said slots sides tally sides.start tallied (subst (HasMarkedRoom slots sides) k r)))
-  | inl fits ↦ subst (IsChosenTo slots sides sides.start) (sym (cond-true _ _ _ fits)) record {
-    best = record {
-      low = omega arith;
-      high = omega arith;
-      room = room_is slots sides tally sides.start tallied fits;
-      fewest = λ other a b r. let k : other ≡ sides.start = omega arith in let e : marked_wrong sides other ≡ marked_wrong sides sides.start = ap (marked_wrong sides) k in omega arith;
-      last = λ other a b r. absurd (omega arith);
-    };
-    wrong_is = let x = tallied.early_is in let y = tallied.late_is in omega arith;
-  }
-]
-
--- a choice was made where some boundary has room
-pub chosen_some : (slots : Slots) (sides : Sides) (to : ℕ) (choice : Option Choice) → ((c : Choice) → choice ≡ Some c → ⊥) → IsChosenTo slots sides to choice
-    → (cut : ℕ) × (sides.start ≤ cut) × (cut ≤ to) × HasMarkedRoom slots sides cut → ⊥
-chosen_some slots sides to None none w some = w some.0 some.1 some.2 some.3
-chosen_some slots sides to (Some c) none w some = none c refl
-
-pub chosen_is : (slots : Slots) (sides : Sides) (to : ℕ) (choice : Option Choice) (c : Choice) → choice ≡ Some c → IsChosenTo slots sides to choice → IsBestTo slots sides to c.boundary
-chosen_is slots sides to choice c is w = (subst (IsChosenTo slots sides to) is w).best
-
 -- a tally is of no more than the slots
 pub tally_small : (slots : Slots) (sides : Sides) (tally : Tally) (cut : ℕ) → IsTallied slots sides tally cut → length slots ≤ 4096 → length sides.behind.items ≤ 4096 → length sides.before.items ≤ 4096
     → (tally.early ≤ 4096) × (tally.late ≤ 4096) × (tally.free_before ≤ 4096) × (tally.free_behind ≤ 4096)
@@ -166,9 +140,6 @@ tallied_first slots sides tally early late behind before =
 
 pub free_parts : (slots : Slots) (start : ℕ) → free_before start slots + free_behind start slots ≡ count_by (λ (held : Option ℕ). is_none held) slots
 free_parts slots start = sum_by-take-drop (λ (held : Option ℕ). cond (is_none held) 1 0) slots start
-
-pub free_part : (slots : Slots) (start : ℕ) → free_behind start slots ≤ count_by (λ (held : Option ℕ). is_none held) slots
-free_part slots start = let r = sum_by-take-drop (λ (held : Option ℕ). cond (is_none held) 1 0) slots start in omega arith
 
 -- one slot further
 pub tallied_more : (slots : Slots) (sides : Sides) (tally next : Tally) (at : ℕ) (late early : Bool) → IsTallied slots sides tally at → sides.start ≤ at → at < sides.end → sides.end ≤ length slots
