@@ -36,10 +36,6 @@ mod parts;
 mod pieces;
 mod plan;
 mod planning;
-#[cfg(test)]
-mod silent_tests;
-#[cfg(test)]
-mod tests;
 
 pub use commit_writes::Done;
 pub use manager::Manager;

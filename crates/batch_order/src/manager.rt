@@ -2,7 +2,7 @@
 
 ghost use Rattle.std.specs.Prelude.{◌≡◌, ◌+◌, ◌-◌, ◌++◌, ◌∷◌, [], ◌≤◌, ◌<◌, ◌↔◌, ℕ, List, Option, Some, None, Err, IfSome, IsSome, IfOk, IfErr, OnOk, OnErr, length, option_map, fold};
 ghost use Rattle.std.specs.List.{AllByRecursion};
-ghost use Rattle.script_lines.specs.Cause.{HasCause};
+ghost use Rattle.call_history.specs.Cause.{HasCause};
 ghost use Rattle.tcam_device.specs.declared.Write.{Write};
 ghost use Rattle.tcam_device.specs.State.{IsInUse, Shows, apply, on_device, replay};
 ghost use Rattle.tcam_device.specs.Hitless.{ShowsOldOrNew};

@@ -3,7 +3,7 @@
 ghost use Rattle.std.specs.Prelude.{Bool, ◌≡◌, ◌≢◌, ℕ, ◌+◌, ◌<◌, ◌≤◌, ◌%◌, [], ◌∷◌, ◌++◌, codes, decimal, length, IsSome, OnOk, OnErr};
 ghost use Rattle.std.specs.Io.KnownBytes.{Appends};
 ghost use Rattle.script_lines.specs.Given.{counted};
-ghost use Rattle.script_lines.specs.Cause.{HasCause};
+ghost use Rattle.call_history.specs.Cause.{HasCause};
 ghost use Rattle.rule_store.specs.Verdict.{Accepted};
 ghost use Rattle.replay.specs.Text.{with_words, dotted, answer_words, result_name, rule_name, reason_words, field_text, verdict_told, hex_digit, lane_text, word_text, tag_text, write_words, packet_line, probe_line, trace_line, accepted_line, refused_line, fault_line, end_line};
 ghost use Rattle.replay.specs.Carried.{AppendsPart};

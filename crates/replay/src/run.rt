@@ -3,7 +3,7 @@
 ghost use Rattle.std.specs.Prelude.{Bool, ◌≡◌, ◌≢◌, ◌+◌, ◌<◌, ◌≤◌, ◌^◌, ◌↔◌, ◌++◌, ◌∷◌, [], ℕ, Ok, Err, None, Some, IsSome, IfOk, IfErr, IfSome, OnOk, OnErr, ◌⊎◌, codes, length, true};
 ghost use Rattle.std.specs.Io.KnownBytes.{Appends};
 ghost use Rattle.script_lines.specs.Given.{counted};
-ghost use Rattle.script_lines.specs.Cause.{HasCause, IsCounted};
+ghost use Rattle.call_history.specs.Cause.{HasCause, IsCounted};
 ghost use Rattle.rule_store.specs.Verdict.{Accepted};
 ghost use Rattle.replay.specs.Text.{verdict_told, refused_line};
 ghost use Rattle.replay.specs.Run.{IsActOf, IsChangeOf, ending};

@@ -1,7 +1,7 @@
 //! The daemon's side of a commit.
 
 ghost use Rattle.std.specs.Prelude.{◌≡◌, ◌≢◌, ◌↔◌, ◌<◌, ◌≤◌, ◌-◌, ◌%◌, ◌^◌, ◌++◌, ◌∷◌, [], None, Err, IfErr, OnOk, OnErr};
-ghost use Rattle.script_lines.specs.Cause.{HasCause, IsCounted};
+ghost use Rattle.call_history.specs.Cause.{HasCause, IsCounted};
 ghost use Rattle.tcam_device.specs.State.{Shows, replay};
 ghost use Rattle.rule_store.specs.Batch.{set_after};
 ghost use Rattle.batch_order.specs.Managed.{IsOn};

@@ -16,9 +16,9 @@ ghost use Rattle.batch_order.specs.Managed.{IsOn};
 use anyhow::anyhow;
 use batch_order::{Manager, Mode, Placement};
 use daemon::{CommitFault, add_route, change_route, commit, resume, withdraw_route};
+use memory_tcam::Shadowed;
 use registers::{Registers, SLOTS};
 use rule_store::Batch;
-use tcam_device::Shadowed;
 
 /// Adds four routes, a commit each. The last goes between two that stand side by side, so one of them moves. Then one
 /// commit withdraws a route and changes the port of the next shorter one: the packet keeps the old answer until the

@@ -5,4 +5,3 @@ mod Scans
 mod Buffers
 mod Hands
 pub mod Pieces
-mod Histories

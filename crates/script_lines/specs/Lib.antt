@@ -1,4 +1,3 @@
-pub mod Cause
 pub mod Lines
 pub mod Reader
 pub mod Memory

@@ -1,26 +1,7 @@
 -- Sources and sinks in memory, as contracts see them.
-use Rattle.std.specs.Prelude.{ℕ, ◌+◌, ◌-◌, ◌^◌, ◌<◌, min, max, List, ◌++◌, length, Contains}
-
--- the greatest count
-abbrev pub last_count : ℕ
-last_count = 2 ^ 64 - 1
-
--- a count is raised by one, and stands at its last value
-abbrev pub raised : ℕ → ℕ
-raised count = min (count + 1) last_count
-
--- the numbers of the calls that are to fail, from 1, and how many calls were made
-pub record CallCount : Type 0 where
-  pub listed : List ℕ
-  pub made : ℕ
-
--- the next call is listed
-abbrev pub IsNextListed : CallCount → Type 0
-IsNextListed count = (count.made < last_count) × Contains count.listed (count.made + 1)
-
--- one call more
-abbrev pub with_call : CallCount → CallCount
-with_call count = record count { made = raised count.made }
+use Rattle.std.specs.Prelude.{ℕ, ◌-◌, max, List, ◌++◌, length}
+use Rattle.call_history.specs.Calls.{CallCount}
+use Rattle.call_history.specs.Cause.{raised}
 
 -- what a sink in memory has: its bytes, the room that is made for more, and how often a write failed
 pub record Kept : Type 0 where

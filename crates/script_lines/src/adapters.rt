@@ -7,7 +7,8 @@ ghost use Rattle.std.specs.List.{concat};
 ghost use Rattle.std.specs.Io.KnownBytes.{Appends};
 
 use crate::counts::fail;
-use crate::{Failed, Piece, Pieces, Sink, Source};
+use crate::{Failed, Sink, Source};
+use call_history::{Piece, Pieces};
 use std::io::{Read, Write};
 use std::marker::Model;
 

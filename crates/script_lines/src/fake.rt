@@ -1,8 +1,9 @@
 // A source and a sink that fail at the calls that they are told to.
 ghost use Rattle.std.specs.Prelude.{◌≡◌, ◌<◌, ◌≤◌, ℕ, [], IfOk, OnErr};
 
-use crate::counts::{Calls, fail};
+use crate::counts::fail;
 use crate::{Failed, MemSink, MemSource, Sink, Source};
+use call_history::Calls;
 use std::alloc::{AllocError, Global};
 use std::marker::Model;
 
@@ -46,9 +47,10 @@ impl<'a> FailSource<'a> {
 impl Source for FailSource<'_> {
     ghost use Rattle.std.specs.Prelude.{◌≡◌, ◌↔◌, ◌≤◌, ◌<◌, length, min, Some, IsErr, IfOk, OnOk, OnErr};
     ghost use Rattle.std.specs.Io.KnownBytes.{ReadConsumes};
-    ghost use Rattle.script_lines.specs.Cause.{HasCause};
+    ghost use Rattle.call_history.specs.Cause.{HasCause};
     ghost use Rattle.script_lines.specs.Given.{Gives};
-    ghost use Rattle.script_lines.specs.Memory.{IsNextListed, with_call, raised};
+    ghost use Rattle.call_history.specs.Cause.{raised};
+    ghost use Rattle.call_history.specs.Calls.{IsNextListed, with_call};
 
     ghost left = { λ s. Some s.bytes };
 
@@ -128,9 +130,10 @@ impl<'a> FailSink<'a> {
 impl Sink for FailSink<'_> {
     ghost use Rattle.std.specs.Prelude.{◌≡◌, ◌↔◌, ◌<◌, ◌≤◌, ℕ, length, take, Some, IsOk, IfOk, OnOk, OnErr};
     ghost use Rattle.std.specs.Io.KnownBytes.{Appends};
-    ghost use Rattle.script_lines.specs.Cause.{HasCause};
+    ghost use Rattle.call_history.specs.Cause.{HasCause};
     ghost use Rattle.script_lines.specs.Given.{Accepts};
-    ghost use Rattle.script_lines.specs.Memory.{IsNextListed, with_call, with_piece, with_fault};
+    ghost use Rattle.call_history.specs.Calls.{IsNextListed, with_call};
+    ghost use Rattle.script_lines.specs.Memory.{with_piece, with_fault};
 
     ghost taken = { λ s. Some s.kept.bytes };
 

@@ -10,8 +10,6 @@
 //! - `MemSource`, `MemSink` and `FillSource` stand in for files, `FailSource` and `FailSink` fail at the
 //!   calls that they are told to, `ReadFrom` and `WriteTo` adapt std's readers and writers.
 //!
-//! A `History` is a list that only contracts see: an object remembers in it what happened, at no cost.
-//!
 //! What isn't told isn't claimed: std's input and output foretell nothing, and of a failed write they
 //! don't know what became of it. That `ReadFrom` and `WriteTo` ask std once in a call, take each of its
 //! errors for a failure, and flush each write, rests on their few lines: std keeps no count of these.
@@ -21,7 +19,6 @@ mod adapters;
 mod buffer;
 mod counts;
 mod fake;
-mod history;
 mod memory;
 mod reader;
 mod scan;
@@ -32,7 +29,6 @@ mod tests;
 
 pub use adapters::{ReadFrom, WriteTo};
 pub use fake::{FailSink, FailSource};
-pub use history::{History, Piece, Pieces};
 pub use memory::{FillSource, MemSink, MemSource};
 pub use reader::Lines;
 pub use sink::{Sink, write_all};

@@ -3,7 +3,8 @@ ghost use Rattle.std.specs.Prelude.{◌≡◌, ◌<◌, ◌≤◌, ℕ, List, []
 ghost use Rattle.script_lines.specs.Memory.{Kept, Filling};
 
 use crate::counts::fail;
-use crate::{Failed, Piece, Pieces, Sink, Source};
+use crate::{Failed, Sink, Source};
+use call_history::{Piece, Pieces};
 use std::alloc::{AllocError, Global};
 use std::marker::Model;
 
@@ -37,7 +38,7 @@ impl<'a> MemSource<'a> {
 impl Source for MemSource<'_> {
     ghost use Rattle.std.specs.Prelude.{◌≡◌, ◌≤◌, ◌<◌, length, min, Ok, Some, IfOk};
     ghost use Rattle.std.specs.Io.KnownBytes.{ReadConsumes};
-    ghost use Rattle.script_lines.specs.Cause.{HasCause};
+    ghost use Rattle.call_history.specs.Cause.{HasCause};
     ghost use Rattle.script_lines.specs.Given.{Gives};
 
     ghost left = { λ s. Some s.bytes };
@@ -97,7 +98,7 @@ impl FillSource {
 impl Source for FillSource {
     ghost use Rattle.std.specs.Prelude.{◌≡◌, ◌≤◌, ◌<◌, length, min, replicate, Ok, Some, IfOk};
     ghost use Rattle.std.specs.Io.KnownBytes.{ReadConsumes};
-    ghost use Rattle.script_lines.specs.Cause.{HasCause};
+    ghost use Rattle.call_history.specs.Cause.{HasCause};
     ghost use Rattle.script_lines.specs.Given.{Gives};
 
     ghost left = { λ s. Some (replicate s.count s.byte) };
@@ -187,7 +188,7 @@ impl MemSink {
 impl Sink for MemSink {
     ghost use Rattle.std.specs.Prelude.{◌≡◌, ◌↔◌, ◌<◌, ◌≤◌, ℕ, length, take, Some, Ok, IsOk, IfOk, OnOk, OnErr};
     ghost use Rattle.std.specs.Io.KnownBytes.{Appends};
-    ghost use Rattle.script_lines.specs.Cause.{HasCause};
+    ghost use Rattle.call_history.specs.Cause.{HasCause};
     ghost use Rattle.script_lines.specs.Given.{Accepts};
     ghost use Rattle.script_lines.specs.Memory.{with_piece, with_fault};
 

@@ -30,7 +30,7 @@ impl Model for Lines {
 impl Lines {
     ghost use Rattle.std.specs.Prelude.{◌≡◌, ◌≢◌, ◌<◌, ◌≤◌, ◌+◌, ◌-◌, ℕ, List, [], Some, Err, IfOk, IfSome, drop, replicate};
     ghost use Rattle.std.specs.Io.KnownBytes.{Consumes};
-    ghost use Rattle.script_lines.specs.Cause.{IsCounted};
+    ghost use Rattle.call_history.specs.Cause.{IsCounted};
     ghost use Rattle.script_lines.specs.Reader.{Hands, Follows, HandsByGiven, Again, MayRead, Stays};
     ghost use Rattle.script_lines.specs.Given.{GivesPieces};
 

@@ -1,7 +1,7 @@
 // Where a line ends.
 ghost use Rattle.std.specs.Prelude.{◌≡◌, ◌<◌, ◌≤◌, ◌+◌, ◌++◌, ℕ, List, Ok, false, length, take, drop, slice_index, IfOk, OnErr};
 ghost use Rattle.std.specs.Io.KnownBytes.{Consumes, IsAtEnd};
-ghost use Rattle.script_lines.specs.Cause.{HasCause};
+ghost use Rattle.call_history.specs.Cause.{HasCause};
 ghost use Rattle.std.specs.List.{prefix_len};
 ghost use Rattle.script_lines.specs.Reader.{is_of_line, IsOpenLine};
 ghost use Rattle.script_lines.specs.Scan.{StopsAt, IsScanned, Gathers};

@@ -1,7 +1,7 @@
 // Where bytes go.
 ghost use Rattle.std.specs.Prelude.{◌<◌, ◌≤◌, ℕ, Bool, List, Option, length, take, IfOk, OnOk, OnErr};
 ghost use Rattle.std.specs.Io.KnownBytes.{Appends};
-ghost use Rattle.script_lines.specs.Cause.{HasCause};
+ghost use Rattle.call_history.specs.Cause.{HasCause};
 ghost use Rattle.script_lines.specs.Given.{Accepts, counted};
 
 use crate::Failed;

@@ -4,7 +4,7 @@ use Rattle.std.specs.Io.KnownBytes.{Consumes}
 use Rattle.std.proofs.KnownBytes.{Appends-nil}
 use Rattle.std.proofs.lemmas.List.{take-append-le}
 use Rattle.std.proofs.Math.Seq.{take-length}
-use Rattle.script_lines.specs.Cause.{IsCounted}
+use Rattle.call_history.specs.Cause.{IsCounted}
 use Rattle.tcam_device.specs.declared.Write.{Write}
 use Rattle.replay.specs.Script.{script_of}
 use Rattle.replay.specs.Run.{Setting, Progress, start}

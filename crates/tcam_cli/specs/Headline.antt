@@ -3,7 +3,7 @@
 -- one; a refused commit writes nothing; and an insertion takes at most 1 + 2 m (1 + c) writes.
 use Rattle.std.specs.Prelude.{◌≡◌, ℕ, ◌-◌, ◌==◌, true, false, Bool, Option, Some, option_map, IfSome, List, [], ◌∷◌, ◌++◌, length, take, map, ◌⊎◌}
 use Rattle.std.specs.Io.KnownBytes.{Appends}
-use Rattle.script_lines.specs.Cause.{IsCounted}
+use Rattle.call_history.specs.Cause.{IsCounted}
 use Rattle.script_lines.specs.Lines.{line_feed, lines_of}
 use Rattle.rule_model.specs.declared.Rule.{Rule}
 use Rattle.rule_store.specs.declared.Command.{Command as Change}

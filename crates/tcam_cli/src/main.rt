@@ -29,12 +29,12 @@ mod probe_tests;
 mod tests;
 mod top;
 
+use memory_tcam::MemTcam;
 use script_lines::{ReadFrom, WriteTo};
 use std::alloc::AllocError;
 use std::env::{self, Env};
 use std::io;
 use std::process::ExitCode;
-use tcam_device::MemTcam;
 use top::run;
 
 /// How a run ends.

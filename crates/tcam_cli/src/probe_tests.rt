@@ -3,9 +3,9 @@
 use crate::Status;
 use crate::tests::{ONE, THREE, TWO, carried_out, check, check_line, words_of};
 use crate::top::run;
+use memory_tcam::FlakyTcam;
 use script_lines::{MemSink, MemSource};
 use std::test::Fail;
-use tcam_device::FlakyTcam;
 
 const EIGHT: &str = "tcam route --slots 8";
 

@@ -2,7 +2,7 @@
 
 ghost use Rattle.std.specs.Prelude.{Bool, ◌≡◌, ◌≢◌, ◌⊎◌, ◌*◌, ◌<◌, ◌≤◌, ◌++◌, ℕ, List, Option, [], Ok, Err, Some, None, IsSome, IfNone, IfSome, IfOk, IfErr, length, map, string_bytes};
 ghost use Rattle.std.specs.Io.KnownBytes.{Consumes};
-ghost use Rattle.script_lines.specs.Cause.{IsCounted};
+ghost use Rattle.call_history.specs.Cause.{IsCounted};
 ghost use Rattle.script_lines.specs.Lines.{numbered};
 ghost use Rattle.script_lines.specs.Given.{GivesPieces, counted};
 ghost use Rattle.script_lines.specs.declared.Over.TheVariants.{Going};

@@ -1,12 +1,11 @@
 -- How a list of writes is cut into insertions, and that an insertion has one crossing span.
-use Rattle.std.proofs.Common.{◌≡◌, ◌≤◌, ℕ, Bool, true, false, List, [], ◌∷◌, ◌++◌, Some, None, refl, sym, ◌∙◌, ap, subst, arith, inl, inr, append_assoc, not}
+use Rattle.std.proofs.Common.{◌≡◌, Bool, true, false, List, [], ◌∷◌, ◌++◌, Some, None, refl, sym, ◌∙◌, ap, append_assoc, not}
 use Rattle.std.specs.Prelude.{filter, flat_map}
 use Rattle.std.proofs.lemmas.List.{append-nil}
-use Rattle.ternary_word.specs.declared.Entry.{Entry}
 use Rattle.tcam_device.specs.declared.Write.{Write}
 use Rattle.tcam_device.specs.declared.Write.TheVariants.{Slot, Table}
-use Rattle.tcam_device.specs.State.{State, apply, state_after}
-use Rattle.tcam_device.specs.Insertion.{Insertion, insertions, insertions_from, is_new, is_table_write, IsCrossingSpan}
+use Rattle.tcam_device.specs.State.{State, apply}
+use Rattle.tcam_device.specs.Insertion.{Insertion, insertions_from, is_new, is_table_write}
 
 -- the writes of the slots
 abbrev pub slot_writes : List Write → List Write

@@ -7,7 +7,5 @@ pub mod Kept
 pub mod States
 pub mod Cuts
 pub mod Shown
-pub mod Least
 pub mod Wider
 pub mod WiderInsertions
-mod Shadows

@@ -13,9 +13,6 @@ use Rattle.rule_model.specs.Piece.{piece_matches}
 use Rattle.rule_model.specs.RuleSet.{best_rule}
 use Rattle.ternary_word.specs.declared.Entry.{Entry}
 use Rattle.ternary_word.specs.Entry.{RankedPiece, HitsExactly, entry_for, port_tested}
-use Rattle.rule_model.specs.Rule.{AreConditions}
-use Rattle.ternary_word.specs.Entry.{IsEncodable}
-use Rattle.ternary_word.proofs.Exact.{hits-entry_of}
 use Rattle.tcam_device.specs.State.{State, IsState, Shows, told, hits_key}
 use Rattle.tcam_device.specs.Order.{IsOrdered, ServesBits, IsTranslated}
 use Rattle.tcam_device.proofs.Lookups.{HitAsPieces, EntriesOf, hits_valid, lookup_best}

@@ -1,15 +1,11 @@
 -- Every state that writes leave has its sizes, and words of 16 bits in its tables.
-use Rattle.std.proofs.Common.{◌≡◌, ◌<◌, ◌^◌, ℕ, List, [], ◌∷◌, length, replicate, Option, None, refl, sym, ◌∙◌, subst, set, get_or, arith, inl, inr, length-set}
+use Rattle.std.proofs.Common.{◌≡◌, ◌<◌, ◌^◌, ℕ, length, replicate, Option, None, refl, sym, subst, arith, inl, inr}
 use Rattle.std.specs.Prelude.{slice_index}
-use Rattle.std.specs.List.{AllByRecursion}
-use Rattle.std.proofs.lemmas.Bool.{cases_eq, cases_lt}
-use Rattle.std.proofs.lemmas.List.{length-replicate, get_or-replicate, get_or_past, get_or-set_same, get_or-set_other}
-use Rattle.rule_model.specs.declared.Field.TheVariants.{Src, Dst}
+use Rattle.std.proofs.lemmas.Bool.{cases_lt}
+use Rattle.std.proofs.lemmas.List.{length-replicate, get_or-replicate, get_or_past}
 use Rattle.ternary_word.specs.declared.Entry.{Entry}
-use Rattle.tcam_device.specs.declared.Write.{Write}
-use Rattle.tcam_device.specs.declared.Write.TheVariants.{Slot, Table}
-use Rattle.tcam_device.specs.State.{State, IsState, blank, blank_table, apply, replay, state_after}
-use Rattle.tcam_device.proofs.Kept.{blank_table-is, slots-apply}
+use Rattle.tcam_device.specs.State.{State, IsState, blank, blank_table}
+use Rattle.tcam_device.proofs.Kept.{blank_table-is}
 
 blank_words : (port : ℕ) → slice_index blank_table port < 2 ^ 16
 blank_words port = subst (λ table. slice_index table port < 2 ^ 16) (sym blank_table-is) (elim (cases_lt port 65536) [

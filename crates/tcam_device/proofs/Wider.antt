@@ -1,7 +1,7 @@
 -- A device with more slots, which are empty: it holds, shows and counts the same, as long as no write is past the first ones.
-use Rattle.std.proofs.Common.{◌≡◌, ℕ, zero, suc, ◌-◌, ◌≤◌, Bool, List, [], ◌∷◌, ◌++◌, length, take, replicate, Option, None, Some, inl, inr, refl, sym, ◌∙◌, subst, ap, arith, if◌then◌else◌}
+use Rattle.std.proofs.Common.{◌≡◌, ℕ, zero, suc, ◌-◌, Bool, List, [], ◌∷◌, ◌++◌, length, take, replicate, Option, None, Some, inl, inr, refl, sym, ◌∙◌, subst, ap, if◌then◌else◌}
 use Rattle.std.specs.List.{AllByRecursion}
-use Rattle.std.proofs.lemmas.List.{set-append_left, length-replicate, replicate-append-replicate}
+use Rattle.std.proofs.lemmas.List.{set-append_left}
 use Rattle.slot_order.specs.Order.{slot, first_hit}
 use Rattle.rule_model.specs.declared.Key.{Key}
 use Rattle.rule_model.specs.declared.Rule.{Rule}
@@ -10,7 +10,7 @@ use Rattle.ternary_word.specs.declared.Entry.{Entry}
 use Rattle.ternary_word.specs.Entry.{RankedPiece}
 use Rattle.tcam_device.specs.declared.Write.{Write}
 use Rattle.tcam_device.specs.declared.Write.TheVariants.{Slot, Table}
-use Rattle.tcam_device.specs.State.{State, blank, blank_table, hits_key, told, lookup, Shows, IsInUse, apply, state_after, on_device}
+use Rattle.tcam_device.specs.State.{State, blank, hits_key, told, lookup, Shows, IsInUse, apply, state_after, on_device}
 use Rattle.tcam_device.specs.Order.{StandsOnce, IsOrdered}
 use Rattle.tcam_device.specs.Hitless.{ShowsOldOrNew, IsHitless, TurnsOnce}
 use Rattle.tcam_device.proofs.Kept.{slots-apply}

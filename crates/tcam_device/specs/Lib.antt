@@ -2,4 +2,3 @@ pub mod State
 pub mod Hitless
 pub mod Insertion
 pub mod Order
-pub mod Tcam

@@ -7,30 +7,24 @@
 //! applied in order. [`Device`] adds look-ups: tag and result of the least slot that hits the key's word in that
 //! state.
 //!
-//! [`MemTcam`] is a device in memory that never fails. [`FlakyTcam`] is the same one, but the write calls
-//! whose numbers it is given fail. Both keep the journal, and beside it the slots, in columns, and the tables as
-//! the journal leaves them, so that a look-up need not go through the journal.
-//!
 //! **Over hardware of your own**: write `impl Hardware` for it, which asks for the number of slots and for one call
-//! that makes a write; nothing need be known of what the hardware holds. [`Shadowed`] makes a device of it. What its
-//! author answers for stands at [`Hardware`]; a write that failed and was made all the same does no harm
+//! that makes a write; nothing need be known of what the hardware holds. `memory_tcam::Shadowed` makes a device of it.
+//! What its author answers for stands at [`Hardware`]; a write that failed and was made all the same does no harm
 //! ([`twice_as_once`]).
+//!
+//! The devices in memory are a crate of their own, `memory_tcam`, so that how a look-up is made fast touches no proof
+//! of what a device is, or of what is written to it.
 #![tactic(auto)]
 
 mod device;
-mod flaky;
+mod hardware;
 mod laws;
-mod mem;
-mod memory;
-mod shadowed;
 mod writable;
 
 pub use device::Device;
-pub use flaky::FlakyTcam;
+pub use hardware::Hardware;
 pub use laws::twice_as_once;
-pub use mem::MemTcam;
 pub use rule_model::Field;
-pub use shadowed::{Hardware, Shadowed};
 use ternary_word::Entry;
 use thiserror::Error;
 pub use writable::Writable;
@@ -46,6 +40,3 @@ pub enum Write {
 #[derive(Clone, Copy, Debug, PartialEq, Eq, Error)]
 #[error("device fault")]
 pub struct DeviceFault;
-
-#[cfg(test)]
-mod tests;

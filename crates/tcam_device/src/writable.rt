@@ -1,7 +1,7 @@
 // How a device is written, over every one.
 ghost use Rattle.std.specs.Prelude.{◌≡◌, ◌<◌, ◌≤◌, ◌+◌, ◌++◌, ◌∷◌, [], ℕ, List, OnOk, OnErr};
 ghost use Rattle.tcam_device.specs.declared.Write.{Write};
-ghost use Rattle.script_lines.specs.Cause.{HasCause};
+ghost use Rattle.call_history.specs.Cause.{HasCause};
 ghost use Rattle.tcam_device.specs.State.{IsInUse};
 
 use crate::{DeviceFault, Write};

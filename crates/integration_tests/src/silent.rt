@@ -1,0 +1,56 @@
+// A commit over hardware that tells nothing, and that fails a write which it has made.
+ghost use Rattle.std.specs.Prelude.{◌≡◌};
+
+use crate::commits::fails_once;
+use batch_order::{Manager, Mode, Placement};
+use memory_tcam::Shadowed;
+use std::process::Abort;
+use std::test::Fail;
+use tcam_device::{DeviceFault, Hardware, Write};
+use ternary_word::Entry;
+
+/// Eight slots that take every write, and say of the first that it failed.
+#[derive(Drop)]
+pub(crate) struct Late {
+    pub(crate) slots: [Option<Entry>; 8],
+    failed: bool,
+}
+
+impl Late {
+    pub(crate) fn new() -> Late {
+        Late {
+            slots: [None; 8],
+            failed: false,
+        }
+    }
+}
+
+impl Hardware for Late {
+    ghost slot_count = { λ late. 8 };
+
+    ghost puts = { λ before write answer after. Unit {0} };
+
+    fn slots(&self) -> u32 {
+        8
+    }
+
+    fn put(&mut self, write: &Write) -> Result<(), DeviceFault> {
+        if let Write::Slot(slot, entry) = write {
+            self.slots[*slot as usize] = *entry;
+        }
+        if !self.failed {
+            self.failed = true;
+            return Err(DeviceFault);
+        }
+        Ok(())
+    }
+}
+
+#[test]
+fn a_write_that_fails_and_was_made(rt: HostRuntime) -> Result<(), Fail> {
+    let mut manager = Manager::new(rt.alloc(), 8, Mode::Cover, Placement::Middle)?;
+    let mut device = Shadowed::new(rt.alloc(), Late::new())?;
+    fails_once(&rt, rt.alloc(), &mut manager, &mut device)?;
+    assert!(rt; device.hardware().slots[3].is_some());
+    Ok(())
+}

@@ -1,5 +1,0 @@
-use Rattle.tcam_device.proofs.Kept.{replay-blank}
-use Rattle.tcam_device.proofs.mem.MemTcam.new.Goals as goal
-
-pub invariant_of-result : goal.invariant_of-result
-invariant_of-result c = rw c.new-2.ensures.items (replay-blank c.args.slots _ c.in_ok-new.ensures)

@@ -1,0 +1,32 @@
+// Hardware that tells nothing.
+ghost use Rattle.std.specs.Prelude.{◌≡◌, ℕ, Result};
+ghost use Rattle.tcam_device.specs.declared.Write.{Write};
+ghost use Rattle.tcam_device.specs.declared.DeviceFault.{DeviceFault};
+ghost use Rattle.tcam_device.specs.State.{IsInUse};
+
+use crate::{DeviceFault, Write};
+
+/// Hardware as the author of a driver writes it: how many slots there are, and how one write is made. Nothing is
+/// proved of what it holds. It is trusted in this: it is blank when `memory_tcam::Shadowed` takes it, nobody else writes it, and
+/// where `put` answers Ok the write was made, whole, behind those before it. Where `put` answers Err the write was made
+/// whole or not at all, and which of the two doesn't matter to a caller that makes the same write next, as the manager's
+/// `step` does ([`crate::twice_as_once`]).
+pub trait Hardware: Drop {
+    /// The number of slots.
+    ghost slot_count: { Self → ℕ };
+
+    /// What `put` did: the hardware before it, the write, the answer, and the hardware after it. A driver of which
+    /// nothing is known says `λ before write answer after. Unit {0}`. Code over all hardware can't know that, so it can
+    /// show this of a write only by the call itself.
+    ghost puts: { Self → Write → Result (Unit {0}) DeviceFault → Self → Type 0 };
+
+    /// The number of slots, which never changes.
+    fn slots(&self) -> u32
+        ensures { result ≡ slot_count self.now };
+
+    /// Makes one write, of a slot that there is, or answers that it can't tell whether it did.
+    fn put(&mut self, write: &Write) -> Result<(), DeviceFault>
+        requires place { IsInUse (slot_count self.old) write.now }
+        ensures puts { puts self.old write.now result self.new }
+        ensures slots { slot_count self.new ≡ slot_count self.old };
+}
