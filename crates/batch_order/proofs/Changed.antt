@@ -1,159 +1,275 @@
--- The rules that a sound batch adds, changes and removes, as its commands name them one by one.
-use Rattle.std.proofs.Common.{◌≡◌, ℕ, true, false, ◌&&◌, cond, Option, Some, None, List, [], ◌∷◌, fold, IsTrue, IsFalse, Contains, inl, inr, refl, sym, ap, subst, ◌∙◌, eqb-true, eq-eqb}
-use Rattle.std.specs.Prelude.{Bool, nat_eq, option_map}
-use Rattle.std.specs.List.{filter_map}
-use Rattle.std.proofs.lemmas.Bool.{cases_Bool, cond-true, cond-false, and_from, and_parts}
-use Rattle.slot_order.proofs.Lists.{contains_head, contains_tail, any_is, any_from, in_filter, filter_in}
+-- The changes of a sound batch insert, rewrite and erase the pieces of its commit.
+use Rattle.std.proofs.Common.{◌≡◌, ℕ, ◌<◌, ◌≤◌, true, false, not, ◌||◌, cond, Bool, Option, Some, None, List, [], ◌∷◌, ◌++◌, reverse, map, filter, flat_map, IsTrue, IsFalse, Contains, inl, inr, refl, sym, ap, ap₂, subst, ◌∙◌, arith, ltb-true, eqb-true, eq-eqb}
+use Rattle.std.specs.Prelude.{AllPairs, nat_eq, nat_lt, option_map}
+use Rattle.std.specs.List.{AllByRecursion, list_any, filter_map, cons_option}
+use Rattle.std.specs.Option.{option_or}
+use Rattle.std.proofs.lemmas.Bool.{cases_Bool, cases_eq, cond-true, cond-false, both_ways, ne_eqb}
+use Rattle.std.proofs.lemmas.List.{append-nil, reverse-append}
+use Rattle.std.proofs.lemmas.List.Folds.{flat_map-map}
+use Rattle.std.proofs.lemmas.List.Elements.{All-contains, filter_map-append}
+use Rattle.slot_order.proofs.Lists.{AllByRecursion-member, contains_head, contains_tail, contains_cases, contains_none, any_from, in_filter, filter_nothing}
 use Rattle.rule_model.specs.declared.Rule.{Rule}
-use Rattle.rule_model.specs.RuleSet.{IsRuleSet, has_priority, rule_at}
+use Rattle.rule_model.specs.declared.Piece.{Piece}
+use Rattle.rule_model.specs.RuleSet.{IsRuleSet, rule_at}
+use Rattle.rule_model.specs.Piece.{same_piece, cover_pieces}
+use Rattle.rule_model.proofs.Pairs.{pairs_head, pairs_tail}
+use Rattle.rule_model.proofs.Parts.{same_piece-self}
+use Rattle.rule_store.specs.declared.Mode.TheVariants.{Cover}
 use Rattle.rule_store.specs.declared.Command.{Command}
-use Rattle.rule_store.specs.declared.Command.TheVariants.{Add, Set, Del}
-use Rattle.rule_store.specs.Batch.{named_priority, removes, IsSound, additions, added_rule, with_rule, with_result_after, set_after}
+use Rattle.rule_store.specs.Batch.{removes, IsSound, additions, with_result_after, set_after}
+use Rattle.rule_store.specs.Verdict.{pieces_of, has_piece, replaced_rule, added_pieces, added_pieces_over}
+use Rattle.rule_store.proofs.Additions.{new_rules, new_rules-member, additions_set}
 use Rattle.rule_store.proofs.After.{set_after-set}
 use Rattle.rule_store.proofs.Falling.{IsRuleSet-filter}
-use Rattle.rule_store.proofs.Members.{set_after-member, sound-gone, member-has}
-use Rattle.rule_store.proofs.Sets.{IsAt-read, rule_at-found}
-use Rattle.commit_writes.specs.Shape.{names}
-use Rattle.batch_order.specs.Changes.{changed_rule, changed_rules, removed_rule, removed_rules}
-use Rattle.batch_order.proofs.Chosen.{IsChosen, IsChoice, chosen-to, chosen-from, chosen_sorted}
-use Rattle.batch_order.proofs.Results.{changed_result, changed_remains, removal_removes, removed_by}
+use Rattle.rule_store.proofs.Members.{sound-gone}
+use Rattle.rule_store.proofs.RulesAt.{cases_rule_at}
+use Rattle.rule_store.proofs.Sets.{rule_at-none, has_priority-found}
+use Rattle.ternary_word.specs.Entry.{RankedPiece}
+use Rattle.commit_writes.specs.Bits.{no_bits}
+use Rattle.commit_writes.specs.Shape.{names, common_pieces, dropped_pieces, ranked_piece, ranked_pieces, inserted_pieces, rewritten_pieces, erased_pieces}
+use Rattle.commit_writes.proofs.BatchRules.{added_named, unnamed_stays}
+use Rattle.batch_order.specs.declared.pieces.Choice.{Choice}
+use Rattle.batch_order.specs.declared.pieces.Choice.TheVariants.{Common, Fresh}
+use Rattle.batch_order.specs.Changes.{RuleChange, AreChanges, names_at, change_at, pieces_at, is_among, wants, chosen_pieces, inserted_by, rewritten_by, erased_by}
+use Rattle.batch_order.proofs.Named.{rule_at-filter, kept_at, after_at, map_reverse}
 
--- what is found at a priority is a rule of it
-pub found_at : (rules : List Rule) (priority : ℕ) (rule : Rule) → rule_at rules priority ≡ Some rule → Contains rules rule × (rule.priority ≡ priority)
-found_at [] priority rule found = absurd (cc)
-found_at (first ∷ rules) priority rule found = elim (cases_Bool (nat_eq first.priority priority)) [
-  | inl here ↦
-      let both : Some first ≡ Some rule = sym (cond-true _ _ _ here) ∙ found in
-      let same : first ≡ rule = cc in
-      (subst (Contains (first ∷ rules)) same (contains_head first rules), ap (λ (r : Rule). r.priority) (sym same) ∙ eqb-true _ _ here)
-  | inr later ↦ let rest = found_at rules priority rule (sym (cond-false _ _ _ later) ∙ found) in (contains_tail first rule rules rest.0, rest.1)
+-- the images of what is found, if something is
+abbrev images_at : {X Y : Type 0} → (X → List Y) → Option X → List Y
+images_at images None = []
+images_at images (Some x) = images x
+
+-- a list of what is found at each of some elements
+images_found : {X Y Z : Type 0} (F : X → List Z) (images : Y → List Z) (find : X → Option Y) (xs : List X) → ((x : X) → Contains xs x → F x ≡ images_at images (find x)) → flat_map F xs ≡ flat_map images (filter_map find xs)
+images_found F images find [] same = refl
+images_found F images find (x ∷ xs) same =
+    ap₂ (λ first rest. first ++ rest) (same x (contains_head x xs)) (images_found F images find xs (λ y member. same y (contains_tail x y xs member))) ∙ listed (find x)
+  where
+    listed : (found : Option _) → images_at images found ++ flat_map images (filter_map find xs) ≡ flat_map images (cons_option found (filter_map find xs))
+    listed None = refl
+    listed (Some y) = refl
+
+found_reverse : {X Y : Type 0} (find : X → Option Y) (xs : List X) → filter_map find (reverse xs) ≡ reverse (filter_map find xs)
+found_reverse find [] = refl
+found_reverse find (x ∷ xs) =
+    ap (filter_map find) (reverse-append (x ∷ []) xs) ∙ filter_map-append find (reverse xs) (x ∷ []) ∙ ap (λ some. some ++ filter_map find (x ∷ [])) (found_reverse find xs) ∙ listed (find x)
+  where
+    listed : (found : Option _) → reverse (filter_map find xs) ++ cons_option found [] ≡ reverse (cons_option found (filter_map find xs))
+    listed None = append-nil _
+    listed (Some y) = sym (reverse-append (y ∷ []) (filter_map find xs))
+
+found_agree : {X Y : Type 0} (f g : X → Option Y) (xs : List X) → ((x : X) → Contains xs x → f x ≡ g x) → filter_map f xs ≡ filter_map g xs
+found_agree f g [] same = refl
+found_agree f g (x ∷ xs) same = ap₂ cons_option (same x (contains_head x xs)) (found_agree f g xs (λ y member. same y (contains_tail x y xs member)))
+
+found_none : (priorities : List ℕ) → filter_map (rule_at []) priorities ≡ []
+found_none [] = refl
+found_none (priority ∷ priorities) = found_none priorities
+
+-- at priorities that fall, among them all of a set, its rules are found
+found_all : (rules : List Rule) (priorities : List ℕ) → IsRuleSet rules → AllPairs (λ a b. b < a) priorities → ((rule : Rule) → Contains rules rule → Contains priorities rule.priority) → filter_map (rule_at rules) priorities ≡ rules
+found_all [] priorities set falls all = found_none priorities
+found_all (rule ∷ rules) [] set falls all = absurd (contains_none _ (all rule (contains_head rule rules)))
+found_all (rule ∷ rules) (first ∷ rest) set falls all = elim (cases_eq rule.priority first) [
+  | inl same ↦
+      ap₂ cons_option (cond-true _ _ _ (eq-eqb _ _ same)) (found_agree (rule_at (rule ∷ rules)) (rule_at rules) rest
+      (λ priority member. cond-false _ _ _ (lower_apart same priority (below priority member))))
+      ∙ ap (λ some. rule ∷ some) (found_all rules rest set.1 (pairs_tail (λ a b. b < a) first rest falls) (λ other member. elim (contains_cases first other.priority rest (all other (contains_tail rule other rules member))) [
+        | inl here ↦ let less = lower other member in let at : first ≡ other.priority = here in absurd (omega arith)
+        | inr later ↦ later
+      ]))
+  | inr differ ↦ elim (contains_cases first rule.priority rest (all rule (contains_head rule rules))) [
+    | inl here ↦ absurd (differ (sym here))
+    | inr later ↦
+        let less = below rule.priority later in
+        ap (λ found. cons_option found (filter_map (rule_at (rule ∷ rules)) rest)) (absent less)
+        ∙ found_all (rule ∷ rules) rest set (pairs_tail (λ a b. b < a) first rest falls) (λ other member. elim (contains_cases first other.priority rest (all other member)) [
+          | inl here ↦ let most = highest other member in let at : first ≡ other.priority = here in absurd (omega arith)
+          | inr behind ↦ behind
+        ])
+  ]
+]
+  where
+    lower_apart : rule.priority ≡ first → (priority : ℕ) → priority < first → nat_eq rule.priority priority ≡ false
+    lower_apart at priority less = ne_eqb rule.priority priority (λ same. let here : rule.priority ≡ priority = same in omega arith)
+
+    below : (priority : ℕ) → Contains rest priority → priority < first
+    below priority member = All-contains (λ b. b < first) rest priority (pairs_head (λ a b. b < a) first rest falls) member
+
+    lower : (other : Rule) → Contains rules other → other.priority < rule.priority
+    lower other member = ltb-true other.priority rule.priority (AllByRecursion-member (λ (one : Rule). IsTrue (nat_lt one.priority rule.priority)) rules other set.0 member)
+
+    highest : (other : Rule) → Contains (rule ∷ rules) other → other.priority ≤ rule.priority
+    highest other member = elim (contains_cases rule other rules member) [
+      | inl is ↦ let own : rule.priority ≡ other.priority = ap (λ (r : Rule). r.priority) is in omega arith
+      | inr behind ↦ let under = lower other behind in omega arith
+    ]
+
+    absent : rule.priority < first → rule_at (rule ∷ rules) first ≡ None
+    absent less = elim (cases_rule_at (rule ∷ rules) first) [
+      | inr none ↦ none.0
+      | inl found ↦ absurd (let most = highest found.0 found.2 in let at = found.3 in omega arith)
+    ]
+
+-- whether a piece is among others doesn't rest on priorities, results and bits
+among_has : (other rule : Rule) (others : List Piece) (piece : Piece) → is_among (ranked_pieces no_bits other others) (ranked_piece no_bits rule piece) ≡ has_piece others piece
+among_has other rule [] piece = refl
+among_has other rule (first ∷ others) piece = ap (λ later. same_piece piece first || later) (among_has other rule others piece)
+
+ranked_kept : (keeps : RankedPiece → Bool) (test : Piece → Bool) (rule : Rule) (pieces : List Piece) → ((piece : Piece) → keeps (ranked_piece no_bits rule piece) ≡ test piece)
+    → filter keeps (ranked_pieces no_bits rule pieces) ≡ ranked_pieces no_bits rule (filter test pieces)
+ranked_kept keeps test rule [] same = refl
+ranked_kept keeps test rule (piece ∷ pieces) same =
+    ap₂ (λ passes rest. cond passes (ranked_piece no_bits rule piece ∷ rest) rest) (same piece) (ranked_kept keeps test rule pieces same) ∙ either (test piece)
+  where
+    either : (passes : Bool) → cond passes (ranked_piece no_bits rule piece ∷ ranked_pieces no_bits rule (filter test pieces)) (ranked_pieces no_bits rule (filter test pieces))
+        ≡ ranked_pieces no_bits rule (cond passes (piece ∷ filter test pieces) (filter test pieces))
+    either true = refl
+    either false = refl
+
+all_kept : {X : Type 0} (xs : List X) → filter (λ x. true) xs ≡ xs
+all_kept [] = refl
+all_kept (x ∷ xs) = ap (λ rest. x ∷ rest) (all_kept xs)
+
+-- the fresh pieces of a rule are those that it adds over another one, and those that go where the other comes in its place
+fresh_added : (other : Option Rule) (rule : Rule) → chosen_pieces Fresh (pieces_at other) (pieces_at (Some rule)) ≡ ranked_pieces no_bits rule (added_pieces_over Cover other rule)
+fresh_added None rule = all_kept (ranked_pieces no_bits rule (pieces_of Cover rule))
+fresh_added (Some old) rule = ranked_kept _ (λ piece. not (has_piece (cover_pieces old) piece)) rule (cover_pieces rule) (λ piece. ap not (among_has old rule (cover_pieces old) piece))
+
+fresh_dropped : (other : Option Rule) (rule : Rule) → chosen_pieces Fresh (pieces_at other) (pieces_at (Some rule)) ≡ ranked_pieces no_bits rule (dropped_pieces Cover other rule)
+fresh_dropped None rule = fresh_added None rule
+fresh_dropped (Some new) rule = fresh_added (Some new) rule
+
+-- and the common ones stay
+common_stay : (other : Option Rule) (rule : Rule) → chosen_pieces Common (pieces_at other) (pieces_at (Some rule)) ≡ ranked_pieces no_bits rule (common_pieces Cover other rule)
+common_stay None rule = filter_nothing (λ x. false) (ranked_pieces no_bits rule (pieces_of Cover rule)) (λ x member. refl)
+common_stay (Some old) rule = ranked_kept _ (has_piece (cover_pieces old)) rule (cover_pieces rule) (λ piece. among_has old rule (cover_pieces old) piece)
+
+-- of a rule whose result alone changes no piece is fresh
+none_fresh : (rule : Rule) → filter (λ piece. not (has_piece (cover_pieces rule) piece)) (cover_pieces rule) ≡ []
+none_fresh rule = filter_nothing (λ piece. not (has_piece (cover_pieces rule) piece)) (cover_pieces rule)
+    (λ piece member. ap not (any_from (same_piece piece) (cover_pieces rule) piece member (same_piece-self piece)))
+
+own_priority : (rules : List Rule) (priority : ℕ) (rule : Rule) → rule_at rules priority ≡ Some rule → rule.priority ≡ priority
+own_priority rules priority rule is = elim (cases_rule_at rules priority) [
+  | inl found ↦ let both : Some found.0 ≡ Some rule = sym found.1 ∙ is in let same : found.0 ≡ rule = cc in ap (λ (r : Rule). r.priority) (sym same) ∙ found.3
+  | inr none ↦ absurd (let bad : None ≡ Some rule = sym none.0 ∙ is in cc)
 ]
 
--- and each rule of a set is found at its own
-rule_found : (rules : List Rule) (rule : Rule) → IsRuleSet rules → Contains rules rule → rule_at rules rule.priority ≡ Some rule
-rule_found rules rule set (place, within, read) =
-    rule_at-found rules rule.priority place rule (IsAt-read rules rule.priority place rule set within read refl) ∙ ap Some read
+module _ (rules : List Rule) (batch : List Command) (is_set : IsRuleSet rules) (sound : IsSound rules batch) where
+  stands_after : (priority : ℕ) (new old : Option Rule) (gone : Bool) → rule_at (additions batch) priority ≡ new → rule_at rules priority ≡ old → removes priority batch ≡ gone
+      → change_at rules batch priority ≡ record { old = old; new = option_or new (option_map (with_result_after batch) (cond (not gone) old None)) }
+  stands_after priority new old gone is_new is_old is_gone =
+      ap (λ after. record { old = rule_at rules priority; new = after }) (after_at rules batch priority (set_after-set rules batch is_set sound))
+      ∙ (ap₂ (λ new gone. record { old = rule_at rules priority; new = option_or new (option_map (with_result_after batch) (cond (not gone) (rule_at rules priority) None)) }) is_new is_gone
+      ∙ ap (λ old. record { old = old; new = option_or new (option_map (with_result_after batch) (cond (not gone) old None)) }) is_old)
 
--- what a test keeps or leaves
-kept_if : (test : Bool) (one rule : Rule) → cond test (Some one) None ≡ Some rule → IsTrue test × (one ≡ rule)
-kept_if true one rule is = (refl, (cc))
-kept_if false one rule is = absurd (cc)
+  abbrev pub inserts : Rule → List RankedPiece
+  inserts new = ranked_pieces no_bits new (added_pieces Cover rules new)
 
--- a rule with another result
-with_result : (found : Option Rule) (answer : ℕ) (rule : Rule) → option_map {T = Rule} (λ old. record old { result = answer }) found ≡ Some rule
-    → (old : Rule) × (found ≡ Some old) × (record old { result = answer } ≡ rule)
-with_result None answer rule is = absurd (cc)
-with_result (Some old) answer rule is = (old, refl, (cc))
-
-pub added_choice : IsChoice added_rule
-added_choice = record { own = own; single = inl (λ removed. refl) }
-  where
-    own : (command : Command) (rule : Rule) → added_rule command ≡ Some rule → rule.priority ≡ named_priority command
-    own (Add new) rule is = let same : new ≡ rule = cc in ap (λ (r : Rule). r.priority) (sym same)
-    own (Set changed answer) rule is = absurd (cc)
-    own (Del removed) rule is = absurd (cc)
-
-pub changed_choice : (rules : List Rule) → IsChoice (changed_rule rules)
-changed_choice rules = record { own = own; single = inl (λ removed. refl) }
-  where
-    own : (command : Command) (rule : Rule) → changed_rule rules command ≡ Some rule → rule.priority ≡ named_priority command
-    own (Add new) rule is = ap (λ (r : Rule). r.priority) (sym (kept_if (has_priority rules new.priority) new rule is).1)
-    own (Set changed answer) rule is =
-        let (old, found, same) = with_result (rule_at rules changed) answer rule is in
-        ap (λ (r : Rule). r.priority) (sym same) ∙ (found_at rules changed old found).1
-    own (Del removed) rule is = absurd (cc)
-
-pub removed_choice : (rules : List Rule) → IsChoice (removed_rule rules)
-removed_choice rules = record { own = own; single = inr (λ added. refl) }
-  where
-    own : (command : Command) (rule : Rule) → removed_rule rules command ≡ Some rule → rule.priority ≡ named_priority command
-    own (Add new) rule is = absurd (cc)
-    own (Set priority answer) rule is = absurd (cc)
-    own (Del removed) rule is = (found_at rules removed rule is).1
-
-module _ (rules : List Rule) (batch : List Command) (set : IsRuleSet rules) (sound : IsSound rules batch) where
-  -- a rule of the new set whose priority the batch names and the old set has gets its result
-  in_changed : (rule : Rule) (command : Command) → Contains batch command → named_priority command ≡ rule.priority → Contains (set_after rules batch) rule
-      → IsTrue (has_priority rules rule.priority) → Contains (changed_rules rules batch) rule
-  in_changed rule command member same after has =
-      filter_in (λ other. names batch other && has_priority rules other.priority) (set_after rules batch) rule after
-      (and_from _ _ (any_from (λ one. nat_eq (named_priority one) rule.priority) batch command member (eq-eqb _ _ same)) has)
-
-  added : (rule : Rule) → Contains batch (Add rule) → Contains (additions batch) rule
-  added rule member = chosen-from added_rule batch rule (Add rule, member, refl)
-
-  added_by : (rule : Rule) → Contains (additions batch) rule → Contains batch (Add rule)
-  added_by rule member = let (command, found, is) = chosen-to added_rule batch rule member in go command found is
+  -- what the change at a priority inserts
+  inserted_at : (priority : ℕ) → inserted_by (change_at rules batch priority) ≡ images_at inserts (rule_at (new_rules batch) priority)
+  inserted_at priority = go (rule_at (additions batch) priority) (rule_at rules priority) (removes priority batch) refl refl refl
     where
-      go : (command : Command) → Contains batch command → added_rule command ≡ Some rule → Contains batch (Add rule)
-      go (Add new) found is = let same : new ≡ rule = cc in subst (λ r. Contains batch (Add r)) same found
-      go (Set changed answer) found is = absurd (cc)
-      go (Del removed) found is = absurd (cc)
+      nothing_kept : (keeps : Bool) → option_map (with_result_after batch) (cond keeps None None) ≡ None
+      nothing_kept true = refl
+      nothing_kept false = refl
 
-  -- an old rule with the result that a command gives it
-  with_answer : (old : Rule) (answer : ℕ) → Contains batch (Set old.priority answer) → with_result_after batch old ≡ record old { result = answer }
-  with_answer old answer member = ap (λ n. record old { result = n }) (changed_result rules batch old.priority answer old.result sound member)
+      new_at : rule_at (new_rules batch) priority ≡ option_or (rule_at (additions batch) priority) None
+      new_at = after_at [] batch priority (additions_set rules batch sound) ∙ ap (option_or (rule_at (additions batch) priority)) (nothing_kept (not (removes priority batch)))
 
-  changed_to : (rule : Rule) → IsChosen (changed_rule rules) batch rule → Contains (changed_rules rules batch) rule
-  changed_to rule (Add new, member, is) =
-      let (has, same) = kept_if (has_priority rules new.priority) new rule is in
-      subst (Contains (changed_rules rules batch)) same (in_changed new (Add new) member refl ((set_after-member rules batch new).1 (inl (added new member))) has)
-  changed_to rule (Set priority answer, member, is) =
-      let (old, found, same) = with_result (rule_at rules priority) answer rule is in
-      let (was, own) = found_at rules priority old found in
-      let named : Contains batch (Set old.priority answer) = subst (λ n. Contains batch (Set n answer)) (sym own) member in
-      let stays = changed_remains rules batch old.priority answer sound named in
-      let after : Contains (set_after rules batch) rule = (set_after-member rules batch rule).1 (inr (old, was, stays, sym same ∙ sym (with_answer old answer named))) in
-      let priorities : rule.priority ≡ old.priority = ap (λ (r : Rule). r.priority) (sym same) in
-      in_changed rule (Set old.priority answer) named (sym priorities) after (subst (λ n. IsTrue (has_priority rules n)) (sym priorities) (member-has rules old was))
-  changed_to rule (Del removed, member, is) = absurd (cc)
+      go : (new old : Option Rule) (gone : Bool) → rule_at (additions batch) priority ≡ new → rule_at rules priority ≡ old → removes priority batch ≡ gone
+          → inserted_by (change_at rules batch priority) ≡ images_at inserts (rule_at (new_rules batch) priority)
+      go (Some new) old gone is_new is_old is_gone =
+          ap inserted_by (stands_after priority (Some new) old gone is_new is_old is_gone) ∙ fresh_added old new
+          ∙ ap (λ found. ranked_pieces no_bits new (added_pieces_over Cover found new)) (sym (ap (rule_at rules) (own_priority (additions batch) priority new is_new) ∙ is_old))
+          ∙ sym (ap (images_at inserts) (new_at ∙ ap (λ found. option_or found None) is_new))
+      go None None gone is_new is_old is_gone = ap inserted_by (stands_after priority None None gone is_new is_old is_gone) ∙ nothing gone ∙ sym (ap (images_at inserts) (new_at ∙ ap (λ found. option_or found None) is_new))
+        where
+          nothing : (gone : Bool) → inserted_by (record { old = None; new = option_map (with_result_after batch) (cond (not gone) None None) }) ≡ []
+          nothing true = refl
+          nothing false = refl
+      go None (Some old) gone is_new is_old is_gone =
+          ap inserted_by (stands_after priority None (Some old) gone is_new is_old is_gone) ∙ nothing gone ∙ sym (ap (images_at inserts) (new_at ∙ ap (λ found. option_or found None) is_new))
+        where
+          nothing : (gone : Bool) → inserted_by (record { old = Some old; new = option_map (with_result_after batch) (cond (not gone) (Some old) None) }) ≡ []
+          nothing true = refl
+          nothing false = fresh_added (Some old) (with_result_after batch old) ∙ ap (ranked_pieces no_bits (with_result_after batch old)) (none_fresh old)
 
-  -- an old rule that stays and that a command names is chosen by it
-  kept_changed : (rule old : Rule) → Contains rules old → IsFalse (removes old.priority batch) → rule ≡ with_result_after batch old
-      → (command : Command) → Contains batch command → named_priority command ≡ old.priority → IsChosen (changed_rule rules) batch rule
-  kept_changed rule old was stays is (Add new) member same =
-      absurd (elim (sound-gone rules batch new.priority sound (member-has (additions batch) new (added new member))) [
-        | inl absent ↦ let has = subst (λ n. IsTrue (has_priority rules n)) (sym same) (member-has rules old was) in let bad : true ≡ false = sym has ∙ absent in cc
-        | inr removed ↦ let gone = subst (λ n. IsTrue (removes n batch)) same removed in let bad : true ≡ false = sym gone ∙ stays in cc
+  abbrev pub rewrites : Rule → List RankedPiece
+  rewrites new = ranked_pieces no_bits new (common_pieces Cover (replaced_rule rules new) new)
+
+  rewritten_at : (priority : ℕ) → IsTrue (names_at batch priority) → rewritten_by (change_at rules batch priority) ≡ images_at rewrites (rule_at (filter (names batch) (set_after rules batch)) priority)
+  rewritten_at priority named =
+      go (rule_at (set_after rules batch) priority) refl ∙ sym (ap (images_at rewrites) (rule_at-filter (names_at batch) (set_after rules batch) priority ∙ cond-true _ _ _ named))
+    where
+      go : (new : Option Rule) → rule_at (set_after rules batch) priority ≡ new → rewritten_by (record { old = rule_at rules priority; new = new }) ≡ images_at rewrites new
+      go None is = refl
+      go (Some new) is = common_stay (rule_at rules priority) new
+          ∙ ap (λ n. ranked_pieces no_bits new (common_pieces Cover (rule_at rules n) new)) (sym (own_priority (set_after rules batch) priority new is))
+
+  abbrev pub erases : Rule → List RankedPiece
+  erases old = ranked_pieces no_bits old (dropped_pieces Cover (rule_at (additions batch) old.priority) old)
+
+  abbrev pub removed : List Rule
+  removed = filter (λ rule. removes rule.priority batch) rules
+
+  erased_at : (priority : ℕ) → erased_by (change_at rules batch priority) ≡ images_at erases (rule_at removed priority)
+  erased_at priority = go (rule_at (additions batch) priority) (rule_at rules priority) (removes priority batch) refl refl refl
+    where
+      gone_at : (old : Option Rule) (gone : Bool) → rule_at rules priority ≡ old → removes priority batch ≡ gone → rule_at removed priority ≡ cond gone old None
+      gone_at old gone is_old is_gone = rule_at-filter (λ n. removes n batch) rules priority ∙ ap₂ (λ (test : Bool) (found : Option Rule). cond test found None) is_gone is_old
+
+      go : (new old : Option Rule) (gone : Bool) → rule_at (additions batch) priority ≡ new → rule_at rules priority ≡ old → removes priority batch ≡ gone
+          → erased_by (change_at rules batch priority) ≡ images_at erases (rule_at removed priority)
+      go new None gone is_new is_old is_gone = ap erased_by (stands_after priority new None gone is_new is_old is_gone) ∙ sym (ap (images_at erases) (gone_at None gone is_old is_gone) ∙ nothing gone)
+        where
+          nothing : (gone : Bool) → images_at erases (cond gone None None) ≡ []
+          nothing true = refl
+          nothing false = refl
+      go new (Some old) true is_new is_old is_gone =
+          ap erased_by (stands_after priority new (Some old) true is_new is_old is_gone) ∙ ap (λ found. erased_by (record { old = Some old; new = found })) (or_none new)
+          ∙ fresh_dropped new old ∙ ap (λ found. ranked_pieces no_bits old (dropped_pieces Cover found old)) (sym (ap (rule_at (additions batch)) (own_priority rules priority old is_old) ∙ is_new))
+          ∙ sym (ap (images_at erases) (gone_at (Some old) true is_old is_gone))
+        where
+          or_none : (found : Option Rule) → option_or found None ≡ found
+          or_none None = refl
+          or_none (Some rule) = refl
+      go (Some new) (Some old) false is_new is_old is_gone = absurd (elim (sound-gone rules batch priority sound (has_priority-found (additions batch) priority new is_new)) [
+        | inl absent ↦ both_ways _ absent (has_priority-found rules priority old is_old)
+        | inr goes ↦ both_ways _ is_gone goes
       ])
-  kept_changed rule old was stays is (Set priority answer) member same =
-      let named : Contains batch (Set old.priority answer) = subst (λ n. Contains batch (Set n answer)) same member in (
-        Set old.priority answer,
-        named,
-        ap (option_map {T = Rule} (λ r. record r { result = answer })) (rule_found rules old set was) ∙ ap Some (sym (is ∙ with_answer old answer named)),
-      )
-  kept_changed rule old was stays is (Del removed) member same =
-      absurd (let gone = subst (λ n. IsTrue (removes n batch)) same (removal_removes batch removed member) in let bad : true ≡ false = sym gone ∙ stays in cc)
+      go None (Some old) false is_new is_old is_gone =
+          ap erased_by (stands_after priority None (Some old) false is_new is_old is_gone) ∙ fresh_added (Some (with_result_after batch old)) old
+          ∙ ap (ranked_pieces no_bits old) (none_fresh old) ∙ sym (ap (images_at erases) (gone_at (Some old) false is_old is_gone))
 
-  changed_from : (rule : Rule) → Contains (changed_rules rules batch) rule → IsChosen (changed_rule rules) batch rule
-  changed_from rule member =
-      let (after, tests) = in_filter (λ other. names batch other && has_priority rules other.priority) (set_after rules batch) rule member in
-      let (named, has) = and_parts _ _ tests in
-      elim ((set_after-member rules batch rule).0 after) [
-        | inl new ↦ (Add rule, added_by rule new, cond-true _ _ _ has)
-        | inr kept ↦
-            let (command, found, same) = any_is (λ one. nat_eq (named_priority one) rule.priority) batch named in
-            kept_changed rule kept.0 kept.1 kept.2 kept.3 command found (eqb-true _ _ same ∙ ap (λ (r : Rule). r.priority) kept.3)
-      ]
+  module _ (changes : List RuleChange) (are : AreChanges rules batch changes) where
+    -- the rules of a set whose priorities the batch names are found there
+    found : (set : List Rule) → IsRuleSet set → ((rule : Rule) → Contains set rule → IsTrue (names batch rule)) → filter_map (rule_at set) are.priorities ≡ set
+    found set is_one named = found_all set are.priorities is_one are.falling (λ rule member. (are.named rule.priority).1 (named rule member))
 
-  -- by falling priority the rules that get a result are those that the commands give one
-  pub changed_are : fold with_rule [] (filter_map (changed_rule rules) batch) ≡ changed_rules rules batch
-  changed_are = chosen_sorted (changed_rule rules) (changed_choice rules) rules batch (changed_rules rules batch) sound
-      (IsRuleSet-filter (λ rule. names batch rule && has_priority rules rule.priority) (set_after rules batch) (set_after-set rules batch set sound)) changed_to changed_from
+    pub inserted_are : flat_map inserted_by changes ≡ inserted_pieces Cover no_bits rules batch
+    inserted_are =
+        ap (flat_map inserted_by) are.are ∙ flat_map-map inserted_by (change_at rules batch) are.priorities
+        ∙ images_found (λ priority. inserted_by (change_at rules batch priority)) inserts (rule_at (new_rules batch)) are.priorities (λ priority member. inserted_at priority)
+        ∙ ap (flat_map inserts) (found (new_rules batch) (additions_set rules batch sound) (λ rule member. added_named batch rule (new_rules-member batch rule member)))
 
-  removed_to : (rule : Rule) → IsChosen (removed_rule rules) batch rule → Contains (removed_rules rules batch) rule
-  removed_to rule (Add new, member, is) = absurd (cc)
-  removed_to rule (Set priority answer, member, is) = absurd (cc)
-  removed_to rule (Del removed, member, is) =
-      let (was, own) = found_at rules removed rule is in
-      filter_in (λ old. removes old.priority batch) rules rule was (subst (λ n. IsTrue (removes n batch)) (sym own) (removal_removes batch removed member))
+    pub rewritten_are : flat_map rewritten_by changes ≡ rewritten_pieces Cover no_bits rules batch
+    rewritten_are =
+        ap (flat_map rewritten_by) are.are ∙ flat_map-map rewritten_by (change_at rules batch) are.priorities
+        ∙ images_found (λ priority. rewritten_by (change_at rules batch priority)) rewrites (rule_at changed) are.priorities (λ priority member. rewritten_at priority ((are.named priority).0 member))
+        ∙ ap (flat_map rewrites) (found changed (IsRuleSet-filter (names batch) (set_after rules batch) (set_after-set rules batch is_set sound)) (λ rule member. (in_filter (names batch) (set_after rules batch) rule member).1))
+      where
+        changed : List Rule
+        changed = filter (names batch) (set_after rules batch)
 
-  removed_from : (rule : Rule) → Contains (removed_rules rules batch) rule → IsChosen (removed_rule rules) batch rule
-  removed_from rule member =
-      let (was, gone) = in_filter (λ old. removes old.priority batch) rules rule member in
-      (Del rule.priority, removed_by batch rule.priority gone, rule_found rules rule set was)
-
-  -- by falling priority the rules that go are those that the commands take out
-  pub removed_are : fold with_rule [] (filter_map (removed_rule rules) batch) ≡ removed_rules rules batch
-  removed_are = chosen_sorted (removed_rule rules) (removed_choice rules) rules batch (removed_rules rules batch) sound
-      (IsRuleSet-filter (λ old. removes old.priority batch) rules set) removed_to removed_from
+    pub erased_are : flat_map erased_by (reverse changes) ≡ erased_pieces Cover no_bits rules batch
+    erased_are =
+        ap (λ some. flat_map erased_by (reverse some)) are.are ∙ ap (flat_map erased_by) (sym (map_reverse (change_at rules batch) are.priorities)) ∙ flat_map-map erased_by (change_at rules batch) (reverse are.priorities)
+        ∙ images_found (λ priority. erased_by (change_at rules batch priority)) erases (rule_at removed) (reverse are.priorities) (λ priority member. erased_at priority)
+        ∙ ap (flat_map erases) (found_reverse (rule_at removed) are.priorities ∙ ap reverse (found removed (IsRuleSet-filter (λ rule. removes rule.priority batch) rules is_set) named))
+      where
+        named : (rule : Rule) → Contains removed rule → IsTrue (names batch rule)
+        named rule member = elim (cases_Bool (names batch rule)) [
+          | inl is ↦ is
+          | inr none ↦ absurd (both_ways _ (unnamed_stays batch rule none) (in_filter (λ one. removes one.priority batch) rules rule member).1)
+        ]

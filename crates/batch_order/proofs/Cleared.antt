@@ -16,7 +16,7 @@ use Rattle.move_planner.proofs.Shifted.{free_erase}
 use Rattle.commit_writes.specs.PlannedBatch.{home, erased_live, erased_slots}
 use Rattle.batch_order.specs.Entries.{Entries}
 use Rattle.batch_order.specs.Planning.{IsSettled}
-use Rattle.batch_order.specs.Changes.{IsStanding}
+use Rattle.batch_order.specs.Planning.{IsStanding}
 use Rattle.commit_writes.proofs.Rewrites.{home_is}
 use Rattle.batch_order.proofs.Ids.{gone, length_without}
 use Rattle.batch_order.proofs.Standing.{stands_at}

@@ -37,7 +37,7 @@ use Rattle.batch_order.specs.declared.Ready.{Ready}
 use Rattle.batch_order.specs.declared.Placement.{Placement}
 use Rattle.batch_order.specs.Entries.{Entries}
 use Rattle.batch_order.specs.Planning.{IsSettled}
-use Rattle.batch_order.specs.Changes.{IsStanding}
+use Rattle.batch_order.specs.Planning.{IsStanding}
 use Rattle.batch_order.specs.Kept.{IsManaged, IsArranged, changed_by, held_of}
 use Rattle.batch_order.specs.Managed.{Holds, ready_of}
 use Rattle.batch_order.proofs.Numbered.{ids_apart, ids_few}

@@ -7,10 +7,7 @@ pub mod Entered
 pub mod Walked
 pub mod Standing
 pub mod Erased
-pub mod Pieced
-pub mod Sets
-pub mod Chosen
-pub mod Results
+pub mod Named
 pub mod Changed
 pub mod Parted
 pub mod Cleared

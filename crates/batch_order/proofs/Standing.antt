@@ -11,7 +11,7 @@ use Rattle.slot_pool.proofs.Places.{find_range_none, first_slot_is}
 use Rattle.overlap_index.proofs.Live.{all_apart}
 use Rattle.tcam_device.specs.declared.Write.{Write}
 use Rattle.commit_writes.specs.PlannedBatch.{home, erased_slots}
-use Rattle.batch_order.specs.Changes.{IsStanding}
+use Rattle.batch_order.specs.Planning.{IsStanding}
 use Rattle.batch_order.proofs.Walked.{map_next}
 
 -- an id's slot is one of the arrangement's

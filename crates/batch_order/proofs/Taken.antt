@@ -31,7 +31,7 @@ use Rattle.batch_order.specs.declared.Placement.{Placement}
 use Rattle.batch_order.specs.declared.plan.Plan.{Plan}
 use Rattle.batch_order.specs.Entries.{Entries, KeepEntries}
 use Rattle.batch_order.specs.Planning.{IsSettled, IsPlannable, ArePlannedSince}
-use Rattle.batch_order.specs.Changes.{HasId, HaveIds}
+use Rattle.batch_order.specs.Entries.{HasId, HaveIds}
 use Rattle.batch_order.specs.Kept.{IsManaged}
 use Rattle.batch_order.specs.Placing.{aims_of}
 use Rattle.batch_order.proofs.Numbered.{arranged_number}

@@ -1,9 +1,9 @@
 -- Lists that a loop goes over: what is done so far, one item more.
-use Rattle.std.proofs.Common.{◌≡◌, ℕ, zero, suc, false, ◌+◌, ◌<◌, List, [], ◌∷◌, ◌++◌, length, map, take, get_or, Contains, inl, inr, ap, subst, sym, ◌∙◌}
+use Rattle.std.proofs.Common.{◌≡◌, ℕ, Bool, zero, suc, true, false, cond, ◌+◌, ◌<◌, List, [], ◌∷◌, ◌++◌, length, map, filter, flat_map, reverse, take, get_or, Contains, inl, inr, refl, ap, subst, sym, ◌∙◌}
 use Rattle.std.specs.Prelude.{nat_eq}
 use Rattle.std.specs.List.{AllByRecursion, AllZip, IsDistinct}
-use Rattle.std.proofs.lemmas.List.{take_more, get_or_default, map-append}
-use Rattle.std.proofs.lemmas.List.Elements.{Contains-push}
+use Rattle.std.proofs.lemmas.List.{append-nil, take_more, get_or_default, map-append, flat_map_more, reverse-append}
+use Rattle.std.proofs.lemmas.List.Elements.{Contains-push, filter-append}
 use Rattle.slot_order.proofs.Lists.{contains_cases, contains_none, AllByRecursion-member}
 use Rattle.overlap_index.proofs.Live.{all_apart}
 use Rattle.tcam_device.proofs.Wider.{all_take}
@@ -68,3 +68,18 @@ pub zip_next : {A B : Type 0} (R : A → B → Type 0) (xs : List A) (ys : List 
     → AllZip R (take place xs) ys → R x y → AllZip R (take (place + 1) xs) (ys ++ y ∷ [])
 zip_next R xs ys place x y within is all one =
     subst (λ some. AllZip R some (ys ++ y ∷ [])) (sym (take_next xs place x within is)) (zip_more R (take place xs) ys x y all one)
+
+-- the images of one element more
+pub images_next : {X Y : Type 0} (images : X → List Y) (xs : List X) (place : ℕ) (x : X) → place < length xs → get_or xs place x ≡ x
+    → flat_map images (take (place + 1) xs) ≡ flat_map images (take place xs) ++ images x
+images_next images xs place x within is = ap (flat_map images) (take_next xs place x within is) ∙ sym (flat_map_more images [] (take place xs) x)
+
+-- backwards the same are kept
+pub kept_reverse : {X : Type 0} (test : X → Bool) (xs : List X) → filter test (reverse xs) ≡ reverse (filter test xs)
+kept_reverse test [] = refl
+kept_reverse test (x ∷ xs) =
+    ap (filter test) (reverse-append (x ∷ []) xs) ∙ filter-append test (reverse xs) (x ∷ []) ∙ ap (λ some. some ++ filter test (x ∷ [])) (kept_reverse test xs) ∙ one (test x)
+  where
+    one : (passes : Bool) → reverse (filter test xs) ++ cond passes (x ∷ []) [] ≡ reverse (cond passes (x ∷ filter test xs) (filter test xs))
+    one true = sym (reverse-append (x ∷ []) (filter test xs))
+    one false = append-nil _

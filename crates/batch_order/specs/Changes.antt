@@ -1,64 +1,99 @@
--- What a batch does to the rules of a set, command by command, and to their pieces; and the ids of pieces, live and
--- standing in slots.
-use Rattle.std.specs.Prelude.{◌≡◌, ℕ, Bool, not, ◌&&◌, IsSome, Option, Some, None, option_map, if◌then◌else◌, List, [], Contains, filter}
-use Rattle.std.specs.List.{AllByRecursion}
-use Rattle.slot_pool.specs.Arrangement.{Slots, home_of}
+-- What a batch does to a set: its changes, a priority each, and the pieces that a change inserts, rewrites and erases.
+use Rattle.std.specs.Prelude.{◌≡◌, ◌↔◌, ℕ, ◌<◌, Bool, not, IsTrue, Option, Some, None, IfSome, List, [], Contains, AllPairs, length, map, filter, fold, slice_get, nat_eq}
+use Rattle.std.specs.List.{list_any}
+use Rattle.std.specs.Ordering.{nat_cmp}
+use Rattle.std.specs.BTreeMap.{BTreeMap, IsOrdered, get}
 use Rattle.rule_model.specs.declared.Rule.{Rule}
-use Rattle.rule_model.specs.declared.Piece.{Piece}
-use Rattle.rule_model.specs.RuleSet.{has_priority, rule_at}
+use Rattle.rule_model.specs.RuleSet.{rule_at}
+use Rattle.rule_model.specs.Piece.{same_piece}
 use Rattle.rule_store.specs.declared.Mode.TheVariants.{Cover}
 use Rattle.rule_store.specs.declared.Command.{Command}
 use Rattle.rule_store.specs.declared.Command.TheVariants.{Add, Set, Del}
-use Rattle.rule_store.specs.Batch.{removes, set_after}
-use Rattle.rule_store.specs.Verdict.{pieces_of, has_piece}
+use Rattle.rule_store.specs.Batch.{named_priority, commands_naming, set_after}
+use Rattle.rule_store.specs.Verdict.{pieces_of}
 use Rattle.ternary_word.specs.Entry.{RankedPiece}
-use Rattle.overlap_index.specs.declared.LivePiece.{LivePiece}
-use Rattle.commit_writes.specs.Shape.{names}
+use Rattle.commit_writes.specs.Bits.{no_bits}
+use Rattle.commit_writes.specs.Shape.{ranked_pieces}
 use Rattle.batch_order.specs.declared.pieces.Choice.{Choice}
 use Rattle.batch_order.specs.declared.pieces.Choice.TheVariants.{Common, Fresh}
 
--- a live piece is this one, with its rank
-abbrev pub HasId : List LivePiece → RankedPiece → Type 0
-HasId live ranked = (one : LivePiece) × Contains live one × (one.piece ≡ ranked.piece) × (one.rank ≡ ranked.rank)
+-- what a batch changes at one priority: the rule of the set there, and the rule there after the batch, where there is one
+pub record RuleChange : Type 0 where
+  pub old : Option Rule
+  pub new : Option Rule
 
--- one is each of these pieces
-abbrev pub HaveIds : List LivePiece → List RankedPiece → Type 0
-HaveIds live pieces = AllByRecursion (HasId live) pieces
+-- whether a command of the batch names the priority
+abbrev pub names_at : List Command → ℕ → Bool
+names_at batch priority = list_any (λ command. nat_eq (named_priority command) priority) batch
 
--- the id stands in a slot
-abbrev pub IsStanding : Slots → ℕ → Type 0
-IsStanding slots id = IsSome (home_of slots id)
+-- the change of a batch at a priority
+abbrev pub change_at : List Rule → List Command → ℕ → RuleChange
+change_at rules batch priority = record { old = rule_at rules priority; new = rule_at (set_after rules batch) priority }
 
--- the rule that a command gives a result, as it is then: one of the set that changes, or one in place of another
-abbrev pub changed_rule : List Rule → Command → Option Rule
-changed_rule rules (Add rule) = if has_priority rules rule.priority then Some rule else None
-changed_rule rules (Set priority answer) = option_map {T = Rule} (λ rule. record rule { result = answer }) (rule_at rules priority)
-changed_rule rules (Del priority) = None
+-- the changes of a batch: by falling priority, one at each priority that it names
+pub record AreChanges (rules : List Rule) (batch : List Command) (changes : List RuleChange) : Type 0 where
+  pub priorities : List ℕ
+  pub falling : AllPairs (λ a b. b < a) priorities
+  pub named : (priority : ℕ) → Contains priorities priority ↔ IsTrue (names_at batch priority)
+  pub are : changes ≡ map (change_at rules batch) priorities
 
--- the rules of a set that a batch changes or replaces, as they are after it
-abbrev pub changed_rules : List Rule → List Command → List Rule
-changed_rules rules batch = filter (λ rule. names batch rule && has_priority rules rule.priority) (set_after rules batch)
+-- the last of some commands
+abbrev pub last_of : List Command → Option Command
+last_of commands = fold (λ before command. Some command) None commands
 
--- the rule of the set that a command takes out
-abbrev pub removed_rule : List Rule → Command → Option Rule
-removed_rule rules (Add rule) = None
-removed_rule rules (Set priority answer) = None
-removed_rule rules (Del priority) = rule_at rules priority
+-- the command at a place, if there is one
+abbrev pub placed : List Command → Option ℕ → Option Command
+placed batch None = None
+placed batch (Some place) = slice_get batch place
 
--- the rules of a set that a batch removes, also those that it replaces
-abbrev pub removed_rules : List Rule → List Command → List Rule
-removed_rules rules batch = filter (λ rule. removes rule.priority batch) rules
+-- at each priority that some commands of a batch name stands the place of the last of these
+pub record AreLast (batch commands : List Command) (last : BTreeMap ℕ ℕ) : Type 0 where
+  pub ordered : IsOrdered nat_cmp last
+  pub within : (priority : ℕ) → IfSome (get nat_cmp last priority) (λ place. place < length batch)
+  pub at : (priority : ℕ) → placed batch (get nat_cmp last priority) ≡ last_of (commands_naming priority commands)
 
--- the pieces of a rule, and none where there is no rule
-abbrev pub pieces_at : Option Rule → List Piece
+-- a rule with another result
+abbrev pub with_answer : ℕ → Option Rule → Option Rule
+with_answer answer None = None
+with_answer answer (Some rule) = Some (record rule { result = answer })
+
+-- what stands at a command's priority behind it, where this stood in the set
+abbrev pub rule_behind : Option Rule → Command → Option Rule
+rule_behind old (Add rule) = Some rule
+rule_behind old (Set priority answer) = with_answer answer old
+rule_behind old (Del priority) = None
+
+-- what a command changes in a set at its priority
+abbrev pub change_by : List Rule → Command → RuleChange
+change_by rules command =
+    let old = rule_at rules (named_priority command) in record { old = old; new = rule_behind old command }
+
+-- the pieces of a rule, with its priority and result, and none where there is no rule
+abbrev pub pieces_at : Option Rule → List RankedPiece
 pieces_at None = []
-pieces_at (Some rule) = pieces_of Cover rule
+pieces_at (Some rule) = ranked_pieces no_bits rule (pieces_of Cover rule)
 
 -- whether a piece is meant, which others have or haven't
 abbrev pub wants : Choice → Bool → Bool
 wants Common has = has
 wants Fresh has = not has
 
+-- whether one of these has the same conditions
+abbrev pub is_among : List RankedPiece → RankedPiece → Bool
+is_among others ranked = list_any (λ other. same_piece ranked.piece other.piece) others
+
 -- the pieces that are meant beside others
-abbrev pub chosen_pieces : Choice → List Piece → List Piece → List Piece
-chosen_pieces choice others pieces = filter (λ piece. wants choice (has_piece others piece)) pieces
+abbrev pub chosen_pieces : Choice → List RankedPiece → List RankedPiece → List RankedPiece
+chosen_pieces choice others pieces = filter (λ ranked. wants choice (is_among others ranked)) pieces
+
+-- a change inserts the pieces of the new rule that the old one hasn't,
+abbrev pub inserted_by : RuleChange → List RankedPiece
+inserted_by change = chosen_pieces Fresh (pieces_at change.old) (pieces_at change.new)
+
+-- rewrites those that it has,
+abbrev pub rewritten_by : RuleChange → List RankedPiece
+rewritten_by change = chosen_pieces Common (pieces_at change.old) (pieces_at change.new)
+
+-- and erases the pieces of the old rule that the new one hasn't
+abbrev pub erased_by : RuleChange → List RankedPiece
+erased_by change = chosen_pieces Fresh (pieces_at change.new) (pieces_at change.old)

@@ -1,7 +1,8 @@
 -- The entries that are live, each under an id.
-use Rattle.std.specs.Prelude.{◌≡◌, ℕ, ◌+◌, ◌<◌, ◌≤◌, IsTrue, IsFalse, Option, List, ◌++◌, ◌-◌, length, map, drop, nat_eq}
+use Rattle.std.specs.Prelude.{◌≡◌, ℕ, ◌+◌, ◌<◌, ◌≤◌, IsTrue, IsFalse, Option, List, Contains, ◌++◌, ◌-◌, length, map, drop, nat_eq}
 use Rattle.std.specs.List.{AllByRecursion, IsDistinct}
 use Rattle.ternary_word.specs.declared.Entry.{Entry}
+use Rattle.ternary_word.specs.Entry.{RankedPiece}
 use Rattle.overlap_index.specs.declared.LivePiece.{LivePiece}
 use Rattle.overlap_index.specs.Live.{AreApart, is_live}
 use Rattle.commit_writes.specs.Planned.{entry_at}
@@ -42,3 +43,11 @@ AreLast live ids = (length ids ≤ length live) × (map (λ one. one.id) (drop (
 -- each of these live ids has the entry that it had before
 abbrev pub KeepEntries : List LivePiece → List (Option Entry) → List (Option Entry) → Type 0
 KeepEntries live before now = (id : ℕ) → IsTrue (is_live live id) → entry_at now id ≡ entry_at before id
+
+-- a live piece is this one, with its rank
+abbrev pub HasId : List LivePiece → RankedPiece → Type 0
+HasId live ranked = (one : LivePiece) × Contains live one × (one.piece ≡ ranked.piece) × (one.rank ≡ ranked.rank)
+
+-- one is each of these pieces
+abbrev pub HaveIds : List LivePiece → List RankedPiece → Type 0
+HaveIds live pieces = AllByRecursion (HasId live) pieces

@@ -1,10 +1,7 @@
 -- What a plan needs and keeps: entries that stand once and in order, and writes within the slots in use.
-use Rattle.std.specs.Prelude.{◌≡◌, ℕ, ◌+◌, ◌<◌, ◌≤◌, IsTrue, IsFalse, Some, List, [], ◌∷◌, ◌++◌, length, take, drop, fold, map, max}
+use Rattle.std.specs.Prelude.{◌≡◌, ℕ, ◌+◌, ◌<◌, ◌≤◌, IsTrue, IsSome, Some, List, ◌++◌, length, fold, map, max}
 use Rattle.std.specs.List.{AllByRecursion}
-use Rattle.slot_pool.specs.Arrangement.{Slots}
-use Rattle.rule_model.specs.declared.Rule.{Rule}
-use Rattle.rule_model.specs.RuleSet.{has_priority}
-use Rattle.rule_store.specs.Batch.{with_rule}
+use Rattle.slot_pool.specs.Arrangement.{Slots, home_of}
 use Rattle.ternary_word.specs.Entry.{RankedPiece, entry_for}
 use Rattle.overlap_index.specs.declared.LivePiece.{LivePiece}
 use Rattle.overlap_index.specs.Live.{AreApart, is_live, is_above}
@@ -19,10 +16,9 @@ use Rattle.commit_writes.specs.Planned.{Planned, ArePlanned, ranked_of, live_aft
 use Rattle.batch_order.specs.declared.plan.Plan.{Plan}
 use Rattle.batch_order.specs.Entries.{Entries, KeepEntries}
 
--- rules whose priorities neither a set nor an earlier one of them has
-abbrev pub AreNew : List Rule → List Rule → Type 0
-AreNew rules [] = Unit {0}
-AreNew rules (rule ∷ added) = IsFalse (has_priority rules rule.priority) × AreNew (with_rule rules rule) added
+-- the id stands in a slot
+abbrev pub IsStanding : Slots → ℕ → Type 0
+IsStanding slots id = IsSome (home_of slots id)
 
 -- the slot of a move is one of so many
 abbrev pub IsInside : ℕ → Move → Type 0
@@ -84,9 +80,3 @@ pub record ArePlannedSince (old new : Entries) (slots slots' : Slots) (plan plan
   pub writes : plan'.writes.items ≡ plan.writes.items ++ planned_writes new.entries planned
   pub most : plan'.most ≡ fold max plan.most (map (λ insertion. length insertion.moves) planned)
   pub span : plan'.span ≡ fold max plan.span (map (λ insertion. insertion.span) planned)
-
--- the first of some new rules are in, and the others have room
-pub record IsInserting (before added : List Rule) (place : ℕ) (rules : List Rule) (spare : ℕ) : Type 0 where
-  pub so_far : rules ≡ fold with_rule before (take place added)
-  pub new : AreNew rules (drop place added)
-  pub room : length (drop place added) ≤ spare

@@ -31,11 +31,11 @@ ghost use Rattle.batch_order.specs.Managed as managed;
 mod aims;
 mod changes;
 mod entries;
+mod insertions;
 mod manager;
 mod parts;
 mod pieces;
 mod plan;
-mod planning;
 
 pub use commit_writes::Done;
 pub use manager::Manager;

@@ -11,11 +11,10 @@ ghost use Rattle.rule_store.specs.Batch.{batch_fault};
 ghost use Rattle.commit_writes.specs.PlannedBatch.{ChangesRules};
 ghost use Rattle.batch_order.specs.Managed.{Judges, Answers, Holds, Steps, next_of, IsOn, Serves, fresh, writes_of};
 
-use crate::changes::erase_all;
 use crate::entries::LiveEntries;
-use crate::parts::{parts_of, plan_changes};
-use crate::plan::{Plan, ready};
-use crate::planning::{forget_all, plan_additions};
+use crate::insertions::{forget_all, plan_additions};
+use crate::parts::parts_of;
+use crate::plan::{Plan, erase_all, plan_changes, ready};
 use crate::{Done, Placement, Ready, Refusal, Step, refusal_of};
 use commit_writes::Rewrite;
 use rule_model::rule_conditions;

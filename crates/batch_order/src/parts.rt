@@ -1,27 +1,23 @@
-//! The parts of a commit: the pieces that go in, the results that change, and the entries that go.
+//! The parts of a commit: the pieces that go in, the ids that get a new entry, and the ids that go.
 
-ghost use Rattle.std.specs.Prelude.{◌≡◌, ◌≤◌, ◌++◌, None, IfOk, OnOk, length, map};
+ghost use Rattle.std.specs.Prelude.{◌≡◌, None, IfOk};
 ghost use Rattle.std.specs.List.{AllByRecursion, AllZip};
 ghost use Rattle.rule_model.specs.Rule.{HasConditions};
 ghost use Rattle.rule_model.specs.RuleSet.{IsRuleSet};
 ghost use Rattle.rule_store.specs.Batch.{batch_fault};
-ghost use Rattle.tcam_device.specs.State.{IsInUse};
+ghost use Rattle.ternary_word.specs.Entry.{IsEncodable};
 ghost use Rattle.commit_writes.specs.Bits.{no_bits};
 ghost use Rattle.commit_writes.specs.Shape.{erased_pieces, inserted_pieces, rewritten_pieces, set_pieces};
-ghost use Rattle.commit_writes.specs.PlannedBatch.{ChangesRules, IsIdOf, IsRewriteOf, erase_write, rewrite_write};
-ghost use Rattle.batch_order.specs.Changes.{HaveIds, IsStanding};
+ghost use Rattle.commit_writes.specs.PlannedBatch.{ChangesRules, IsIdOf, IsRewriteOf};
+ghost use Rattle.batch_order.specs.Entries.{HasId, HaveIds};
 
-use crate::changes::{
-    added_rules, changed_rules, ids_of, plan_erases, plan_rewrites, removed_rules, rewrites,
-};
+use crate::changes::changes_of;
 use crate::entries::LiveEntries;
-use crate::pieces::{Ranked, erased, inserted, rewritten};
-use crate::plan::Plan;
+use crate::pieces::{Ranked, pieces_of};
 use commit_writes::Rewrite;
 use rule_store::{Batch, Mode, Store};
-use slot_pool::Arrangement;
 use std::alloc::{AllocError, Global};
-use tcam_device::Writable;
+use ternary_word::entry_of;
 
 /// What a commit does: the pieces that it inserts, the new entry of each id whose piece gets a result, both by falling
 /// priority, and the ids of the pieces that go, by rising priority.
@@ -48,42 +44,66 @@ pub(crate) fn parts_of(
     ensures rewrites { IfOk result (λ parts. AllZip (IsRewriteOf live.now.live) (rewritten_pieces Mode.Cover no_bits rules.now.rules batch.now) parts.rewrites.items) }
     ensures erased { IfOk result (λ parts. AllZip (IsIdOf live.now.live) (erased_pieces Mode.Cover no_bits rules.now.rules batch.now) parts.erased.items) }
 {
-    let added = added_rules(alloc, batch)?;
-    let changed = changed_rules(alloc, rules, batch)?;
-    let removed = removed_rules(alloc, rules, batch)?;
-    let inserted = inserted(alloc, rules, &added)?;
-    let rewritten = rewritten(alloc, rules, &changed)?;
-    let rewrites = rewrites(alloc, live, &rewritten)?;
-    let gone = erased(alloc, &added, &removed)?;
-    let erased = ids_of(alloc, live, &gone)?;
+    let changes = changes_of(alloc, rules, batch)?;
+    let pieces = pieces_of(alloc, &changes)?;
+    let rewrites = rewrites(alloc, live, &pieces.rewritten)?;
+    let erased = ids_of(alloc, live, &pieces.erased)?;
     Ok(Parts {
-        inserted,
+        inserted: pieces.inserted,
         rewrites,
         erased,
     })
 }
 
-/// Plans the writes behind the insertions, the new entries before the erases, and reserves the device for all.
-pub(crate) fn plan_changes<D: Writable>(
-    parts: &Parts,
-    arrangement: &Arrangement,
-    plan: &mut Plan,
-    device: &mut D,
-) -> Result<(), AllocError>
-    requires rewritten { AllByRecursion (λ rewrite. IsStanding arrangement.now rewrite.id) parts.now.rewrites.items }
-    requires erased { AllByRecursion (IsStanding arrangement.now) parts.now.erased.items }
-    requires in_use { AllByRecursion (IsInUse (length arrangement.now)) plan.old.writes.items }
-    ensures in_use { OnOk result (AllByRecursion (IsInUse (length arrangement.now)) plan.new.writes.items) }
-    ensures writes { OnOk result (plan.new.writes.items ≡ plan.old.writes.items ++ (map (rewrite_write arrangement.now) parts.now.rewrites.items ++ map (erase_write arrangement.now) parts.now.erased.items)) }
-    ensures most { OnOk result (plan.new.most ≡ plan.old.most) }
-    ensures span { OnOk result (plan.new.span ≡ plan.old.span) }
-    ensures enough { OnOk result (length plan.new.writes.items ≤ D.spare device.new) }
-    ensures least { D.spare device.old ≤ D.spare device.new }
-    ensures journal { D.journal device.new ≡ D.journal device.old }
-    ensures slot_count { D.slot_count device.new ≡ D.slot_count device.old }
-    ensures faults { D.faults device.new ≡ D.faults device.old }
+/// The ids of some pieces, each with its new entry, in their order.
+fn rewrites(
+    alloc: Global,
+    live: &LiveEntries,
+    pieces: &[Ranked],
+) -> Result<Vec<Rewrite>, AllocError>
+    requires encodable { AllByRecursion (λ ranked. IsEncodable ranked.piece) pieces.now }
+    requires live { HaveIds live.now.live pieces.now }
+    ensures { IfOk result (λ rewrites. AllZip (IsRewriteOf live.now.live) pieces.now rewrites.items) }
 {
-    plan_rewrites(&parts.rewrites, arrangement, plan)?;
-    plan_erases(&parts.erased, arrangement, plan)?;
-    device.reserve(plan.writes.len() as u64)
+    let mut rewrites = Vec::new(alloc);
+    for ranked in pieces {
+        rewrites.push(rewrite_of(live, ranked))?;
+    }
+    Ok(rewrites)
+}
+
+/// The id of a piece, with its new entry.
+fn rewrite_of(live: &LiveEntries, ranked: &Ranked) -> Rewrite
+    requires encodable { IsEncodable ranked.now.piece }
+    requires live { HasId live.now.live ranked.now }
+    ensures { IsRewriteOf live.now.live ranked.now result }
+{
+    Rewrite {
+        id: id_of(live, ranked),
+        entry: entry_of(&ranked.piece, ranked.rank, ranked.result),
+    }
+}
+
+/// The ids of some pieces, in their order.
+fn ids_of(
+    alloc: Global,
+    live: &LiveEntries,
+    pieces: &[Ranked],
+) -> Result<Vec<u32>, AllocError>
+    requires live { HaveIds live.now.live pieces.now }
+    ensures { IfOk result (λ ids. AllZip (IsIdOf live.now.live) pieces.now ids.items) }
+{
+    let mut ids = Vec::new(alloc);
+    for ranked in pieces {
+        ids.push(id_of(live, ranked))?;
+    }
+    Ok(ids)
+}
+
+/// The id of a piece that is live.
+fn id_of(live: &LiveEntries, ranked: &Ranked) -> u32
+    requires { HasId live.now.live ranked.now }
+    ensures { IsIdOf live.now.live ranked.now result }
+{
+    live.id_of(&ranked.piece, ranked.rank).unwrap()
 }

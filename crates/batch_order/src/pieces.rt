@@ -1,17 +1,18 @@
-//! The pieces that a batch puts in, rewrites and takes out, each with its rule's priority and its result.
+//! The pieces of rules, each with its rule's priority and result: those that the changes of a batch insert, rewrite and
+//! erase.
 
 ghost use Rattle.std.specs.Prelude.{◌≡◌, ◌++◌, IfOk, OnOk, flat_map, map, option_copied, reverse};
 ghost use Rattle.rule_model.specs.Piece as model;
-ghost use Rattle.rule_model.specs.RuleSet.{rule_at};
 ghost use Rattle.rule_store.specs.Verdict as verdict;
-ghost use Rattle.rule_store.specs.Verdict.{added_pieces, replaced_rule};
 ghost use Rattle.commit_writes.specs.Bits.{no_bits};
-ghost use Rattle.commit_writes.specs.Shape.{common_pieces, dropped_pieces, ranked_piece, ranked_pieces};
-ghost use Rattle.batch_order.specs.Changes.{chosen_pieces, pieces_at, wants};
+ghost use Rattle.commit_writes.specs.Shape.{ranked_piece, ranked_pieces};
+ghost use Rattle.batch_order.specs.Changes as changes;
+ghost use Rattle.batch_order.specs.Changes.{chosen_pieces, pieces_at, inserted_by, rewritten_by, erased_by, is_among, wants};
 
+use crate::changes::Change;
 use range_cover::{Cover, cover};
 use rule_model::{Piece, Ports, Rank, Rule};
-use rule_store::{Mode, Store};
+use rule_store::Mode;
 use std::alloc::{AllocError, Global};
 use std::marker::Model;
 
@@ -42,74 +43,59 @@ pub(crate) enum Choice {
     Fresh,
 }
 
-/// The pieces that some rules bring into a set, in the order of the rules: where the set has a rule's priority, those
-/// that the rule there hasn't.
-pub(crate) fn inserted(
-    alloc: Global,
-    rules: &Store,
-    added: &Store,
-) -> Result<Vec<Ranked>, AllocError>
-    ensures { IfOk result (λ pieces. pieces.items ≡ flat_map (λ new. ranked_pieces no_bits new (added_pieces Mode.Cover rules.now.rules new)) added.now.rules) }
+/// The pieces of a batch's changes: those that new rules have and the old ones hadn't, those that both have, with their
+/// new results, and those that old rules had and the new ones haven't.
+#[derive(Drop)]
+pub(crate) struct Pieces {
+    pub(crate) inserted: Vec<Ranked>,
+    pub(crate) rewritten: Vec<Ranked>,
+    pub(crate) erased: Vec<Ranked>,
+}
+
+/// The pieces of some changes: inserted and rewritten ones in their order, erased ones from the last change to the first.
+pub(crate) fn pieces_of(alloc: Global, changes: &[Change]) -> Result<Pieces, AllocError>
+    ensures inserted { IfOk result (λ pieces. pieces.inserted.items ≡ flat_map inserted_by changes.now) }
+    ensures rewritten { IfOk result (λ pieces. pieces.rewritten.items ≡ flat_map rewritten_by changes.now) }
+    ensures erased { IfOk result (λ pieces. pieces.erased.items ≡ flat_map erased_by (reverse changes.now)) }
 {
-    let mut pieces = Vec::new(alloc);
-    for place in 0..added.len() {
-        let rule = added.at(place);
-        let old = rules.rule(rule.priority);
-        push_pieces(alloc, rule, old, Choice::Fresh, &mut pieces)?;
+    let mut pieces = Pieces {
+        inserted: Vec::new(alloc),
+        rewritten: Vec::new(alloc),
+        erased: Vec::new(alloc),
+    };
+    for change in changes {
+        push_change(alloc, change, &mut pieces)?;
     }
+    pieces.erased.reverse();
     Ok(pieces)
 }
 
-/// The pieces that some rules have in common with the rules of a set at their priorities, in the order of the rules.
-pub(crate) fn rewritten(
-    alloc: Global,
-    rules: &Store,
-    changed: &Store,
-) -> Result<Vec<Ranked>, AllocError>
-    ensures { IfOk result (λ pieces. pieces.items ≡ flat_map (λ new. ranked_pieces no_bits new (common_pieces Mode.Cover (replaced_rule rules.now.rules new) new)) changed.now.rules) }
+/// Puts the pieces of a change behind others, the erased ones from the last to the first.
+fn push_change(alloc: Global, change: &Change, pieces: &mut Pieces) -> Result<(), AllocError>
+    ensures inserted { OnOk result (pieces.new.inserted.items ≡ pieces.old.inserted.items ++ inserted_by change.now) }
+    ensures rewritten { OnOk result (pieces.new.rewritten.items ≡ pieces.old.rewritten.items ++ rewritten_by change.now) }
+    ensures erased { OnOk result (pieces.new.erased.items ≡ pieces.old.erased.items ++ reverse (erased_by change.now)) }
 {
-    let mut pieces = Vec::new(alloc);
-    for place in 0..changed.len() {
-        let rule = changed.at(place);
-        let old = rules.rule(rule.priority);
-        push_pieces(alloc, rule, old, Choice::Common, &mut pieces)?;
-    }
-    Ok(pieces)
+    let mut old = cut(alloc, &change.old)?;
+    let new = cut(alloc, &change.new)?;
+    push_pieces(&new, &old, Choice::Fresh, &mut pieces.inserted)?;
+    push_pieces(&new, &old, Choice::Common, &mut pieces.rewritten)?;
+    old.reverse();
+    push_pieces(&old, &new, Choice::Fresh, &mut pieces.erased)
 }
 
-/// The pieces of removed rules that go, by rising priority: of a rule that an added one replaces, those that the added
-/// one hasn't.
-pub(crate) fn erased(
-    alloc: Global,
-    added: &Store,
-    removed: &Store,
-) -> Result<Vec<Ranked>, AllocError>
-    ensures { IfOk result (λ pieces. pieces.items ≡ flat_map (λ old. ranked_pieces no_bits old (dropped_pieces Mode.Cover (rule_at added.now.rules old.priority) old)) (reverse removed.now.rules)) }
-{
-    let mut pieces = Vec::new(alloc);
-    for place in (0..removed.len()).rev() {
-        let rule = removed.at(place);
-        let new = added.rule(rule.priority);
-        push_pieces(alloc, rule, new, Choice::Fresh, &mut pieces)?;
-    }
-    Ok(pieces)
-}
-
-/// Puts behind others the pieces of a rule that are meant beside another rule, in their order.
+/// Puts behind others the pieces that are meant beside some, in their order.
 fn push_pieces(
-    alloc: Global,
-    rule: &Rule,
-    other: Option<&Rule>,
+    pieces: &[Ranked],
+    others: &[Ranked],
     choice: Choice,
     ranked: &mut Vec<Ranked>,
 ) -> Result<(), AllocError>
-    ensures { OnOk result (ranked.new.items ≡ ranked.old.items ++ ranked_pieces no_bits rule.now (chosen_pieces choice (pieces_at (option_copied other.entry)) (verdict.pieces_of Mode.Cover rule.now))) }
+    ensures { OnOk result (ranked.new.items ≡ ranked.old.items ++ chosen_pieces choice others.now pieces.now) }
 {
-    let pieces = pieces_of(alloc, rule)?;
-    let others = pieces_or_none(alloc, other)?;
-    for piece in &pieces {
-        if is_wanted(choice, has_piece(&others, piece)) {
-            ranked.push(ranked_of(rule, piece))?;
+    for piece in pieces {
+        if is_wanted(choice, is_among(others, piece)) {
+            ranked.push(*piece)?;
         }
     }
     Ok(())
@@ -125,23 +111,12 @@ fn is_wanted(choice: Choice, has: bool) -> bool
     }
 }
 
-/// A piece with its rule's priority and result.
-fn ranked_of(rule: &Rule, piece: &Piece) -> Ranked
-    ensures { result ≡ record { piece = piece.now; rank = rule.now.priority; result = rule.now.result } }
+/// Whether one of some pieces has the same conditions.
+fn is_among(others: &[Ranked], ranked: &Ranked) -> bool
+    ensures { result ≡ changes.is_among others.now ranked.now }
 {
-    Ranked {
-        piece: *piece,
-        rank: rule.priority,
-        result: rule.result,
-    }
-}
-
-/// Whether a piece with the same conditions stands among some.
-fn has_piece(pieces: &[Piece], piece: &Piece) -> bool
-    ensures { result ≡ verdict.has_piece pieces.now piece.now }
-{
-    for other in pieces {
-        if same_piece(piece, other) {
+    for other in others {
+        if same_piece(&ranked.piece, &other.piece) {
             return true;
         }
     }
@@ -159,27 +134,28 @@ fn same_piece(a: &Piece, b: &Piece) -> bool
         && a.dport == b.dport
 }
 
-/// The pieces of a rule, and none where there is no rule.
-fn pieces_or_none(alloc: Global, rule: Option<&Rule>) -> Result<Vec<Piece>, AllocError>
-    ensures { IfOk result (λ pieces. pieces.items ≡ pieces_at (option_copied rule.entry)) }
+/// The pieces of a rule by covers, and none where there is no rule: one for each block of its source range and each of its
+/// destination range.
+fn cut(alloc: Global, rule: &Option<Rule>) -> Result<Vec<Ranked>, AllocError>
+    ensures { IfOk result (λ pieces. pieces.items ≡ pieces_at rule.now) }
 {
-    match rule {
-        None => Ok(Vec::new(alloc)),
-        Some(rule) => pieces_of(alloc, rule),
+    let mut pieces = Vec::new(alloc);
+    if let Some(rule) = rule {
+        push_rule(rule, &mut pieces)?;
     }
+    Ok(pieces)
 }
 
-/// The pieces of a rule by covers: one for each block of its source range and each of its destination range.
-fn pieces_of(alloc: Global, rule: &Rule) -> Result<Vec<Piece>, AllocError>
-    ensures { IfOk result (λ pieces. pieces.items ≡ verdict.pieces_of Mode.Cover rule.now) }
+/// Puts the pieces of a rule behind others.
+fn push_rule(rule: &Rule, pieces: &mut Vec<Ranked>) -> Result<(), AllocError>
+    ensures { OnOk result (pieces.new.items ≡ pieces.old.items ++ ranked_pieces no_bits rule.now (verdict.pieces_of Mode.Cover rule.now)) }
 {
     let sources = cover(rule.sport);
     let destinations = cover(rule.dport);
-    let mut pieces = Vec::new(alloc);
     for place in 0..sources.len() {
-        push_parts(rule, sources.at(place), &destinations, &mut pieces)?;
+        push_parts(rule, sources.at(place), &destinations, pieces)?;
     }
-    Ok(pieces)
+    Ok(())
 }
 
 /// Puts behind others the parts of a rule with one range of source ports, for each of some ranges of destination ports.
@@ -187,12 +163,16 @@ fn push_parts(
     rule: &Rule,
     sport: Ports,
     dports: &Cover,
-    pieces: &mut Vec<Piece>,
+    pieces: &mut Vec<Ranked>,
 ) -> Result<(), AllocError>
-    ensures { OnOk result (pieces.new.items ≡ pieces.old.items ++ map (λ dport. model.piece_of rule.now sport dport) dports.now) }
+    ensures { OnOk result (pieces.new.items ≡ pieces.old.items ++ map (λ dport. ranked_piece no_bits rule.now (model.piece_of rule.now sport dport)) dports.now) }
 {
     for place in 0..dports.len() {
-        pieces.push(Piece::part_of(rule, sport, dports.at(place)))?;
+        pieces.push(Ranked {
+            piece: Piece::part_of(rule, sport, dports.at(place)),
+            rank: rule.priority,
+            result: rule.result,
+        })?;
     }
     Ok(())
 }

@@ -1,8 +1,11 @@
-use Rattle.std.proofs.Common.{◌≡◌, map, flat_map, take}
-use Rattle.rule_model.specs.Piece.{piece_of}
-use Rattle.rule_model.specs.PortRange.{cover}
+use Rattle.std.proofs.Common.{◌≡◌, flat_map, reverse, take}
+use Rattle.batch_order.specs.Changes.{inserted_by, rewritten_by, erased_by}
 use Rattle.batch_order.proofs.pieces.pieces_of.Given as goal
 
--- the pieces with the first source ranges
-abbrev pub invariant-loop-place : goal.invariant-loop-place
-invariant-loop-place l = l.pieces.items ≡ flat_map (λ sport. map (λ dport. piece_of l.rule sport dport) (cover l.rule.dport)) (take l.place (cover l.rule.sport))
+-- the pieces of the first changes
+abbrev pub invariant-loop-change : goal.invariant-loop-change
+invariant-loop-change l = record {
+  inserted : l.pieces.inserted.items ≡ flat_map inserted_by (take l.change-index l.changes);
+  rewritten : l.pieces.rewritten.items ≡ flat_map rewritten_by (take l.change-index l.changes);
+  erased : l.pieces.erased.items ≡ reverse (flat_map erased_by (reverse (take l.change-index l.changes)));
+}

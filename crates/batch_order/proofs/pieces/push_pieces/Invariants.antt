@@ -1,9 +1,7 @@
 use Rattle.std.proofs.Common.{◌≡◌, ◌++◌, take}
-use Rattle.commit_writes.specs.Bits.{no_bits}
-use Rattle.commit_writes.specs.Shape.{ranked_pieces}
 use Rattle.batch_order.specs.Changes.{chosen_pieces}
 use Rattle.batch_order.proofs.pieces.push_pieces.Given as goal
 
 -- those of the first pieces that are meant
 abbrev pub invariant-loop-piece : goal.invariant-loop-piece
-invariant-loop-piece l = l.ranked.items ≡ l.fn.ranked.items ++ ranked_pieces no_bits l.rule (chosen_pieces l.choice l.others.items (take l.piece-index l.piece-items))
+invariant-loop-piece l = l.ranked.items ≡ l.fn.ranked.items ++ chosen_pieces l.choice l.others (take l.piece-index l.pieces)

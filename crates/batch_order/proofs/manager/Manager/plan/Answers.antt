@@ -20,7 +20,7 @@ use Rattle.commit_writes.specs.PlannedBatch.{ChangesRules, IsIdOf, IsRewriteOf, 
 use Rattle.commit_writes.proofs.BatchRules.{IsSoundChange}
 use Rattle.batch_order.specs.declared.manager.Held.{Held}
 use Rattle.batch_order.specs.Entries.{AddsIds, Entries, KeepEntries}
-use Rattle.batch_order.specs.Changes.{HaveIds}
+use Rattle.batch_order.specs.Entries.{HaveIds}
 use Rattle.batch_order.specs.Kept.{IsManaged, held_of}
 use Rattle.batch_order.specs.Placing.{aims_of}
 use Rattle.batch_order.specs.Planning.{ArePlannedSince}

@@ -1,0 +1,14 @@
+use Rattle.std.proofs.Common.{◌≡◌, ◌≤◌, length, take}
+use Rattle.std.specs.Prelude.{vec_capacity}
+use Rattle.batch_order.specs.Entries.{AddsIds}
+use Rattle.batch_order.specs.Placing.{aims_from}
+use Rattle.batch_order.specs.Planning.{IsPlannable, ArePlannedSince}
+use Rattle.batch_order.proofs.insertions.plan_additions.Given as goal
+
+abbrev pub invariant-loop-ranked : goal.invariant-loop-ranked
+invariant-loop-ranked l = IsPlannable l.live l.arrangement l.plan.writes.items
+    × AddsIds l.fn.live l.live l.ids.items
+    × (length l.ids.items ≡ l.ranked-index)
+    × (length l.pieces ≤ vec_capacity l.ids)
+    × ArePlannedSince l.fn.live l.live l.fn.arrangement l.arrangement l.fn.plan l.plan (take l.ranked-index l.pieces)
+    (aims_from l.placement l.slots l.rules.rules l.all 0 (take l.ranked-index l.pieces))

@@ -1,0 +1,70 @@
+use Rattle.std.proofs.Common.{◌≡◌, ◌<◌, ◌∙◌, ◌++◌, List, ℕ, length, map, max, arith, subst, sym, ap, ap₂}
+use Rattle.std.specs.List.{AllByRecursion}
+use Rattle.std.proofs.lemmas.List.{take_all}
+use Rattle.overlap_index.specs.Live.{is_above}
+use Rattle.slot_pool.specs.Arrangement.{Slots}
+use Rattle.move_planner.specs.declared.Move.{Move}
+use Rattle.move_planner.specs.Placement.{IsPlacement, IsInOrder, after_moves, span_of}
+use Rattle.move_planner.specs.Insertion.{IsLive, StandOnce, free_slots, moves_since}
+use Rattle.move_planner.specs.Steps.{IsReady}
+use Rattle.commit_writes.specs.Planned.{write_for}
+use Rattle.batch_order.specs.Entries.{Entries}
+use Rattle.batch_order.specs.Planning.{IsInside, IsLastLive}
+use Rattle.batch_order.proofs.Inside.{moves_inside}
+use Rattle.batch_order.proofs.Settled.{settled_again, size_after}
+use Rattle.batch_order.proofs.insertions.plan_moves.Goals as goal
+
+free_one : (kept : Entries) (slots : Slots) (id : ℕ) → IsLastLive kept slots id → 0 < free_slots slots
+free_one kept slots id new = let count = new.count in let room = new.room in omega arith
+
+-- the last live id is ready to be placed
+ready : (kept : Entries) (slots : Slots) (id : ℕ) → IsLastLive kept slots id → IsReady (record { slots = kept.slots; live = kept.live }) id slots
+ready kept slots id new = record {
+  few = (let size = new.size in let few = new.few in omega arith);
+  free = free_one kept slots id new;
+  live = new.live;
+  apart = new.apart;
+  standing = new.standing;
+  order = new.order;
+}
+
+pub plan_insert-requires-clause-free : goal.plan_insert-requires-clause-free
+plan_insert-requires-clause-free c = free_one c.args.live.now c.args.arrangement.now c.args.id c.requires.new
+
+pub push_all-requires-clause-inside : goal.push_all-requires-clause-inside
+push_all-requires-clause-inside c =
+    let kept = c.args.live.now in
+    let slots = c.args.arrangement.now in
+    let m = moves_since c.new-moves.result c.plan_insert.new.plan in
+    let all : c.plan_insert.new.plan ≡ m = c.plan_insert.ensures.plan ∙ ap (λ p. p ++ m) c.new-moves.ensures in
+    let placement : IsPlacement (is_above kept.live) c.args.aim c.args.id slots m =
+    subst (λ l. IsPlacement (is_above l) c.args.aim c.args.id slots m) c.index.ensures.live c.in_ok-insert.ensures.placement in
+    let inside = moves_inside (record { slots = kept.slots; live = kept.live }) c.args.id slots m (ready kept slots c.args.id c.requires.new) placement in
+    subst (λ n. AllByRecursion (IsInside n) c.plan_insert.new.plan) c.requires.new.size (subst (AllByRecursion (IsInside (length slots))) (sym all) inside)
+
+pub returns : goal.returns
+returns c =
+    let kept = c.args.live.now in
+    let slots = c.args.arrangement.now in
+    let m = moves_since c.new-moves.result c.plan_insert.new.plan in
+    let all : c.plan_insert.new.plan ≡ m = c.plan_insert.ensures.plan ∙ ap (λ p. p ++ m) c.new-moves.ensures in
+    let live = c.index.ensures.live in
+    let after : c.plan_insert.new.slots ≡ after_moves slots m = c.plan_insert.ensures.slots in
+    let order : IsInOrder (is_above kept.live) c.plan_insert.new.slots =
+    subst (λ l. IsInOrder (is_above l) c.plan_insert.new.slots) live
+    (subst (IsInOrder (is_above c.index.result.now.live)) (ap (after_moves slots) (take_all (length m) m (omega arith)) ∙ sym after) (c.in_ok-insert.ensures.order (length m) (omega arith))) in
+    record {
+      plannable = record {
+        settled = settled_again kept slots c.plan_insert.new.slots c.args.id c.requires.new (ap length after ∙ size_after slots m)
+            (subst (λ l. StandOnce (IsLive l) c.plan_insert.new.slots) live c.in_ok-insert.ensures.standing) order c.in_ok-insert.ensures.free;
+        in_use = rw c.count.ensures.writes c.in_ok-push_all.ensures.in_use;
+      };
+      inserted = record {
+        moves = m;
+        placement = subst (λ l. IsPlacement (is_above l) c.args.aim c.args.id slots m) live c.in_ok-insert.ensures.placement;
+        slots_are = after;
+        writes = c.count.ensures.writes ∙ (c.in_ok-push_all.ensures.writes ∙ ap (λ (p : List Move). c.args.plan.now.writes.items ++ map (write_for kept.entries) p) all);
+        most = c.count.ensures.most ∙ ap₂ max c.in_ok-push_all.ensures.most c.in_ok-insert.ensures.writes;
+        span = c.count.ensures.span ∙ ap₂ max c.in_ok-push_all.ensures.span (subst (λ l. c.in_ok-insert.insert.span ≡ span_of (is_above l) slots c.args.id) live c.in_ok-insert.ensures.span);
+      };
+    }

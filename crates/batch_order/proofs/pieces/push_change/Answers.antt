@@ -1,0 +1,19 @@
+use Rattle.std.proofs.Common.{◌≡◌, ◌∙◌, ◌++◌, List, Ok, Err, OnOk, Result, reverse, sym, ap, ap₂}
+use Rattle.ternary_word.specs.Entry.{RankedPiece}
+use Rattle.batch_order.specs.declared.pieces.Choice.TheVariants.{Fresh}
+use Rattle.batch_order.specs.Changes.{RuleChange, chosen_pieces, pieces_at, erased_by, is_among, wants}
+use Rattle.batch_order.proofs.Walked.{kept_reverse}
+use Rattle.batch_order.proofs.pieces.push_change.Goals as goal
+
+-- chosen backwards
+reversed : {A B : Type 0} (result : Result A B) (now before olds others old new some : List RankedPiece) → OnOk result (now ≡ before ++ chosen_pieces Fresh others some) → some ≡ reverse olds
+    → olds ≡ old → others ≡ new → OnOk result (now ≡ before ++ reverse (chosen_pieces Fresh new old))
+reversed (Err fault) now before olds others old new some chosen backwards is_old is_new = tt
+reversed (Ok value) now before olds others old new some chosen backwards is_old is_new =
+    chosen ∙ ap₂ (λ (others some : List RankedPiece). before ++ chosen_pieces Fresh others some) is_new (backwards ∙ ap reverse is_old)
+    ∙ ap (λ back. before ++ back) (kept_reverse (λ ranked. wants Fresh (is_among new ranked)) old)
+
+pub returns-clause-erased : goal.returns-clause-erased
+returns-clause-erased c =
+    reversed c.push_pieces-3.result _ _ _ _ (pieces_at c.args.change.now.old) (pieces_at c.args.change.now.new) _ c.push_pieces-3.ensures (c.deref-5.ensures.value ∙ c.reverse.ensures.items)
+    (c.in_ok-old.ensures ∙ ap (λ (v : RuleChange). pieces_at v.old) c.change.view_is) (c.deref-6.ensures.value ∙ c.in_ok-new.ensures ∙ ap (λ (v : RuleChange). pieces_at v.new) c.change.view_is)

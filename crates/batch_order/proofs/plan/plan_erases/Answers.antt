@@ -1,0 +1,33 @@
+use Rattle.std.proofs.Common.{◌≡◌, ◌<◌, ◌∙◌, [], ◌∷◌, Some, None, IsSome, length, get_or, arith, subst, sym, ap}
+use Rattle.std.specs.List.{AllByRecursion}
+use Rattle.slot_order.proofs.Lists.{all_append}
+use Rattle.slot_pool.specs.Arrangement.{home_of}
+use Rattle.tcam_device.specs.declared.Write.TheVariants.{Slot}
+use Rattle.tcam_device.specs.State.{IsInUse}
+use Rattle.commit_writes.specs.PlannedBatch.{erase_write}
+use Rattle.batch_order.specs.Planning.{IsStanding}
+use Rattle.batch_order.proofs.Walked.{all_at, number_is}
+use Rattle.batch_order.proofs.Standing.{home_inside, home_is, write_next}
+use Rattle.batch_order.proofs.plan.plan_erases.Goals as goal
+
+pub unwrap-slot-requires : goal.unwrap-slot-requires
+unwrap-slot-requires c =
+    let ids = c.args.ids.now in
+    let within : c.loop-id.id-index < length ids = omega arith in
+    subst IsSome (sym c.home.ensures) (all_at (IsStanding c.args.arrangement.now) ids c.loop-id.id-index (get_or ids c.loop-id.id-index 0) c.requires.standing within (number_is ids c.loop-id.id-index within))
+
+pub loop-id-preserved : goal.loop-id-preserved
+loop-id-preserved c =
+    let slots = c.args.arrangement.now in
+    let one = get_or c.args.ids.now c.loop-id.id-index 0 in
+    let at = c.unwrap-slot.result in
+    let within : c.loop-id.id-index < length c.args.ids.now = omega arith in
+    let found : home_of slots one ≡ Some at = sym c.home.ensures ∙ c.unwrap-slot.ensures in
+    record {
+      writes = write_next (erase_write slots) c.args.ids.now c.loop-id.id-index one (Slot at None) c.args.plan.now.writes.items c.loop-id.plan.writes.items _ within (number_is c.args.ids.now c.loop-id.id-index within) (ap (λ n. Slot n None) (home_is slots one at found))
+          c.loop-id.invariant.writes c.in_ok-push.ensures.ok;
+      in_use = subst (AllByRecursion (IsInUse (length slots))) (sym c.in_ok-push.ensures.ok)
+          (all_append (IsInUse (length slots)) c.loop-id.plan.writes.items (Slot at None ∷ []) c.loop-id.invariant.in_use (home_inside slots one at found, tt));
+      most = c.in_ok-push.ensures.most ∙ c.loop-id.invariant.most;
+      span = c.in_ok-push.ensures.span ∙ c.loop-id.invariant.span;
+    }

@@ -1,0 +1,142 @@
+//! The insertions of a plan: one piece after the other, the moves of each as device writes.
+
+ghost use Rattle.std.specs.Prelude.{◌≡◌, ◌+◌, ◌-◌, ◌<◌, ◌≤◌, ◌^◌, ◌++◌, ◌∷◌, [], IfOk, OnOk, OnErr, IsTrue, IsFalse, length, map, take, drop};
+ghost use Rattle.std.specs.List.{AllByRecursion};
+ghost use Rattle.rule_store.specs.Verdict.{entries_of};
+ghost use Rattle.ternary_word.specs.Entry.{IsEncodable};
+ghost use Rattle.overlap_index.specs.Live.{is_live};
+ghost use Rattle.tcam_device.specs.State.{IsInUse};
+ghost use Rattle.commit_writes.specs.Planned.{write_for};
+ghost use Rattle.batch_order.specs.Entries.{AddsIds, AreLast, KeepEntries};
+ghost use Rattle.batch_order.specs.Placing.{aims_of};
+ghost use Rattle.batch_order.specs.Planning.{IsPlannable, IsLastLive, IsInside, IsInserted, ArePlannedSince};
+
+use crate::Placement;
+use crate::aims::aim_of;
+use crate::entries::LiveEntries;
+use crate::pieces::Ranked;
+use crate::plan::Plan;
+use move_planner::{Aim, Move, Plan as Moves, plan_insert};
+use rule_store::{Mode, Store};
+use slot_pool::Arrangement;
+use std::alloc::{AllocError, Global};
+
+/// Plans an insertion for each piece that a commit puts into a set, in their order and with the aims of the placement,
+/// and answers the ids of their entries. On want of memory the live entries are as they were.
+pub(crate) fn plan_additions(
+    alloc: Global,
+    placement: Placement,
+    rules: &Store,
+    pieces: &[Ranked],
+    live: &mut LiveEntries,
+    arrangement: &mut Arrangement,
+    plan: &mut Plan,
+) -> Result<Vec<u32>, AllocError>
+    requires standing { length live.old.live ≡ entries_of Mode.Cover rules.now.rules }
+    requires room { length live.old.live + length pieces.now ≤ live.old.slots }
+    requires encodable { AllByRecursion (λ ranked. IsEncodable ranked.piece) pieces.now }
+    requires plannable { IsPlannable live.old arrangement.old plan.old.writes.items }
+    ensures plannable { OnOk result (IsPlannable live.new arrangement.new plan.new.writes.items) }
+    ensures planned { OnOk result (ArePlannedSince live.old live.new arrangement.old arrangement.new plan.old plan.new pieces.now
+        (aims_of placement (length arrangement.old) rules.now.rules pieces.now)) }
+    ensures adds { IfOk result (λ ids. AddsIds live.old live.new ids.items) }
+    ensures number { IfOk result (λ ids. length ids.items ≡ length pieces.now) }
+    ensures refused { OnErr result (live.new.live ≡ live.old.live) }
+    ensures kept { KeepEntries live.old.live live.old.entries live.new.entries }
+    ensures slots { live.new.slots ≡ live.old.slots }
+{
+    let slots = arrangement.slots();
+    let all = slots - arrangement.free_count() + pieces.len() as u32;
+    let mut ids = Vec::with_capacity(alloc, pieces.len())?;
+    for ranked in pieces {
+        let aim = aim_of(placement, slots, rules, all, ids.len() as u32, ranked);
+        match plan_piece(alloc, ranked, aim, live, arrangement, plan) {
+            Ok(id) => ids.push_reserved(id),
+            Err(fault) => {
+                forget_all(live, ids);
+                return Err(fault);
+            }
+        }
+    }
+    Ok(ids)
+}
+
+/// The ids that became live last are live no more.
+pub(crate) fn forget_all(live: &mut LiveEntries, mut ids: Vec<u32>)
+    requires { AreLast live.old.live ids.items }
+    ensures live { live.new.live ≡ take (length live.old.live - length ids.items) live.old.live }
+    ensures kept { KeepEntries live.new.live live.old.entries live.new.entries }
+    ensures slots { live.new.slots ≡ live.old.slots }
+{
+    while let Some(id) = ids.pop() {
+        live.forget(id);
+    }
+}
+
+/// Makes the entry of a piece live and plans its insertion. On want of memory the live entries are as they were.
+fn plan_piece(
+    alloc: Global,
+    ranked: &Ranked,
+    aim: Aim,
+    live: &mut LiveEntries,
+    arrangement: &mut Arrangement,
+    plan: &mut Plan,
+) -> Result<u32, AllocError>
+    requires room { length live.old.live < live.old.slots }
+    requires encodable { IsEncodable ranked.now.piece }
+    requires plannable { IsPlannable live.old arrangement.old plan.old.writes.items }
+    ensures plannable { OnOk result (IsPlannable live.new arrangement.new plan.new.writes.items) }
+    ensures planned { OnOk result (ArePlannedSince live.old live.new arrangement.old arrangement.new plan.old plan.new (ranked.now ∷ []) (aim ∷ [])) }
+    ensures adds { IfOk result (λ id. AddsIds live.old live.new (id ∷ [])) }
+    ensures refused { OnErr result (live.new.live ≡ live.old.live) }
+    ensures kept { KeepEntries live.old.live live.old.entries live.new.entries }
+    ensures slots { live.new.slots ≡ live.old.slots }
+{
+    let id = live.add(&ranked.piece, ranked.rank, ranked.result)?;
+    match plan_moves(alloc, id, aim, live, arrangement, plan) {
+        Ok(()) => Ok(id),
+        Err(fault) => {
+            live.forget(id);
+            Err(fault)
+        }
+    }
+}
+
+/// Plans the insertion of a live id with an aim, each of its moves a device write.
+fn plan_moves(
+    alloc: Global,
+    id: u32,
+    aim: Aim,
+    live: &LiveEntries,
+    arrangement: &mut Arrangement,
+    plan: &mut Plan,
+) -> Result<(), AllocError>
+    requires new { IsLastLive live.now arrangement.old id }
+    requires in_use { AllByRecursion (IsInUse live.now.slots) plan.old.writes.items }
+    ensures plannable { OnOk result (IsPlannable live.now arrangement.new plan.new.writes.items) }
+    ensures inserted { OnOk result (IsInserted live.now arrangement.old arrangement.new aim id plan.old plan.new) }
+{
+    let mut moves = Moves::new(alloc);
+    let insert = plan_insert(alloc, arrangement, live.index(), id, aim, &mut moves)?;
+    push_all(live, &moves, plan)?;
+    plan.count(insert);
+    Ok(())
+}
+
+/// Each of some moves becomes a device write of the plan.
+fn push_all(live: &LiveEntries, moves: &Moves, plan: &mut Plan) -> Result<(), AllocError>
+    requires inside { AllByRecursion (IsInside live.now.slots) moves.now }
+    requires in_use { AllByRecursion (IsInUse live.now.slots) plan.old.writes.items }
+    ensures in_use { OnOk result (AllByRecursion (IsInUse live.now.slots) plan.new.writes.items) }
+    ensures writes { OnOk result (plan.new.writes.items ≡ plan.old.writes.items ++ map (write_for live.now.entries) moves.now) }
+    ensures most { OnOk result (plan.new.most ≡ plan.old.most) }
+    ensures span { OnOk result (plan.new.span ≡ plan.old.span) }
+{
+    for place in 0..moves.len() {
+        match moves.at(place) {
+            Move::Put(slot, id) => plan.push(slot, live.at(id))?,
+            Move::Erase(slot) => plan.push(slot, None)?,
+        }
+    }
+    Ok(())
+}
