@@ -1,5 +1,5 @@
 -- Each act, as what it does to the journal and to the report.
-use Rattle.std.proofs.Common.{◌≡◌, ◌≢◌, ℕ, ◌+◌, ◌≤◌, true, List, [], ◌∷◌, ◌++◌, Option, None, length, append_assoc, refl, sym, ap, ◌∙◌, subst}
+use Rattle.std.proofs.Common.{◌≡◌, ◌≢◌, ℕ, ◌+◌, ◌≤◌, true, List, [], ◌∷◌, ◌++◌, Option, None, Result, Ok, Err, IfErr, OnOk, OnErr, length, append_assoc, refl, sym, ap, ◌∙◌, subst}
 use Rattle.std.specs.Io.KnownBytes.{Appends}
 use Rattle.rule_model.specs.declared.Key.{Key}
 use Rattle.rule_model.specs.Key.{IsKey}
@@ -10,23 +10,52 @@ use Rattle.tcam_device.specs.declared.Write.{Write}
 use Rattle.tcam_device.specs.State.{State, apply, lookup, replay, state_after, on_device}
 use Rattle.batch_order.specs.declared.Ready.{Ready}
 use Rattle.batch_order.specs.Managed.{Holds}
+use Rattle.replay.specs.declared.Family.{Family}
+use Rattle.replay.specs.declared.Act.{Act}
 use Rattle.replay.specs.declared.Act.TheVariants.{Command, Probe, Packet, Commit}
-use Rattle.replay.specs.Run.{Setting, Progress, Effect, Writes, Prints, Refuses, Judged, Step, printed, lines_of, writes_of}
+use Rattle.replay.specs.declared.RunFault.{RunFault}
+use Rattle.replay.specs.declared.RunFault.TheVariants as fault
+use Rattle.replay.specs.Run.{Setting, Progress, Effect, Writes, Prints, Refuses, Judged, Step, TakesMemory, printed, lines_of, writes_of}
 use Rattle.replay.specs.Text.{packet_line, accepted_line, refused_line}
-use Rattle.replay.specs.Carried.{AppendsPart, CutsEffects}
-use Rattle.replay.specs.Running.{Running, IsRun, ShowsRules, CarriesRun, CutsRunAtLine, CutsRunAtWrite, setting_of, progress_of, verdict_of}
+use Rattle.replay.specs.Outside.{AppendsPart}
+use Rattle.replay.specs.Carried.{CutsEffects}
+use Rattle.replay.specs.Running.{Running, IsRun, IsUntouched, ShowsRules, ComesTo, setting_of, progress_of, verdict_of}
 use Rattle.replay.proofs.Effects.{does-line, does-part, does-nothing, does-writes_line, does-writes_part, does-writes, told-at, writes_of-append}
 use Rattle.replay.proofs.Runs.{run_after, commits-with}
 
--- a change that joins the batch
-pub push-carries : (slots : ℕ) (run : Running) (change : Change) (journal : List Write) (taken : Option (List ℕ))
-    → CarriesRun slots run (Command change) (record run { pending = run.pending ++ change ∷ [] }) journal journal taken taken
-push-carries slots run change journal taken at = record { effects = []; step = (refl, refl); does = does-nothing journal taken }
+-- nothing was done
+undone : (run new : Running) (journal : List Write) (taken : Option (List ℕ)) → new ≡ run → IsUntouched run new journal journal taken taken
+undone run new journal taken same = record { run = same; journal = refl; report = refl }
 
--- a key that is probed from now on
-pub probe-carries : (slots : ℕ) (run : Running) (key : Key) (journal : List Write) (taken : Option (List ℕ))
-    → CarriesRun slots run (Probe key) (record run { probes = run.probes ++ key ∷ [] }) journal journal taken taken
-probe-carries slots run key journal taken at = record { effects = []; step = (refl, refl); does = does-nothing journal taken }
+-- a change that joined the batch, or not
+pub push-acts : (result : Result (Unit {0}) RunFault) (slots : ℕ) (run new : Running) (act : Act) (change : Change) (journal : List Write) (taken : Option (List ℕ)) → act ≡ Command change
+    → OnOk result (new ≡ record run { pending = run.pending ++ change ∷ [] }) → OnErr result (new ≡ run)
+    → (result ≢ Err fault.Sink) × ((result ≢ Err fault.Device) × (result ≢ Err fault.ProbesFull)) → ComesTo slots run act new result journal journal taken taken
+push-acts (Ok done) slots run new act change journal taken is pushed same kind = λ at. record {
+  effects = [];
+  step = subst (λ one. Step (setting_of run) (progress_of slots run) one [] (progress_of slots new)) (sym is) (refl, ap (progress_of slots) pushed);
+  does = does-nothing journal taken;
+}
+push-acts (Err fault.Memory) slots run new act change journal taken is pushed same kind = (
+  record { needs = subst (TakesMemory (setting_of run) (progress_of slots run)) (sym is) tt; does = does-nothing journal taken },
+  undone run new journal taken same,
+)
+push-acts (Err fault.BatchFull) slots run new act change journal taken is pushed same kind = undone run new journal taken same
+push-acts (Err fault.Sink) slots run new act change journal taken is pushed same kind = absurd (kind.0 refl)
+push-acts (Err fault.Device) slots run new act change journal taken is pushed same kind = absurd (kind.1.0 refl)
+push-acts (Err fault.ProbesFull) slots run new act change journal taken is pushed same kind = absurd (kind.1.1 refl)
+
+-- a key that is probed from now on, or not
+pub probe-acts : (result : Result (Unit {0}) RunFault) (slots : ℕ) (run new : Running) (act : Act) (key : Key) (journal : List Write) (taken : Option (List ℕ)) → act ≡ Probe key
+    → OnOk result (new ≡ record run { probes = run.probes ++ key ∷ [] }) → OnErr result (new ≡ run) → IfErr result (λ why. why ≡ fault.ProbesFull)
+    → ComesTo slots run act new result journal journal taken taken
+probe-acts (Ok done) slots run new act key journal taken is probed same kind = λ at. record {
+  effects = [];
+  step = subst (λ one. Step (setting_of run) (progress_of slots run) one [] (progress_of slots new)) (sym is) (refl, ap (progress_of slots) probed);
+  does = does-nothing journal taken;
+}
+probe-acts (Err why) slots run new act key journal taken is probed same kind =
+    subst (λ one. ComesTo slots run act new (Err one) journal journal taken taken) (sym kind) (undone run new journal taken same)
 
 -- what the device tells of a packet is what the set answers
 answered : (slots : ℕ) (run : Running) (key : Key) (writes : List Write) (found : Answer) → ShowsRules run.manager → run.manager.held ≡ None → run.manager.slots ≤ slots
@@ -34,12 +63,23 @@ answered : (slots : ℕ) (run : Running) (key : Key) (writes : List Write) (foun
 answered slots run key writes found shows idle within valid told at =
     sym (told ∙ ap (λ state. lookup state key) (sym at) ∙ shows idle slots within key valid)
 
--- a packet whose line is cut
-pub packet-cuts : (slots : ℕ) (run : Running) (key : Key) (journal : List Write) (found : Answer) (old new : Option (List ℕ))
+-- a packet whose line is written
+pub packet-carries : (slots : ℕ) (run : Running) (family : Family) (key : Key) (journal : List Write) (found : Answer) (old new : Option (List ℕ))
     → ShowsRules run.manager → run.manager.held ≡ None → run.manager.slots ≤ slots → IsKey key
-    → found ≡ lookup (replay slots journal) key → AppendsPart old new (packet_line run.family found)
-    → CutsRunAtLine slots run (Packet key) journal journal old new
-packet-cuts slots run key journal found old new shows idle within valid told part at = record {
+    → found ≡ lookup (replay slots journal) key → family ≡ run.family → Appends old new (packet_line family found)
+    → ComesTo slots run (Packet key) run (Ok tt) journal journal old new
+packet-carries slots run family key journal found old new shows idle within valid told same grown at = record {
+  effects = Prints (packet_line run.family found) ∷ [];
+  step = (ap (λ one. Prints (packet_line run.family one) ∷ []) (sym (answered slots run key journal found shows idle within valid told at)), refl);
+  does = does-line (packet_line run.family found) journal old new (subst (λ one. Appends old new (packet_line one found)) same grown);
+}
+
+-- or cut
+pub packet-cuts : (slots : ℕ) (run : Running) (family : Family) (key : Key) (journal : List Write) (found : Answer) (old new : Option (List ℕ))
+    → ShowsRules run.manager → run.manager.held ≡ None → run.manager.slots ≤ slots → IsKey key
+    → found ≡ lookup (replay slots journal) key → family ≡ run.family → AppendsPart old new (packet_line family found)
+    → ComesTo slots run (Packet key) run (Err fault.Sink) journal journal old new
+packet-cuts slots run family key journal found old new shows idle within valid told same part at = record {
   front = [];
   partial = part.0;
   rest = part.1;
@@ -48,7 +88,7 @@ packet-cuts slots run key journal found old new shows idle within valid told par
     after = progress_of slots run;
     step = (
       ap (λ text. Prints text ∷ [])
-          (sym part.2 ∙ ap (packet_line run.family) (sym (answered slots run key journal found shows idle within valid told at))),
+          (sym part.2 ∙ ap (λ one. packet_line one found) same ∙ ap (packet_line run.family) (sym (answered slots run key journal found shows idle within valid told at))),
       refl,
     );
   };
@@ -76,21 +116,21 @@ refuse-step slots run reason line judged other same =
 -- a commit that is refused, with its line
 pub refuse-carries : (slots : ℕ) (run new : Running) (reason : Verdict) (journal_old journal_new : List Write) (old taken : Option (List ℕ))
     → verdict_of run ≡ reason → reason ≢ Accepted → new ≡ run_refused run → journal_new ≡ journal_old → Appends old taken (refused_line run.family (run.commits + 1) reason)
-    → CarriesRun slots run Commit new journal_old journal_new old taken
+    → ComesTo slots run Commit new (Ok tt) journal_old journal_new old taken
 refuse-carries slots run new reason journal_old journal_new old taken judged other is same grown =
-    subst (λ after. CarriesRun slots run Commit after journal_old journal_new old taken) (sym is)
-    (subst (λ journal. CarriesRun slots run Commit (run_refused run) journal_old journal old taken) (sym same) (λ at. record {
+    subst (λ after. ComesTo slots run Commit after (Ok tt) journal_old journal_new old taken) (sym is)
+    (subst (λ journal. ComesTo slots run Commit (run_refused run) (Ok tt) journal_old journal old taken) (sym same) (λ at. record {
       effects = Prints (refused_line run.family (run.commits + 1) reason) ∷ [];
       step = refuse-step slots run reason (refused_line run.family (run.commits + 1) reason) judged other refl;
       does = does-line (refused_line run.family (run.commits + 1) reason) journal_old old taken grown;
     }))
 
 -- and with a part of it
-pub refuse-cuts : (slots : ℕ) (run : Running) (reason : Verdict) (journal_old journal_new : List Write) (old taken : Option (List ℕ))
+pub refuse-cuts : (slots : ℕ) (run new : Running) (reason : Verdict) (journal_old journal_new : List Write) (old taken : Option (List ℕ))
     → verdict_of run ≡ reason → reason ≢ Accepted → journal_new ≡ journal_old → AppendsPart old taken (refused_line run.family (run.commits + 1) reason)
-    → CutsRunAtLine slots run Commit journal_old journal_new old taken
-refuse-cuts slots run reason journal_old journal_new old taken judged other same part =
-    subst (λ journal. CutsRunAtLine slots run Commit journal_old journal old taken) (sym same) (λ at. record {
+    → ComesTo slots run Commit new (Err fault.Sink) journal_old journal_new old taken
+refuse-cuts slots run new reason journal_old journal_new old taken judged other same part =
+    subst (λ journal. ComesTo slots run Commit new (Err fault.Sink) journal_old journal old taken) (sym same) (λ at. record {
       front = [];
       partial = part.0;
       rest = part.1;
@@ -125,9 +165,9 @@ module _ (run : Running) (ready : Ready) (is : IsRun run) (holds : Holds (record
   pub commit-carries : (new : Running) (journal_old journal_new : List Write) (old mid taken : Option (List ℕ)) → new ≡ run_after run holds.held
       → journal_new ≡ journal_old ++ holds.held.writes
       → Appends old mid (printed (writes_of (setting_of run) run.probes 1 (replay slots journal_old) holds.held.writes)) → Appends mid taken line
-      → CarriesRun slots run Commit new journal_old journal_new old taken
+      → ComesTo slots run Commit new (Ok tt) journal_old journal_new old taken
   commit-carries new journal_old journal_new old mid taken same journal made grown =
-      subst (λ after. CarriesRun slots run Commit after journal_old journal_new old taken) (sym same) (λ at. record {
+      subst (λ after. ComesTo slots run Commit after (Ok tt) journal_old journal_new old taken) (sym same) (λ at. record {
         effects = told holds.held.writes ++ Prints line ∷ [];
         step = commit-step (told holds.held.writes ++ Prints line ∷ []) refl;
         does = does-writes_line (setting_of run) run.probes before holds.held.writes journal_old journal_new old mid taken journal
@@ -135,11 +175,11 @@ module _ (run : Running) (ready : Ready) (is : IsRun run) (holds : Holds (record
       })
 
   -- with a part of it
-  pub commit-cuts : (journal_old journal_new : List Write) (old mid taken : Option (List ℕ))
+  pub commit-cuts : (new : Running) (journal_old journal_new : List Write) (old mid taken : Option (List ℕ))
       → journal_new ≡ journal_old ++ holds.held.writes
       → Appends old mid (printed (writes_of (setting_of run) run.probes 1 (replay slots journal_old) holds.held.writes)) → AppendsPart mid taken line
-      → CutsRunAtLine slots run Commit journal_old journal_new old taken
-  commit-cuts journal_old journal_new old mid taken journal made part at = record {
+      → ComesTo slots run Commit new (Err fault.Sink) journal_old journal_new old taken
+  commit-cuts new journal_old journal_new old mid taken journal made part at = record {
     front = told holds.held.writes;
     partial = part.0;
     rest = part.1;
@@ -153,11 +193,11 @@ module _ (run : Running) (ready : Ready) (is : IsRun run) (holds : Holds (record
   }
 
   -- with a part of the lines of its writes
-  pub commit-halts : (made : List Write) (journal_old journal_new : List Write) (old taken : Option (List ℕ))
+  pub commit-halts : (new : Running) (made : List Write) (journal_old journal_new : List Write) (old taken : Option (List ℕ))
       → journal_new ≡ journal_old ++ made
       → CutsEffects (writes_of (setting_of run) run.probes 1 (replay slots journal_old) holds.held.writes) journal_old journal_new old taken
-      → CutsRunAtLine slots run Commit journal_old journal_new old taken
-  commit-halts made journal_old journal_new old taken journal cuts at = record {
+      → ComesTo slots run Commit new (Err fault.Sink) journal_old journal_new old taken
+  commit-halts new made journal_old journal_new old taken journal cuts at = record {
     front = cuts.front;
     partial = cuts.partial;
     rest = cuts.rest;
@@ -172,11 +212,11 @@ module _ (run : Running) (ready : Ready) (is : IsRun run) (holds : Holds (record
   }
 
   -- and with a part of its writes
-  pub commit-stops : (made left : List Write) (due : Write) (journal_old journal_new : List Write) (old taken : Option (List ℕ)) → holds.held.writes ≡ made ++ due ∷ left
+  pub commit-stops : (new : Running) (made left : List Write) (due : Write) (journal_old journal_new : List Write) (old taken : Option (List ℕ)) → holds.held.writes ≡ made ++ due ∷ left
       → journal_new ≡ journal_old ++ made
       → Appends old taken (printed (writes_of (setting_of run) run.probes 1 (replay slots journal_old) made))
-      → CutsRunAtWrite slots run Commit journal_old journal_new old taken
-  commit-stops made left due journal_old journal_new old taken whole journal told_made at =
+      → ComesTo slots run Commit new (Err fault.Device) journal_old journal_new old taken
+  commit-stops new made left due journal_old journal_new old taken whole journal told_made at =
       let next = state_after before made in
       let number = 1 + length made in
       let lines = lines_of (setting_of run) run.probes number (apply next due) due in

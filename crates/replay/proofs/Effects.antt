@@ -1,5 +1,5 @@
 -- What effects leave in the journal and in the report.
-use Rattle.std.proofs.Common.{Bool, true, false, ◌+◌, length, arith, ◌≡◌, ℕ, List, [], ◌∷◌, ◌++◌, Option, take, drop, refl, sym, ap, ◌∙◌, subst, append_assoc, take-append-drop}
+use Rattle.std.proofs.Common.{Bool, true, false, ◌+◌, length, arith, ◌≡◌, ℕ, List, [], ◌∷◌, ◌++◌, Option, refl, sym, ap, ◌∙◌, subst, append_assoc}
 use Rattle.std.proofs.lemmas.List.{append-nil}
 use Rattle.std.specs.Io.KnownBytes.{Appends}
 use Rattle.std.proofs.KnownBytes.{Appends-nil, Appends-trans}
@@ -8,11 +8,7 @@ use Rattle.tcam_device.specs.declared.Write.{Write}
 use Rattle.tcam_device.specs.State.{State, apply, state_after, replay}
 use Rattle.replay.specs.declared.Family.{Family}
 use Rattle.replay.specs.Run.{Setting, Effect, Writes, Prints, written, printed, trace_of, probes_of, lines_of, writes_of}
-use Rattle.replay.specs.Carried.{Does, AppendsPart}
-
--- the first bytes of a line, and the rest
-pub part-of : (old new : Option (List ℕ)) (line : List ℕ) (n : ℕ) → Appends old new (take n line) → AppendsPart old new line
-part-of old new line n grown = (take n line, drop n line, sym (take-append-drop n line), grown)
+use Rattle.replay.specs.Carried.{Does}
 
 -- some writes, and others behind them
 pub grown-more : (journal mid new made more : List Write) → mid ≡ journal ++ made → new ≡ mid ++ more → new ≡ journal ++ (made ++ more)

@@ -1,70 +1,37 @@
 -- How each call of a run ends, by the values that the code has.
-use Rattle.std.proofs.Common.{IsSome, refl, ◌≡◌, ◌≢◌, ◌⊎◌, inl, inr, ℕ, ◌+◌, ◌^◌, ◌≤◌, List, [], ◌∷◌, ◌++◌, Option, Some, None, IfSome, Result, Ok, Err, OnOk, OnErr, length, take, sym, ap, ◌∙◌, subst}
+use Rattle.std.proofs.Common.{true, false, refl, ◌≡◌, ◌≢◌, ◌⊎◌, inl, inr, ℕ, ◌+◌, ◌^◌, ◌≤◌, ◌==◌, List, [], ◌++◌, Option, Some, None, IfSome, Result, Ok, Err, IfErr, OnOk, OnErr, length, sym, ap, ◌∙◌, subst, codes}
+use Rattle.std.proofs.lemmas.Bool.{eqb-true, false_from_ne_true}
 use Rattle.std.specs.Io.KnownBytes.{Appends}
 use Rattle.rule_model.specs.declared.Key.{Key}
 use Rattle.rule_store.specs.declared.Command.{Command as Change}
 use Rattle.rule_store.specs.Verdict.{Accepted, entries_of}
-use Rattle.script_lines.specs.declared.Failed.{Failed}
 use Rattle.tcam_device.specs.declared.Write.{Write}
 use Rattle.commit_writes.specs.declared.Done.{Done}
 use Rattle.batch_order.specs.declared.Ready.{Ready}
 use Rattle.batch_order.specs.declared.Refusal.{Refusal}
 use Rattle.batch_order.specs.declared.Refusal.TheVariants as refusal
 use Rattle.batch_order.specs.Managed.{Managed, HeldCommit, Holds, Judges, Answers}
-use Rattle.replay.specs.declared.Act.{Act}
 use Rattle.replay.specs.declared.Act.TheVariants.{Command, Probe, Commit}
 use Rattle.replay.specs.declared.RunFault.{RunFault}
 use Rattle.replay.specs.declared.RunFault.TheVariants as fault
 use Rattle.replay.specs.Run.{Setting, Progress, ending}
+use Rattle.replay.specs.Script.{limit_fault, most_pending, most_probes}
 use Rattle.replay.specs.Text.{verdict_told, accepted_line, refused_line, end_line}
-use Rattle.replay.specs.Carried.{IsAt, CutsAtLine, CutsAtWrite, CutsEffects, AppendsPart}
-use Rattle.replay.specs.Running.{Running, IsRun, HoldsPending, CarriesRun, CutsRunAtLine, CutsRunAtWrite, MakesAll, MakesSome, StopsAtLine, StopsAtWrite, Tells, effects_on, watching, setting_of, progress_of, verdict_of}
+use Rattle.replay.specs.Outside.{AppendsPart}
+use Rattle.replay.specs.Carried.{IsAt, Carries, CutsAtLine, CutsAtWrite, CutsEffects}
+use Rattle.replay.specs.Running.{Running, Watching, IsRun, HoldsPending, ComesTo, Makes, MakesAll, MakesSome, Tells, effects_on, watching, setting_of, progress_of, verdict_of}
 use Rattle.replay.proofs.Refusals.{told-verdict, told-refused}
-use Rattle.replay.proofs.Effects.{part-of}
 use Rattle.replay.proofs.Runs.{run_after, held-run, made-run, after-run}
-use Rattle.replay.proofs.Acts.{run_refused, push-carries, probe-carries, refuse-carries, refuse-cuts, commit-carries, commit-cuts, commit-halts, commit-stops}
+use Rattle.replay.proofs.Acts.{run_refused, refuse-carries, refuse-cuts, commit-carries, commit-cuts, commit-halts, commit-stops}
 
--- a text that was handed over in part
-pub part-written : (result : Result (Unit {0}) Failed) (old new : Option (List ℕ)) (bytes line : List ℕ) → bytes ≡ line
-    → OnErr result ((n : ℕ) × (n ≤ length bytes) × Appends old new (take n bytes)) → OnErr result (AppendsPart old new line)
-part-written (Ok done) old new bytes line same part = tt
-part-written (Err fault) old new bytes line same part = subst (AppendsPart old new) same (part-of old new bytes part.0 part.2)
+-- an act for which there is room
+pub batch-room : (change : Change) (pending probes : ℕ) → pending ≢ most_pending → limit_fault (Command change) pending probes ≡ None
+batch-room change pending probes other =
+    ap (λ full. elim full [ true ↦ Some (codes "batch full") | false ↦ None ]) (false_from_ne_true (pending == most_pending) (λ e. other (eqb-true pending most_pending e)))
 
--- and the same of a line that is another one
-pub part-same : (result : Result (Unit {0}) Failed) (old new : Option (List ℕ)) (bytes line : List ℕ) → bytes ≡ line
-    → OnErr result (AppendsPart old new bytes) → OnErr result (AppendsPart old new line)
-part-same (Ok done) old new bytes line same part = tt
-part-same (Err fault) old new bytes line same part = subst (AppendsPart old new) same part
-
--- the same of a whole one
-pub whole-same : (result : Result (Unit {0}) Failed) (old new : Option (List ℕ)) (bytes line : List ℕ) → bytes ≡ line
-    → OnOk result (Appends old new bytes) → OnOk result (Appends old new line)
-whole-same (Ok done) old new bytes line same whole = subst (Appends old new) same whole
-whole-same (Err fault) old new bytes line same whole = tt
-
--- what was told stays told
-pub told-of : (result : Result (Unit {0}) Failed) (old new : Option (List ℕ)) (bytes : List ℕ) → OnOk result (Appends old new bytes)
-    → OnErr result ((n : ℕ) × (n ≤ length bytes) × Appends old new (take n bytes)) → IsSome old → IsSome new
-told-of result None new bytes whole part some = absurd (cc)
-told-of (Ok done) (Some x) None bytes whole part some = absurd whole
-told-of (Err fault) (Some x) None bytes whole part some = absurd part.2
-told-of result (Some x) (Some y) bytes whole part some = refl
-
--- a change that joined the batch, or not
-pub pushes : (result : Result (Unit {0}) RunFault) (slots : ℕ) (run new : Running) (act : Act) (change : Change) (journal : List Write) (taken : Option (List ℕ))
-    → act ≡ Command change → OnOk result (new ≡ record run { pending = run.pending ++ change ∷ [] }) → OnOk result (CarriesRun slots run act new journal journal taken taken)
-pushes (Err fault) slots run new act change journal taken is pushed = tt
-pushes (Ok done) slots run new act change journal taken is pushed =
-    subst (λ one. CarriesRun slots run one new journal journal taken taken) (sym is)
-    (subst (λ after. CarriesRun slots run (Command change) after journal journal taken taken) (sym pushed) (push-carries slots run change journal taken))
-
--- a key that is probed from now on, or not
-pub probes : (result : Result (Unit {0}) RunFault) (slots : ℕ) (run new : Running) (act : Act) (key : Key) (journal : List Write) (taken : Option (List ℕ))
-    → act ≡ Probe key → OnOk result (new ≡ record run { probes = run.probes ++ key ∷ [] }) → OnOk result (CarriesRun slots run act new journal journal taken taken)
-probes (Err fault) slots run new act key journal taken is probed = tt
-probes (Ok done) slots run new act key journal taken is probed =
-    subst (λ one. CarriesRun slots run one new journal journal taken taken) (sym is)
-    (subst (λ after. CarriesRun slots run (Probe key) after journal journal taken taken) (sym probed) (probe-carries slots run key journal taken))
+pub probe-room : (key : Key) (pending probes : ℕ) → probes ≢ most_probes → limit_fault (Probe key) pending probes ≡ None
+probe-room key pending probes other =
+    ap (λ full. elim full [ true ↦ Some (codes "too many probes") | false ↦ None ]) (false_from_ne_true (probes == most_probes) (λ e. other (eqb-true probes most_probes e)))
 
 -- the commit that is held is that of the batch
 held-one : (run : Running) (ready : Ready) (held : HeldCommit) (holds : Holds (record run.manager { held = None }) run.pending ready run.manager)
@@ -79,35 +46,45 @@ held-few inside run same holds =
     let is : inside.manager.held ≡ Some holds.1.held = ap (λ (r : Running). r.manager.held) same ∙ ap (λ (manager : Managed). manager.held) holds.1.new_is in
     subst (λ held. IfSome held (λ (one : HeldCommit). length one.writes ≤ 2 ^ 40)) (sym is) holds.1.few
 
-cut-held : (run : Running) (now : Managed) → IsRun run → MakesSome run.manager now → IsRun (record run { manager = now })
+-- a run whose commit was cut
+pub cut-held : (run : Running) (now : Managed) → IsRun run → MakesSome run.manager now → IsRun (record run { manager = now })
 cut-held run now is some =
     subst (λ (manager : Managed). IsRun (record run { manager = manager })) (sym some.now_is) (held-run run some.made (record some.held { writes = some.left }) is)
 
--- a run whose commit was cut
-pub cut-run : (why : RunFault) (run : Running) (now : Managed) (slots : ℕ) (journal_old journal_new : List Write) (old taken : Option (List ℕ)) → IsRun run
-    → (why ≡ fault.Sink) ⊎ (why ≡ fault.Device)
-    → (why ≡ fault.Sink → StopsAtLine run.manager now (watching run) slots journal_old journal_new old taken)
-    → (why ≡ fault.Device → StopsAtWrite run.manager now (watching run) slots journal_old journal_new old taken) → IsRun (record run { manager = now })
-cut-run why run now slots journal_old journal_new old taken is (inl sink) at_line at_write = cut-held run now is (at_line sink).some
-cut-run why run now slots journal_old journal_new old taken is (inr device) at_line at_write = cut-held run now is (at_write device).some
+-- some of its writes were made
+pub cut-some : (why : RunFault) (begun now : Managed) (watch : Watching) (slots : ℕ) (journal_old journal_new : List Write) (old taken : Option (List ℕ))
+    → Makes begun now watch slots (Err why) journal_old journal_new old taken → MakesSome begun now
+cut-some fault.Sink begun now watch slots journal_old journal_new old taken stops = stops.some
+cut-some fault.Device begun now watch slots journal_old journal_new old taken stops = stops.some
+cut-some fault.BatchFull begun now watch slots journal_old journal_new old taken stops = absurd stops
+cut-some fault.ProbesFull begun now watch slots journal_old journal_new old taken stops = absurd stops
+cut-some fault.Memory begun now watch slots journal_old journal_new old taken stops = absurd stops
 
-pub cut-stops : (slots : ℕ) (inside run : Running) (now : Managed) (journal_old journal_new : List Write) (old taken : Option (List ℕ)) → inside ≡ run → IsRun inside
-    → HoldsPending run → run.manager.slots ≤ slots → verdict_of run ≡ Accepted → StopsAtWrite inside.manager now (watching inside) slots journal_old journal_new old taken
-    → CutsRunAtWrite slots run Commit journal_old journal_new old taken
-cut-stops slots inside run now journal_old journal_new old taken same is pending within accepted stops =
+-- it was cut at a line or at a write
+pub cut-kind : (why : RunFault) (begun now : Managed) (watch : Watching) (slots : ℕ) (journal_old journal_new : List Write) (old taken : Option (List ℕ))
+    → Makes begun now watch slots (Err why) journal_old journal_new old taken → (why ≡ fault.Sink) ⊎ (why ≡ fault.Device)
+cut-kind fault.Sink begun now watch slots journal_old journal_new old taken stops = inl refl
+cut-kind fault.Device begun now watch slots journal_old journal_new old taken stops = inr refl
+cut-kind fault.BatchFull begun now watch slots journal_old journal_new old taken stops = absurd stops
+cut-kind fault.ProbesFull begun now watch slots journal_old journal_new old taken stops = absurd stops
+cut-kind fault.Memory begun now watch slots journal_old journal_new old taken stops = absurd stops
+
+pub cut-acts : (why : RunFault) (slots : ℕ) (inside run new : Running) (now : Managed) (journal_old journal_new : List Write) (old taken : Option (List ℕ)) → inside ≡ run → IsRun inside
+    → HoldsPending run → run.manager.slots ≤ slots → verdict_of run ≡ Accepted → Makes inside.manager now (watching inside) slots (Err why) journal_old journal_new old taken
+    → ComesTo slots run Commit new (Err why) journal_old journal_new old taken
+cut-acts fault.Device slots inside run new now journal_old journal_new old taken same is pending within accepted stops =
     let one = held-one run pending.0 stops.some.held pending.1 (ap (λ (r : Running). r.manager.held) (sym same) ∙ stops.some.held_is) in
-    commit-stops run pending.0 (subst IsRun same is) pending.1 slots within accepted stops.some.made stops.left stops.due journal_old journal_new old taken
+    commit-stops run pending.0 (subst IsRun same is) pending.1 slots within accepted new stops.some.made stops.left stops.due journal_old journal_new old taken
     (ap (λ (held : HeldCommit). held.writes) (sym one) ∙ stops.some.whole ∙ ap (λ left. stops.some.made ++ left) stops.left_is) stops.journal
     (subst (λ (r : Running). Tells r.manager (watching r) slots journal_old stops.some.made old taken) same stops.report)
-
-pub cut-halts : (slots : ℕ) (inside run : Running) (now : Managed) (journal_old journal_new : List Write) (old taken : Option (List ℕ)) → inside ≡ run → IsRun inside
-    → HoldsPending run → run.manager.slots ≤ slots → verdict_of run ≡ Accepted → StopsAtLine inside.manager now (watching inside) slots journal_old journal_new old taken
-    → CutsRunAtLine slots run Commit journal_old journal_new old taken
-cut-halts slots inside run now journal_old journal_new old taken same is pending within accepted stops =
+cut-acts fault.Sink slots inside run new now journal_old journal_new old taken same is pending within accepted stops =
     let one = held-one run pending.0 stops.some.held pending.1 (ap (λ (r : Running). r.manager.held) (sym same) ∙ stops.some.held_is) in
-    commit-halts run pending.0 (subst IsRun same is) pending.1 slots within accepted stops.some.made journal_old journal_new old taken stops.journal
+    commit-halts run pending.0 (subst IsRun same is) pending.1 slots within accepted new stops.some.made journal_old journal_new old taken stops.journal
     (subst (λ (r : Running). CutsEffects (effects_on r.manager (watching r) slots journal_old pending.1.held.writes) journal_old journal_new old taken) same
     (subst (λ (held : HeldCommit). CutsEffects (effects_on inside.manager (watching inside) slots journal_old held.writes) journal_old journal_new old taken) one stops.cuts))
+cut-acts fault.BatchFull slots inside run new now journal_old journal_new old taken same is pending within accepted stops = absurd stops
+cut-acts fault.ProbesFull slots inside run new now journal_old journal_new old taken same is pending within accepted stops = absurd stops
+cut-acts fault.Memory slots inside run new now journal_old journal_new old taken same is pending within accepted stops = absurd stops
 
 module _ (slots : ℕ) (inside run : Running) (done : Done) (now : Managed) (journal_old journal_new : List Write) (old mid : Option (List ℕ)) (same : inside ≡ run)
     (holds : HoldsPending run) (all : MakesAll inside.manager (watching inside) slots done now journal_old journal_new old mid) where
@@ -155,46 +132,38 @@ module _ (slots : ℕ) (inside run : Running) (done : Done) (now : Managed) (jou
 
     -- its line is written
     pub all-carries : (taken : Option (List ℕ)) → IsRun inside → run.manager.slots ≤ slots → verdict_of run ≡ Accepted → Appends mid taken (accepted_line counted.commits done)
-        → CarriesRun slots run Commit (record counted { writes = counted.writes + done.writes }) journal_old journal_new old taken
+        → ComesTo slots run Commit (record counted { writes = counted.writes + done.writes }) (Ok tt) journal_old journal_new old taken
     all-carries taken is within accepted grown =
         commit-carries run holds.0 (subst IsRun same is) holds.1 slots within accepted (record counted { writes = counted.writes + done.writes })
         journal_old journal_new old mid taken after-writes all-journal all-told (subst (Appends mid taken) line-same grown)
 
     -- or a part of it
-    pub all-cuts : (taken : Option (List ℕ)) → IsRun inside → run.manager.slots ≤ slots → verdict_of run ≡ Accepted → AppendsPart mid taken (accepted_line counted.commits done)
-        → CutsRunAtLine slots run Commit journal_old journal_new old taken
-    all-cuts taken is within accepted part =
-        commit-cuts run holds.0 (subst IsRun same is) holds.1 slots within accepted journal_old journal_new old mid taken all-journal all-told
+    pub all-cuts : (new : Running) (taken : Option (List ℕ)) → IsRun inside → run.manager.slots ≤ slots → verdict_of run ≡ Accepted → AppendsPart mid taken (accepted_line counted.commits done)
+        → ComesTo slots run Commit new (Err fault.Sink) journal_old journal_new old taken
+    all-cuts new taken is within accepted part =
+        commit-cuts run holds.0 (subst IsRun same is) holds.1 slots within accepted new journal_old journal_new old mid taken all-journal all-told
         (subst (AppendsPart mid taken) line-same part)
 
 -- a run stands where it stood while a commit is held
-planned-progress : (slots : ℕ) (run : Running) (ready : Ready) (new : Managed) → Holds run.manager run.pending ready new → progress_of slots (record run { manager = new }) ≡ progress_of slots run
-planned-progress slots run ready new holds = ap (λ (manager : Managed). progress_of slots (record run { manager = manager })) holds.new_is
+planned-same : (P : Setting → Progress → Type 0) (slots : ℕ) (run : Running) (ready : Ready) (new : Managed) → Holds run.manager run.pending ready new
+    → P (setting_of (record run { manager = new })) (progress_of slots (record run { manager = new })) → P (setting_of run) (progress_of slots run)
+planned-same P slots run ready new holds = subst (λ (manager : Managed). P (setting_of (record run { manager = manager })) (progress_of slots (record run { manager = manager }))) holds.new_is
 
-planned-setting : (run : Running) (ready : Ready) (new : Managed) → Holds run.manager run.pending ready new → setting_of (record run { manager = new }) ≡ setting_of run
-planned-setting run ready new holds = ap (λ (manager : Managed). setting_of (record run { manager = manager })) holds.new_is
-
-pub planned-line : (slots slots_now : ℕ) (inside run : Running) (ready : Ready) (new : Managed) (journal_old journal_now journal_new : List Write) (old taken : Option (List ℕ))
-    → slots_now ≡ slots → journal_now ≡ journal_old → inside ≡ run → Holds inside.manager inside.pending ready new
-    → CutsRunAtLine slots_now (record inside { manager = new }) Commit journal_now journal_new old taken → CutsRunAtLine slots run Commit journal_old journal_new old taken
-planned-line slots slots_now inside run ready new journal_old journal_now journal_new old taken count journal same holds cuts =
-    subst (λ (r : Running). CutsRunAtLine slots r Commit journal_old journal_new old taken) same
-    (subst (λ before. CutsRunAtLine slots inside Commit before journal_new old taken) journal
-    (subst (λ n. CutsRunAtLine n inside Commit journal_now journal_new old taken) count
-    (subst (λ (progress : Progress). IsAt slots_now journal_now progress → CutsAtLine (setting_of inside) progress Commit journal_now journal_new old taken) (planned-progress slots_now inside ready new holds)
-    (subst (λ (setting : Setting). IsAt slots_now journal_now (progress_of slots_now (record inside { manager = new }))
-    → CutsAtLine setting (progress_of slots_now (record inside { manager = new })) Commit journal_now journal_new old taken) (planned-setting inside ready new holds) cuts))))
-
-pub planned-write : (slots slots_now : ℕ) (inside run : Running) (ready : Ready) (new : Managed) (journal_old journal_now journal_new : List Write) (old taken : Option (List ℕ))
-    → slots_now ≡ slots → journal_now ≡ journal_old → inside ≡ run → Holds inside.manager inside.pending ready new
-    → CutsRunAtWrite slots_now (record inside { manager = new }) Commit journal_now journal_new old taken → CutsRunAtWrite slots run Commit journal_old journal_new old taken
-planned-write slots slots_now inside run ready new journal_old journal_now journal_new old taken count journal same holds cuts =
-    subst (λ (r : Running). CutsRunAtWrite slots r Commit journal_old journal_new old taken) same
-    (subst (λ before. CutsRunAtWrite slots inside Commit before journal_new old taken) journal
-    (subst (λ n. CutsRunAtWrite n inside Commit journal_now journal_new old taken) count
-    (subst (λ (progress : Progress). IsAt slots_now journal_now progress → CutsAtWrite (setting_of inside) progress Commit journal_now journal_new old taken) (planned-progress slots_now inside ready new holds)
-    (subst (λ (setting : Setting). IsAt slots_now journal_now (progress_of slots_now (record inside { manager = new }))
-    → CutsAtWrite setting (progress_of slots_now (record inside { manager = new })) Commit journal_now journal_new old taken) (planned-setting inside ready new holds) cuts))))
+pub planned-acts : (result : Result (Unit {0}) RunFault) (slots : ℕ) (inside run : Running) (ready : Ready) (manager : Managed) (new : Running) (journal_old journal_new : List Write) (old taken : Option (List ℕ))
+    → inside ≡ run → Holds inside.manager inside.pending ready manager → (result ≢ Err fault.Memory) × ((result ≢ Err fault.BatchFull) × (result ≢ Err fault.ProbesFull))
+    → ComesTo slots (record inside { manager = manager }) Commit new result journal_old journal_new old taken → ComesTo slots run Commit new result journal_old journal_new old taken
+planned-acts result slots inside run ready manager new journal_old journal_new old taken same holds kind comes =
+    subst (λ one. ComesTo slots one Commit new result journal_old journal_new old taken) same (go result kind comes)
+  where
+    go : (result : Result (Unit {0}) RunFault) → (result ≢ Err fault.Memory) × ((result ≢ Err fault.BatchFull) × (result ≢ Err fault.ProbesFull))
+        → ComesTo slots (record inside { manager = manager }) Commit new result journal_old journal_new old taken → ComesTo slots inside Commit new result journal_old journal_new old taken
+    go (Ok done) kind =
+        planned-same (λ setting at. IsAt slots journal_old at → Carries setting at Commit (progress_of slots new) journal_old journal_new old taken) slots inside ready manager holds
+    go (Err fault.Sink) kind = planned-same (λ setting at. IsAt slots journal_old at → CutsAtLine setting at Commit journal_old journal_new old taken) slots inside ready manager holds
+    go (Err fault.Device) kind = planned-same (λ setting at. IsAt slots journal_old at → CutsAtWrite setting at Commit journal_old journal_new old taken) slots inside ready manager holds
+    go (Err fault.Memory) kind = absurd (kind.0 refl)
+    go (Err fault.BatchFull) kind = absurd (kind.1.0 refl)
+    go (Err fault.ProbesFull) kind = absurd (kind.1.1 refl)
 
 answers : (inside run : Running) (reason : Refusal) → inside ≡ run → run.manager.held ≡ None → Judges inside.manager inside.manager.held inside.pending (Err reason)
     → Answers (verdict_of run) (Err reason)
@@ -211,31 +180,24 @@ judged-against : (inside run : Running) (reason : Refusal) → inside ≡ run �
     → reason ≢ refusal.Memory → verdict_told reason ≢ Accepted
 judged-against inside run reason same idle judges other = told-refused (verdict_of run) reason (answers inside run reason same idle judges) other
 
--- a refused commit, with its line
-pub refused-carries : (result : Result (Unit {0}) RunFault) (slots : ℕ) (inside run new : Running) (reason : Refusal) (manager : Managed)
+-- a refused commit, with its line or a part of it
+pub refused-acts : (result : Result (Unit {0}) RunFault) (slots : ℕ) (inside run new : Running) (reason : Refusal) (manager : Managed)
     (journal_old journal_new : List Write) (old taken : Option (List ℕ)) → inside ≡ run → run.manager.held ≡ None
     → Judges inside.manager inside.manager.held inside.pending (Err reason) → reason ≢ refusal.Memory → manager ≡ inside.manager → journal_new ≡ journal_old
-    → new ≡ run_refused (record inside { manager = manager })
+    → new ≡ run_refused (record inside { manager = manager }) → IfErr result (λ why. why ≡ fault.Sink)
     → OnOk result (Appends old taken (refused_line inside.family (inside.commits + 1) (verdict_told reason)))
-    → OnOk result (CarriesRun slots run Commit new journal_old journal_new old taken)
-refused-carries (Err fault) slots inside run new reason manager journal_old journal_new old taken same idle judges other kept journal is grown = tt
-refused-carries (Ok done) slots inside run new reason manager journal_old journal_new old taken same idle judges other kept journal is grown =
+    → OnErr result (AppendsPart old taken (refused_line inside.family (inside.commits + 1) (verdict_told reason)))
+    → ComesTo slots run Commit new result journal_old journal_new old taken
+refused-acts (Ok done) slots inside run new reason manager journal_old journal_new old taken same idle judges other kept journal is kind grown part =
     let whole : record inside { manager = manager } ≡ run = ap (λ (m : Managed). record inside { manager = m }) kept ∙ same in
     refuse-carries slots run new (verdict_told reason) journal_old journal_new old taken (judged-told inside run reason same idle judges other)
     (judged-against inside run reason same idle judges other) (is ∙ ap run_refused whole) journal
     (subst (λ (r : Running). Appends old taken (refused_line r.family (r.commits + 1) (verdict_told reason))) same grown)
-
--- or a part of it
-pub refused-cuts : (result : Result (Unit {0}) RunFault) (slots : ℕ) (inside run : Running) (reason : Refusal)
-    (journal_old journal_new : List Write) (old taken : Option (List ℕ)) → inside ≡ run → run.manager.held ≡ None
-    → Judges inside.manager inside.manager.held inside.pending (Err reason) → reason ≢ refusal.Memory → journal_new ≡ journal_old
-    → OnErr result (AppendsPart old taken (refused_line inside.family (inside.commits + 1) (verdict_told reason)))
-    → result ≡ Err fault.Sink → CutsRunAtLine slots run Commit journal_old journal_new old taken
-refused-cuts (Ok done) slots inside run reason journal_old journal_new old taken same idle judges other journal part failed = absurd (cc)
-refused-cuts (Err why) slots inside run reason journal_old journal_new old taken same idle judges other journal part failed =
-    refuse-cuts slots run (verdict_told reason) journal_old journal_new old taken (judged-told inside run reason same idle judges other)
+refused-acts (Err why) slots inside run new reason manager journal_old journal_new old taken same idle judges other kept journal is kind grown part =
+    subst (λ one. ComesTo slots run Commit new (Err one) journal_old journal_new old taken) (sym kind)
+    (refuse-cuts slots run new (verdict_told reason) journal_old journal_new old taken (judged-told inside run reason same idle judges other)
     (judged-against inside run reason same idle judges other) journal
-    (subst (λ (r : Running). AppendsPart old taken (refused_line r.family (r.commits + 1) (verdict_told reason))) same part)
+    (subst (λ (r : Running). AppendsPart old taken (refused_line r.family (r.commits + 1) (verdict_told reason))) same part))
 
 -- the numbers of a run's last line
 pub ending-same : (slots : ℕ) (inside run : Running) (rules entries pending : ℕ) → inside ≡ run → rules ≡ length inside.manager.rules

@@ -7,5 +7,6 @@ pub mod Acts
 pub mod Making
 pub mod Probing
 pub mod Telling
+pub mod Handing
 pub mod Exits
 mod Examples

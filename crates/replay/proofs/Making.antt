@@ -13,9 +13,28 @@ use Rattle.batch_order.specs.declared.Step.TheVariants.{Wrote, Finished}
 use Rattle.batch_order.specs.Managed.{Managed, HeldCommit, Steps, StepsOn, next_of, writes_of}
 use Rattle.replay.specs.Run.{Effect, Writes, Prints, printed, written, trace_of, probes_of, lines_of}
 use Rattle.replay.specs.Run as effects
-use Rattle.replay.specs.Carried.{CutsLines, CutsEffects}
-use Rattle.replay.specs.Running.{Watching, IsMaking, StopsAtLine, StopsAtWrite, Tells, telling, effects_on}
+use Rattle.replay.specs.Outside.{CutsLines}
+use Rattle.replay.specs.Carried.{CutsEffects}
+use Rattle.replay.specs.Running.{Watching, StopsAtLine, StopsAtWrite, Tells, telling, effects_on}
 use Rattle.replay.proofs.Effects.{grown-more, written-append, printed-append, written-lines, written-writes, written-front, writes_of-append}
+
+-- how many writes are left
+abbrev pub left_number : Option HeldCommit → ℕ
+left_number None = 0
+left_number (Some held) = length held.writes
+
+-- writes of a commit under way are being made: so many are made, and the device has room for those left
+pub record IsMaking (begun now : Managed) (watch : Watching) (device_slots : ℕ) (journal_begun journal_now : List Write) (taken_begun taken_now : Option (List ℕ)) (number spare : ℕ) : Type 0 where
+  pub held : HeldCommit
+  pub made : List Write
+  pub left : List Write
+  pub held_is : begun.held ≡ Some held
+  pub whole : held.writes ≡ made ++ left
+  pub now_is : now ≡ record begun { state = state_after begun.state made; held = Some (record held { writes = left }) }
+  pub journal : journal_now ≡ journal_begun ++ made
+  pub report : Tells begun watch device_slots journal_begun made taken_begun taken_now
+  pub count : number ≡ length made
+  pub room : length left ≤ spare
 
 -- a step that wrote made the first write that was left
 stepped : (now : Managed) (held : HeldCommit) (left : List Write) (step : Step) (new : Managed) (write : Write) → StepsOn now held left step new → step ≡ Wrote write

@@ -11,7 +11,7 @@ use Rattle.tcam_device.specs.State.{State, lookup, replay}
 use Rattle.replay.specs.declared.Family.{Family}
 use Rattle.replay.specs.Text.{probe_line}
 use Rattle.replay.specs.Run.{Effect, Prints, printed, probes_of}
-use Rattle.replay.specs.Carried.{AppendsPart, CutsLines}
+use Rattle.replay.specs.Outside.{AppendsPart, CutsLines}
 use Rattle.replay.specs.Running.{Watching}
 use Rattle.replay.proofs.Effects.{printed-append}
 

@@ -1,81 +1,48 @@
--- The lines of a write: its trace, and then the probes.
-use Rattle.std.proofs.Common.{◌≡◌, ℕ, true, false, List, [], ◌∷◌, ◌++◌, Option, Result, Ok, Err, OnOk, OnErr, sym, ap, ◌∙◌, subst, append_assoc}
+-- A line, and the lines behind it.
+use Rattle.std.proofs.Common.{ℕ, List, [], ◌∷◌, ◌++◌, Option, Result, Ok, Err, IsErr, OnOk, OnErr, sym, ap, subst, append_assoc}
 use Rattle.std.specs.Io.KnownBytes.{Appends}
 use Rattle.std.proofs.KnownBytes.{Appends-trans}
-use Rattle.tcam_device.specs.declared.Write.{Write}
-use Rattle.tcam_device.specs.State.{replay}
-use Rattle.replay.specs.Text.{trace_line}
-use Rattle.replay.specs.Run.{Effect, Prints, printed, trace_of, probes_of}
-use Rattle.replay.specs.Carried.{AppendsPart, CutsLines}
-use Rattle.replay.specs.Running.{Watching}
+use Rattle.call_history.specs.Cause.{HasCause}
+use Rattle.replay.specs.Run.{Effect, Prints, printed}
+use Rattle.replay.specs.Outside.{WritesLine, WritesLines, CutsLines}
 
--- the lines of a write, once these writes are made
-abbrev lines : Watching → ℕ → ℕ → Write → List Write → List Effect
-lines watch number slots write writes = trace_of watch.trace number write ++ probes_of watch.family number (replay slots writes) 1 watch.probes
+whole-behind : {E : Type 0} (result : Result (Unit {0}) E) (line : List ℕ) (more : List Effect) (old mid new : Option (List ℕ)) → Appends old mid line
+    → OnOk result (Appends mid new (printed more)) → OnOk result (Appends old new (printed (Prints line ∷ more)))
+whole-behind (Ok done) line more old mid new front whole = Appends-trans old mid new line (printed more) front whole
+whole-behind (Err fault) line more old mid new front whole = tt
 
-traced : (watch : Watching) (number slots : ℕ) (write : Write) (writes : List Write) → watch.trace ≡ true
-    → lines watch number slots write writes ≡ Prints (trace_line number write) ∷ probes_of watch.family number (replay slots writes) 1 watch.probes
-traced watch number slots write writes wanted = ap (λ trace. trace_of trace number write ++ probes_of watch.family number (replay slots writes) 1 watch.probes) wanted
-
-untraced : (watch : Watching) (number slots : ℕ) (write : Write) (writes : List Write) → watch.trace ≡ false
-    → lines watch number slots write writes ≡ probes_of watch.family number (replay slots writes) 1 watch.probes
-untraced watch number slots write writes wanted = ap (λ trace. trace_of trace number write ++ probes_of watch.family number (replay slots writes) 1 watch.probes) wanted
-
--- the lines of the probes stand behind the trace line
-pub lines-whole : {E : Type 0} (result : Result (Unit {0}) E) (inside watch : Watching) (number slots : ℕ) (write : Write) (writes : List Write) (old mid new : Option (List ℕ)) → inside ≡ watch
-    → inside.trace ≡ true → Appends old mid (trace_line number write)
-    → OnOk result (Appends mid new (printed (probes_of watch.family number (replay slots writes) 1 watch.probes)))
-    → OnOk result (Appends old new (printed (trace_of watch.trace number write ++ probes_of watch.family number (replay slots writes) 1 watch.probes)))
-lines-whole (Err fault) inside watch number slots write writes old mid new same wanted line whole = tt
-lines-whole (Ok done) inside watch number slots write writes old mid new same wanted line whole =
-    subst (λ effects. Appends old new (printed effects)) (sym (traced watch number slots write writes (subst (λ (one : Watching). one.trace ≡ true) same wanted)))
-    (Appends-trans old mid new (trace_line number write) (printed (probes_of watch.family number (replay slots writes) 1 watch.probes)) line whole)
-
--- or alone, where no trace is wanted
-pub lines-whole_alone : {E : Type 0} (result : Result (Unit {0}) E) (inside watch : Watching) (number slots : ℕ) (write : Write) (writes : List Write) (old new : Option (List ℕ)) → inside ≡ watch
-    → inside.trace ≡ false
-    → OnOk result (Appends old new (printed (probes_of watch.family number (replay slots writes) 1 watch.probes)))
-    → OnOk result (Appends old new (printed (trace_of watch.trace number write ++ probes_of watch.family number (replay slots writes) 1 watch.probes)))
-lines-whole_alone (Err fault) inside watch number slots write writes old new same wanted whole = tt
-lines-whole_alone (Ok done) inside watch number slots write writes old new same wanted whole =
-    subst (λ effects. Appends old new (printed effects)) (sym (untraced watch number slots write writes (subst (λ (one : Watching). one.trace ≡ false) same wanted))) whole
-
--- the trace line is cut
-pub trace-part : {E : Type 0} (result : Result (Unit {0}) E) (inside watch : Watching) (number slots : ℕ) (write : Write) (journal : List Write) (old new : Option (List ℕ)) → inside ≡ watch
-    → inside.trace ≡ true → AppendsPart old new (trace_line number write)
-    → OnErr result (CutsLines (trace_of watch.trace number write ++ probes_of watch.family number (replay slots journal) 1 watch.probes) old new)
-trace-part (Ok done) inside watch number slots write journal old new same wanted part = tt
-trace-part (Err fault) inside watch number slots write writes old new same wanted part = record {
-  front = [];
-  partial = part.0;
-  rest = part.1;
-  back = probes_of watch.family number (replay slots writes) 1 watch.probes;
-  cut = traced watch number slots write writes (subst (λ (one : Watching). one.trace ≡ true) same wanted)
-      ∙ ap (λ line. Prints line ∷ probes_of watch.family number (replay slots writes) 1 watch.probes) part.2;
-  grown = part.3;
-}
-
--- a probe's line is cut behind the trace line
-pub probes-part : {E : Type 0} (result : Result (Unit {0}) E) (inside watch : Watching) (number slots : ℕ) (write : Write) (journal : List Write) (old mid new : Option (List ℕ)) → inside ≡ watch
-    → inside.trace ≡ true → Appends old mid (trace_line number write)
-    → OnErr result (CutsLines (probes_of watch.family number (replay slots journal) 1 watch.probes) mid new)
-    → OnErr result (CutsLines (trace_of watch.trace number write ++ probes_of watch.family number (replay slots journal) 1 watch.probes) old new)
-probes-part (Ok done) inside watch number slots write journal old mid new same wanted line cuts = tt
-probes-part (Err fault) inside watch number slots write writes old mid new same wanted line cuts = record {
-  front = Prints (trace_line number write) ∷ cuts.front;
+part-behind : {E : Type 0} (result : Result (Unit {0}) E) (line : List ℕ) (more : List Effect) (old mid new : Option (List ℕ)) → Appends old mid line
+    → OnErr result (CutsLines more mid new) → OnErr result (CutsLines (Prints line ∷ more) old new)
+part-behind (Ok done) line more old mid new front cuts = tt
+part-behind (Err fault) line more old mid new front cuts = record {
+  front = Prints line ∷ cuts.front;
   partial = cuts.partial;
   rest = cuts.rest;
   back = cuts.back;
-  cut = traced watch number slots write writes (subst (λ (one : Watching). one.trace ≡ true) same wanted) ∙ ap (λ effects. Prints (trace_line number write) ∷ effects) cuts.cut;
-  grown = subst (Appends old new) (sym (append_assoc (trace_line number write) (printed cuts.front) cuts.partial))
-      (Appends-trans old mid new (trace_line number write) (printed cuts.front ++ cuts.partial) line cuts.grown);
+  cut = ap (λ effects. Prints line ∷ effects) cuts.cut;
+  grown = subst (Appends old new) (sym (append_assoc line (printed cuts.front) cuts.partial)) (Appends-trans old mid new line (printed cuts.front ++ cuts.partial) front cuts.grown);
 }
 
--- or where no trace is wanted
-pub probes-part_alone : {E : Type 0} (result : Result (Unit {0}) E) (inside watch : Watching) (number slots : ℕ) (write : Write) (journal : List Write) (old new : Option (List ℕ)) → inside ≡ watch
-    → inside.trace ≡ false
-    → OnErr result (CutsLines (probes_of watch.family number (replay slots journal) 1 watch.probes) old new)
-    → OnErr result (CutsLines (trace_of watch.trace number write ++ probes_of watch.family number (replay slots journal) 1 watch.probes) old new)
-probes-part_alone (Ok done) inside watch number slots write journal old new same wanted cuts = tt
-probes-part_alone (Err fault) inside watch number slots write writes old new same wanted cuts =
-    subst (λ effects. CutsLines effects old new) (sym (untraced watch number slots write writes (subst (λ (one : Watching). one.trace ≡ false) same wanted))) cuts
+module _ {S E : Type 0} (taken : S → Option (List ℕ)) (accepted : S → List ℕ) (faults : S → ℕ) (line : List ℕ) (more : List Effect) (result : Result (Unit {0}) E) (old mid new : S) where
+  -- the line is written, and then those behind it, or a part of them
+  pub line-then : WritesLine {T = Unit {0}} {E = E} taken accepted faults old mid line (Ok tt) → WritesLines taken accepted faults mid new more result
+      → WritesLines taken accepted faults old new (Prints line ∷ more) result
+  line-then front rest = record {
+    whole = λ which. whole-behind result line more _ _ _ (front.whole which) (rest.whole which);
+    part = λ which. part-behind result line more _ _ _ (front.whole which) (rest.part which);
+    told = λ some. rest.told (front.told some);
+    cause = subst (λ count. HasCause count (faults new) result) front.cause.stayed rest.cause;
+  }
+
+-- the line is cut
+pub line-cut : {S E F : Type 0} (taken : S → Option (List ℕ)) (accepted : S → List ℕ) (faults : S → ℕ) (line : List ℕ) (more : List Effect) (result : Result (Unit {0}) E) (old new : S) (fault : F)
+    → IsErr result → WritesLine {T = Unit {0}} {E = F} taken accepted faults old new line (Err fault) → WritesLines taken accepted faults old new (Prints line ∷ more) result
+line-cut taken accepted faults line more (Ok done) old new fault failed front = absurd (cc)
+line-cut taken accepted faults line more (Err other) old new fault failed front = record {
+  whole = λ which. tt;
+  part = λ which.
+      let part = front.part which in
+      record { front = []; partial = part.0; rest = part.1; back = more; cut = ap (λ text. Prints text ∷ more) part.2; grown = part.3 };
+  told = front.told;
+  cause = record { later = front.cause.later; once = front.cause.once; failed = front.cause.failed; stayed = tt };
+}

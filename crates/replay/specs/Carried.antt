@@ -41,20 +41,6 @@ pub record Wants (setting : Setting) (old : Progress) (act : Act) (journal_old j
   pub needs : TakesMemory setting old act
   pub does : Does [] [] journal_old journal_new taken_old taken_new
 
--- a part of a line came about, perhaps nothing or all of it
-abbrev pub AppendsPart : Option (List ℕ) → Option (List ℕ) → List ℕ → Type 0
-AppendsPart taken_old taken_new line =
-    (partial : List ℕ) × (rest : List ℕ) × (line ≡ partial ++ rest) × Appends taken_old taken_new partial
-
--- some lines came about up to one that the sink didn't take whole
-pub record CutsLines (lines : List Effect) (taken_old taken_new : Option (List ℕ)) : Type 0 where
-  pub front : List Effect
-  pub partial : List ℕ
-  pub rest : List ℕ
-  pub back : List Effect
-  pub cut : lines ≡ front ++ Prints (partial ++ rest) ∷ back
-  pub grown : Appends taken_old taken_new (printed front ++ partial)
-
 -- effects came about up to a line that the sink didn't take whole
 pub record CutsEffects (effects : List Effect) (journal_old journal_new : List Write) (taken_old taken_new : Option (List ℕ)) : Type 0 where
   pub front : List Effect

@@ -1,5 +1,6 @@
 pub mod Text
 pub mod Run
 pub mod Script
+pub mod Outside
 pub mod Carried
 pub mod Running

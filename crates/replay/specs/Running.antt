@@ -1,5 +1,5 @@
 -- What a run keeps, and where it stands by that.
-use Rattle.std.specs.Prelude.{◌≡◌, ℕ, ◌*◌, ◌^◌, ◌≤◌, ◌++◌, ◌∷◌, Bool, false, Option, None, Some, List, [], length}
+use Rattle.std.specs.Prelude.{◌≡◌, ℕ, ◌*◌, ◌^◌, ◌≤◌, ◌++◌, ◌∷◌, Bool, false, Option, None, Some, Result, Ok, Err, List, [], length, codes}
 use Rattle.std.specs.Io.KnownBytes.{Appends}
 use Rattle.std.specs.List.{AllByRecursion}
 use Rattle.rule_model.specs.declared.Key.{Key}
@@ -17,7 +17,9 @@ use Rattle.replay.specs.declared.Act.{Act}
 use Rattle.replay.specs.declared.Family.{Family}
 use Rattle.replay.specs.declared.Family.TheVariants.{Route}
 use Rattle.replay.specs.Run.{Setting, Effect, Progress, printed, writes_of}
-use Rattle.replay.specs.Carried.{IsAt, Carries, CutsAtLine, CutsAtWrite, CutsEffects}
+use Rattle.replay.specs.declared.RunFault.{RunFault}
+use Rattle.replay.specs.declared.RunFault.TheVariants.{BatchFull, ProbesFull, Sink, Device, Memory}
+use Rattle.replay.specs.Carried.{IsAt, Carries, CutsAtLine, CutsAtWrite, CutsEffects, Wants}
 
 -- what is told of each write: how rules are named, whether a trace is wanted, and the keys that are probed
 pub record Watching : Type 0 where
@@ -101,23 +103,40 @@ verdict_of run = verdict run.manager.slots run.manager.mode run.manager.rules ru
 abbrev pub HoldsPending : Running → Type 0
 HoldsPending run = (ready : Ready) × Holds (record run.manager { held = None }) run.pending ready run.manager
 
--- an act is carried out, where the device is where the run stands
-abbrev pub CarriesRun : ℕ → Running → Act → Running → List Write → List Write → Option (List ℕ) → Option (List ℕ) → Type 0
-CarriesRun device_slots old act new journal_old journal_new taken_old taken_new =
+-- nothing is done, not of the run, of the device, or of the sink
+pub record IsUntouched (old new : Running) (journal_old journal_new : List Write) (taken_old taken_new : Option (List ℕ)) : Type 0 where
+  pub run : new ≡ old
+  pub journal : journal_new ≡ journal_old
+  pub report : taken_new ≡ taken_old
+
+-- What an act comes to, by the answer. Where the device is where the run stands, the act is carried out, or cut at the
+-- line or at the write that failed. For want of memory or of room nothing is done.
+abbrev pub ComesTo : ℕ → Running → Act → Running → Result (Unit {0}) RunFault → List Write → List Write → Option (List ℕ) → Option (List ℕ) → Type 0
+ComesTo device_slots old act new (Ok done) journal_old journal_new taken_old taken_new =
     IsAt device_slots journal_old (progress_of device_slots old)
     → Carries (setting_of old) (progress_of device_slots old) act (progress_of device_slots new) journal_old journal_new taken_old taken_new
-
--- it is cut at a line, likewise
-abbrev pub CutsRunAtLine : ℕ → Running → Act → List Write → List Write → Option (List ℕ) → Option (List ℕ) → Type 0
-CutsRunAtLine device_slots old act journal_old journal_new taken_old taken_new =
+ComesTo device_slots old act new (Err Sink) journal_old journal_new taken_old taken_new =
     IsAt device_slots journal_old (progress_of device_slots old)
     → CutsAtLine (setting_of old) (progress_of device_slots old) act journal_old journal_new taken_old taken_new
-
--- it is cut at a write, likewise
-abbrev pub CutsRunAtWrite : ℕ → Running → Act → List Write → List Write → Option (List ℕ) → Option (List ℕ) → Type 0
-CutsRunAtWrite device_slots old act journal_old journal_new taken_old taken_new =
+ComesTo device_slots old act new (Err Device) journal_old journal_new taken_old taken_new =
     IsAt device_slots journal_old (progress_of device_slots old)
     → CutsAtWrite (setting_of old) (progress_of device_slots old) act journal_old journal_new taken_old taken_new
+ComesTo device_slots old act new (Err Memory) journal_old journal_new taken_old taken_new =
+    Wants (setting_of old) (progress_of device_slots old) act journal_old journal_new taken_old taken_new
+    × IsUntouched old new journal_old journal_new taken_old taken_new
+ComesTo device_slots old act new (Err BatchFull) journal_old journal_new taken_old taken_new =
+    IsUntouched old new journal_old journal_new taken_old taken_new
+ComesTo device_slots old act new (Err ProbesFull) journal_old journal_new taken_old taken_new =
+    IsUntouched old new journal_old journal_new taken_old taken_new
+
+-- the text of an answer that an act has no room
+abbrev pub limit_text : Result (Unit {0}) RunFault → Option (List ℕ)
+limit_text (Ok done) = None
+limit_text (Err BatchFull) = Some (codes "batch full")
+limit_text (Err ProbesFull) = Some (codes "too many probes")
+limit_text (Err Sink) = None
+limit_text (Err Device) = None
+limit_text (Err Memory) = None
 
 -- what is told while a manager makes the writes of its commit
 abbrev pub telling : Managed → Watching → Setting
@@ -139,19 +158,6 @@ effects_on manager watch device_slots before made =
 abbrev pub Tells : Managed → Watching → ℕ → List Write → List Write → Option (List ℕ) → Option (List ℕ) → Type 0
 Tells manager watch device_slots journal made taken_old taken_new =
     Appends taken_old taken_new (printed (effects_on manager watch device_slots journal made))
-
--- writes of a commit under way are being made: so many are made, and the device has room for those left
-pub record IsMaking (begun now : Managed) (watch : Watching) (device_slots : ℕ) (journal_begun journal_now : List Write) (taken_begun taken_now : Option (List ℕ)) (number spare : ℕ) : Type 0 where
-  pub held : HeldCommit
-  pub made : List Write
-  pub left : List Write
-  pub held_is : begun.held ≡ Some held
-  pub whole : held.writes ≡ made ++ left
-  pub now_is : now ≡ record begun { state = state_after begun.state made; held = Some (record held { writes = left }) }
-  pub journal : journal_now ≡ journal_begun ++ made
-  pub report : Tells begun watch device_slots journal_begun made taken_begun taken_now
-  pub count : number ≡ length made
-  pub room : length left ≤ spare
 
 -- all of them are made
 pub record MakesAll (begun : Managed) (watch : Watching) (device_slots : ℕ) (done : Done) (now : Managed) (journal_begun journal_now : List Write) (taken_begun taken_now : Option (List ℕ)) : Type 0 where
@@ -186,7 +192,14 @@ pub record StopsAtLine (begun now : Managed) (watch : Watching) (device_slots : 
   pub journal : journal_now ≡ journal_begun ++ some.made
   pub cuts : CutsEffects (effects_on begun watch device_slots journal_begun some.held.writes) journal_begun journal_now taken_begun taken_now
 
--- how many writes are left
-abbrev pub left_number : Option HeldCommit → ℕ
-left_number None = 0
-left_number (Some held) = length held.writes
+-- what comes of the writes of a commit under way, by the answer
+abbrev pub Makes : Managed → Managed → Watching → ℕ → Result Done RunFault → List Write → List Write → Option (List ℕ) → Option (List ℕ) → Type 0
+Makes begun now watch device_slots (Ok done) journal_begun journal_now taken_begun taken_now =
+    MakesAll begun watch device_slots done now journal_begun journal_now taken_begun taken_now
+Makes begun now watch device_slots (Err Sink) journal_begun journal_now taken_begun taken_now =
+    StopsAtLine begun now watch device_slots journal_begun journal_now taken_begun taken_now
+Makes begun now watch device_slots (Err Device) journal_begun journal_now taken_begun taken_now =
+    StopsAtWrite begun now watch device_slots journal_begun journal_now taken_begun taken_now
+Makes begun now watch device_slots (Err BatchFull) journal_begun journal_now taken_begun taken_now = ⊥
+Makes begun now watch device_slots (Err ProbesFull) journal_begun journal_now taken_begun taken_now = ⊥
+Makes begun now watch device_slots (Err Memory) journal_begun journal_now taken_begun taken_now = ⊥

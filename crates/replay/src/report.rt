@@ -1,12 +1,9 @@
 //! The lines of a report. A line stands in fixed room, so that none takes memory.
-//! What is said of a sink's bytes holds of either count of them (`counted`): of what it tells, and of what it accepted.
-ghost use Rattle.std.specs.Prelude.{Bool, ◌≡◌, ◌≢◌, ℕ, ◌+◌, ◌<◌, ◌≤◌, ◌%◌, [], ◌∷◌, ◌++◌, codes, decimal, length, IsSome, OnOk, OnErr};
-ghost use Rattle.std.specs.Io.KnownBytes.{Appends};
-ghost use Rattle.script_lines.specs.Given.{counted};
-ghost use Rattle.call_history.specs.Cause.{HasCause};
+//! What is said of a sink's bytes (`WritesLine`) holds of either count of them: of what it tells, and of what it accepted.
+ghost use Rattle.std.specs.Prelude.{◌≡◌, ◌≢◌, ℕ, ◌+◌, ◌<◌, ◌≤◌, ◌%◌, [], ◌∷◌, ◌++◌, codes, decimal, length};
 ghost use Rattle.rule_store.specs.Verdict.{Accepted};
 ghost use Rattle.replay.specs.Text.{with_words, dotted, answer_words, result_name, rule_name, reason_words, field_text, verdict_told, hex_digit, lane_text, word_text, tag_text, write_words, packet_line, probe_line, trace_line, accepted_line, refused_line, fault_line, end_line};
-ghost use Rattle.replay.specs.Carried.{AppendsPart};
+ghost use Rattle.replay.specs.Outside.{WritesLine};
 ghost use Rattle.replay.specs.declared.Family.TheVariants as family_is;
 
 use crate::Family;
@@ -296,10 +293,7 @@ impl ReportLine {
     // Hands the line with its line feed to the sink, as one piece.
     fn write<K: Sink>(self, sink: &mut K) -> Result<(), Failed>
         requires { length self < 256 }
-        ensures whole { (which : Bool) → OnOk result (Appends (counted which (K.taken sink.old) (K.accepted sink.old)) (counted which (K.taken sink.new) (K.accepted sink.new)) (self ++ 10 ∷ [])) }
-        ensures part { (which : Bool) → OnErr result (AppendsPart (counted which (K.taken sink.old) (K.accepted sink.old)) (counted which (K.taken sink.new) (K.accepted sink.new)) (self ++ 10 ∷ [])) }
-        ensures told { IsSome (K.taken sink.old) → IsSome (K.taken sink.new) }
-        ensures cause { HasCause (K.faults sink.old) (K.faults sink.new) result }
+        ensures { WritesLine K.taken K.accepted K.faults sink.old sink.new (self ++ 10 ∷ []) result }
     {
         let line = self.text("\n");
         write_all(sink, line.text.as_str().as_bytes())
@@ -366,10 +360,7 @@ pub fn write_packet<K: Sink>(
     family: Family,
     found: Option<(Rank, u32)>,
 ) -> Result<(), Failed>
-    ensures whole { (which : Bool) → OnOk result (Appends (counted which (K.taken sink.old) (K.accepted sink.old)) (counted which (K.taken sink.new) (K.accepted sink.new)) (packet_line family found)) }
-    ensures part { (which : Bool) → OnErr result (AppendsPart (counted which (K.taken sink.old) (K.accepted sink.old)) (counted which (K.taken sink.new) (K.accepted sink.new)) (packet_line family found)) }
-    ensures told { IsSome (K.taken sink.old) → IsSome (K.taken sink.new) }
-    ensures cause { HasCause (K.faults sink.old) (K.faults sink.new) result }
+    ensures { WritesLine K.taken K.accepted K.faults sink.old sink.new (packet_line family found) result }
 {
     ReportLine::new("packet").answer(family, found).write(sink)
 }
@@ -383,10 +374,7 @@ pub fn write_probe<K: Sink>(
     probe: u32,
     found: Option<(Rank, u32)>,
 ) -> Result<(), Failed>
-    ensures whole { (which : Bool) → OnOk result (Appends (counted which (K.taken sink.old) (K.accepted sink.old)) (counted which (K.taken sink.new) (K.accepted sink.new)) (probe_line family number probe found)) }
-    ensures part { (which : Bool) → OnErr result (AppendsPart (counted which (K.taken sink.old) (K.accepted sink.old)) (counted which (K.taken sink.new) (K.accepted sink.new)) (probe_line family number probe found)) }
-    ensures told { IsSome (K.taken sink.old) → IsSome (K.taken sink.new) }
-    ensures cause { HasCause (K.faults sink.old) (K.faults sink.new) result }
+    ensures { WritesLine K.taken K.accepted K.faults sink.old sink.new (probe_line family number probe found) result }
 {
     ReportLine::new("w")
         .number(number)
@@ -399,10 +387,7 @@ pub fn write_probe<K: Sink>(
 /// Writes the trace line of a write of a commit, by its number, from 1. Takes no memory. Where the sink fails, a part
 /// of the line was taken, perhaps none or all of it.
 pub fn write_trace<K: Sink>(sink: &mut K, number: u64, write: &Write) -> Result<(), Failed>
-    ensures whole { (which : Bool) → OnOk result (Appends (counted which (K.taken sink.old) (K.accepted sink.old)) (counted which (K.taken sink.new) (K.accepted sink.new)) (trace_line number write.now)) }
-    ensures part { (which : Bool) → OnErr result (AppendsPart (counted which (K.taken sink.old) (K.accepted sink.old)) (counted which (K.taken sink.new) (K.accepted sink.new)) (trace_line number write.now)) }
-    ensures told { IsSome (K.taken sink.old) → IsSome (K.taken sink.new) }
-    ensures cause { HasCause (K.faults sink.old) (K.faults sink.new) result }
+    ensures { WritesLine K.taken K.accepted K.faults sink.old sink.new (trace_line number write.now) result }
 {
     ReportLine::new("w")
         .number(number)
@@ -413,10 +398,7 @@ pub fn write_trace<K: Sink>(sink: &mut K, number: u64, write: &Write) -> Result<
 /// Writes the line of an accepted commit, by its number, from 1, and the numbers of what it did. Takes no memory.
 /// Where the sink fails, a part of the line was taken, perhaps none or all of it.
 pub fn write_accepted<K: Sink>(sink: &mut K, commit: u32, done: &Done) -> Result<(), Failed>
-    ensures whole { (which : Bool) → OnOk result (Appends (counted which (K.taken sink.old) (K.accepted sink.old)) (counted which (K.taken sink.new) (K.accepted sink.new)) (accepted_line commit done.now)) }
-    ensures part { (which : Bool) → OnErr result (AppendsPart (counted which (K.taken sink.old) (K.accepted sink.old)) (counted which (K.taken sink.new) (K.accepted sink.new)) (accepted_line commit done.now)) }
-    ensures told { IsSome (K.taken sink.old) → IsSome (K.taken sink.new) }
-    ensures cause { HasCause (K.faults sink.old) (K.faults sink.new) result }
+    ensures { WritesLine K.taken K.accepted K.faults sink.old sink.new (accepted_line commit done.now) result }
 {
     accepted(commit, done).write(sink)
 }
@@ -431,10 +413,7 @@ pub fn write_refused<K: Sink>(
     refusal: &Refusal,
 ) -> Result<(), Failed>
     requires judged { verdict_told refusal.now ≢ Accepted }
-    ensures whole { (which : Bool) → OnOk result (Appends (counted which (K.taken sink.old) (K.accepted sink.old)) (counted which (K.taken sink.new) (K.accepted sink.new)) (refused_line family commit (verdict_told refusal.now))) }
-    ensures part { (which : Bool) → OnErr result (AppendsPart (counted which (K.taken sink.old) (K.accepted sink.old)) (counted which (K.taken sink.new) (K.accepted sink.new)) (refused_line family commit (verdict_told refusal.now))) }
-    ensures told { IsSome (K.taken sink.old) → IsSome (K.taken sink.new) }
-    ensures cause { HasCause (K.faults sink.old) (K.faults sink.new) result }
+    ensures { WritesLine K.taken K.accepted K.faults sink.old sink.new (refused_line family commit (verdict_told refusal.now)) result }
 {
     refused(commit, family, refusal).write(sink)
 }
@@ -443,10 +422,7 @@ pub fn write_refused<K: Sink>(
 /// bytes. Takes no memory. Where the sink fails, a part of the line was taken, perhaps none or all of it.
 pub fn write_fault<K: Sink>(sink: &mut K, line: u32, fault: &str) -> Result<(), Failed>
     requires short { length fault.now ≤ 32 }
-    ensures whole { (which : Bool) → OnOk result (Appends (counted which (K.taken sink.old) (K.accepted sink.old)) (counted which (K.taken sink.new) (K.accepted sink.new)) (fault_line line fault.now)) }
-    ensures part { (which : Bool) → OnErr result (AppendsPart (counted which (K.taken sink.old) (K.accepted sink.old)) (counted which (K.taken sink.new) (K.accepted sink.new)) (fault_line line fault.now)) }
-    ensures told { IsSome (K.taken sink.old) → IsSome (K.taken sink.new) }
-    ensures cause { HasCause (K.faults sink.old) (K.faults sink.new) result }
+    ensures { WritesLine K.taken K.accepted K.faults sink.old sink.new (fault_line line fault.now) result }
 {
     ReportLine::new("line")
         .number(u64::from(line))
@@ -457,10 +433,7 @@ pub fn write_fault<K: Sink>(sink: &mut K, line: u32, fault: &str) -> Result<(), 
 /// Writes the last line of a run that came to its end. Takes no memory. Where the sink fails, a part of the line was
 /// taken, perhaps none or all of it.
 pub fn write_end<K: Sink>(sink: &mut K, totals: &Totals) -> Result<(), Failed>
-    ensures whole { (which : Bool) → OnOk result (Appends (counted which (K.taken sink.old) (K.accepted sink.old)) (counted which (K.taken sink.new) (K.accepted sink.new)) (end_line totals.now.rules totals.now.entries totals.now.writes totals.now.pending)) }
-    ensures part { (which : Bool) → OnErr result (AppendsPart (counted which (K.taken sink.old) (K.accepted sink.old)) (counted which (K.taken sink.new) (K.accepted sink.new)) (end_line totals.now.rules totals.now.entries totals.now.writes totals.now.pending)) }
-    ensures told { IsSome (K.taken sink.old) → IsSome (K.taken sink.new) }
-    ensures cause { HasCause (K.faults sink.old) (K.faults sink.new) result }
+    ensures { WritesLine K.taken K.accepted K.faults sink.old sink.new (end_line totals.now.rules totals.now.entries totals.now.writes totals.now.pending) result }
 {
     end(totals).write(sink)
 }
@@ -468,10 +441,7 @@ pub fn write_end<K: Sink>(sink: &mut K, totals: &Totals) -> Result<(), Failed>
 /// Writes a text as it is, with no line feed of its own. Takes no memory. Where the sink fails, a part of the text was
 /// taken, perhaps none or all of it.
 pub fn write_text<K: Sink>(sink: &mut K, text: &str) -> Result<(), Failed>
-    ensures whole { (which : Bool) → OnOk result (Appends (counted which (K.taken sink.old) (K.accepted sink.old)) (counted which (K.taken sink.new) (K.accepted sink.new)) text.now) }
-    ensures part { (which : Bool) → OnErr result (AppendsPart (counted which (K.taken sink.old) (K.accepted sink.old)) (counted which (K.taken sink.new) (K.accepted sink.new)) text.now) }
-    ensures told { IsSome (K.taken sink.old) → IsSome (K.taken sink.new) }
-    ensures cause { HasCause (K.faults sink.old) (K.faults sink.new) result }
+    ensures { WritesLine K.taken K.accepted K.faults sink.old sink.new text.now result }
 {
     write_all(sink, text.as_bytes())
 }

@@ -1,15 +1,14 @@
 //! A run of acts over one device.
 
-ghost use Rattle.std.specs.Prelude.{Bool, ◌≡◌, ◌≢◌, ◌+◌, ◌<◌, ◌≤◌, ◌^◌, ◌↔◌, ◌++◌, ◌∷◌, [], ℕ, Ok, Err, None, Some, IsSome, IfOk, IfErr, IfSome, OnOk, OnErr, ◌⊎◌, codes, length, true};
-ghost use Rattle.std.specs.Io.KnownBytes.{Appends};
+ghost use Rattle.std.specs.Prelude.{Bool, true, ◌≡◌, ◌≢◌, ◌+◌, ◌<◌, ◌≤◌, ◌^◌, ◌++◌, ◌∷◌, [], ℕ, Ok, Err, None, Some, IsSome, IfOk, IfErr, IfSome, OnOk, OnErr, length};
 ghost use Rattle.script_lines.specs.Given.{counted};
-ghost use Rattle.call_history.specs.Cause.{HasCause, IsCounted};
+ghost use Rattle.call_history.specs.Cause.{HasCause};
 ghost use Rattle.rule_store.specs.Verdict.{Accepted};
 ghost use Rattle.replay.specs.Text.{verdict_told, refused_line};
 ghost use Rattle.replay.specs.Run.{IsActOf, IsChangeOf, ending};
-ghost use Rattle.replay.specs.Script.{limit_fault, most_pending, most_probes};
-ghost use Rattle.replay.specs.Carried.{IsAt, Carries, CutsAtLine, CutsAtWrite, Wants, AppendsPart};
-ghost use Rattle.replay.specs.Running.{Running, HoldsPending, CarriesRun, CutsRunAtLine, CutsRunAtWrite, MakesAll, StopsAtLine, StopsAtWrite, begun, progress_of, setting_of, verdict_of};
+ghost use Rattle.replay.specs.Script.{limit_fault};
+ghost use Rattle.replay.specs.Outside.{Leaves, WritesLine};
+ghost use Rattle.replay.specs.Running.{HoldsPending, ComesTo, Makes, begun, limit_text, progress_of, setting_of, verdict_of};
 
 use crate::report::{Totals, write_accepted, write_end, write_packet, write_refused};
 use crate::watch::Watch;
@@ -109,28 +108,13 @@ impl Run {
         requires act { IsActOf self.old.family act.now }
         requires idle { self.old.manager.held ≡ None }
         requires commits { self.old.commits < 2 ^ 22 }
-        ensures carries { (which : Bool) → OnOk result (IsAt (D.slot_count device.old) (D.journal device.old) (progress_of (D.slot_count device.old) self.old)
-            → Carries (setting_of self.old) (progress_of (D.slot_count device.old) self.old) act.now (progress_of (D.slot_count device.old) self.new)
-            (D.journal device.old) (D.journal device.new) (counted which (K.taken sink.old) (K.accepted sink.old)) (counted which (K.taken sink.new) (K.accepted sink.new))) }
-        ensures at_line { (which : Bool) → (result ≡ Err RunFault.Sink) → IsAt (D.slot_count device.old) (D.journal device.old) (progress_of (D.slot_count device.old) self.old)
-            → CutsAtLine (setting_of self.old) (progress_of (D.slot_count device.old) self.old) act.now
+        ensures acts { (which : Bool) → ComesTo (D.slot_count device.old) self.old act.now self.new result
             (D.journal device.old) (D.journal device.new) (counted which (K.taken sink.old) (K.accepted sink.old)) (counted which (K.taken sink.new) (K.accepted sink.new)) }
-        ensures at_write { (which : Bool) → (result ≡ Err RunFault.Device) → IsAt (D.slot_count device.old) (D.journal device.old) (progress_of (D.slot_count device.old) self.old)
-            → CutsAtWrite (setting_of self.old) (progress_of (D.slot_count device.old) self.old) act.now
-            (D.journal device.old) (D.journal device.new) (counted which (K.taken sink.old) (K.accepted sink.old)) (counted which (K.taken sink.new) (K.accepted sink.new)) }
-        ensures memory { (which : Bool) → (result ≡ Err RunFault.Memory) → Wants (setting_of self.old) (progress_of (D.slot_count device.old) self.old) act.now
-            (D.journal device.old) (D.journal device.new) (counted which (K.taken sink.old) (K.accepted sink.old)) (counted which (K.taken sink.new) (K.accepted sink.new)) }
-        ensures full { (result ≡ Err RunFault.BatchFull) ↔ (limit_fault act.now (length self.old.pending) (length self.old.probes) ≡ Some (codes "batch full")) }
-        ensures probes_full { (result ≡ Err RunFault.ProbesFull) ↔ (limit_fault act.now (length self.old.pending) (length self.old.probes) ≡ Some (codes "too many probes")) }
-        ensures untouched { (result ≡ Err RunFault.BatchFull) ⊎ ((result ≡ Err RunFault.ProbesFull) ⊎ (result ≡ Err RunFault.Memory)) → (D.journal device.new ≡ D.journal device.old) × (K.taken sink.new ≡ K.taken sink.old) × (K.accepted sink.new ≡ K.accepted sink.old) }
-        ensures unchanged { (result ≡ Err RunFault.BatchFull) ⊎ ((result ≡ Err RunFault.ProbesFull) ⊎ (result ≡ Err RunFault.Memory)) → self.new ≡ self.old }
-        ensures idle { (result ≢ Err RunFault.Device) → (result ≢ Err RunFault.Sink) → self.new.manager.held ≡ None }
+        ensures limit { limit_text result ≡ limit_fault act.now (length self.old.pending) (length self.old.probes) }
+        ensures idle { OnOk result (self.new.manager.held ≡ None) }
         ensures setting { setting_of self.new ≡ setting_of self.old }
         ensures commits { self.new.commits ≤ self.old.commits + 1 }
-        ensures slot_count { D.slot_count device.new ≡ D.slot_count device.old }
-        ensures told { IsSome (K.taken sink.old) → IsSome (K.taken sink.new) }
-        ensures sink_cause { IsCounted (result ≡ Err RunFault.Sink) (K.faults sink.old) (K.faults sink.new) }
-        ensures device_cause { IsCounted (result ≡ Err RunFault.Device) (D.faults device.old) (D.faults device.new) }
+        ensures leaves { Leaves K.taken K.faults sink.old sink.new D.slot_count D.faults device.old device.new (result ≡ Err RunFault.Sink) (result ≡ Err RunFault.Device) }
     {
         match *act {
             Act::Command(command) => self.push(command),
@@ -144,7 +128,7 @@ impl Run {
     fn push(&mut self, command: Command) -> Result<(), RunFault>
         requires { IsChangeOf self.old.family command }
         ensures pushed { OnOk result (self.new ≡ record self.old { pending = self.old.pending ++ command ∷ [] }) }
-        ensures full { (result ≡ Err RunFault.BatchFull) ↔ (length self.old.pending ≡ most_pending) }
+        ensures limit { limit_text result ≡ limit_fault (Act.Command command) (length self.old.pending) (length self.old.probes) }
         ensures unchanged { OnErr result (self.new ≡ self.old) }
         ensures kind { (result ≢ Err RunFault.Sink) × ((result ≢ Err RunFault.Device) × (result ≢ Err RunFault.ProbesFull)) }
     {
@@ -158,7 +142,7 @@ impl Run {
     // A key is probed from now on.
     fn probe(&mut self, key: Key) -> Result<(), RunFault>
         ensures probed { OnOk result (self.new ≡ record self.old { probes = self.old.probes ++ key ∷ [] }) }
-        ensures full { (result ≡ Err RunFault.ProbesFull) ↔ (length self.old.probes ≡ most_probes) }
+        ensures limit { limit_text result ≡ limit_fault (Act.Probe key) (length self.old.pending) (length self.old.probes) }
         ensures unchanged { OnErr result (self.new ≡ self.old) }
         ensures kind { IfErr result (λ fault. fault ≡ RunFault.ProbesFull) }
     {
@@ -178,8 +162,8 @@ impl Run {
     ) -> Result<(), RunFault>
         requires slots { self.now.manager.slots ≤ D.slot_count device.now }
         requires idle { self.now.manager.held ≡ None }
-        ensures carries { (which : Bool) → OnOk result (CarriesRun (D.slot_count device.now) self.now (Act.Packet key.now) self.now (D.journal device.now) (D.journal device.now) (counted which (K.taken sink.old) (K.accepted sink.old)) (counted which (K.taken sink.new) (K.accepted sink.new))) }
-        ensures at_line { (which : Bool) → OnErr result (CutsRunAtLine (D.slot_count device.now) self.now (Act.Packet key.now) (D.journal device.now) (D.journal device.now) (counted which (K.taken sink.old) (K.accepted sink.old)) (counted which (K.taken sink.new) (K.accepted sink.new))) }
+        ensures acts { (which : Bool) → ComesTo (D.slot_count device.now) self.now (Act.Packet key.now) self.now result
+            (D.journal device.now) (D.journal device.now) (counted which (K.taken sink.old) (K.accepted sink.old)) (counted which (K.taken sink.new) (K.accepted sink.new)) }
         ensures kind { IfErr result (λ fault. fault ≡ RunFault.Sink) }
         ensures told { IsSome (K.taken sink.old) → IsSome (K.taken sink.new) }
         ensures cause { HasCause (K.faults sink.old) (K.faults sink.new) result }
@@ -196,20 +180,13 @@ impl Run {
         requires slots { self.old.manager.slots ≤ D.slot_count device.old }
         requires idle { self.old.manager.held ≡ None }
         requires commits { self.old.commits < 2 ^ 22 }
-        ensures carries { (which : Bool) → OnOk result (CarriesRun (D.slot_count device.old) self.old Act.Commit self.new (D.journal device.old) (D.journal device.new) (counted which (K.taken sink.old) (K.accepted sink.old)) (counted which (K.taken sink.new) (K.accepted sink.new))) }
-        ensures at_line { (which : Bool) → (result ≡ Err RunFault.Sink) → CutsRunAtLine (D.slot_count device.old) self.old Act.Commit (D.journal device.old) (D.journal device.new) (counted which (K.taken sink.old) (K.accepted sink.old)) (counted which (K.taken sink.new) (K.accepted sink.new)) }
-        ensures at_write { (which : Bool) → (result ≡ Err RunFault.Device) → CutsRunAtWrite (D.slot_count device.old) self.old Act.Commit (D.journal device.old) (D.journal device.new) (counted which (K.taken sink.old) (K.accepted sink.old)) (counted which (K.taken sink.new) (K.accepted sink.new)) }
-        ensures accepted { (result ≡ Err RunFault.Memory) → verdict_of self.old ≡ Accepted }
-        ensures unchanged { (result ≡ Err RunFault.Memory) → self.new ≡ self.old }
-        ensures untouched { (result ≡ Err RunFault.Memory) → (D.journal device.new ≡ D.journal device.old) × (K.taken sink.new ≡ K.taken sink.old) × (K.accepted sink.new ≡ K.accepted sink.old) }
-        ensures not_full { (result ≢ Err RunFault.BatchFull) × (result ≢ Err RunFault.ProbesFull) }
-        ensures idle { (result ≢ Err RunFault.Device) → (result ≢ Err RunFault.Sink) → self.new.manager.held ≡ None }
+        ensures acts { (which : Bool) → ComesTo (D.slot_count device.old) self.old Act.Commit self.new result
+            (D.journal device.old) (D.journal device.new) (counted which (K.taken sink.old) (K.accepted sink.old)) (counted which (K.taken sink.new) (K.accepted sink.new)) }
+        ensures room { limit_text result ≡ None }
+        ensures idle { OnOk result (self.new.manager.held ≡ None) }
         ensures setting { setting_of self.new ≡ setting_of self.old }
         ensures commits { self.new.commits ≤ self.old.commits + 1 }
-        ensures slot_count { D.slot_count device.new ≡ D.slot_count device.old }
-        ensures told { IsSome (K.taken sink.old) → IsSome (K.taken sink.new) }
-        ensures sink_cause { IsCounted (result ≡ Err RunFault.Sink) (K.faults sink.old) (K.faults sink.new) }
-        ensures device_cause { IsCounted (result ≡ Err RunFault.Device) (D.faults device.old) (D.faults device.new) }
+        ensures leaves { Leaves K.taken K.faults sink.old sink.new D.slot_count D.faults device.old device.new (result ≡ Err RunFault.Sink) (result ≡ Err RunFault.Device) }
     {
         match self.manager.prepare(&self.pending, device) {
             Ok(_) => self.carry_out(sink, device),
@@ -232,11 +209,8 @@ impl Run {
         requires judged { verdict_told refusal.now ≢ Accepted }
         requires commits { self.old.commits < 2 ^ 22 }
         ensures refused { self.new ≡ record self.old { pending = []; commits = self.old.commits + 1; refused = true } }
-        ensures whole { (which : Bool) → OnOk result (Appends (counted which (K.taken sink.old) (K.accepted sink.old)) (counted which (K.taken sink.new) (K.accepted sink.new)) (refused_line self.old.family (self.old.commits + 1) (verdict_told refusal.now))) }
-        ensures part { (which : Bool) → OnErr result (AppendsPart (counted which (K.taken sink.old) (K.accepted sink.old)) (counted which (K.taken sink.new) (K.accepted sink.new)) (refused_line self.old.family (self.old.commits + 1) (verdict_told refusal.now))) }
+        ensures line { WritesLine K.taken K.accepted K.faults sink.old sink.new (refused_line self.old.family (self.old.commits + 1) (verdict_told refusal.now)) result }
         ensures kind { IfErr result (λ fault. fault ≡ RunFault.Sink) }
-        ensures told { IsSome (K.taken sink.old) → IsSome (K.taken sink.new) }
-        ensures cause { HasCause (K.faults sink.old) (K.faults sink.new) result }
     {
         self.count_commit();
         self.refused = true;
@@ -257,17 +231,13 @@ impl Run {
         requires room { IfSome self.old.manager.held (λ held. length held.writes ≤ D.spare device.old) }
         requires accepted { verdict_of self.old ≡ Accepted }
         requires commits { self.old.commits < 2 ^ 22 }
-        ensures carries { (which : Bool) → OnOk result (CarriesRun (D.slot_count device.old) self.old Act.Commit self.new (D.journal device.old) (D.journal device.new) (counted which (K.taken sink.old) (K.accepted sink.old)) (counted which (K.taken sink.new) (K.accepted sink.new))) }
-        ensures at_line { (which : Bool) → (result ≡ Err RunFault.Sink) → CutsRunAtLine (D.slot_count device.old) self.old Act.Commit (D.journal device.old) (D.journal device.new) (counted which (K.taken sink.old) (K.accepted sink.old)) (counted which (K.taken sink.new) (K.accepted sink.new)) }
-        ensures at_write { (which : Bool) → (result ≡ Err RunFault.Device) → CutsRunAtWrite (D.slot_count device.old) self.old Act.Commit (D.journal device.old) (D.journal device.new) (counted which (K.taken sink.old) (K.accepted sink.old)) (counted which (K.taken sink.new) (K.accepted sink.new)) }
+        ensures acts { (which : Bool) → ComesTo (D.slot_count device.old) self.old Act.Commit self.new result
+            (D.journal device.old) (D.journal device.new) (counted which (K.taken sink.old) (K.accepted sink.old)) (counted which (K.taken sink.new) (K.accepted sink.new)) }
         ensures kind { (result ≢ Err RunFault.Memory) × ((result ≢ Err RunFault.BatchFull) × (result ≢ Err RunFault.ProbesFull)) }
         ensures idle { OnOk result (self.new.manager.held ≡ None) }
         ensures setting { setting_of self.new ≡ setting_of self.old }
         ensures commits { self.new.commits ≤ self.old.commits + 1 }
-        ensures slot_count { D.slot_count device.new ≡ D.slot_count device.old }
-        ensures told { IsSome (K.taken sink.old) → IsSome (K.taken sink.new) }
-        ensures sink_cause { IsCounted (result ≡ Err RunFault.Sink) (K.faults sink.old) (K.faults sink.new) }
-        ensures device_cause { IsCounted (result ≡ Err RunFault.Device) (D.faults device.old) (D.faults device.new) }
+        ensures leaves { Leaves K.taken K.faults sink.old sink.new D.slot_count D.faults device.old device.new (result ≡ Err RunFault.Sink) (result ≡ Err RunFault.Device) }
     {
         let done = match make_writes(&mut self.manager, &self.watch, sink, device) {
             Ok(done) => done,
@@ -288,10 +258,7 @@ impl Run {
     pub fn finish<K: Sink>(&mut self, sink: &mut K) -> Result<bool, Failed>
         ensures refused { IfOk result (λ refused. refused ≡ self.old.refused) }
         ensures unchanged { self.new ≡ self.old }
-        ensures whole { (which : Bool) → OnOk result ((device_slots : ℕ) → Appends (counted which (K.taken sink.old) (K.accepted sink.old)) (counted which (K.taken sink.new) (K.accepted sink.new)) (ending (setting_of self.old) (progress_of device_slots self.old))) }
-        ensures part { (which : Bool) → OnErr result ((device_slots : ℕ) → AppendsPart (counted which (K.taken sink.old) (K.accepted sink.old)) (counted which (K.taken sink.new) (K.accepted sink.new)) (ending (setting_of self.old) (progress_of device_slots self.old))) }
-        ensures told { IsSome (K.taken sink.old) → IsSome (K.taken sink.new) }
-        ensures cause { HasCause (K.faults sink.old) (K.faults sink.new) result }
+        ensures line { (device_slots : ℕ) → WritesLine K.taken K.accepted K.faults sink.old sink.new (ending (setting_of self.old) (progress_of device_slots self.old)) result }
     {
         let totals = Totals {
             rules: self.manager.rules().len(),
@@ -318,17 +285,9 @@ fn make_writes<K: Sink, D: Device>(
     requires held { IsSome manager.old.held }
     requires room { IfSome manager.old.held (λ held. length held.writes ≤ D.spare device.old) }
     requires few { IfSome manager.old.held (λ held. length held.writes ≤ 2 ^ 40) }
-    ensures made { (which : Bool) → IfOk result (λ done. MakesAll manager.old watch.now (D.slot_count device.old) done manager.new
-        (D.journal device.old) (D.journal device.new) (counted which (K.taken sink.old) (K.accepted sink.old)) (counted which (K.taken sink.new) (K.accepted sink.new))) }
-    ensures at_line { (which : Bool) → IfErr result (λ fault. fault ≡ RunFault.Sink → StopsAtLine manager.old manager.new watch.now (D.slot_count device.old)
-        (D.journal device.old) (D.journal device.new) (counted which (K.taken sink.old) (K.accepted sink.old)) (counted which (K.taken sink.new) (K.accepted sink.new))) }
-    ensures at_write { (which : Bool) → IfErr result (λ fault. fault ≡ RunFault.Device → StopsAtWrite manager.old manager.new watch.now (D.slot_count device.old)
-        (D.journal device.old) (D.journal device.new) (counted which (K.taken sink.old) (K.accepted sink.old)) (counted which (K.taken sink.new) (K.accepted sink.new))) }
-    ensures kind { IfErr result (λ fault. (fault ≡ RunFault.Sink) ⊎ (fault ≡ RunFault.Device)) }
-    ensures slot_count { D.slot_count device.new ≡ D.slot_count device.old }
-    ensures told { IsSome (K.taken sink.old) → IsSome (K.taken sink.new) }
-    ensures sink_cause { IsCounted (result ≡ Err RunFault.Sink) (K.faults sink.old) (K.faults sink.new) }
-    ensures device_cause { IsCounted (result ≡ Err RunFault.Device) (D.faults device.old) (D.faults device.new) }
+    ensures makes { (which : Bool) → Makes manager.old manager.new watch.now (D.slot_count device.old) result
+        (D.journal device.old) (D.journal device.new) (counted which (K.taken sink.old) (K.accepted sink.old)) (counted which (K.taken sink.new) (K.accepted sink.new)) }
+    ensures leaves { Leaves K.taken K.faults sink.old sink.new D.slot_count D.faults device.old device.new (result ≡ Err RunFault.Sink) (result ≡ Err RunFault.Device) }
 {
     let mut number = 0u64;
     'making: loop {

@@ -1,12 +1,9 @@
 //! What the report shows after each write of a commit.
 
-ghost use Rattle.std.specs.Prelude.{Bool, ◌≡◌, ◌≢◌, ◌↔◌, ◌++◌, ◌∷◌, [], IsSome, IsTrue, IfOk, IfSome, OnOk, OnErr, length};
-ghost use Rattle.std.specs.Io.KnownBytes.{Appends};
-ghost use Rattle.script_lines.specs.Given.{counted};
-ghost use Rattle.call_history.specs.Cause.{HasCause};
+ghost use Rattle.std.specs.Prelude.{◌≡◌, ◌≢◌, ◌↔◌, ◌++◌, ◌∷◌, [], IsTrue, IfOk, length};
 ghost use Rattle.tcam_device.specs.State.{replay};
-ghost use Rattle.replay.specs.Run.{printed, probes_of, trace_of};
-ghost use Rattle.replay.specs.Carried.{CutsLines};
+ghost use Rattle.replay.specs.Run.{probes_of, trace_of};
+ghost use Rattle.replay.specs.Outside.{WritesLines};
 ghost use Rattle.replay.specs.Script.{most_probes};
 
 use crate::Family;
@@ -83,13 +80,7 @@ impl Watch {
         sink: &mut K,
         device: &D,
     ) -> Result<(), Failed>
-        ensures whole { (which : Bool) → OnOk result (Appends (counted which (K.taken sink.old) (K.accepted sink.old)) (counted which (K.taken sink.new) (K.accepted sink.new))
-            (printed (trace_of self.now.trace number write.now ++ probes_of self.now.family number (replay (D.slot_count device.now) (D.journal device.now)) 1 self.now.probes))) }
-        ensures part { (which : Bool) → OnErr result (CutsLines
-            (trace_of self.now.trace number write.now ++ probes_of self.now.family number (replay (D.slot_count device.now) (D.journal device.now)) 1 self.now.probes)
-            (counted which (K.taken sink.old) (K.accepted sink.old)) (counted which (K.taken sink.new) (K.accepted sink.new))) }
-        ensures told { IsSome (K.taken sink.old) → IsSome (K.taken sink.new) }
-        ensures cause { HasCause (K.faults sink.old) (K.faults sink.new) result }
+        ensures { WritesLines K.taken K.accepted K.faults sink.old sink.new (trace_of self.now.trace number write.now ++ probes_of self.now.family number (replay (D.slot_count device.now) (D.journal device.now)) 1 self.now.probes) result }
     {
         if self.trace {
             write_trace(sink, number, write)?;
@@ -104,12 +95,7 @@ impl Watch {
         sink: &mut K,
         device: &D,
     ) -> Result<(), Failed>
-        ensures whole { (which : Bool) → OnOk result (Appends (counted which (K.taken sink.old) (K.accepted sink.old)) (counted which (K.taken sink.new) (K.accepted sink.new))
-            (printed (probes_of self.now.family number (replay (D.slot_count device.now) (D.journal device.now)) 1 self.now.probes))) }
-        ensures part { (which : Bool) → OnErr result (CutsLines
-            (probes_of self.now.family number (replay (D.slot_count device.now) (D.journal device.now)) 1 self.now.probes) (counted which (K.taken sink.old) (K.accepted sink.old)) (counted which (K.taken sink.new) (K.accepted sink.new))) }
-        ensures told { IsSome (K.taken sink.old) → IsSome (K.taken sink.new) }
-        ensures cause { HasCause (K.faults sink.old) (K.faults sink.new) result }
+        ensures { WritesLines K.taken K.accepted K.faults sink.old sink.new (probes_of self.now.family number (replay (D.slot_count device.now) (D.journal device.now)) 1 self.now.probes) result }
     {
         for place in 0..self.probes.len() {
             let found = device.look(&self.probes[place]);

@@ -16,8 +16,8 @@ use Rattle.replay.specs.declared.Act.{Act}
 use Rattle.replay.specs.declared.Act.TheVariants.{Command, Probe, Packet, Commit}
 use Rattle.replay.specs.Run.{Setting, Effect, Prints, written, Progress, start, writes_of, IsCutStep, Judged, Step, Run, Runs}
 use Rattle.tcam_cli.specs.AllTheWay.{sets_through, ShowsSetOrNext, AnswersAllTheWay, EndsAtLast}
-use Rattle.tcam_cli.proofs.OneMore.{written-append, run-more}
-use Rattle.replay.proofs.Effects.{written-writes}
+use Rattle.tcam_cli.proofs.OneMore.{run-more}
+use Rattle.replay.proofs.Effects.{written-writes, written-append}
 
 -- ---- lists of sets
 

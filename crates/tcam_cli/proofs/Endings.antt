@@ -15,11 +15,11 @@ use Rattle.tcam_cli.specs.Headline.{acts_of, whole_lines, script_so_far, last_li
 use Rattle.tcam_cli.specs.Readings.{reading}
 use Rattle.script_lines.specs.Reader.{Held, HandsWhole, HandsLast, KeepsAll}
 use Rattle.replay.specs.Carried.{Carries, CutsAtLine, CutsAtWrite, Wants}
-use Rattle.tcam_cli.specs.Turns.{onto_all, acts_next, IsGoing, IsAllRead, IsRead, acts_only, Ends, Closes}
-use Rattle.tcam_cli.specs.Given.{GoesOn}
+use Rattle.tcam_cli.specs.Turns.{onto_all, acts_next, IsGoing, IsAllRead, IsRead, acts_only, Ends, Closes, GoesOn}
 use Rattle.script_lines.proofs.FirstLines.{lines-whole, lines-pending, lines-last}
 use Rattle.tcam_cli.proofs.WholeLines.{whole-line, whole-none}
-use Rattle.tcam_cli.proofs.OneMore.{run-more, does-journal, does-report, step-pending, step-probes, written-append, printed-append}
+use Rattle.replay.proofs.Effects.{written-append, printed-append}
+use Rattle.tcam_cli.proofs.OneMore.{run-more, does-journal, does-report, step-pending, step-probes}
 
 -- ---- what a line does to the script
 

@@ -17,8 +17,7 @@ use Rattle.script_lines.specs.declared.Over.{Over}
 use Rattle.script_lines.specs.declared.Over.TheVariants as over
 use Rattle.script_lines.specs.Reader.{Held, lines_held, HandsWhole, HandsLast, Hands, Again}
 use Rattle.replay.specs.Carried.{IsAt, Carries, CutsAtLine, CutsAtWrite, Wants}
-use Rattle.tcam_cli.specs.Turns.{onto_all, IsGoing, IsAllRead, IsRead, acts_only, SoFar, Ends, Closes}
-use Rattle.tcam_cli.specs.Given.{GoesOn, WantsNext}
+use Rattle.tcam_cli.specs.Turns.{onto_all, IsGoing, IsAllRead, IsRead, acts_only, SoFar, Ends, Closes, GoesOn, WantsNext}
 use Rattle.tcam_cli.proofs.OneMore.{run-at}
 use Rattle.tcam_cli.proofs.Endings.{line-none, line-fault, line-full, next-line, line-here, bytes-fault, bytes-end, so-far, onto-nil, ends-closed, ends-read, goes-act, act-here, ends-line, ends-device, ends-memory}
 

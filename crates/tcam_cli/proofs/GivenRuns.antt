@@ -15,8 +15,8 @@ use Rattle.replay.specs.Run.{Setting, Progress}
 use Rattle.tcam_cli.specs.declared.Status.{Status}
 use Rattle.tcam_cli.specs.declared.Status.TheVariants.{Done, Memory, Usage}
 use Rattle.tcam_cli.specs.Headline.{Job, NoJob, Tells, Reads, IsCarriedOut, MayEnd}
-use Rattle.tcam_cli.specs.Turns.{SoFar, Ends, Closes}
-use Rattle.tcam_cli.specs.Given.{IsPromisedByGiven, TurnsBy, GoesOn, WantsNext, Grows}
+use Rattle.tcam_cli.specs.Turns.{SoFar, Ends, Closes, TurnsBy, GoesOn, WantsNext, Grows}
+use Rattle.tcam_cli.specs.Given.{IsPromisedByGiven}
 use Rattle.tcam_cli.proofs.WholeRun.{EndsTold, carried, may-end}
 use Rattle.tcam_cli.proofs.HitlessRuns.{hitless-job}
 

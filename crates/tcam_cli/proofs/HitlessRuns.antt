@@ -14,7 +14,8 @@ use Rattle.tcam_cli.specs.declared.Status.TheVariants.{Done, Refused, Script as 
 use Rattle.tcam_cli.specs.Headline.{Job, NoJob, Tells, Reads, acts_of, script_so_far, IsComplete, IsDue, IsOutcome, IsOutOfMemory, IsCarriedOut}
 use Rattle.tcam_cli.specs.Readings.{reading}
 use Rattle.tcam_cli.specs.AllTheWay.{sets_through, sets_of, AnswersAllTheWay, EndsAtLast, EndsAfter, EndsAfterSome, IsNoProbe, TellsNoWrite, IsHitlessRun, IsHitlessJob}
-use Rattle.tcam_cli.proofs.OneMore.{written-append, run-more, none-probed}
+use Rattle.replay.proofs.Effects.{written-append}
+use Rattle.tcam_cli.proofs.OneMore.{run-more, none-probed}
 use Rattle.tcam_cli.proofs.AllTheWay.{more-sets, run-goes, run-cut, wider}
 use Rattle.tcam_cli.proofs.FirstActs.{AreFirstActs, first-acts}
 

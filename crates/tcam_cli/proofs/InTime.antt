@@ -18,8 +18,8 @@ use Rattle.tcam_cli.specs.declared.Status.{Status}
 use Rattle.tcam_cli.specs.declared.Status.TheVariants.{Memory}
 use Rattle.tcam_cli.specs.Headline.{Job, NoJob, Tells, Reads, acts_of}
 use Rattle.tcam_cli.specs.Readings.{reading}
-use Rattle.tcam_cli.specs.Turns.{IsGoing, IsRead, acts_only, SoFar, Closes}
-use Rattle.tcam_cli.specs.Given.{given_so_far, IsInTime, WantsInTime, ReadsInTime, Grows, TurnsBy}
+use Rattle.tcam_cli.specs.Turns.{IsGoing, IsRead, acts_only, SoFar, Closes, Grows, TurnsBy}
+use Rattle.tcam_cli.specs.Given.{given_so_far, IsInTime, WantsInTime, ReadsInTime}
 use Rattle.tcam_cli.proofs.OneMore.{run-at}
 use Rattle.tcam_cli.proofs.GivenRuns.{may-second}
 use Rattle.tcam_cli.proofs.Endings.{so-far}

@@ -13,7 +13,6 @@ mod WholeRun
 mod TopCall
 mod ActLines
 mod Ipv4Lines
-mod Limits
 mod Closings
 mod Begun
 mod Corners

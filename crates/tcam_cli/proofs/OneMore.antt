@@ -10,23 +10,10 @@ use Rattle.replay.specs.declared.Act.TheVariants.{Command, Probe, Packet, Commit
 use Rattle.replay.specs.Script.{pending_after, probes_after}
 use Rattle.replay.specs.Run.{Setting, Effect, Writes, Prints, written, printed, Progress, start, writes_of, Judged, Step, Run, Runs}
 use Rattle.replay.specs.Carried.{IsAt, Does}
-use Rattle.replay.proofs.Effects.{written-writes}
+use Rattle.tcam_device.proofs.Spans.{state_after-append}
+use Rattle.replay.proofs.Effects.{written-append, printed-append, written-writes}
 use Rattle.std.specs.List.{AllByRecursion}
 use Rattle.tcam_cli.specs.AllTheWay.{IsNoProbe}
-
-pub written-append : (a b : List Effect) → written (a ++ b) ≡ written a ++ written b
-written-append [] b = refl
-written-append (Writes write ∷ a) b = ap (λ w. write ∷ w) (written-append a b)
-written-append (Prints line ∷ a) b = written-append a b
-
-pub printed-append : (a b : List Effect) → printed (a ++ b) ≡ printed a ++ printed b
-printed-append [] b = refl
-printed-append (Writes write ∷ a) b = printed-append a b
-printed-append (Prints line ∷ a) b = ap (λ p. line ++ p) (printed-append a b) ∙ sym (append_assoc line (printed a) (printed b))
-
-fold-append : (state : State) (a b : List Write) → state_after state (a ++ b) ≡ state_after (state_after state a) b
-fold-append state [] b = refl
-fold-append state (w ∷ a) b = fold-append (apply state w) a b
 
 judged-state : (setting : Setting) (old : Progress) (v : Verdict) (effects : List Effect) (new : Progress) → Judged setting old v effects new → new.state ≡ state_after old.state (written effects)
 judged-state setting old Accepted effects new step =
@@ -48,7 +35,7 @@ run-state-from setting old [] effects new run = ap (λ p. p.state) run.1 ∙ ap 
 run-state-from setting old (act ∷ acts) effects new (front, mid, back, step, rest, whole) =
     run-state-from setting mid acts back new rest
     ∙ ap (λ s. state_after s (written back)) (step-state setting old act front mid step)
-    ∙ sym (fold-append old.state (written front) (written back))
+    ∙ sym (state_after-append old.state (written front) (written back))
     ∙ ap (state_after old.state) (sym (written-append front back) ∙ sym (ap written whole))
 
 pub run-state : (setting : Setting) (slots : ℕ) (acts : List Act) (effects : List Effect) (last : Progress) → Runs setting slots acts effects last → last.state ≡ replay slots (written effects)

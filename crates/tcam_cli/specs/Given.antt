@@ -1,23 +1,18 @@
 -- The promise of the top call over every source, told or not, by the bytes that the source gave. A source that foretells
 -- nothing is promised what each source is that may have given the same: the bytes given, and then any rest, which is
 -- nothing where the source said that the input is at its end.
-use Rattle.std.specs.Prelude.{◌≡◌, ◌≢◌, ℕ, Option, Some, IfSome, IfNone, List, [], ◌∷◌, ◌++◌}
+use Rattle.std.specs.Prelude.{◌≡◌, ℕ, Option, List, [], ◌∷◌, ◌++◌}
 use Rattle.std.specs.List.{concat}
-use Rattle.std.specs.Io.KnownBytes.{Appends}
 use Rattle.script_lines.specs.Given.{HasEnd, MayGive, ByGiven}
-use Rattle.script_lines.specs.Reader.{Held, LastAtOpenLine}
-use Rattle.script_lines.specs.declared.Over.TheVariants as over
 use Rattle.tcam_device.specs.declared.Write.{Write}
 use Rattle.replay.specs.declared.Act.{Act}
-use Rattle.replay.specs.Script.{Script, NumberedAct, Whole, script_of}
+use Rattle.replay.specs.Script.{Script, Whole, script_of}
 use Rattle.replay.specs.Run.{Setting, Effect, Progress, Runs, written, printed}
-use Rattle.replay.specs.Carried.{Wants}
 use Rattle.tcam_cli.specs.declared.Status.{Status}
 use Rattle.tcam_cli.specs.declared.Status.TheVariants.{Memory}
 use Rattle.tcam_cli.specs.Headline.{Job, NoJob, Tells, Reads, IsCarriedOut, IsOutOfMemoryAtAct, MayEnd, acts_of, script_so_far}
 use Rattle.tcam_cli.specs.AllTheWay.{IsHitlessJob}
 use Rattle.tcam_cli.specs.Readings.{reading}
-use Rattle.tcam_cli.specs.Turns.{acts_only, SoFar, Ends}
 
 -- the promise over a source that had these bytes before and has those now
 pub record IsPromised (job : Job) (device_slots : ℕ) (status : Status) (left_old left_new taken_old taken_new : Option (List ℕ)) (journal : List Write) : Type 0 where
@@ -67,37 +62,3 @@ ReadsInTime (Reads setting) device_slots status given_old given_new journal acce
     (front : List (List ℕ)) (last : List ℕ) → given_new ≡ given_old ++ front ++ last ∷ []
     → IsInTime setting device_slots front journal accepted_old accepted_new
     × (status ≡ Memory → (left after : List ℕ) → MayGive left (front ++ last ∷ []) after → WantsInTime setting device_slots front left journal accepted_old accepted_new)
-
--- a journal and a report that a call has added to
-pub record Grows (journal_old journal_new : List Write) (taken_old taken_new : Option (List ℕ)) : Type 0 where
-  pub writes : List Write
-  pub journal : journal_new ≡ journal_old ++ writes
-  pub bytes : List ℕ
-  pub report : Appends taken_old taken_new bytes
-
--- one turn more: the acts carried out before it, and perhaps one
-pub record GoesOn (setting : Setting) (slots : ℕ) (acts : List NumberedAct) (bytes : List ℕ) (held : Held) (left : List ℕ) (progress : Progress) (journal : List Write) (taken_old taken_new : Option (List ℕ)) : Type 0 where
-  pub so_far : SoFar setting slots bytes held left progress journal taken_old taken_new
-  pub more : List Act
-  pub acts_are : acts_only so_far.acts ≡ acts_only acts ++ more
-
--- memory is wanting at the act after these, and nothing is done for it
-pub record WantsNext (setting : Setting) (acts : List NumberedAct) (bytes : List ℕ) (before : Progress) (journal_old journal_new : List Write) (taken_old taken_new : Option (List ℕ)) : Type 0 where
-  pub act : Act
-  pub later : List Act
-  pub acts_are : acts_of (script_of (reading setting.family) bytes) ≡ acts_only acts ++ act ∷ later
-  pub wants : Wants setting before act journal_old journal_new taken_old taken_new
-
--- what a turn of a run comes to, whatever bytes come after those that were given in it
-pub record TurnsBy (setting : Setting) (slots : ℕ) (old : Held) (before : Progress) (pieces : List (List ℕ)) (result : Option Status) (new : Held) (after : Progress) (journal_old journal_new : List Write) (taken_old taken_new : Option (List ℕ)) : Type 0 where
-  pub goes : IfNone result ((bytes left now : List ℕ) (start : Option (List ℕ)) → MayGive left pieces now
-      → (so_far : SoFar setting slots bytes old left before journal_old start taken_old) → GoesOn setting slots so_far.acts bytes new now after journal_new start taken_new)
-  pub ends : IfSome result (λ status. (bytes taken left now : List ℕ) (start : Option (List ℕ)) → MayGive left pieces now → bytes ≡ taken ++ now
-      → SoFar setting slots bytes old left before journal_old start taken_old → Ends setting slots bytes taken now status journal_new start taken_new)
-  pub wants : result ≡ Some Memory → (bytes left now : List ℕ) (start : Option (List ℕ)) → MayGive left pieces now
-      → (so_far : SoFar setting slots bytes old left before journal_old start taken_old) → WantsNext setting so_far.acts bytes before journal_old journal_new taken_old taken_new
-  pub ended : HasEnd pieces → IfNone result (new.over ≡ over.Ended)
-  pub rests : old.over ≢ over.Going → pieces ≡ []
-  pub last : LastAtOpenLine old.before old.pending pieces
-  pub grows : (bytes left now : List ℕ) (start : Option (List ℕ)) → MayGive left pieces now
-      → SoFar setting slots bytes old left before journal_old start taken_old → Grows journal_old journal_new taken_old taken_new

@@ -1,6 +1,8 @@
--- Where a run over a script stands between two lines, how it ends, and what a command of it has.
-use Rattle.std.specs.Prelude.{◌≡◌, ◌⊎◌, ℕ, ◌++◌, Option, List, [], length, map}
+-- Where a run over a script stands between two lines, what a turn comes to, how a run ends, and what a command of it has.
+use Rattle.std.specs.Prelude.{◌≡◌, ◌≢◌, ◌⊎◌, ℕ, ◌*◌, ◌≤◌, ◌++◌, ◌∷◌, Bool, Option, None, Some, IsSome, IfNone, IfSome, List, [], length, map}
 use Rattle.std.specs.Io.KnownBytes.{Appends}
+use Rattle.call_history.specs.Cause.{IsCounted}
+use Rattle.script_lines.specs.Given.{HasEnd, MayGive, counted}
 use Rattle.script_lines.specs.Lines.{limits, ScriptLines, lines_from, lines_of}
 use Rattle.rule_model.specs.AddressBlock.{IsIpv4Block}
 use Rattle.tcam_device.specs.declared.Write.{Write}
@@ -9,13 +11,16 @@ use Rattle.route_reader.specs.declared.RouteCommand.TheVariants as route
 use Rattle.replay.specs.declared.Act.{Act}
 use Rattle.replay.specs.Script.{Script, Reading, NumberedAct, Whole, acts_from, script_of}
 use Rattle.replay.specs.Run.{Setting, Effect, written, printed, Progress, Runs}
+use Rattle.replay.specs.Outside.{AppendsPart}
+use Rattle.replay.specs.Carried.{Wants}
+use Rattle.replay.specs.Running.{Running}
 use Rattle.tcam_cli.specs.declared.Status.{Status}
-use Rattle.tcam_cli.specs.declared.Status.TheVariants.{Done, Refused, WriteFault}
-use Rattle.tcam_cli.specs.Headline.{whole_lines, script_so_far, IsOutcome}
+use Rattle.tcam_cli.specs.declared.Status.TheVariants.{Done, Refused, WriteFault, Memory}
+use Rattle.tcam_cli.specs.Headline.{acts_of, whole_lines, script_so_far, IsOutcome}
 use Rattle.tcam_cli.specs.Readings.{reading}
 use Rattle.script_lines.specs.declared.Over.{Over}
 use Rattle.script_lines.specs.declared.Over.TheVariants as over
-use Rattle.script_lines.specs.Reader.{Held}
+use Rattle.script_lines.specs.Reader.{Held, LastAtOpenLine}
 
 -- what a command of a route script adds is a route of IPv4
 abbrev pub IsIpv4Command : RouteCommand → Type 0
@@ -75,5 +80,52 @@ pub record Ends (setting : Setting) (slots : ℕ) (bytes taken left : List ℕ) 
 -- a last line was written, or a part of it where the sink failed
 abbrev pub Closes : List ℕ → Status → Status → Option (List ℕ) → Option (List ℕ) → Type 0
 Closes line last status taken_old taken_new =
-    ((status ≡ last) × Appends taken_old taken_new line)
-    ⊎ ((status ≡ WriteFault) × ((partial : List ℕ) × (rest : List ℕ) × (line ≡ partial ++ rest) × Appends taken_old taken_new partial))
+    ((status ≡ last) × Appends taken_old taken_new line) ⊎ ((status ≡ WriteFault) × AppendsPart taken_old taken_new line)
+
+-- A call hands the last line of a report to a sink, by either count of the sink's bytes. What was told stays told, and
+-- the sink's failure is the status exactly where it is counted.
+pub record ClosesReport {S : Type 0} (taken : S → Option (List ℕ)) (accepted : S → List ℕ) (faults : S → ℕ) (old new : S) (line : List ℕ) (last status : Status) : Type 0 where
+  pub closes : (which : Bool) → Closes line last status (counted which (taken old) (accepted old)) (counted which (taken new) (accepted new))
+  pub told : IsSome (taken old) → IsSome (taken new)
+  pub cause : IsCounted (status ≡ WriteFault) (faults old) (faults new)
+
+-- A run between two lines: no commit is under way, and the bytes taken bound the commits, since a line with an act
+-- takes 5 bytes.
+pub record IsBetweenLines (held : Held) (run : Running) : Type 0 where
+  pub idle : run.manager.held ≡ None
+  pub commits : 5 * run.commits ≤ held.before
+  pub within : held.before ≤ 16777216
+
+-- a journal and a report that a call has added to
+pub record Grows (journal_old journal_new : List Write) (taken_old taken_new : Option (List ℕ)) : Type 0 where
+  pub writes : List Write
+  pub journal : journal_new ≡ journal_old ++ writes
+  pub bytes : List ℕ
+  pub report : Appends taken_old taken_new bytes
+
+-- one turn more: the acts carried out before it, and perhaps one
+pub record GoesOn (setting : Setting) (slots : ℕ) (acts : List NumberedAct) (bytes : List ℕ) (held : Held) (left : List ℕ) (progress : Progress) (journal : List Write) (taken_old taken_new : Option (List ℕ)) : Type 0 where
+  pub so_far : SoFar setting slots bytes held left progress journal taken_old taken_new
+  pub more : List Act
+  pub acts_are : acts_only so_far.acts ≡ acts_only acts ++ more
+
+-- memory is wanting at the act after these, and nothing is done for it
+pub record WantsNext (setting : Setting) (acts : List NumberedAct) (bytes : List ℕ) (before : Progress) (journal_old journal_new : List Write) (taken_old taken_new : Option (List ℕ)) : Type 0 where
+  pub act : Act
+  pub later : List Act
+  pub acts_are : acts_of (script_of (reading setting.family) bytes) ≡ acts_only acts ++ act ∷ later
+  pub wants : Wants setting before act journal_old journal_new taken_old taken_new
+
+-- what a turn of a run comes to, whatever bytes come after those that were given in it
+pub record TurnsBy (setting : Setting) (slots : ℕ) (old : Held) (before : Progress) (pieces : List (List ℕ)) (result : Option Status) (new : Held) (after : Progress) (journal_old journal_new : List Write) (taken_old taken_new : Option (List ℕ)) : Type 0 where
+  pub goes : IfNone result ((bytes left now : List ℕ) (start : Option (List ℕ)) → MayGive left pieces now
+      → (so_far : SoFar setting slots bytes old left before journal_old start taken_old) → GoesOn setting slots so_far.acts bytes new now after journal_new start taken_new)
+  pub ends : IfSome result (λ status. (bytes taken left now : List ℕ) (start : Option (List ℕ)) → MayGive left pieces now → bytes ≡ taken ++ now
+      → SoFar setting slots bytes old left before journal_old start taken_old → Ends setting slots bytes taken now status journal_new start taken_new)
+  pub wants : result ≡ Some Memory → (bytes left now : List ℕ) (start : Option (List ℕ)) → MayGive left pieces now
+      → (so_far : SoFar setting slots bytes old left before journal_old start taken_old) → WantsNext setting so_far.acts bytes before journal_old journal_new taken_old taken_new
+  pub ended : HasEnd pieces → IfNone result (new.over ≡ over.Ended)
+  pub rests : old.over ≢ over.Going → pieces ≡ []
+  pub last : LastAtOpenLine old.before old.pending pieces
+  pub grows : (bytes left now : List ℕ) (start : Option (List ℕ)) → MayGive left pieces now
+      → SoFar setting slots bytes old left before journal_old start taken_old → Grows journal_old journal_new taken_old taken_new

@@ -6,17 +6,18 @@ ghost use Rattle.call_history.specs.Cause.{IsCounted};
 ghost use Rattle.script_lines.specs.Lines.{numbered};
 ghost use Rattle.script_lines.specs.Given.{GivesPieces, counted};
 ghost use Rattle.script_lines.specs.declared.Over.TheVariants.{Going};
-ghost use Rattle.tcam_cli.specs.Given.{IsPromisedByGiven, ReadsInTime, TurnsBy};
+ghost use Rattle.tcam_cli.specs.Given.{IsPromisedByGiven, ReadsInTime};
 ghost use Rattle.line_words.specs.Texts.{word_fault_text};
 ghost use Rattle.replay.specs.Run.{IsActOf, start, ending};
+ghost use Rattle.replay.specs.Outside.{Leaves};
 ghost use Rattle.replay.specs.Running.{progress_of, setting_of};
 ghost use Rattle.replay.specs.Script.{Whole};
 ghost use Rattle.replay.specs.Text.{fault_line};
 ghost use Rattle.tcam_cli.specs.AllTheWay.{IsHitlessJob};
-ghost use Rattle.tcam_cli.specs.CommandLine.{job_of, script_setting};
+ghost use Rattle.tcam_cli.specs.CommandLine.{job_of};
 ghost use Rattle.tcam_cli.specs.Headline.{IsCarriedOut, HasCauses, Reads, status_of};
 ghost use Rattle.tcam_cli.specs.Readings.{acl_act, common_act, reading, route_act};
-ghost use Rattle.tcam_cli.specs.Turns.{Closes, IsIpv4Command};
+ghost use Rattle.tcam_cli.specs.Turns.{ClosesReport, IsBetweenLines, IsIpv4Command, TurnsBy};
 
 use crate::Status;
 use crate::command_line::{Asked, HELP, VERSION, WordsFault, read_words};
@@ -73,44 +74,14 @@ pub fn run<S: Source, K: Sink, D: Device>(
                 placement,
                 trace,
             },
-        ) => run_family(alloc, family, slots, placement, trace, source, sink, device),
+        ) => match Run::new(alloc, slots, Mode::Cover, placement, family, trace) {
+            Ok(mut run) => run_script(&mut run, source, sink, device),
+            Err(_) => Status::Memory,
+        },
         Ok(Asked::Help) => tell(sink, HELP, Status::Done),
         Ok(Asked::Version) => tell(sink, VERSION, Status::Done),
         Err(WordsFault::Usage) => tell(sink, "usage\n", Status::Usage),
         Err(WordsFault::Memory) => Status::Memory,
-    }
-}
-
-/// Carries out a script of a family from the source, where each insertion aims as the placement says.
-fn run_family<S: Source, K: Sink, D: Device>(
-    alloc: Global,
-    family: Family,
-    slots: u32,
-    placement: Placement,
-    trace: bool,
-    source: &mut S,
-    sink: &mut K,
-    device: &mut D,
-) -> Status
-    requires least { 1 ≤ slots }
-    requires most { slots ≤ 4096 }
-    requires device { 4096 ≤ D.slot_count device.old }
-    requires blank { D.journal device.old ≡ [] }
-    ensures carried_out { IsCarriedOut (Reads (script_setting family slots placement trace)) (D.slot_count device.old) result
-        (S.left source.old) (S.left source.new) (K.taken sink.old) (K.taken sink.new) (D.journal device.new) }
-    ensures given { (which : Bool) → IsPromisedByGiven (Reads (script_setting family slots placement trace)) (D.slot_count device.old) result
-        (S.given source.old) (S.given source.new) (counted which (K.taken sink.old) (K.accepted sink.old)) (counted which (K.taken sink.new) (K.accepted sink.new)) (D.journal device.new) }
-    ensures in_time { ReadsInTime (Reads (script_setting family slots placement trace)) (D.slot_count device.old) result
-        (S.given source.old) (S.given source.new) (D.journal device.new) (K.accepted sink.old) (K.accepted sink.new) }
-    ensures told { (IsSome (S.left source.old) → IsSome (S.left source.new)) × (IsSome (K.taken sink.old) → IsSome (K.taken sink.new)) }
-    ensures slot_count { D.slot_count device.new ≡ D.slot_count device.old }
-    ensures causes { HasCauses (Reads (script_setting family slots placement trace)) (S.left source.old) result
-        (S.faults source.old) (S.faults source.new) (K.faults sink.old) (K.faults sink.new)
-        (D.faults device.old) (D.faults device.new) }
-{
-    match Run::new(alloc, slots, Mode::Cover, placement, family, trace) {
-        Ok(mut run) => run_script(&mut run, source, sink, device),
-        Err(_) => Status::Memory,
     }
 }
 
@@ -156,24 +127,16 @@ fn turn<S: Source, K: Sink, D: Device>(
     device: &mut D,
 ) -> Option<Status>
     requires slots { run.old.manager.slots ≤ D.slot_count device.old }
-    requires idle { run.old.manager.held ≡ None }
-    requires commits { 5 * run.old.commits ≤ lines.old.before }
-    requires within { lines.old.before ≤ 16777216 }
-    ensures falls { IfNone result (lines.old.before < lines.new.before) }
-    ensures within { IfNone result (lines.new.before ≤ 16777216) }
-    ensures commits { IfNone result (5 * run.new.commits ≤ lines.new.before) }
-    ensures idle { IfNone result (run.new.manager.held ≡ None) }
+    requires stands { IsBetweenLines lines.old run.old }
+    ensures goes { IfNone result ((lines.old.before < lines.new.before) × IsBetweenLines lines.new run.new) }
     ensures setting { setting_of run.new ≡ setting_of run.old }
-    ensures slot_count { D.slot_count device.new ≡ D.slot_count device.old }
     ensures gives { (pieces : List (List ℕ)) × GivesPieces (S.given source.old) (S.given source.new) (S.left source.old) (S.left source.new) pieces
         × ((which : Bool) → TurnsBy (setting_of run.old) (D.slot_count device.old) lines.old (progress_of (D.slot_count device.old) run.old) pieces result
         lines.new (progress_of (D.slot_count device.old) run.new) (D.journal device.old) (D.journal device.new) (counted which (K.taken sink.old) (K.accepted sink.old)) (counted which (K.taken sink.new) (K.accepted sink.new))) }
     ensures rests { lines.old.over ≢ Going → (S.left source.new ≡ S.left source.old) × (lines.new ≡ lines.old) }
-    ensures told { IsSome (K.taken sink.old) → IsSome (K.taken sink.new) }
     ensures no_usage { result ≢ Some Status.Usage }
     ensures read { IsCounted (result ≡ Some Status.ReadFault) (S.faults source.old) (S.faults source.new) }
-    ensures write { IsCounted (result ≡ Some Status.WriteFault) (K.faults sink.old) (K.faults sink.new) }
-    ensures device { IsCounted (result ≡ Some Status.DeviceFault) (D.faults device.old) (D.faults device.new) }
+    ensures leaves { Leaves K.taken K.faults sink.old sink.new D.slot_count D.faults device.old device.new (result ≡ Some Status.WriteFault) (result ≡ Some Status.DeviceFault) }
 {
     let line = match lines.next(source) {
         Err(LineFault::Read) => return Some(Status::ReadFault),
@@ -305,11 +268,8 @@ fn fault_text(fault: &WordFault) -> &'static str
 /// Writes the end line of a script that was read to its end.
 fn finish<K: Sink>(run: &mut Run, sink: &mut K) -> Status
     ensures run { run.new ≡ run.old }
-    ensures closes { (which : Bool) → (device_slots : ℕ) → Closes (ending (setting_of run.old) (progress_of device_slots run.old)) (status_of (progress_of device_slots run.old) Whole)
-        result (counted which (K.taken sink.old) (K.accepted sink.old)) (counted which (K.taken sink.new) (K.accepted sink.new)) }
+    ensures closes { (device_slots : ℕ) → ClosesReport K.taken K.accepted K.faults sink.old sink.new (ending (setting_of run.old) (progress_of device_slots run.old)) (status_of (progress_of device_slots run.old) Whole) result }
     ensures kind { (result ≢ Status.Usage) × (result ≢ Status.ReadFault) × (result ≢ Status.DeviceFault) × (result ≢ Status.Memory) }
-    ensures told { IsSome (K.taken sink.old) → IsSome (K.taken sink.new) }
-    ensures cause { IsCounted (result ≡ Status.WriteFault) (K.faults sink.old) (K.faults sink.new) }
 {
     match run.finish(sink) {
         Ok(false) => Status::Done,
@@ -321,10 +281,8 @@ fn finish<K: Sink>(run: &mut Run, sink: &mut K) -> Status
 /// Writes the line that names the fault of a script's line.
 fn fault<K: Sink>(line: u32, text: &str, sink: &mut K) -> Status
     requires { length text.now ≤ 32 }
-    ensures closes { (which : Bool) → Closes (fault_line line text.now) Status.Script result (counted which (K.taken sink.old) (K.accepted sink.old)) (counted which (K.taken sink.new) (K.accepted sink.new)) }
+    ensures closes { ClosesReport K.taken K.accepted K.faults sink.old sink.new (fault_line line text.now) Status.Script result }
     ensures kind { (result ≢ Status.Usage) × (result ≢ Status.ReadFault) × (result ≢ Status.DeviceFault) × (result ≢ Status.Memory) }
-    ensures told { IsSome (K.taken sink.old) → IsSome (K.taken sink.new) }
-    ensures cause { IsCounted (result ≡ Status.WriteFault) (K.faults sink.old) (K.faults sink.new) }
 {
     match write_fault(sink, line, text) {
         Ok(()) => Status::Script,
@@ -335,10 +293,8 @@ fn fault<K: Sink>(line: u32, text: &str, sink: &mut K) -> Status
 /// Writes a text, and answers the status that follows, which is no failure of the sink.
 fn tell<K: Sink>(sink: &mut K, text: &str, last: Status) -> Status
     requires { last ≢ Status.WriteFault }
-    ensures closes { (which : Bool) → Closes text.now last result (counted which (K.taken sink.old) (K.accepted sink.old)) (counted which (K.taken sink.new) (K.accepted sink.new)) }
+    ensures closes { ClosesReport K.taken K.accepted K.faults sink.old sink.new text.now last result }
     ensures kind { (result ≡ last) ⊎ (result ≡ Status.WriteFault) }
-    ensures told { IsSome (K.taken sink.old) → IsSome (K.taken sink.new) }
-    ensures cause { IsCounted (result ≡ Status.WriteFault) (K.faults sink.old) (K.faults sink.new) }
 {
     match write_text(sink, text) {
         Ok(()) => last,

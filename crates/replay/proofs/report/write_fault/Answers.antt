@@ -2,17 +2,10 @@
 use Rattle.std.proofs.Common.{◌≡◌, [], ◌∷◌, ◌++◌, codes, decimal}
 use Rattle.replay.specs.Text.{fault_line}
 use Rattle.replay.proofs.Lines.{with_words-line}
-use Rattle.replay.proofs.Exits.{part-same, whole-same}
 use Rattle.replay.proofs.report.write_fault.Goals as goal
 
-pub returns-clause-part : goal.returns-clause-part
-returns-clause-part g c = λ which.
+pub returns : goal.returns
+returns g c =
     let same : c.word.result ++ 10 ∷ [] ≡ fault_line c.args.line c.args.fault.now =
     rw (c.word.ensures.text, c.number.ensures.text, c.new.ensures, c.from.ensures) (with_words-line (codes "line") (decimal c.args.line ∷ c.args.fault.now ∷ [])) in
-    part-same c.write.result _ _ (c.word.result ++ 10 ∷ []) (fault_line c.args.line c.args.fault.now) same (c.write.ensures.part which)
-
-pub returns-clause-whole : goal.returns-clause-whole
-returns-clause-whole g c = λ which.
-    let same : c.word.result ++ 10 ∷ [] ≡ fault_line c.args.line c.args.fault.now =
-    rw (c.word.ensures.text, c.number.ensures.text, c.new.ensures, c.from.ensures) (with_words-line (codes "line") (decimal c.args.line ∷ c.args.fault.now ∷ [])) in
-    whole-same c.write.result _ _ (c.word.result ++ 10 ∷ []) (fault_line c.args.line c.args.fault.now) same (c.write.ensures.whole which)
+    rw same at c.write.ensures

@@ -2,17 +2,10 @@
 use Rattle.std.proofs.Common.{◌≡◌, [], ◌∷◌, ◌++◌, codes, decimal}
 use Rattle.replay.specs.Text.{trace_line, write_words}
 use Rattle.replay.proofs.Lines.{with_words-line}
-use Rattle.replay.proofs.Exits.{part-same, whole-same}
 use Rattle.replay.proofs.report.write_trace.Goals as goal
 
-pub returns-clause-whole : goal.returns-clause-whole
-returns-clause-whole g c = λ which.
+pub returns : goal.returns
+returns g c =
     let same : c.device_write.result ++ 10 ∷ [] ≡ trace_line c.args.number c.args.write.now =
     rw (c.device_write.ensures.text, c.number.ensures.text, c.new.ensures) (with_words-line (codes "w") (decimal c.args.number ∷ write_words c.args.write.now)) in
-    whole-same c.write.result _ _ (c.device_write.result ++ 10 ∷ []) (trace_line c.args.number c.args.write.now) same (c.write.ensures.whole which)
-
-pub returns-clause-part : goal.returns-clause-part
-returns-clause-part g c = λ which.
-    let same : c.device_write.result ++ 10 ∷ [] ≡ trace_line c.args.number c.args.write.now =
-    rw (c.device_write.ensures.text, c.number.ensures.text, c.new.ensures) (with_words-line (codes "w") (decimal c.args.number ∷ write_words c.args.write.now)) in
-    part-same c.write.result _ _ (c.device_write.result ++ 10 ∷ []) (trace_line c.args.number c.args.write.now) same (c.write.ensures.part which)
+    rw same at c.write.ensures

@@ -18,15 +18,15 @@ making-preserved g c =
       device_faults = made.cause.stayed ∙ c.making.invariant.device_faults;
     }
 
-pub returns-in-Err-tell-clause-at_line : goal.returns-in-Err-tell-clause-at_line
-returns-in-Err-tell-clause-at_line g c = λ which failed.
+pub returns-in-Err-tell-clause-makes : goal.returns-in-Err-tell-clause-makes
+returns-in-Err-tell-clause-makes g c = λ which.
     let made = c.in-Ok-Wrote.ensures in
     let slots = made.slot_count ∙ c.making.invariant.slot_count in
     let written = making-more _ _ _ _ _ _ _ _ _ _ _ _ _ c.in-Ok-Wrote.field-0 c.in-Ok-Wrote.write (c.making.invariant.making which) made.stepped c.in-Ok-Wrote.field-0-is made.journal made.spare in
     making-stops _ _ _ _ _ _ _ _ _ _ _ c.in-Ok-Wrote.write written (let h = c.in-Err-tell.ensures.part which in rw slots at h)
 
-pub returns-in-Err-clause-at_write : goal.returns-in-Err-clause-at_write
-returns-in-Err-clause-at_write g c = λ which failed. making-cut _ _ _ _ _ _ _ _ _ _ _ _ (c.making.invariant.making which) c.in-Err.ensures.failed c.in-Err.ensures.journal_err c.in-Err.ensures.due
+pub returns-in-Err-clause-makes : goal.returns-in-Err-clause-makes
+returns-in-Err-clause-makes g c = λ which. making-cut _ _ _ _ _ _ _ _ _ _ _ _ (c.making.invariant.making which) c.in-Err.ensures.failed c.in-Err.ensures.journal_err c.in-Err.ensures.due
 
 pub step-requires-clause-slots : goal.step-requires-clause-slots
 step-requires-clause-slots g c = let h = c.making.invariant.making true in search rules

@@ -1,6 +1,6 @@
 use Rattle.std.proofs.Common.{Bool, ◌≡◌, IsSome}
 use Rattle.script_lines.specs.Given.{counted}
-use Rattle.replay.specs.Running.{IsMaking, left_number}
+use Rattle.replay.proofs.Making.{IsMaking, left_number}
 use Rattle.replay.proofs.run.make_writes.Given as goal
 
 abbrev pub invariant-making : goal.invariant-making

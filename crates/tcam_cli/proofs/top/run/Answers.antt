@@ -1,37 +1,80 @@
-use Rattle.std.proofs.Common.{true, refl, ap, Err}
+use Rattle.std.proofs.Common.{true, ◌≤◌, refl, ap, sym, ◌∙◌, Err, arith}
 use Rattle.tcam_cli.specs.declared.Status.TheVariants.{Done, Usage}
+use Rattle.replay.specs.Running.{Running, progress_of, setting_of}
 use Rattle.replay.specs.Text.{usage_line}
 use Rattle.tcam_cli.specs.CommandLine.{help_text, version_text}
+use Rattle.tcam_cli.specs.Headline.{Reads}
+use Rattle.tcam_cli.proofs.Begun.{begins}
 use Rattle.tcam_cli.proofs.TopCall.{memory-carried, told-alone}
 use Rattle.tcam_cli.proofs.HitlessRuns.{hitless-job}
 use Rattle.tcam_cli.proofs.GivenRuns.{promised-none, may-tell, may-usage}
 use Rattle.tcam_cli.proofs.InTime.{nothing-read}
 use Rattle.tcam_cli.proofs.top.run.Goals as goal
 
+pub run_script-requires-clause-begun : goal.run_script-requires-clause-begun
+run_script-requires-clause-begun g c =
+    let slots = g.D.Writable.slot_count c.args.device.now in
+    let range = (rw c.in-Ok-Script.field-0-is at c.in-Ok-Script.ensures.slots) _ _ _ _ refl in
+    let within : c.in-Ok-Script.slots ≤ slots = omega (arith, range.1) in
+    ap (progress_of slots) c.in-Ok.ensures ∙ begins c.in-Ok-Script.placement c.in-Ok-Script.family c.in-Ok-Script.slots slots c.in-Ok-Script.trace within
+
+pub returns-in-Ok-clause-carried_out : goal.returns-in-Ok-clause-carried_out
+returns-in-Ok-clause-carried_out g c =
+    let asked = rw c.in-Ok-Script.field-0-is at c.in-Ok-Script.ensures.asked in
+    rw (asked ∙ ap (λ (run : Running). Reads (setting_of run)) (sym c.in-Ok.ensures)) c.run_script.ensures.carried_out
+
+pub returns-in-Ok-clause-hitless : goal.returns-in-Ok-clause-hitless
+returns-in-Ok-clause-hitless g c =
+    let asked = rw c.in-Ok-Script.field-0-is at c.in-Ok-Script.ensures.asked in
+    let carried = c.run_script.ensures.carried_out in
+    rw (asked ∙ ap (λ (run : Running). Reads (setting_of run)) (sym c.in-Ok.ensures)) (search hitless-job)
+
+pub returns-in-Ok-clause-given : goal.returns-in-Ok-clause-given
+returns-in-Ok-clause-given g c = λ which.
+    let asked = rw c.in-Ok-Script.field-0-is at c.in-Ok-Script.ensures.asked in
+    rw (asked ∙ ap (λ (run : Running). Reads (setting_of run)) (sym c.in-Ok.ensures)) (c.run_script.ensures.given which)
+
+pub returns-in-Ok-clause-in_time : goal.returns-in-Ok-clause-in_time
+returns-in-Ok-clause-in_time g c =
+    let asked = rw c.in-Ok-Script.field-0-is at c.in-Ok-Script.ensures.asked in
+    rw (asked ∙ ap (λ (run : Running). Reads (setting_of run)) (sym c.in-Ok.ensures)) c.run_script.ensures.in_time
+
+pub returns-in-Ok-clause-causes : goal.returns-in-Ok-clause-causes
+returns-in-Ok-clause-causes g c =
+    let asked = rw c.in-Ok-Script.field-0-is at c.in-Ok-Script.ensures.asked in
+    rw (asked ∙ ap (λ (run : Running). Reads (setting_of run)) (sym c.in-Ok.ensures)) c.run_script.ensures.causes
+
+pub returns-in-Err-clause-carried_out : goal.returns-in-Err-clause-carried_out
+returns-in-Err-clause-carried_out g c = memory-carried _ _ _ _ _ c.requires.blank
+
+pub returns-in-Err-clause-hitless : goal.returns-in-Err-clause-hitless
+returns-in-Err-clause-hitless g c = hitless-job _ _ _ _ _ _ _ _ (memory-carried _ _ _ (g.K.Sink.taken c.args.sink.now) _ c.requires.blank)
+
+pub returns-in-Err-clause-given : goal.returns-in-Err-clause-given
+returns-in-Err-clause-given g c = λ which. promised-none _ _ _ _ _ _ _ (λ left. memory-carried _ _ left _ _ c.requires.blank) (λ left. tt)
+
+pub returns-in-Err-clause-in_time : goal.returns-in-Err-clause-in_time
+returns-in-Err-clause-in_time g c = nothing-read _ _ _ _ _ _
+
 pub returns-in-Ok-Help-clause-carried_out : goal.returns-in-Ok-Help-clause-carried_out
 unfolding help_text
 returns-in-Ok-Help-clause-carried_out g c =
     let is = rw c.in-Ok-Help.field-0-is at c.in-Ok-Help.ensures.asked in
-    rw is (told-alone help_text Done _ _ _ _ _ c.requires.blank (c.tell.ensures.closes true))
+    rw is (told-alone help_text Done _ _ _ _ _ c.requires.blank (c.tell.ensures.closes.closes true))
 
 pub returns-in-Ok-Version-clause-carried_out : goal.returns-in-Ok-Version-clause-carried_out
 unfolding version_text
 returns-in-Ok-Version-clause-carried_out g c =
     let is = rw c.in-Ok-Version.field-0-is at c.in-Ok-Version.ensures.asked in
-    rw is (told-alone version_text Done _ _ _ _ _ c.requires.blank (c.tell-in-Ok-Version.ensures.closes true))
+    rw is (told-alone version_text Done _ _ _ _ _ c.requires.blank (c.tell-in-Ok-Version.ensures.closes.closes true))
 
 pub returns-in-Err-Usage-clause-carried_out : goal.returns-in-Err-Usage-clause-carried_out
 returns-in-Err-Usage-clause-carried_out g c =
     let is = c.in-Err-Usage.ensures.usage (ap Err c.in-Err-Usage.field-0-is) in
-    rw is (told-alone usage_line Usage _ _ _ _ _ c.requires.blank (c.tell-in-Err-Usage.ensures.closes true))
+    rw is (told-alone usage_line Usage _ _ _ _ _ c.requires.blank (c.tell-in-Err-Usage.ensures.closes.closes true))
 
 pub returns-in-Err-Memory-clause-carried_out : goal.returns-in-Err-Memory-clause-carried_out
 returns-in-Err-Memory-clause-carried_out g c = memory-carried _ _ _ _ _ c.requires.blank
-
-pub returns-in-Ok-Script-clause-hitless : goal.returns-in-Ok-Script-clause-hitless
-returns-in-Ok-Script-clause-hitless g c =
-    let is = rw c.in-Ok-Script.field-0-is at c.in-Ok-Script.ensures.asked in
-    rw is (search hitless-job)
 
 pub returns-in-Err-Memory-clause-hitless : goal.returns-in-Err-Memory-clause-hitless
 returns-in-Err-Memory-clause-hitless g c = hitless-job _ _ _ _ _ _ _ _ (memory-carried _ _ _ (g.K.Sink.taken c.args.sink.now) _ c.requires.blank)
@@ -40,31 +83,21 @@ pub returns-in-Ok-Help-clause-given : goal.returns-in-Ok-Help-clause-given
 unfolding help_text
 returns-in-Ok-Help-clause-given g c = λ which.
     let is = rw c.in-Ok-Help.field-0-is at c.in-Ok-Help.ensures.asked in
-    rw is (promised-none _ _ _ _ _ _ _ (λ left. told-alone help_text Done _ left _ _ _ c.requires.blank (c.tell.ensures.closes which)) (λ left. may-tell help_text _ _ _ _ left (c.tell.ensures.closes which)))
+    rw is (promised-none _ _ _ _ _ _ _ (λ left. told-alone help_text Done _ left _ _ _ c.requires.blank (c.tell.ensures.closes.closes which)) (λ left. may-tell help_text _ _ _ _ left (c.tell.ensures.closes.closes which)))
 
 pub returns-in-Ok-Version-clause-given : goal.returns-in-Ok-Version-clause-given
 unfolding version_text
 returns-in-Ok-Version-clause-given g c = λ which.
     let is = rw c.in-Ok-Version.field-0-is at c.in-Ok-Version.ensures.asked in
-    rw is (promised-none _ _ _ _ _ _ _ (λ left. told-alone version_text Done _ left _ _ _ c.requires.blank (c.tell-in-Ok-Version.ensures.closes which)) (λ left. may-tell version_text _ _ _ _ left (c.tell-in-Ok-Version.ensures.closes which)))
+    rw is (promised-none _ _ _ _ _ _ _ (λ left. told-alone version_text Done _ left _ _ _ c.requires.blank (c.tell-in-Ok-Version.ensures.closes.closes which)) (λ left. may-tell version_text _ _ _ _ left (c.tell-in-Ok-Version.ensures.closes.closes which)))
 
 pub returns-in-Err-Memory-clause-given : goal.returns-in-Err-Memory-clause-given
 returns-in-Err-Memory-clause-given g c = λ which. promised-none _ _ _ _ _ _ _ (λ left. memory-carried _ _ left _ _ c.requires.blank) (λ left. tt)
 
-pub returns-in-Ok-Script-clause-given : goal.returns-in-Ok-Script-clause-given
-returns-in-Ok-Script-clause-given g c = λ which.
-    let is = rw c.in-Ok-Script.field-0-is at c.in-Ok-Script.ensures.asked in
-    rw is (c.run_family.ensures.given which)
-
 pub returns-in-Err-Usage-clause-given : goal.returns-in-Err-Usage-clause-given
 returns-in-Err-Usage-clause-given g c = λ which.
     let is = c.in-Err-Usage.ensures.usage (ap Err c.in-Err-Usage.field-0-is) in
-    rw is (promised-none _ _ _ _ _ _ _ (λ left. told-alone usage_line Usage _ left _ _ _ c.requires.blank (c.tell-in-Err-Usage.ensures.closes which)) (λ left. may-usage usage_line _ _ _ left (c.tell-in-Err-Usage.ensures.closes which)))
-
-pub returns-in-Ok-Script-clause-in_time : goal.returns-in-Ok-Script-clause-in_time
-returns-in-Ok-Script-clause-in_time g c =
-    let is = rw c.in-Ok-Script.field-0-is at c.in-Ok-Script.ensures.asked in
-    rw is c.run_family.ensures.in_time
+    rw is (promised-none _ _ _ _ _ _ _ (λ left. told-alone usage_line Usage _ left _ _ _ c.requires.blank (c.tell-in-Err-Usage.ensures.closes.closes which)) (λ left. may-usage usage_line _ _ _ left (c.tell-in-Err-Usage.ensures.closes.closes which)))
 
 pub returns-in-Ok-Help-clause-in_time : goal.returns-in-Ok-Help-clause-in_time
 returns-in-Ok-Help-clause-in_time g c =

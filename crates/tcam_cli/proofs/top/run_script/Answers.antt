@@ -13,9 +13,11 @@ pub acts-init : goal.acts-init
 acts-init g c = record {
   setting = refl;
   slot_count = refl;
-  idle = c.requires.idle;
-  commits = let none : c.args.run.now.commits ≡ 0 = ap (λ (p : Progress). p.commits) c.requires.begun in omega (arith, none);
-  within = let none = ap (λ (h : Held). h.before) c.new-lines.ensures in omega (arith, none);
+  stands = record {
+    idle = c.requires.idle;
+    commits = let none : c.args.run.now.commits ≡ 0 = ap (λ (p : Progress). p.commits) c.requires.begun in omega (arith, none);
+    within = let none = ap (λ (h : Held). h.before) c.new-lines.ensures in omega (arith, none);
+  };
   gives = ([], gives-none _ _, λ e. absurd e, λ which left now may. stands-first _ _ _ _ _ _ _ _ _ (starts _ _ left _ now _ _ _ c.new-lines.ensures (ap Some may.bytes) c.requires.begun c.requires.blank), in-time-none _ _ _ _ _);
   told = λ some. some;
   reads = refl;
@@ -29,10 +31,8 @@ acts-preserved g c =
     let t = c.in-None.ensures in
     record {
       setting = t.setting ∙ i.setting;
-      slot_count = t.slot_count ∙ i.slot_count;
-      idle = t.idle;
-      commits = t.commits;
-      within = t.within;
+      slot_count = t.leaves.slot_count ∙ i.slot_count;
+      stands = t.goes.1;
       gives = (
         i.gives.0 ++ t.gives.0,
         gives-trans _ _ _ _ _ _ i.gives.0 t.gives.0 i.gives.1 t.gives.1 (λ e. (t.gives.2 true).rests (no-more _ (i.gives.2 e))) (λ e. (t.rests (no-more _ (i.gives.2 e))).0),
@@ -48,10 +48,10 @@ acts-preserved g c =
             turn-in-time (setting_of c.args.run.now) (g.D.Writable.slot_count c.args.device.now) i.gives.0 t.gives.0 c.acts.lines (progress_of (g.D.Writable.slot_count c.args.device.now) c.acts.run) (g.D.Writable.journal c.acts.device) _ _ _ _ (λ left now may. (i.gives.3 false left now may).so_far) stays turn.rests turn.last
             (turn.grows (concat (i.gives.0 ++ t.gives.0)) (concat t.gives.0 ++ []) [] (Some (g.K.Sink.accepted c.args.sink.now)) (may-second _ [] i.gives.0 t.gives.0 may) (rw (i.setting, i.slot_count) s.so_far)) i.gives.4,
       );
-      told = λ some. t.told (i.told some);
+      told = λ some. t.leaves.told (i.told some);
       reads = t.read.stayed (λ e. cc) ∙ i.reads;
-      writes = t.write.stayed (λ e. cc) ∙ i.writes;
-      makes = t.device.stayed (λ e. cc) ∙ i.makes;
+      writes = t.leaves.sink_cause.stayed (λ e. cc) ∙ i.writes;
+      makes = t.leaves.device_cause.stayed (λ e. cc) ∙ i.makes;
     }
 
 pub returns-in-Some-clause-carried_out : goal.returns-in-Some-clause-carried_out
@@ -85,8 +85,8 @@ returns-in-Some-clause-causes g c =
     let all = gives-trans _ _ _ _ _ _ i.gives.0 t.gives.0 i.gives.1 t.gives.1 stays (λ e. (t.rests (no-more _ (i.gives.2 e))).0) in
     record {
       read = counted-last (g.S.Source.faults c.args.source.now) (g.S.Source.faults c.acts.source) (g.S.Source.faults c.turn.new.source) c.in-Some.status _ i.reads t.read;
-      write = counted-last (g.K.Sink.faults c.args.sink.now) (g.K.Sink.faults c.acts.sink) (g.K.Sink.faults c.turn.new.sink) c.in-Some.status _ i.writes t.write;
-      device = counted-last (g.D.Writable.faults c.args.device.now) (g.D.Writable.faults c.acts.device) (g.D.Writable.faults c.turn.new.device) c.in-Some.status _ i.makes t.device;
+      write = counted-last (g.K.Sink.faults c.args.sink.now) (g.K.Sink.faults c.acts.sink) (g.K.Sink.faults c.turn.new.sink) c.in-Some.status _ i.writes t.leaves.sink_cause;
+      device = counted-last (g.D.Writable.faults c.args.device.now) (g.D.Writable.faults c.acts.device) (g.D.Writable.faults c.turn.new.device) c.in-Some.status _ i.makes t.leaves.device_cause;
       ends = may-end (setting_of c.args.run.now) (g.D.Writable.slot_count c.args.device.now) c.in-Some.status (g.S.Source.left c.args.source.now) (g.S.Source.left c.turn.new.source) (g.D.Writable.journal c.turn.new.device) (g.K.Sink.taken c.args.sink.now) (g.K.Sink.taken c.turn.new.sink)
           (concat (i.gives.0 ++ t.gives.0), all.taken) (λ e. t.no_usage (ap Some e)) (ends-told _ _ c.in-Some.status _ _ _ _ (i.gives.0 ++ t.gives.0) _ _ _ all (λ left taken now may parts.
           let s = i.gives.3 true left (concat t.gives.0 ++ now) (may-first left now i.gives.0 t.gives.0 may stays) in
@@ -99,7 +99,7 @@ returns-in-Some-clause-told g c =
     let i = c.acts.invariant in
     let t = c.in-Some.ensures in (
       λ some. told-source _ _ (concat t.gives.0, t.gives.1.taken) (told-source _ _ (concat i.gives.0, i.gives.1.taken) some),
-      λ some. t.told (i.told some),
+      λ some. t.leaves.told (i.told some),
     )
 
 -- the last turn too comes in time

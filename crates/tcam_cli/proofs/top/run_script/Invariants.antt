@@ -1,7 +1,8 @@
-use Rattle.std.proofs.Common.{◌≡◌, ◌≤◌, ◌*◌, ◌-◌, ℕ, Bool, List, None, IsSome}
+use Rattle.std.proofs.Common.{◌≡◌, ◌-◌, ℕ, Bool, List, IsSome}
 use Rattle.script_lines.specs.Given.{HasEnd, MayGive, GivesPieces, counted}
 use Rattle.script_lines.specs.declared.Over.TheVariants as over
 use Rattle.replay.specs.Running.{progress_of, setting_of}
+use Rattle.tcam_cli.specs.Turns.{IsBetweenLines}
 use Rattle.tcam_cli.proofs.InTime.{InTime, StandsAt}
 use Rattle.tcam_cli.proofs.top.run_script.Given as goal
 
@@ -9,9 +10,7 @@ abbrev pub invariant-acts : goal.invariant-acts
 invariant-acts g l = record {
   setting : setting_of l.run ≡ setting_of l.fn.run;
   slot_count : g.D.Writable.slot_count l.device ≡ g.D.Writable.slot_count l.fn.device;
-  idle : l.run.manager.held ≡ None;
-  commits : 5 * l.run.commits ≤ l.lines.before;
-  within : l.lines.before ≤ 16777216;
+  stands : IsBetweenLines l.lines l.run;
   gives : (pieces : List (List ℕ)) × GivesPieces (g.S.Source.given l.fn.source) (g.S.Source.given l.source) (g.S.Source.left l.fn.source) (g.S.Source.left l.source) pieces
       × (HasEnd pieces → l.lines.over ≡ over.Ended)
       × ((which : Bool) (left now : List ℕ) → MayGive left pieces now

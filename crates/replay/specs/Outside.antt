@@ -1,0 +1,46 @@
+-- What a call hands to a sink, and what it leaves of a sink and a device.
+use Rattle.std.specs.Prelude.{◌≡◌, ℕ, ◌++◌, ◌∷◌, Bool, Option, IsSome, Result, OnOk, OnErr, List}
+use Rattle.std.specs.Io.KnownBytes.{Appends}
+use Rattle.script_lines.specs.Given.{counted}
+use Rattle.call_history.specs.Cause.{HasCause, IsCounted}
+use Rattle.replay.specs.Run.{Effect, Prints, printed}
+
+-- What a call hands to a sink: one thing where it succeeds and another where it fails, by either count of the sink's
+-- bytes. What was told stays told, and the sink's failures are counted.
+pub record Hands {S T E : Type 0} (taken : S → Option (List ℕ)) (accepted : S → List ℕ) (faults : S → ℕ) (old new : S) (Whole Part : Option (List ℕ) → Option (List ℕ) → Type 0) (result : Result T E) : Type 0 where
+  pub whole : (which : Bool) → OnOk result (Whole (counted which (taken old) (accepted old)) (counted which (taken new) (accepted new)))
+  pub part : (which : Bool) → OnErr result (Part (counted which (taken old) (accepted old)) (counted which (taken new) (accepted new)))
+  pub told : IsSome (taken old) → IsSome (taken new)
+  pub cause : HasCause (faults old) (faults new) result
+
+-- a part of a line came about, perhaps nothing or all of it
+abbrev pub AppendsPart : Option (List ℕ) → Option (List ℕ) → List ℕ → Type 0
+AppendsPart taken_old taken_new line =
+    (partial : List ℕ) × (rest : List ℕ) × (line ≡ partial ++ rest) × Appends taken_old taken_new partial
+
+-- one line, or a part of it
+abbrev pub WritesLine : {S T E : Type 0} → (S → Option (List ℕ)) → (S → List ℕ) → (S → ℕ) → S → S → List ℕ → Result T E → Type 0
+WritesLine taken accepted faults old new line result =
+    Hands taken accepted faults old new (λ before after. Appends before after line) (λ before after. AppendsPart before after line) result
+
+-- some lines came about up to one that the sink didn't take whole
+pub record CutsLines (lines : List Effect) (taken_old taken_new : Option (List ℕ)) : Type 0 where
+  pub front : List Effect
+  pub partial : List ℕ
+  pub rest : List ℕ
+  pub back : List Effect
+  pub cut : lines ≡ front ++ Prints (partial ++ rest) ∷ back
+  pub grown : Appends taken_old taken_new (printed front ++ partial)
+
+-- some lines one after the other, or those before one that is cut, and a part of that
+abbrev pub WritesLines : {S T E : Type 0} → (S → Option (List ℕ)) → (S → List ℕ) → (S → ℕ) → S → S → List Effect → Result T E → Type 0
+WritesLines taken accepted faults old new lines result =
+    Hands taken accepted faults old new (λ before after. Appends before after (printed lines)) (CutsLines lines) result
+
+-- What a call leaves of a sink and a device, whatever comes of it: what was told stays told, and the slots stay. This
+-- failure has this cause: a count of failures rises, by one, exactly where the call ended by that failure.
+pub record Leaves {S D : Type 0} (taken : S → Option (List ℕ)) (sink_faults : S → ℕ) (sink_old sink_new : S) (slots device_faults : D → ℕ) (device_old device_new : D) (SinkFailed DeviceFailed : Type 0) : Type 0 where
+  pub told : IsSome (taken sink_old) → IsSome (taken sink_new)
+  pub slot_count : slots device_new ≡ slots device_old
+  pub sink_cause : IsCounted SinkFailed (sink_faults sink_old) (sink_faults sink_new)
+  pub device_cause : IsCounted DeviceFailed (device_faults device_old) (device_faults device_new)
