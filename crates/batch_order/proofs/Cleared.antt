@@ -13,7 +13,7 @@ use Rattle.overlap_index.proofs.Above.{above_is, is_above_from}
 use Rattle.overlap_index.proofs.Live.{apart_filter}
 use Rattle.move_planner.specs.Insertion.{free_slots}
 use Rattle.move_planner.proofs.Shifted.{free_erase}
-use Rattle.commit_writes.specs.PlannedBatch.{home, erased_live, erased_slots}
+use Rattle.commit_writes.specs.PlannedBatch.{home_slot, erased_live, erased_slots}
 use Rattle.batch_order.specs.Entries.{Entries}
 use Rattle.batch_order.specs.Planning.{IsSettled}
 use Rattle.batch_order.specs.Planning.{IsStanding}
@@ -42,7 +42,7 @@ above_with live id a b now =
 
 -- a live id is erased where it stands
 settled_without : (kept : Entries) (slots : Slots) (id : ℕ) → IsSettled kept slots → is_live kept.live id ≡ true
-    → IsSettled (record kept { live = without_id kept.live id }) (set slots (home slots id) None)
+    → IsSettled (record kept { live = without_id kept.live id }) (set slots (home_slot slots id) None)
 settled_without kept slots id settled now = record {
   size = length-set slots at None ∙ settled.size;
   few = settled.few;
@@ -73,7 +73,7 @@ settled_without kept slots id settled now = record {
 }
   where
     at : ℕ
-    at = home slots id
+    at = home_slot slots id
 
     there : slot slots at ≡ Some id
     there = let stands = settled.standing.placed id now in ap (slot slots) (home_is slots id stands.0 settled.standing.once stands.1) ∙ stands.1
@@ -102,7 +102,7 @@ pub settled_erased : (kept : Entries) (slots : Slots) (ids : List ℕ) → IsSet
 unfolding IsDistinct
 settled_erased kept slots [] settled once all = settled
 settled_erased kept slots (id ∷ ids) settled once all =
-    settled_erased (record kept { live = without_id kept.live id }) (set slots (home slots id) None) ids (settled_without kept slots id settled all.0) once.1 (others_live kept.live id ids once.0 all.1)
+    settled_erased (record kept { live = without_id kept.live id }) (set slots (home_slot slots id) None) ids (settled_without kept slots id settled all.0) once.1 (others_live kept.live id ids once.0 all.1)
 
 -- each of some live ids stands
 pub all_stand : (kept : Entries) (slots : Slots) (ids : List ℕ) → IsSettled kept slots → AllByRecursion (λ id. IsTrue (is_live kept.live id)) ids → AllByRecursion (IsStanding slots) ids

@@ -24,7 +24,7 @@ use Rattle.rule_store.specs.Verdict.{entries_of}
 use Rattle.ternary_word.specs.Entry.{RankedPiece}
 use Rattle.commit_writes.specs.Bits.{no_bits}
 use Rattle.commit_writes.specs.Shape.{set_pieces}
-use Rattle.commit_writes.specs.Planned.{Entries, AreEntriesOf}
+use Rattle.commit_writes.specs.Planned.{IdEntries, AreEntriesOf}
 use Rattle.commit_writes.specs.PlannedBatch.{IsIdOf}
 use Rattle.commit_writes.proofs.PieceCounts.{entries_pieces}
 use Rattle.commit_writes.proofs.SetPieces.{AreOnce, pieces_once}
@@ -98,7 +98,7 @@ some_ids live (ranked ∷ pieces) has =
     (first.0 ∷ rest.0, (first.1, rest.1))
 
 -- pieces that differ have as many live ids as there are pieces
-pub as_many : (pieces : List RankedPiece) (slots : ℕ) (live : List LivePiece) (entries : Entries) → AreOnce pieces → AreApart slots live → AreEntriesOf pieces live entries → length live ≡ length pieces
+pub as_many : (pieces : List RankedPiece) (slots : ℕ) (live : List LivePiece) (entries : IdEntries) → AreOnce pieces → AreApart slots live → AreEntriesOf pieces live entries → length live ≡ length pieces
 as_many pieces slots live entries once apart are =
     sym (length-map live (λ (one : LivePiece). one.id))
     ∙ (same_length (map (λ (one : LivePiece). one.id) live) own.0 apart.once (ids_apart slots live pieces own.0 apart once own.1) to from

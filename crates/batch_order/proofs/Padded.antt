@@ -23,7 +23,7 @@ use Rattle.tcam_device.specs.declared.Write.TheVariants.{Slot}
 use Rattle.tcam_device.specs.State.{State}
 use Rattle.commit_writes.specs.Bits.{no_bits}
 use Rattle.commit_writes.specs.Shape.{inserted_pieces, rewritten_pieces}
-use Rattle.commit_writes.specs.Planned.{Entries, Planned, ArePlanned, ranked_of, planned_writes, write_for}
+use Rattle.commit_writes.specs.Planned.{IdEntries, Planned, ArePlanned, ranked_of, planned_writes, write_for}
 use Rattle.commit_writes.specs.PlannedBatch.{IsIdOf, IsRewriteOf}
 use Rattle.batch_order.specs.declared.Placement.{Placement}
 use Rattle.batch_order.specs.Placing.{IsPlacedBy}
@@ -63,7 +63,7 @@ one-move above id slots moves (uncross behind before cut crossed sides best pass
     no-crossing (Some upper) is = no-upper above id slots upper empty is
     no-crossing None is = let start : gap_start above slots id ≡ 0 = ap next_slot is in omega (arith, crossed, start)
 
-one-insertion : (entries : Entries) (live : List LivePiece) (slots : Slots) (planned : List Planned) → length planned ≡ 1 → ArePlanned live slots planned → IsEmpty slots → length (planned_writes entries planned) ≡ 1
+one-insertion : (entries : IdEntries) (live : List LivePiece) (slots : Slots) (planned : List Planned) → length planned ≡ 1 → ArePlanned live slots planned → IsEmpty slots → length (planned_writes entries planned) ≡ 1
 one-insertion entries live slots [] count are empty = absurd (cc)
 one-insertion entries live slots (insertion ∷ []) count are empty =
     ap length (append-nil (map (write_for entries) insertion.moves)) ∙ (length-map insertion.moves (write_for entries) ∙ one-move _ insertion.one.id slots insertion.moves are.1 empty)

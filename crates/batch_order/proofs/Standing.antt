@@ -10,7 +10,7 @@ use Rattle.slot_pool.specs.Arrangement.{Slots, home_of, passes}
 use Rattle.slot_pool.proofs.Places.{find_range_none, first_slot_is}
 use Rattle.overlap_index.proofs.Live.{all_apart}
 use Rattle.tcam_device.specs.declared.Write.{Write}
-use Rattle.commit_writes.specs.PlannedBatch.{home, erased_slots}
+use Rattle.commit_writes.specs.PlannedBatch.{home_slot, erased_slots}
 use Rattle.batch_order.specs.Planning.{IsStanding}
 use Rattle.batch_order.proofs.Walked.{map_next}
 
@@ -18,7 +18,7 @@ use Rattle.batch_order.proofs.Walked.{map_next}
 pub home_inside : (slots : Slots) (id at : ℕ) → home_of slots id ≡ Some at → at < length slots
 home_inside slots id at is = let inside : at < 0 + length slots = (first_slot_is (λ held. held == id) slots at is).inside in omega arith
 
-pub home_is : (slots : Slots) (id at : ℕ) → home_of slots id ≡ Some at → home slots id ≡ at
+pub home_is : (slots : Slots) (id at : ℕ) → home_of slots id ≡ Some at → home_slot slots id ≡ at
 home_is slots id at is = ap (λ found. unwrap_or found 0) is
 
 -- there it stands
@@ -50,7 +50,7 @@ has_home slots id stands = go (home_of slots id) refl stands
     go None e some = absurd (cc)
 
 -- with another id erased an id stands still
-still_one : (slots : Slots) (other id : ℕ) → IsStanding slots other → (other ≡ id → ⊥) → IsStanding slots id → IsStanding (set slots (home slots other) None) id
+still_one : (slots : Slots) (other id : ℕ) → IsStanding slots other → (other ≡ id → ⊥) → IsStanding slots id → IsStanding (set slots (home_slot slots other) None) id
 still_one slots other id other_stands apart stands =
     let (at, is) = has_home slots id stands in
     let (erased, was) = has_home slots other other_stands in
@@ -68,17 +68,17 @@ pub stands_still : (slots : Slots) (ids : List ℕ) (id : ℕ) → AllByRecursio
 unfolding IsDistinct
 stands_still slots [] id all apart out stands = stands
 stands_still slots (other ∷ ids) id all apart out stands =
-    stands_still (set slots (home slots other) None) ids id (each ids all.1 (λ one member same. all_apart other ids apart.0 (subst (Contains ids) (sym same) member))) apart.1
+    stands_still (set slots (home_slot slots other) None) ids id (each ids all.1 (λ one member same. all_apart other ids apart.0 (subst (Contains ids) (sym same) member))) apart.1
     (λ member. out (contains_tail other id ids member)) (still_one slots other id all.0 (λ same. out (subst (Contains (other ∷ ids)) same (contains_head other ids))) stands)
   where
-    each : (some : List ℕ) → AllByRecursion (IsStanding slots) some → ((one : ℕ) → Contains some one → other ≡ one → ⊥) → AllByRecursion (IsStanding (set slots (home slots other) None)) some
+    each : (some : List ℕ) → AllByRecursion (IsStanding slots) some → ((one : ℕ) → Contains some one → other ≡ one → ⊥) → AllByRecursion (IsStanding (set slots (home_slot slots other) None)) some
     each [] standing differs = tt
     each (one ∷ some) standing differs =
         (still_one slots other one all.0 (differs one (contains_head one some)) standing.0, each some standing.1 (λ last member. differs last (contains_tail one last some member)))
 
 -- one more is erased
-pub erased_next : (slots : Slots) (ids : List ℕ) (id : ℕ) → erased_slots slots (ids ++ id ∷ []) ≡ set (erased_slots slots ids) (home (erased_slots slots ids) id) None
-erased_next slots ids id = fold-append (λ now other. set now (home now other) None) slots ids (id ∷ [])
+pub erased_next : (slots : Slots) (ids : List ℕ) (id : ℕ) → erased_slots slots (ids ++ id ∷ []) ≡ set (erased_slots slots ids) (home_slot (erased_slots slots ids) id) None
+erased_next slots ids id = fold-append (λ now other. set now (home_slot now other) None) slots ids (id ∷ [])
 
 -- the writes of the first items, and one more
 pub write_next : {A : Type 0} (f : A → Write) (xs : List A) (place : ℕ) (x : A) (write : Write) (before now now' : List Write) → place < length xs → get_or xs place x ≡ x → f x ≡ write

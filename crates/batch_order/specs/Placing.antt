@@ -15,7 +15,7 @@ use Rattle.tcam_device.specs.State.{State}
 use Rattle.commit_writes.specs.declared.Rewrite.{Rewrite}
 use Rattle.commit_writes.specs.Bits.{no_bits}
 use Rattle.commit_writes.specs.Shape.{inserted_pieces}
-use Rattle.commit_writes.specs.Planned.{Entries, Planned, contents, plain_state}
+use Rattle.commit_writes.specs.Planned.{IdEntries, Planned, contents, plain_state}
 use Rattle.commit_writes.specs.PlannedBatch.{IsPlannedBatch, batch_writes}
 use Rattle.batch_order.specs.declared.Placement.{Placement}
 use Rattle.batch_order.specs.declared.Placement.TheVariants.{Middle, Rank}
@@ -52,7 +52,7 @@ aims_of placement slots rules inserted =
 pub record IsPlacedBy (placement : Placement) (rules : List Rule) (batch : List Command) (state : State) (made : List Write) : Type 0 where
   pub live : List LivePiece
   pub arrangement : Slots
-  pub entries : Entries
+  pub entries : IdEntries
   pub planned : List Planned
   pub rewrites : List Rewrite
   pub erased : List ℕ

@@ -16,7 +16,7 @@ use crate::aims::aim_of;
 use crate::entries::LiveEntries;
 use crate::pieces::Ranked;
 use crate::plan::Plan;
-use move_planner::{Aim, Move, Plan as Moves, plan_insert};
+use move_planner::{Aim, Move, Moves, plan_insert};
 use rule_store::{Mode, Store};
 use slot_pool::Arrangement;
 use std::alloc::{AllocError, Global};

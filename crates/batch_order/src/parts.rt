@@ -85,11 +85,7 @@ fn rewrite_of(live: &LiveEntries, ranked: &Ranked) -> Rewrite
 }
 
 /// The ids of some pieces, in their order.
-fn ids_of(
-    alloc: Global,
-    live: &LiveEntries,
-    pieces: &[Ranked],
-) -> Result<Vec<u32>, AllocError>
+fn ids_of(alloc: Global, live: &LiveEntries, pieces: &[Ranked]) -> Result<Vec<u32>, AllocError>
     requires live { HaveIds live.now.live pieces.now }
     ensures { IfOk result (λ ids. AllZip (IsIdOf live.now.live) pieces.now ids.items) }
 {

@@ -133,11 +133,7 @@ fn plan_rewrites(
 }
 
 /// The erase of each id where it stands.
-fn plan_erases(
-    ids: &[u32],
-    arrangement: &Arrangement,
-    plan: &mut Plan,
-) -> Result<(), AllocError>
+fn plan_erases(ids: &[u32], arrangement: &Arrangement, plan: &mut Plan) -> Result<(), AllocError>
     requires standing { AllByRecursion (IsStanding arrangement.now) ids.now }
     requires in_use { AllByRecursion (IsInUse (length arrangement.now)) plan.old.writes.items }
     ensures writes { OnOk result (plan.new.writes.items ≡ plan.old.writes.items ++ map (erase_write arrangement.now) ids.now) }

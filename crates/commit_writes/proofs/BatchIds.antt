@@ -6,7 +6,7 @@ use Rattle.overlap_index.specs.declared.LivePiece.{LivePiece}
 use Rattle.overlap_index.proofs.Above.{piece_in, piece_is, live_is}
 use Rattle.move_planner.specs.Insertion.{IsLive}
 use Rattle.commit_writes.specs.declared.Rewrite.{Rewrite}
-use Rattle.commit_writes.specs.Planned.{Entries, entry_at}
+use Rattle.commit_writes.specs.Planned.{IdEntries, entry_at}
 use Rattle.commit_writes.specs.PlannedBatch.{rewritten_entries, IsRewriteOf}
 use Rattle.commit_writes.proofs.Bridge.{HaveEntries}
 use Rattle.commit_writes.proofs.Ids.{AreOfPieces, piece_by, whole_is}
@@ -14,12 +14,12 @@ use Rattle.commit_writes.proofs.Mirror.{entry_by}
 use Rattle.commit_writes.proofs.Rewrites.{rewritten_at}
 
 -- live pieces of one id are one
-pub one_live : (pieces : List RankedPiece) (all : List LivePiece) (held : Entries) (a b : LivePiece) → AreOfPieces pieces all held → Contains all a → Contains all b → a.id ≡ b.id → a ≡ b
+pub one_live : (pieces : List RankedPiece) (all : List LivePiece) (held : IdEntries) (a b : LivePiece) → AreOfPieces pieces all held → Contains all a → Contains all b → a.id ≡ b.id → a ≡ b
 one_live pieces all held a b of in_a in_b same = sym (piece_is a all a of.ids in_a) ∙ (ap (piece_in a all) same ∙ piece_is a all b of.ids in_b)
 
 -- What a live piece shows while results change: what it was at first, or the same piece with its new result, where it has
 -- that already.
-pub record IsTold (pieces changed : List RankedPiece) (all : List LivePiece) (held : Entries) (rewrites : List Rewrite) (one : LivePiece) : Type 0 where
+pub record IsTold (pieces changed : List RankedPiece) (all : List LivePiece) (held : IdEntries) (rewrites : List Rewrite) (one : LivePiece) : Type 0 where
   pub was : RankedPiece
   pub member : Contains pieces was
   pub was_piece : was.piece ≡ one.piece
@@ -36,7 +36,7 @@ pub record IsTold (pieces changed : List RankedPiece) (all : List LivePiece) (he
 abbrev pub AreRewrites : List RankedPiece → List LivePiece → List Rewrite → Type 0
 AreRewrites changed live rewrites = (rewrite : Rewrite) → Contains rewrites rewrite → (ranked : RankedPiece) × Contains changed ranked × IsRewriteOf live ranked rewrite
 
-pub told : (pieces changed : List RankedPiece) (live all : List LivePiece) (held : Entries) (rewrites : List Rewrite) (one : LivePiece) → AreOfPieces pieces all held
+pub told : (pieces changed : List RankedPiece) (live all : List LivePiece) (held : IdEntries) (rewrites : List Rewrite) (one : LivePiece) → AreOfPieces pieces all held
     → ((other : LivePiece) → Contains live other → Contains all other) → AreRewrites changed live rewrites → Contains all one
     → IsTold pieces changed all (rewritten_entries held rewrites) rewrites one
 told pieces changed live all held rewrites one of up are member = elim (rewritten_at held rewrites one.id (slot_inside held one.id (entry_for own.0) own.4)) [
@@ -81,7 +81,7 @@ told pieces changed live all held rewrites one of up are member = elim (rewritte
         }
 
 -- each live id has the entry of what it shows
-pub told_have : (pieces changed : List RankedPiece) (all : List LivePiece) (held : Entries) (rewrites : List Rewrite)
+pub told_have : (pieces changed : List RankedPiece) (all : List LivePiece) (held : IdEntries) (rewrites : List Rewrite)
     → ((one : LivePiece) → Contains all one → IsTold pieces changed all held rewrites one) → HaveEntries held (piece_by all held) (IsLive all)
 told_have pieces changed all held rewrites each id is =
     let w = live_is all id is in let t = each w.0 w.1 in

@@ -28,7 +28,7 @@ use Rattle.tcam_device.proofs.Spans.{state_after-append}
 use Rattle.commit_writes.specs.declared.Rewrite.{Rewrite}
 use Rattle.commit_writes.specs.Bits.{no_bits}
 use Rattle.commit_writes.specs.Shape.{set_pieces, inserted_pieces, rewritten_pieces, erased_pieces}
-use Rattle.commit_writes.specs.Planned.{Entries, Planned, contents, plain_state, live_after, slots_after, planned_writes}
+use Rattle.commit_writes.specs.Planned.{IdEntries, Planned, contents, plain_state, live_after, slots_after, planned_writes}
 use Rattle.commit_writes.specs.PlannedBatch.{rewrite_write, erase_write, rewritten_entries, erased_slots, erased_live, IsIdOf, IsPlannedBatch}
 use Rattle.commit_writes.proofs.Bridge.{HaveEntries}
 use Rattle.commit_writes.proofs.BatchIds.{IsTold, AreRewrites, one_live, told, told_have}
@@ -45,11 +45,11 @@ use Rattle.commit_writes.proofs.Row.{AreReadable, AreDone, live_up}
 use Rattle.commit_writes.proofs.Start.{contents_are, commit_piece, commit_readable, commit_done}
 
 -- what some ids show
-abbrev pub shown_pieces : List LivePiece → Entries → List LivePiece → List RankedPiece
+abbrev pub shown_pieces : List LivePiece → IdEntries → List LivePiece → List RankedPiece
 shown_pieces all held live = map (λ one. piece_by all held one.id) live
 
 -- as members they are the pieces of those ids
-shown_are : (all : List LivePiece) (held : Entries) (live : List LivePiece) (ranked : RankedPiece) → Pieces (piece_by all held) (IsLive live) ranked ↔ Contains (shown_pieces all held live) ranked
+shown_are : (all : List LivePiece) (held : IdEntries) (live : List LivePiece) (ranked : RankedPiece) → Pieces (piece_by all held) (IsLive live) ranked ↔ Contains (shown_pieces all held live) ranked
 shown_are all held live ranked = (
   λ m. let w = live_is live m.0 m.1 in
       subst (Contains (shown_pieces all held live)) (ap (piece_by all held) w.2 ∙ m.2) (map_in (λ one. piece_by all held one.id) live w.0 w.1),
@@ -57,7 +57,7 @@ shown_are all held live ranked = (
 )
 
 -- the entries after the first of the new results
-abbrev pub told_entries : Entries → List Rewrite → ℕ → Entries
+abbrev pub told_entries : IdEntries → List Rewrite → ℕ → IdEntries
 told_entries entries rewrites told = rewritten_entries entries (take told rewrites)
 
 -- the live ids after the first of the erases
@@ -65,15 +65,15 @@ abbrev pub live_then : List LivePiece → List Planned → List ℕ → ℕ → 
 live_then live planned erased gone = erased_live (live_after live planned) (take gone erased)
 
 -- the pieces that stand after the insertions, the first of the new results and the first of the erases
-abbrev pub late_pieces : List LivePiece → Entries → List Planned → List Rewrite → List ℕ → ℕ → ℕ → List RankedPiece
+abbrev pub late_pieces : List LivePiece → IdEntries → List Planned → List Rewrite → List ℕ → ℕ → ℕ → List RankedPiece
 late_pieces live entries planned rewrites erased told gone = shown_pieces (live_after live planned) (told_entries entries rewrites told) (live_then live planned erased gone)
 
 -- the state then, and the writes that lead to it
-abbrev pub late_state : Slots → Entries → List Planned → List Rewrite → List ℕ → ℕ → ℕ → State
+abbrev pub late_state : Slots → IdEntries → List Planned → List Rewrite → List ℕ → ℕ → ℕ → State
 late_state slots entries planned rewrites erased told gone =
     plain_state (contents (told_entries entries rewrites told) (erased_slots (slots_after slots planned) (take gone erased)))
 
-abbrev pub late_writes : Slots → Entries → List Planned → List Rewrite → List ℕ → ℕ → ℕ → List Write
+abbrev pub late_writes : Slots → IdEntries → List Planned → List Rewrite → List ℕ → ℕ → ℕ → List Write
 late_writes slots entries planned rewrites erased told gone =
     planned_writes entries planned
     ++ (map (rewrite_write (slots_after slots planned)) (take told rewrites) ++ map (erase_write (slots_after slots planned)) (take gone erased))
@@ -92,11 +92,11 @@ apart_ids (id ∷ ids) apart = (
 )
 
 -- what stands then
-record IsLate (all : List LivePiece) (held : Entries) (live : List LivePiece) (slots : Slots) : Type 0 where
+record IsLate (all : List LivePiece) (held : IdEntries) (live : List LivePiece) (slots : Slots) : Type 0 where
   ordered : IsOrdered (plain_state (contents held slots)) (Contains (shown_pieces all held live))
   once : StandsOnce (plain_state (contents held slots)) (Contains (shown_pieces all held live))
 
-late : (all : List LivePiece) (held : Entries) (live : List LivePiece) (slots : Slots) → MatchApart (piece_by all held) (IsLive all) → HaveEntries held (piece_by all held) (IsLive all)
+late : (all : List LivePiece) (held : IdEntries) (live : List LivePiece) (slots : Slots) → MatchApart (piece_by all held) (IsLive all) → HaveEntries held (piece_by all held) (IsLive all)
     → ((id : ℕ) → IsLive live id → IsLive all id) → Ordered (over (piece_by all held)) (rank (piece_by all held)) (IsLive live) slots → AllOnce slots
     → IsLate all held live slots
 late all held live slots apart have up o once = record {
@@ -117,7 +117,7 @@ late all held live slots apart have up o once = record {
     ordered : IsOrdered state (Pieces (piece_by all held) (IsLive live))
     ordered = ordered_state (piece_by all held) (IsLive live) (IsLive all) slots state apart up same o
 
-module _ (rules : List Rule) (batch : List Command) (live : List LivePiece) (slots : Slots) (entries : Entries) (planned : List Planned) (rewrites : List Rewrite) (erased : List ℕ) (plan : IsPlannedBatch rules batch live slots entries planned rewrites erased) where
+module _ (rules : List Rule) (batch : List Command) (live : List LivePiece) (slots : Slots) (entries : IdEntries) (planned : List Planned) (rewrites : List Rewrite) (erased : List ℕ) (plan : IsPlannedBatch rules batch live slots entries planned rewrites erased) where
   abbrev old : List RankedPiece
   old = set_pieces Cover no_bits rules
 
@@ -221,7 +221,7 @@ module _ (rules : List Rule) (batch : List Command) (live : List LivePiece) (slo
       (told_have (row_pieces rules batch) rewritten all held (take told rewrites) (batch_told told))
       (live_up (live_then live planned erased gone) all (λ one member. (in_erased all (take gone erased) one member).0)) e.0 e.1
     where
-      held : Entries
+      held : IdEntries
       held = told_entries entries rewrites told
 
   -- the device is in order then,

@@ -9,7 +9,7 @@ use Rattle.overlap_index.specs.declared.LivePiece.{LivePiece}
 use Rattle.commit_writes.specs.declared.Rewrite.{Rewrite}
 use Rattle.commit_writes.specs.Bits.{no_bits}
 use Rattle.commit_writes.specs.Shape.{set_pieces, inserted_pieces}
-use Rattle.commit_writes.specs.Planned.{Entries, Planned, IsPlannedRow, live_after}
+use Rattle.commit_writes.specs.Planned.{IdEntries, Planned, IsPlannedRow, live_after}
 use Rattle.commit_writes.specs.PlannedBatch.{IsPlannedBatch}
 use Rattle.commit_writes.proofs.BatchPieces.{row_plain, row_once}
 use Rattle.commit_writes.proofs.BatchRules.{change_of}
@@ -17,7 +17,7 @@ use Rattle.commit_writes.proofs.Ids.{AreOfPieces}
 use Rattle.commit_writes.proofs.Members.{of_row}
 
 -- before them the set stands, and each piece that is new is one of them
-pub row_of : (rules : List Rule) (batch : List Command) (live : List LivePiece) (slots : Slots) (entries : Entries) (planned : List Planned) (rewrites : List Rewrite) (erased : List ℕ)
+pub row_of : (rules : List Rule) (batch : List Command) (live : List LivePiece) (slots : Slots) (entries : IdEntries) (planned : List Planned) (rewrites : List Rewrite) (erased : List ℕ)
     → IsPlannedBatch rules batch live slots entries planned rewrites erased
     → IsPlannedRow (set_pieces Cover no_bits rules) (inserted_pieces Cover no_bits rules batch) live slots entries planned
 row_of rules batch live slots entries planned rewrites erased plan = record {
@@ -35,7 +35,7 @@ abbrev pub row_pieces : List Rule → List Command → List RankedPiece
 row_pieces rules batch = set_pieces Cover no_bits rules ++ inserted_pieces Cover no_bits rules batch
 
 -- the ids after the insertions are theirs
-pub batch_of : (rules : List Rule) (batch : List Command) (live : List LivePiece) (slots : Slots) (entries : Entries) (planned : List Planned) (rewrites : List Rewrite) (erased : List ℕ)
+pub batch_of : (rules : List Rule) (batch : List Command) (live : List LivePiece) (slots : Slots) (entries : IdEntries) (planned : List Planned) (rewrites : List Rewrite) (erased : List ℕ)
     → IsPlannedBatch rules batch live slots entries planned rewrites erased → AreOfPieces (row_pieces rules batch) (live_after live planned) entries
 batch_of rules batch live slots entries planned rewrites erased plan =
     of_row (set_pieces Cover no_bits rules) (inserted_pieces Cover no_bits rules batch) live slots entries planned (row_of rules batch live slots entries planned rewrites erased plan)

@@ -14,7 +14,7 @@ use Rattle.rule_store.specs.Batch.{is_removal, batch_fault, commands_naming, rem
 use Rattle.rule_store.proofs.After.{set_after-set}
 use Rattle.rule_store.proofs.Members.{set_after-member}
 use Rattle.commit_writes.specs.declared.Rewrite.{Rewrite}
-use Rattle.commit_writes.specs.Planned.{Entries, Planned}
+use Rattle.commit_writes.specs.Planned.{IdEntries, Planned}
 use Rattle.commit_writes.specs.PlannedBatch.{ChangesRules, IsPlannedBatch}
 use Rattle.commit_writes.specs.Shape.{names}
 use Rattle.commit_writes.proofs.Filters.{all_members}
@@ -26,7 +26,7 @@ pub record IsSoundChange (rules : List Rule) (batch : List Command) : Type 0 whe
   pub changes : AllByRecursion ChangesRules batch
   pub sound : batch_fault rules batch ≡ None
 
-pub change_of : (rules : List Rule) (batch : List Command) (live : List LivePiece) (slots : Slots) (entries : Entries) (planned : List Planned) (rewrites : List Rewrite) (erased : List ℕ)
+pub change_of : (rules : List Rule) (batch : List Command) (live : List LivePiece) (slots : Slots) (entries : IdEntries) (planned : List Planned) (rewrites : List Rewrite) (erased : List ℕ)
     → IsPlannedBatch rules batch live slots entries planned rewrites erased → IsSoundChange rules batch
 change_of rules batch live slots entries planned rewrites erased plan = record { is_set = plan.is_set; right = plan.right; changes = plan.changes; sound = plan.sound }
 

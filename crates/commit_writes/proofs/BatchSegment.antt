@@ -22,8 +22,8 @@ use Rattle.commit_writes.specs.declared.Rewrite.{Rewrite}
 use Rattle.commit_writes.specs.Bits.{no_bits}
 use Rattle.commit_writes.specs.Shape.{set_pieces, inserted_pieces, rewritten_pieces, erased_pieces, HasCommitShape, Rewrites, Erases}
 use Rattle.commit_writes.specs.Commit.{AreCounts}
-use Rattle.commit_writes.specs.Planned.{Entries, Planned, IsPlannedRow, contents, plain_state, planned_writes, slots_after}
-use Rattle.commit_writes.specs.PlannedBatch.{home, rewrite_write, erase_write, batch_writes, IsIdOf, IsRewriteOf, IsPlannedBatch, AreNumbersOf}
+use Rattle.commit_writes.specs.Planned.{IdEntries, Planned, IsPlannedRow, contents, plain_state, planned_writes, slots_after}
+use Rattle.commit_writes.specs.PlannedBatch.{home_slot, rewrite_write, erase_write, batch_writes, IsIdOf, IsRewriteOf, IsPlannedBatch, AreNumbersOf}
 use Rattle.commit_writes.proofs.NoBits.{bit_writes-none}
 use Rattle.commit_writes.proofs.Counted.{no_words}
 use Rattle.commit_writes.proofs.Segment.{planned_whole, planned_pieces, planned_tight, planned_uncrossed, planned_longest, planned_span, planned_few}
@@ -39,7 +39,7 @@ zip_map R P g [] (y ∷ ys) each zip = absurd zip
 zip_map R P g (x ∷ xs) [] each zip = absurd zip
 zip_map R P g (x ∷ xs) (y ∷ ys) each zip = (each x y zip.0, zip_map R P g xs ys each zip.1)
 
-module _ (rules : List Rule) (batch : List Command) (live : List LivePiece) (slots : Slots) (entries : Entries) (planned : List Planned) (rewrites : List Rewrite) (erased : List ℕ) (plan : IsPlannedBatch rules batch live slots entries planned rewrites erased) where
+module _ (rules : List Rule) (batch : List Command) (live : List LivePiece) (slots : Slots) (entries : IdEntries) (planned : List Planned) (rewrites : List Rewrite) (erased : List ℕ) (plan : IsPlannedBatch rules batch live slots entries planned rewrites erased) where
   abbrev old : List RankedPiece
   old = set_pieces Cover no_bits rules
 
@@ -69,9 +69,9 @@ module _ (rules : List Rule) (batch : List Command) (live : List LivePiece) (slo
   results =
       zip_map (IsRewriteOf live) (Rewrites (state_after state inserted)) (rewrite_write after) (rewritten_pieces Cover no_bits rules batch) rewrites
       (λ ranked rewrite is. (
-        home after rewrite.id,
+        home_slot after rewrite.id,
         batch_stand_first rules batch live slots entries planned rewrites erased plan ranked rewrite.id is.0,
-        ap (λ entry. Slot (home after rewrite.id) (Some entry)) is.1,
+        ap (λ entry. Slot (home_slot after rewrite.id) (Some entry)) is.1,
       ))
       plan.rewrites_are
 
@@ -79,7 +79,7 @@ module _ (rules : List Rule) (batch : List Command) (live : List LivePiece) (slo
   erases : AllZip (Erases (state_after state (inserted ++ map (rewrite_write after) rewrites))) (erased_pieces Cover no_bits rules batch) (map (erase_write after) erased)
   erases =
       zip_map (IsIdOf live) (Erases (state_after state (inserted ++ map (rewrite_write after) rewrites))) (erase_write after) (erased_pieces Cover no_bits rules batch) erased
-      (λ ranked id is. (home after id, stand ranked id is, refl)) plan.erased_are
+      (λ ranked id is. (home_slot after id, stand ranked id is, refl)) plan.erased_are
     where
       stand : AllStand live after (state_after state (inserted ++ map (rewrite_write after) rewrites))
       stand = subst (AllStand live after) (sym (state_after-append state inserted (map (rewrite_write after) rewrites)))

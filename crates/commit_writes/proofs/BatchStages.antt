@@ -17,7 +17,7 @@ use Rattle.tcam_device.specs.Order.{IsOrdered, StandsOnce}
 use Rattle.commit_writes.specs.declared.Rewrite.{Rewrite}
 use Rattle.commit_writes.specs.Bits.{no_bits}
 use Rattle.commit_writes.specs.Shape.{set_pieces, inserted_pieces}
-use Rattle.commit_writes.specs.Planned.{Entries, Planned, contents, plain_state, planned_writes, slots_after}
+use Rattle.commit_writes.specs.Planned.{IdEntries, Planned, contents, plain_state, planned_writes, slots_after}
 use Rattle.commit_writes.specs.PlannedBatch.{rewrite_write, erase_write, batch_writes, IsPlannedBatch}
 use Rattle.commit_writes.proofs.BatchRow.{row_of}
 use Rattle.commit_writes.proofs.BatchOrder.{late_pieces, late_state, late_writes, late_ordered, late_once, late_reached}
@@ -46,7 +46,7 @@ pub record IsStage (old new : List RankedPiece) (state : State) (Later : Type 0)
   pub ordered : IsOrdered state (Contains standing)
   pub once : Later → StandsOnce state (Contains standing)
 
-module _ (rules : List Rule) (batch : List Command) (live : List LivePiece) (slots : Slots) (entries : Entries) (planned : List Planned) (rewrites : List Rewrite) (erased : List ℕ) (plan : IsPlannedBatch rules batch live slots entries planned rewrites erased) where
+module _ (rules : List Rule) (batch : List Command) (live : List LivePiece) (slots : Slots) (entries : IdEntries) (planned : List Planned) (rewrites : List Rewrite) (erased : List ℕ) (plan : IsPlannedBatch rules batch live slots entries planned rewrites erased) where
   abbrev old : List RankedPiece
   old = set_pieces Cover no_bits rules
 

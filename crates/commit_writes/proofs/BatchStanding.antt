@@ -16,7 +16,7 @@ use Rattle.overlap_index.specs.declared.LivePiece.{LivePiece}
 use Rattle.commit_writes.specs.declared.Rewrite.{Rewrite}
 use Rattle.commit_writes.specs.Bits.{no_bits}
 use Rattle.commit_writes.specs.Shape.{set_pieces, inserted_pieces, rewritten_pieces, erased_pieces}
-use Rattle.commit_writes.specs.Planned.{Entries, Planned, entry_at, live_after}
+use Rattle.commit_writes.specs.Planned.{IdEntries, Planned, entry_at, live_after}
 use Rattle.commit_writes.specs.PlannedBatch.{IsIdOf, IsRewriteOf, IsPlannedBatch}
 use Rattle.commit_writes.proofs.BatchIds.{IsTold}
 use Rattle.commit_writes.proofs.BatchOrder.{told_entries, late_pieces, live_then, before_it, batch_told, gone_id, IsLiveAs, id_piece}
@@ -43,7 +43,7 @@ pub record IsHeld (all : List LivePiece) (standing : List RankedPiece) (ids : Li
   pub is : IsLiveAs one ranked
   pub stands : (Contains ids one.id → ⊥) → HasPiece standing ranked
 
-module _ (rules : List Rule) (batch : List Command) (live : List LivePiece) (slots : Slots) (entries : Entries) (planned : List Planned) (rewrites : List Rewrite) (erased : List ℕ) (plan : IsPlannedBatch rules batch live slots entries planned rewrites erased) where
+module _ (rules : List Rule) (batch : List Command) (live : List LivePiece) (slots : Slots) (entries : IdEntries) (planned : List Planned) (rewrites : List Rewrite) (erased : List ℕ) (plan : IsPlannedBatch rules batch live slots entries planned rewrites erased) where
   abbrev old : List RankedPiece
   old = set_pieces Cover no_bits rules
 

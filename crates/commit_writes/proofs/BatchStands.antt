@@ -22,8 +22,8 @@ use Rattle.tcam_device.proofs.One.{same_match-same, erases_last}
 use Rattle.commit_writes.specs.declared.Rewrite.{Rewrite}
 use Rattle.commit_writes.specs.Bits.{no_bits}
 use Rattle.commit_writes.specs.Shape.{set_pieces, inserted_pieces, rewritten_pieces, Stands}
-use Rattle.commit_writes.specs.Planned.{Entries, Planned, contents, plain_state, planned_writes, live_after, slots_after}
-use Rattle.commit_writes.specs.PlannedBatch.{home, rewrite_write, erase_write, batch_writes, IsIdOf, IsRewriteOf, IsPlannedBatch}
+use Rattle.commit_writes.specs.Planned.{IdEntries, Planned, contents, plain_state, planned_writes, live_after, slots_after}
+use Rattle.commit_writes.specs.PlannedBatch.{home_slot, rewrite_write, erase_write, batch_writes, IsIdOf, IsRewriteOf, IsPlannedBatch}
 use Rattle.commit_writes.proofs.Mirror.{entry_by}
 use Rattle.commit_writes.proofs.Row.{AreDone, made_by}
 use Rattle.commit_writes.proofs.Ids.{read}
@@ -47,9 +47,9 @@ AreIdRewrites live rewrites = AllByRecursion (λ rewrite. (ranked : RankedPiece)
 
 -- each piece's id stands at its home, with an entry of its match
 abbrev pub AllStand : List LivePiece → Slots → State → Type 0
-AllStand live slots state = (ranked : RankedPiece) (id : ℕ) → IsIdOf live ranked id → Stands state (home slots id) ranked
+AllStand live slots state = (ranked : RankedPiece) (id : ℕ) → IsIdOf live ranked id → Stands state (home_slot slots id) ranked
 
-module _ (rules : List Rule) (batch : List Command) (live : List LivePiece) (slots : Slots) (entries : Entries) (planned : List Planned) (rewrites : List Rewrite) (erased : List ℕ) (plan : IsPlannedBatch rules batch live slots entries planned rewrites erased) where
+module _ (rules : List Rule) (batch : List Command) (live : List LivePiece) (slots : Slots) (entries : IdEntries) (planned : List Planned) (rewrites : List Rewrite) (erased : List ℕ) (plan : IsPlannedBatch rules batch live slots entries planned rewrites erased) where
   abbrev after : Slots
   after = slots_after slots planned
 
@@ -63,12 +63,12 @@ module _ (rules : List Rule) (batch : List Command) (live : List LivePiece) (slo
   done = commit_done (set_pieces Cover no_bits rules) (inserted_pieces Cover no_bits rules batch) live slots entries planned (row_of rules batch live slots entries planned rewrites erased plan)
 
   -- a live id stands at its home
-  at_home : (id : ℕ) → IsLive live id → slot after (home after id) ≡ Some id
+  at_home : (id : ℕ) → IsLive live id → slot after (home_slot after id) ≡ Some id
   at_home id is =
       let w = (ids_ordered rules batch live slots entries planned rewrites erased plan).placed id (old_live live planned id is) in
       ap (slot after) (home_is after id w.0 done.alone w.1) ∙ w.1
 
-  pub batch_home : (ranked : RankedPiece) (id : ℕ) → IsIdOf live ranked id → slot after (home after id) ≡ Some id
+  pub batch_home : (ranked : RankedPiece) (id : ℕ) → IsIdOf live ranked id → slot after (home_slot after id) ≡ Some id
   batch_home ranked id is = at_home id (is_live_from live (record { id = id; piece = ranked.piece; rank = ranked.rank }) is)
 
   -- after the insertions
@@ -77,21 +77,21 @@ module _ (rules : List Rule) (batch : List Command) (live : List LivePiece) (slo
       let w = read (row_pieces rules batch) (live_after live planned) entries (record { id = id; piece = ranked.piece; rank = ranked.rank })
       (batch_of rules batch live slots entries planned rewrites erased plan) (before_it rules batch live slots entries planned rewrites erased plan _ is) in (
         entry_by piece id,
-        ap (λ some. slot some (home after id)) done.changed.slots ∙ (slot_entries (entry_by piece) after (home after id) ∙ ap (option_map (entry_by piece)) (batch_home ranked id is)),
+        ap (λ some. slot some (home_slot after id)) done.changed.slots ∙ (slot_entries (entry_by piece) after (home_slot after id) ∙ ap (option_map (entry_by piece)) (batch_home ranked id is)),
         one_match ranked (piece id) (sym w.piece_is) (sym w.rank_is),
       )
 
   -- and after a new result, too
   one_stands : (state : State) (first : Rewrite) (changed : RankedPiece) → IsRewriteOf live changed first → AllStand live after state → AllStand live after (apply state (rewrite_write after first))
-  one_stands state first changed is stand ranked id is_id = elim (cases_eq (home after id) (home after first.id)) [
-    | inr other ↦ let w = stand ranked id is_id in (w.0, slot_other state.slots (home after first.id) (Some first.entry) (home after id) other ∙ w.1, w.2)
+  one_stands state first changed is stand ranked id is_id = elim (cases_eq (home_slot after id) (home_slot after first.id)) [
+    | inr other ↦ let w = stand ranked id is_id in (w.0, slot_other state.slots (home_slot after first.id) (Some first.entry) (home_slot after id) other ∙ w.1, w.2)
     | inl same ↦
         let w = stand changed first.id is.0 in
         let one : id ≡ first.id = (let e : Some id ≡ Some first.id = sym (batch_home ranked id is_id) ∙ (ap (slot after) same ∙ batch_home changed first.id is.0) in cc) in
         let both = id_piece rules batch live slots entries planned rewrites erased plan (record { id = id; piece = ranked.piece; rank = ranked.rank }) changed
         (before_it rules batch live slots entries planned rewrites erased plan _ is_id) (subst (IsIdOf live changed) (sym one) is.0) in (
           first.entry,
-          ap (slot (apply state (rewrite_write after first)).slots) same ∙ slot_same state.slots (home after first.id) (Some first.entry) (slot_inside state.slots (home after first.id) w.0 w.1),
+          ap (slot (apply state (rewrite_write after first)).slots) same ∙ slot_same state.slots (home_slot after first.id) (Some first.entry) (slot_inside state.slots (home_slot after first.id) w.0 w.1),
           subst (λ entry. same_match (entry_for ranked) entry ≡ true) (sym is.1) (one_match ranked changed both.0 both.1),
         )
   ]
@@ -104,7 +104,7 @@ module _ (rules : List Rule) (batch : List Command) (live : List LivePiece) (slo
   not_new : (state : State) (first : Rewrite) (changed : RankedPiece) → IsRewriteOf live changed first → AllStand live after state → is_new state first.entry ≡ false
   not_new state first changed is stand =
       let w = stand changed first.id is.0 in
-      ap not (list_any_at (holds_match first.entry) state.slots (home after first.id) None (slot_inside state.slots (home after first.id) w.0 w.1)
+      ap not (list_any_at (holds_match first.entry) state.slots (home_slot after first.id) None (slot_inside state.slots (home_slot after first.id) w.0 w.1)
       (subst (λ held. holds_match first.entry held ≡ true) (sym w.1) (subst (λ entry. same_match entry w.0 ≡ true) (sym is.1) w.2)))
 
   no_insertions : (begun : State) (run : List Write) (state : State) (some : List Rewrite) (ids : List ℕ) → AreIdRewrites live some → AllStand live after state
@@ -113,7 +113,7 @@ module _ (rules : List Rule) (batch : List Command) (live : List LivePiece) (slo
     where
       each : (some : List ℕ) → AllByRecursion (λ write. (at : ℕ) × (write ≡ Slot at None)) (map (erase_write after) some)
       each [] = tt
-      each (id ∷ some) = ((home after id, refl), each some)
+      each (id ∷ some) = ((home_slot after id, refl), each some)
   no_insertions begun run state (first ∷ some) ids are stand =
       let old = not_new state first are.0.0 are.0.1 stand in
       let rest = no_insertions begun (run ++ rewrite_write after first ∷ []) (apply state (rewrite_write after first)) some ids are.1 (one_stands state first are.0.0 are.0.1 stand) in

@@ -12,7 +12,7 @@ use Rattle.tcam_device.specs.State.{state_after}
 use Rattle.commit_writes.specs.declared.Rewrite.{Rewrite}
 use Rattle.commit_writes.specs.Bits.{no_bits}
 use Rattle.commit_writes.specs.Shape.{set_pieces, rewritten_pieces}
-use Rattle.commit_writes.specs.Planned.{Entries, Planned, entry_at, contents, plain_state, live_after, slots_after, AreEntriesOf}
+use Rattle.commit_writes.specs.Planned.{IdEntries, Planned, entry_at, contents, plain_state, live_after, slots_after, AreEntriesOf}
 use Rattle.commit_writes.specs.PlannedBatch.{rewritten_entries, erased_slots, erased_live, batch_writes, IsPlannedBatch}
 use Rattle.commit_writes.proofs.Ids.{AreOfPieces}
 use Rattle.commit_writes.proofs.Erases.{in_erased, erased_in}
@@ -25,13 +25,13 @@ use Rattle.commit_writes.proofs.OnTheWay.{once_one}
 use Rattle.commit_writes.proofs.SetPieces.{pieces_once}
 
 -- so many new results and erases behind the insertions lead to the arrangement without the erased ids
-abbrev LeadTo : Entries → Slots → List Planned → List Rewrite → List ℕ → Type 0
+abbrev LeadTo : IdEntries → Slots → List Planned → List Rewrite → List ℕ → Type 0
 LeadTo entries slots planned rewrites erased =
     state_after (plain_state (contents entries slots)) (batch_writes entries slots planned rewrites erased)
     ≡ plain_state (contents (rewritten_entries entries rewrites) (erased_slots (slots_after slots planned) erased))
 
 -- the state after all writes
-pub batch_state : (rules : List Rule) (batch : List Command) (live : List LivePiece) (slots : Slots) (entries : Entries) (planned : List Planned) (rewrites : List Rewrite) (erased : List ℕ)
+pub batch_state : (rules : List Rule) (batch : List Command) (live : List LivePiece) (slots : Slots) (entries : IdEntries) (planned : List Planned) (rewrites : List Rewrite) (erased : List ℕ)
     → IsPlannedBatch rules batch live slots entries planned rewrites erased
     → state_after (plain_state (contents entries slots)) (batch_writes entries slots planned rewrites erased)
     ≡ plain_state (contents (rewritten_entries entries rewrites) (erased_slots (slots_after slots planned) erased))
@@ -40,11 +40,11 @@ batch_state rules batch live slots entries planned rewrites erased plan =
     (subst (λ (some : List Rewrite). LeadTo entries slots planned some (take (length erased) erased)) (take-length rewrites)
     (late_reached rules batch live slots entries planned rewrites erased plan (length rewrites) (length erased)))
 
-module _ (rules : List Rule) (batch : List Command) (live : List LivePiece) (slots : Slots) (entries : Entries) (planned : List Planned) (rewrites : List Rewrite) (erased : List ℕ) (plan : IsPlannedBatch rules batch live slots entries planned rewrites erased) where
+module _ (rules : List Rule) (batch : List Command) (live : List LivePiece) (slots : Slots) (entries : IdEntries) (planned : List Planned) (rewrites : List Rewrite) (erased : List ℕ) (plan : IsPlannedBatch rules batch live slots entries planned rewrites erased) where
   abbrev all : List LivePiece
   all = live_after live planned
 
-  abbrev held : Entries
+  abbrev held : IdEntries
   held = told_entries entries rewrites (length rewrites)
 
   abbrev left : List LivePiece

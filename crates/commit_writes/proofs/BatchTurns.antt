@@ -15,7 +15,7 @@ use Rattle.commit_writes.specs.declared.Rewrite.{Rewrite}
 use Rattle.commit_writes.specs.Bits.{no_bits}
 use Rattle.commit_writes.specs.Shape.{set_pieces, inserted_pieces}
 use Rattle.commit_writes.specs.Commit.{ReplacesNone}
-use Rattle.commit_writes.specs.Planned.{Entries, Planned, live_after}
+use Rattle.commit_writes.specs.Planned.{IdEntries, Planned, live_after}
 use Rattle.commit_writes.specs.PlannedBatch.{IsPlannedBatch}
 use Rattle.commit_writes.proofs.BatchOrder.{told_entries, live_then, late_pieces, batch_told}
 use Rattle.commit_writes.proofs.BatchPieces.{row_once, rewritten_stays}
@@ -35,7 +35,7 @@ use Rattle.commit_writes.proofs.Turns.{AreSingle, AreDisjoint, IsOnward, onward_
 among_more : {X : Type 0} (few many : ℕ) (xs : List X) (x : X) → few ≤ many → Contains (take few xs) x → Contains (take many xs) x
 among_more few many xs x more member = let w = contains_take few xs x member in let early = w.1 in take_contains many xs x w.0 (omega arith) w.2 w.3
 
-module _ (rules : List Rule) (batch : List Command) (live : List LivePiece) (slots : Slots) (entries : Entries) (planned : List Planned) (rewrites : List Rewrite) (erased : List ℕ) (plan : IsPlannedBatch rules batch live slots entries planned rewrites erased) where
+module _ (rules : List Rule) (batch : List Command) (live : List LivePiece) (slots : Slots) (entries : IdEntries) (planned : List Planned) (rewrites : List Rewrite) (erased : List ℕ) (plan : IsPlannedBatch rules batch live slots entries planned rewrites erased) where
   abbrev old : List RankedPiece
   old = set_pieces Cover no_bits rules
 

@@ -15,7 +15,7 @@ use Rattle.overlap_index.specs.declared.LivePiece.{LivePiece}
 use Rattle.commit_writes.specs.declared.Rewrite.{Rewrite}
 use Rattle.commit_writes.specs.Bits.{no_bits}
 use Rattle.commit_writes.specs.Shape.{set_pieces, inserted_pieces, rewritten_pieces, erased_pieces}
-use Rattle.commit_writes.specs.Planned.{Entries, Planned, live_after}
+use Rattle.commit_writes.specs.Planned.{IdEntries, Planned, live_after}
 use Rattle.commit_writes.specs.PlannedBatch.{IsIdOf, IsPlannedBatch}
 use Rattle.commit_writes.proofs.BatchIds.{IsTold}
 use Rattle.commit_writes.proofs.BatchOrder.{told_entries, live_then, late_pieces, batch_told, gone_id, IsLiveAs, id_piece}
@@ -34,14 +34,14 @@ itself : (standing : List RankedPiece) (ranked : RankedPiece) → Contains stand
 itself standing ranked member = (ranked, member, refl, refl)
 
 -- what stands behind the insertions is what a live piece shows
-pub record IsShown (pieces changed : List RankedPiece) (all : List LivePiece) (held : Entries) (rewrites : List Rewrite) (ids : List ℕ) (ranked : RankedPiece) : Type 0 where
+pub record IsShown (pieces changed : List RankedPiece) (all : List LivePiece) (held : IdEntries) (rewrites : List Rewrite) (ids : List ℕ) (ranked : RankedPiece) : Type 0 where
   pub one : LivePiece
   pub member : Contains all one
   pub stays : Contains ids one.id → ⊥
   pub told : IsTold pieces changed all held rewrites one
   pub is : told.now ≡ ranked
 
-module _ (rules : List Rule) (batch : List Command) (live : List LivePiece) (slots : Slots) (entries : Entries) (planned : List Planned) (rewrites : List Rewrite) (erased : List ℕ) (plan : IsPlannedBatch rules batch live slots entries planned rewrites erased) where
+module _ (rules : List Rule) (batch : List Command) (live : List LivePiece) (slots : Slots) (entries : IdEntries) (planned : List Planned) (rewrites : List Rewrite) (erased : List ℕ) (plan : IsPlannedBatch rules batch live slots entries planned rewrites erased) where
   abbrev old : List RankedPiece
   old = set_pieces Cover no_bits rules
 

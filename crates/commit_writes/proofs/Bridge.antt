@@ -29,7 +29,7 @@ use Rattle.move_planner.specs.declared.Move.TheVariants.{Put, Erase}
 use Rattle.move_planner.specs.Placement.{Above, after_moves, gap_start, gap_end, span_of, IsPlacement}
 use Rattle.move_planner.proofs.Chain.{write_of, after_moves-applied, Reads, AllKnown, floor_is, ceiling_is}
 use Rattle.move_planner.proofs.Planned.{plan}
-use Rattle.commit_writes.specs.Planned.{Entries, entry_at, write_for}
+use Rattle.commit_writes.specs.Planned.{IdEntries, entry_at, write_for}
 use Rattle.commit_writes.proofs.Mirror.{Pieces, entry_by, over, rank, MatchApart, ordered_state, After, state_applied}
 use Rattle.commit_writes.proofs.Crossing.{span_is}
 
@@ -38,7 +38,7 @@ abbrev pub device_writes : (ℕ → RankedPiece) → List Move → List Write
 device_writes piece moves = map (slot_write (entry_by piece)) (map write_of moves)
 
 -- each known id has its piece's entry
-abbrev pub HaveEntries : Entries → (ℕ → RankedPiece) → (ℕ → Type 0) → Type 0
+abbrev pub HaveEntries : IdEntries → (ℕ → RankedPiece) → (ℕ → Type 0) → Type 0
 HaveEntries held piece Known = (id : ℕ) → Known id → entry_at held id ≡ Some (entry_by piece id)
 
 -- the id that is put, if one is, is known
@@ -60,14 +60,14 @@ puts_known Known d n ((at, Some id) ∷ ws) size inside along = (
     head s (x ∷ xs) w = w.0
 
 -- moves that put known ids are the same writes by their entries
-pub writes_same : (held : Entries) (piece : ℕ → RankedPiece) (Known : ℕ → Type 0) (moves : List Move) → HaveEntries held piece Known
+pub writes_same : (held : IdEntries) (piece : ℕ → RankedPiece) (Known : ℕ → Type 0) (moves : List Move) → HaveEntries held piece Known
     → AllByRecursion (PutsKnown Known) (map write_of moves) → map (write_for held) moves ≡ device_writes piece moves
 writes_same held piece Known [] have known = refl
 writes_same held piece Known (Put at id ∷ moves) have known = ap₂ (λ entry rest. Slot at entry ∷ rest) (have id known.0) (writes_same held piece Known moves have known.1)
 writes_same held piece Known (Erase at ∷ moves) have known = ap (λ rest. Slot at None ∷ rest) (writes_same held piece Known moves have known.1)
 
 -- what one planned insertion does to the device
-pub record IsBridged (held : Entries) (piece : ℕ → RankedPiece) (P Known : ℕ → Type 0) (above : Above) (d : Slots) (state : State) (id : ℕ) (moves : List Move) : Type 0 where
+pub record IsBridged (held : IdEntries) (piece : ℕ → RankedPiece) (P Known : ℕ → Type 0) (above : Above) (d : Slots) (state : State) (id : ℕ) (moves : List Move) : Type 0 where
   pub during : (n : ℕ) → n < length moves → IsOrdered (state_after state (take n (device_writes piece moves))) (Pieces piece P)
   -- in front of whatever comes next, one insertion
   pub first : (more : List Write) → insertions state (device_writes piece moves ++ more)
@@ -80,7 +80,7 @@ pub record IsBridged (held : Entries) (piece : ℕ → RankedPiece) (P Known : �
   pub changed : After piece (after_moves d moves) state (state_after state (device_writes piece moves))
   pub same_writes : map (write_for held) moves ≡ device_writes piece moves
 
-pub bridge : (held : Entries) (piece : ℕ → RankedPiece) (P Known : ℕ → Type 0) (above : Above) {aim : Aim} (d : Slots) (state : State) (id : ℕ) (moves : List Move)
+pub bridge : (held : IdEntries) (piece : ℕ → RankedPiece) (P Known : ℕ → Type 0) (above : Above) {aim : Aim} (d : Slots) (state : State) (id : ℕ) (moves : List Move)
     → Reads (over piece) (rank piece) Known above → MatchApart piece Known → HaveEntries held piece Known → ((a : ℕ) → P a → Known a) → Known id → (P id → ⊥)
     → state.slots ≡ entries (entry_by piece) d → Ordered (over piece) (rank piece) P d → AllOnce d
     → HitAsPieces state (Pieces piece Known)

@@ -15,13 +15,13 @@ use Rattle.tcam_device.specs.declared.Write.{Write}
 use Rattle.tcam_device.specs.State.{State, state_after}
 use Rattle.tcam_device.specs.Insertion.{Insertion, insertions, table_writes, is_table_write, IsCrossingSpan, IsGreatestSpan, IsWithinTightBound, IsUncrossed}
 use Rattle.tcam_device.proofs.Spans.{Makes, greatest_push}
-use Rattle.commit_writes.specs.Planned.{Entries, Planned, BoundsPieceChains, write_for, planned_writes, greatest_planned}
+use Rattle.commit_writes.specs.Planned.{IdEntries, Planned, BoundsPieceChains, write_for, planned_writes, greatest_planned}
 use Rattle.commit_writes.proofs.Mirror.{entry_by, over, rank}
 use Rattle.commit_writes.proofs.Ids.{AreOfPieces, piece_by, known_member}
 use Rattle.commit_writes.proofs.Row.{made_by, IsAsPlanned, AreNestedIds}
 
 -- chains of ids are chains of pieces
-pub chains_of_ids : (pieces : List RankedPiece) (all : List LivePiece) (held : Entries) (m : ℕ) → AreOfPieces pieces all held
+pub chains_of_ids : (pieces : List RankedPiece) (all : List LivePiece) (held : IdEntries) (m : ℕ) → AreOfPieces pieces all held
     → BoundsPieceChains pieces m → BoundsMemberChains (over (piece_by all held)) (rank (piece_by all held)) (IsLive all) m
 chains_of_ids pieces all held m of =
     image_bound (over (piece_by all held)) (rank (piece_by all held)) (IsLive all) (λ a b. PiecesOverlap a.piece b.piece) (λ ranked. ranked.rank) (Contains pieces) (piece_by all held) m
@@ -32,12 +32,12 @@ pub made_alone : (state : State) (writes : List Write) (made : List Insertion) �
 made_alone state writes made makes = ap (insertions state) (sym (append-nil writes)) ∙ (makes [] ∙ append-nil made)
 
 -- planned insertions write what was planned,
-pub writes_of_made : (held : Entries) (piece : ℕ → RankedPiece) (state : State) (planned : List Planned) → flat_map (λ insertion. insertion.writes) (made_by held piece state planned) ≡ planned_writes held planned
+pub writes_of_made : (held : IdEntries) (piece : ℕ → RankedPiece) (state : State) (planned : List Planned) → flat_map (λ insertion. insertion.writes) (made_by held piece state planned) ≡ planned_writes held planned
 writes_of_made held piece state [] = refl
 writes_of_made held piece state (one ∷ planned) = ap (λ rest. map (write_for held) one.moves ++ rest) (writes_of_made held piece (state_after state (map (write_for held) one.moves)) planned)
 
 -- each the entry of its id,
-pub entries_of_made : (held : Entries) (piece : ℕ → RankedPiece) (state : State) (planned : List Planned) → map (λ insertion. insertion.entry) (made_by held piece state planned) ≡ map (λ insertion. entry_by piece insertion.one.id) planned
+pub entries_of_made : (held : IdEntries) (piece : ℕ → RankedPiece) (state : State) (planned : List Planned) → map (λ insertion. insertion.entry) (made_by held piece state planned) ≡ map (λ insertion. entry_by piece insertion.one.id) planned
 entries_of_made held piece state [] = refl
 entries_of_made held piece state (one ∷ planned) = ap (λ rest. entry_by piece one.one.id ∷ rest) (entries_of_made held piece (state_after state (map (write_for held) one.moves)) planned)
 
@@ -86,12 +86,12 @@ pub spans_of_made : (piece : ℕ → RankedPiece) (all : List LivePiece) (planne
 spans_of_made piece all planned made are = spans_on piece all [] 0 planned made record { no_less = tt; no_more = inl refl } are
 
 -- moves write no table
-moves_no_words : (held : Entries) (moves : List Move) → count_by is_table_write (map (write_for held) moves) ≡ 0
+moves_no_words : (held : IdEntries) (moves : List Move) → count_by is_table_write (map (write_for held) moves) ≡ 0
 moves_no_words held [] = refl
 moves_no_words held (Put at id ∷ moves) = let rest = moves_no_words held moves in count_by-cons is_table_write (write_for held (Put at id)) (map (write_for held) moves) ∙ (omega arith)
 moves_no_words held (Erase at ∷ moves) = let rest = moves_no_words held moves in count_by-cons is_table_write (write_for held (Erase at)) (map (write_for held) moves) ∙ (omega arith)
 
-pub no_words : (held : Entries) (planned : List Planned) → table_writes (planned_writes held planned) ≡ 0
+pub no_words : (held : IdEntries) (planned : List Planned) → table_writes (planned_writes held planned) ≡ 0
 no_words held [] = refl
 no_words held (one ∷ planned) =
     let first = moves_no_words held one.moves in let rest = no_words held planned in

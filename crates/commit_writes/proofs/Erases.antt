@@ -15,8 +15,8 @@ use Rattle.overlap_index.proofs.Above.{live_is, is_live_from}
 use Rattle.overlap_index.proofs.Live.{all_apart}
 use Rattle.move_planner.specs.Insertion.{IsLive}
 use Rattle.tcam_device.specs.State.{state_after}
-use Rattle.commit_writes.specs.Planned.{Entries, held_entry, contents, plain_state}
-use Rattle.commit_writes.specs.PlannedBatch.{home, erase_write, erased_slots, erased_live}
+use Rattle.commit_writes.specs.Planned.{IdEntries, held_entry, contents, plain_state}
+use Rattle.commit_writes.specs.PlannedBatch.{home_slot, erase_write, erased_slots, erased_live}
 use Rattle.commit_writes.proofs.Rewrites.{home_is}
 
 -- what is live without an id
@@ -70,7 +70,7 @@ record IsErased (slots : Slots) (id : ℕ) (after : Slots) : Type 0 where
   once : AllOnce after
   kept : (place other : ℕ) → other ≢ id → slot slots place ≡ Some other → slot after place ≡ Some other
 
-erase : (slots : Slots) (id : ℕ) (ids : List ℕ) → CanErase slots (id ∷ ids) → IsErased slots id (set slots (home slots id) None)
+erase : (slots : Slots) (id : ℕ) (ids : List ℕ) → CanErase slots (id ∷ ids) → IsErased slots id (set slots (home_slot slots id) None)
 erase slots id ids can = record {
   at = w.0;
   stood = w.1;
@@ -83,10 +83,10 @@ erase slots id ids can = record {
     w : (at : ℕ) × (slot slots at ≡ Some id)
     w = can.placed id (contains_head id ids)
 
-    same : home slots id ≡ w.0
+    same : home_slot slots id ≡ w.0
     same = home_is slots id w.0 can.once w.1
 
-    off : (i a : ℕ) → slot (set slots (home slots id) None) i ≡ Some a → slot slots i ≡ Some a
+    off : (i a : ℕ) → slot (set slots (home_slot slots id) None) i ≡ Some a → slot slots i ≡ Some a
     off i a x =
         let y : slot (set slots w.0 None) i ≡ Some a = subst (λ at. slot (set slots at None) i ≡ Some a) same x in
         elim (cases_eq i w.0) [
@@ -99,7 +99,7 @@ apart_from : (id other : ℕ) (ids : List ℕ) → IsDistinct nat_eq (id ∷ ids
 unfolding IsDistinct
 apart_from id other ids distinct member same = all_apart id ids distinct.0 (subst (Contains ids) same member)
 
-can_go_on : (slots : Slots) (id : ℕ) (ids : List ℕ) → CanErase slots (id ∷ ids) → CanErase (set slots (home slots id) None) ids
+can_go_on : (slots : Slots) (id : ℕ) (ids : List ℕ) → CanErase slots (id ∷ ids) → CanErase (set slots (home_slot slots id) None) ids
 unfolding IsDistinct
 can_go_on slots id ids can =
     let gone = erase slots id ids can in record {
@@ -109,26 +109,26 @@ can_go_on slots id ids can =
     }
 
 -- the writes of some erases leave the arrangement without their ids
-erased_from : (entries : Entries) (was now : Slots) (ids : List ℕ) → CanErase now ids → ((id : ℕ) → Contains ids id → home was id ≡ home now id)
+erased_from : (entries : IdEntries) (was now : Slots) (ids : List ℕ) → CanErase now ids → ((id : ℕ) → Contains ids id → home_slot was id ≡ home_slot now id)
     → state_after (plain_state (contents entries now)) (map (erase_write was) ids) ≡ plain_state (contents entries (erased_slots now ids))
 erased_from entries was now [] can same = refl
 erased_from entries was now (id ∷ ids) can same =
     ap (λ slots. state_after (plain_state slots) (map (erase_write was) ids)) here
-    ∙ erased_from entries was (set now (home now id) None) ids (can_go_on now id ids can) stays
+    ∙ erased_from entries was (set now (home_slot now id) None) ids (can_go_on now id ids can) stays
   where
-    gone : IsErased now id (set now (home now id) None)
+    gone : IsErased now id (set now (home_slot now id) None)
     gone = erase now id ids can
 
-    here : set (contents entries now) (home was id) None ≡ contents entries (set now (home now id) None)
-    here = ap (λ at. set (contents entries now) at None) (same id (contains_head id ids)) ∙ sym (map-set (held_entry entries) now (home now id) None)
+    here : set (contents entries now) (home_slot was id) None ≡ contents entries (set now (home_slot now id) None)
+    here = ap (λ at. set (contents entries now) at None) (same id (contains_head id ids)) ∙ sym (map-set (held_entry entries) now (home_slot now id) None)
 
-    stays : (other : ℕ) → Contains ids other → home was other ≡ home (set now (home now id) None) other
+    stays : (other : ℕ) → Contains ids other → home_slot was other ≡ home_slot (set now (home_slot now id) None) other
     stays other member =
         let w = can.placed other (contains_tail id other ids member) in
         same other (contains_tail id other ids member) ∙ (home_is now other w.0 can.once w.1
-        ∙ sym (home_is (set now (home now id) None) other w.0 gone.once (gone.kept w.0 other (apart_from id other ids can.distinct member) w.1)))
+        ∙ sym (home_is (set now (home_slot now id) None) other w.0 gone.once (gone.kept w.0 other (apart_from id other ids can.distinct member) w.1)))
 
-pub erased_state : (entries : Entries) (slots : Slots) (ids : List ℕ) → CanErase slots ids
+pub erased_state : (entries : IdEntries) (slots : Slots) (ids : List ℕ) → CanErase slots ids
     → state_after (plain_state (contents entries slots)) (map (erase_write slots) ids) ≡ plain_state (contents entries (erased_slots slots ids))
 erased_state entries slots ids can = erased_from entries slots slots ids can (λ id member. refl)
 
@@ -137,11 +137,11 @@ pub erased_ordered : (over : ℕ → ℕ → Type 0) (tag : ℕ → ℕ) (live :
     → Ordered over tag (IsLive live) slots → Ordered over tag (IsLive (erased_live live ids)) (erased_slots slots ids) × AllOnce (erased_slots slots ids)
 erased_ordered over tag live slots [] can o = (o, can.once)
 erased_ordered over tag live slots (id ∷ ids) can o =
-    erased_ordered over tag (without_id live id) (set slots (home slots id) None) ids (can_go_on slots id ids can)
+    erased_ordered over tag (without_id live id) (set slots (home_slot slots id) None) ids (can_go_on slots id ids can)
     (subst (Ordered over tag (IsLive (without_id live id))) (sym gone.is)
     (erase_keeps over tag (IsLive live) (IsLive (without_id live id)) slots gone.at o (slot_inside slots gone.at id gone.stood) other placed))
   where
-    gone : IsErased slots id (set slots (home slots id) None)
+    gone : IsErased slots id (set slots (home_slot slots id) None)
     gone = erase slots id ids can
 
     other : (i g : ℕ) → i ≢ gone.at → slot slots i ≡ Some g → IsLive (without_id live id) g

@@ -31,7 +31,7 @@ use Rattle.commit_writes.specs.declared.Rewrite.{Rewrite}
 use Rattle.commit_writes.specs.Bits.{no_bits}
 use Rattle.commit_writes.specs.Commit.{ReplacesNone}
 use Rattle.commit_writes.specs.Shape.{set_pieces, inserted_pieces}
-use Rattle.commit_writes.specs.Planned.{IsPlain, Entries, Planned, contents, plain_state, write_for, planned_writes, slots_after}
+use Rattle.commit_writes.specs.Planned.{IsPlain, IdEntries, Planned, contents, plain_state, write_for, planned_writes, slots_after}
 use Rattle.commit_writes.specs.PlannedBatch.{rewrite_write, erase_write, batch_writes, IsPlannedBatch}
 use Rattle.commit_writes.proofs.BatchRow.{row_of}
 use Rattle.commit_writes.proofs.BatchRules.{IsSoundChange, change_of, right_after, set_after-is}
@@ -62,7 +62,7 @@ slots_take (suc n) [] slots = tt
 slots_take (suc n) (write ∷ writes) slots = (slots.0, slots_take n writes slots.1)
 
 -- the moves of insertions are slot writes,
-planned_slots : (entries : Entries) (planned : List Planned) → AreSlotWrites (planned_writes entries planned)
+planned_slots : (entries : IdEntries) (planned : List Planned) → AreSlotWrites (planned_writes entries planned)
 planned_slots entries [] = tt
 planned_slots entries (insertion ∷ planned) =
     all_append (λ write. IsFalse (is_table_write write)) (map (write_for entries) insertion.moves) (planned_writes entries planned) (each insertion.moves) (planned_slots entries planned)
@@ -73,7 +73,7 @@ planned_slots entries (insertion ∷ planned) =
     each (Erase slot ∷ moves) = (refl, each moves)
 
 -- and so are new results and erases
-batch_slots : (entries : Entries) (slots : Slots) (planned : List Planned) (rewrites : List Rewrite) (erased : List ℕ) → AreSlotWrites (batch_writes entries slots planned rewrites erased)
+batch_slots : (entries : IdEntries) (slots : Slots) (planned : List Planned) (rewrites : List Rewrite) (erased : List ℕ) → AreSlotWrites (batch_writes entries slots planned rewrites erased)
 batch_slots entries slots planned rewrites erased =
     all_append (λ write. IsFalse (is_table_write write)) (planned_writes entries planned)
     (map (rewrite_write arranged) rewrites ++ map (erase_write arranged) erased) (planned_slots entries planned)
@@ -100,7 +100,7 @@ plain_hit state pieces blank plain =
       dstbits = λ ranked bit member tested. absurd (let is = AllByRecursion-member IsPlain pieces ranked plain member in let none : None ≡ Some bit = sym is.dstbit ∙ tested in cc);
     }
 
-module _ (rules : List Rule) (batch : List Command) (live : List LivePiece) (slots : Slots) (entries : Entries) (planned : List Planned) (rewrites : List Rewrite) (erased : List ℕ) (plan : IsPlannedBatch rules batch live slots entries planned rewrites erased) where
+module _ (rules : List Rule) (batch : List Command) (live : List LivePiece) (slots : Slots) (entries : IdEntries) (planned : List Planned) (rewrites : List Rewrite) (erased : List ℕ) (plan : IsPlannedBatch rules batch live slots entries planned rewrites erased) where
   abbrev start : State
   start = plain_state (contents entries slots)
 

@@ -17,7 +17,7 @@ use Rattle.overlap_index.specs.Live.{is_above}
 use Rattle.overlap_index.proofs.Above.{IsOver, above_is, is_above_from, piece_in, piece_is, live_is}
 use Rattle.move_planner.specs.Insertion.{IsLive}
 use Rattle.move_planner.proofs.Chain.{Reads}
-use Rattle.commit_writes.specs.Planned.{Entries, entry_at, AreEntriesOf, AreNested, IsPlain}
+use Rattle.commit_writes.specs.Planned.{IdEntries, entry_at, AreEntriesOf, AreNested, IsPlain}
 use Rattle.commit_writes.proofs.Mirror.{entry_by, over, rank}
 use Rattle.commit_writes.proofs.Row.{AreReadable, AreNestedIds}
 
@@ -30,17 +30,17 @@ result_held None = 0
 result_held (Some entry) = entry.result
 
 -- the piece of each live id, with the result that its entry has
-abbrev pub piece_by : List LivePiece → Entries → ℕ → RankedPiece
+abbrev pub piece_by : List LivePiece → IdEntries → ℕ → RankedPiece
 piece_by live held id = record { piece = (piece_in nobody live id).piece; rank = (piece_in nobody live id).rank; result = result_held (entry_at held id) }
 
 -- the live ids are those of some pieces that may stand in entries
-pub record AreOfPieces (pieces : List RankedPiece) (live : List LivePiece) (held : Entries) : Type 0 where
+pub record AreOfPieces (pieces : List RankedPiece) (live : List LivePiece) (held : IdEntries) : Type 0 where
   pub plain : (ranked : RankedPiece) → Contains pieces ranked → IsPlain ranked
   pub ids : IsDistinct nat_eq (map (λ one. one.id) live)
   pub entries_are : AreEntriesOf pieces live held
 
 -- a live piece is one of them
-pub record IsOfPiece (pieces : List RankedPiece) (live : List LivePiece) (held : Entries) (one : LivePiece) : Type 0 where
+pub record IsOfPiece (pieces : List RankedPiece) (live : List LivePiece) (held : IdEntries) (one : LivePiece) : Type 0 where
   pub ranked : RankedPiece
   pub member : Contains pieces ranked
   pub is : piece_by live held one.id ≡ ranked
@@ -49,7 +49,7 @@ pub record IsOfPiece (pieces : List RankedPiece) (live : List LivePiece) (held :
   pub rank_is : (piece_by live held one.id).rank ≡ one.rank
 
 -- a live id's piece is the one whose entry it has
-pub whole_is : (live : List LivePiece) (held : Entries) (one : LivePiece) (ranked : RankedPiece) → IsDistinct nat_eq (map (λ x. x.id) live) → Contains live one
+pub whole_is : (live : List LivePiece) (held : IdEntries) (one : LivePiece) (ranked : RankedPiece) → IsDistinct nat_eq (map (λ x. x.id) live) → Contains live one
     → ranked.piece ≡ one.piece → ranked.rank ≡ one.rank → entry_at held one.id ≡ Some (entry_for ranked) → piece_by live held one.id ≡ ranked
 whole_is live held one ranked ids member p k has =
     let at : piece_in nobody live one.id ≡ one = piece_is nobody live one ids member in
@@ -58,14 +58,14 @@ whole_is live held one ranked ids member p k has =
     same_ranked : (a b : RankedPiece) → a.piece ≡ b.piece → a.rank ≡ b.rank → a.result ≡ b.result → a ≡ b
     same_ranked a b p k r = ap (λ x. record a { piece = x }) p ∙ (ap (λ x. record { piece = b.piece; rank = x; result = a.result }) k ∙ ap (λ x. record { piece = b.piece; rank = b.rank; result = x }) r)
 
-pub read : (pieces : List RankedPiece) (live : List LivePiece) (held : Entries) (one : LivePiece) → AreOfPieces pieces live held → Contains live one → IsOfPiece pieces live held one
+pub read : (pieces : List RankedPiece) (live : List LivePiece) (held : IdEntries) (one : LivePiece) → AreOfPieces pieces live held → Contains live one → IsOfPiece pieces live held one
 read pieces live held one of member =
     let w = of.entries_are.of_piece one member in
     let whole : piece_by live held one.id ≡ w.0 = whole_is live held one w.0 of.ids member w.2 w.3 w.4 in
     record { ranked = w.0; member = w.1; is = whole; has = w.4 ∙ ap (λ x. Some (entry_for x)) (sym whole); piece_is = ap (λ x. x.piece) whole ∙ w.2; rank_is = ap (λ x. x.rank) whole ∙ w.3 }
 
 -- so is that of a known id
-pub record IsKnown (pieces : List RankedPiece) (live : List LivePiece) (held : Entries) (id : ℕ) : Type 0 where
+pub record IsKnown (pieces : List RankedPiece) (live : List LivePiece) (held : IdEntries) (id : ℕ) : Type 0 where
   pub one : LivePiece
   pub live_one : Contains live one
   pub one_id : one.id ≡ id
@@ -73,17 +73,17 @@ pub record IsKnown (pieces : List RankedPiece) (live : List LivePiece) (held : E
   pub member : Contains pieces ranked
   pub is : piece_by live held id ≡ ranked
 
-pub known_is : (pieces : List RankedPiece) (live : List LivePiece) (held : Entries) (id : ℕ) → AreOfPieces pieces live held → IsLive live id → IsKnown pieces live held id
+pub known_is : (pieces : List RankedPiece) (live : List LivePiece) (held : IdEntries) (id : ℕ) → AreOfPieces pieces live held → IsLive live id → IsKnown pieces live held id
 known_is pieces live held id of is =
     let w = live_is live id is in let r = read pieces live held w.0 of w.1 in
     record { one = w.0; live_one = w.1; one_id = w.2; ranked = r.ranked; member = r.member; is = subst (λ z. piece_by live held z ≡ r.ranked) w.2 r.is }
 
 -- a known id's piece is one of them
-pub known_member : (pieces : List RankedPiece) (live : List LivePiece) (held : Entries) (id : ℕ) → AreOfPieces pieces live held → IsLive live id → Contains pieces (piece_by live held id)
+pub known_member : (pieces : List RankedPiece) (live : List LivePiece) (held : IdEntries) (id : ℕ) → AreOfPieces pieces live held → IsLive live id → Contains pieces (piece_by live held id)
 known_member pieces live held id of is = let k = known_is pieces live held id of is in subst (Contains pieces) (sym k.is) k.member
 
 -- ids of one piece and rank are one
-pub one_piece : (pieces : List RankedPiece) (live : List LivePiece) (held : Entries) (a b : ℕ) → AreOfPieces pieces live held → IsLive live a → IsLive live b
+pub one_piece : (pieces : List RankedPiece) (live : List LivePiece) (held : IdEntries) (a b : ℕ) → AreOfPieces pieces live held → IsLive live a → IsLive live b
     → rank (piece_by live held) a ≡ rank (piece_by live held) b → (piece_by live held a).piece ≡ (piece_by live held b).piece → a ≡ b
 one_piece pieces live held a b of ka kb same_rank same_piece =
     let x = known_is pieces live held a of ka in let y = known_is pieces live held b of kb in
@@ -111,7 +111,7 @@ parts_same a b srcbit dstbit same =
     ∙ (ap (λ (x : Option ℕ). record b { srcbit = x; dstbit = a.dstbit }) same.srcbit ∙ ap (λ (x : Option ℕ). record b { dstbit = x }) same.dstbit)))))
 
 -- so are ids whose entries have one match
-match_apart : (pieces : List RankedPiece) (live : List LivePiece) (held : Entries) (a b : ℕ) → AreOfPieces pieces live held → IsLive live a → IsLive live b
+match_apart : (pieces : List RankedPiece) (live : List LivePiece) (held : IdEntries) (a b : ℕ) → AreOfPieces pieces live held → IsLive live a → IsLive live b
     → same_match (entry_by (piece_by live held) a) (entry_by (piece_by live held) b) ≡ true → a ≡ b
 match_apart pieces live held a b of ka kb e =
     let x = of.plain (piece_by live held a) (known_member pieces live held a of ka) in
@@ -120,14 +120,14 @@ match_apart pieces live held a b of ka kb e =
     one_piece pieces live held a b of ka kb same.0 (parts_same (piece_by live held a).piece (piece_by live held b).piece x.srcbit x.dstbit same.1)
 
 -- the conditions of a live piece are right
-pub conditions_of : (pieces : List RankedPiece) (live : List LivePiece) (held : Entries) (one : LivePiece) → AreOfPieces pieces live held → Contains live one
+pub conditions_of : (pieces : List RankedPiece) (live : List LivePiece) (held : IdEntries) (one : LivePiece) → AreOfPieces pieces live held → Contains live one
     → AreConditions one.piece.src one.piece.dst one.piece.proto one.piece.sport one.piece.dport
 conditions_of pieces live held one of member =
     let w = of.entries_are.of_piece one member in
     subst (λ p. AreConditions p.src p.dst p.proto p.sport p.dport) w.2 (of.plain w.0 w.1).right
 
 -- what the index's test says of some of the live ids
-reads_some : (pieces : List RankedPiece) (all : List LivePiece) (held : Entries) (live : List LivePiece) → AreOfPieces pieces all held → ((one : LivePiece) → Contains live one → Contains all one)
+reads_some : (pieces : List RankedPiece) (all : List LivePiece) (held : IdEntries) (live : List LivePiece) → AreOfPieces pieces all held → ((one : LivePiece) → Contains live one → Contains all one)
     → Reads (over (piece_by all held)) (rank (piece_by all held)) (IsLive live) (is_above live)
 reads_some pieces all held live of up = record {
   says = λ a b ka kb e. says a b (above_is live a b e);
@@ -162,7 +162,7 @@ reads_some pieces all held live of up = record {
         let e = is_above_from live p.0 q.0 p.1 q.1 (and_from (pieces_meet p.0.piece q.0.piece) (nat_lt q.0.rank p.0.rank) ((meets p.0 q.0 p.1 q.1).1 m) (lt-ltb q.0.rank p.0.rank less)) in
         subst (λ z. is_above live z b ≡ true) p.2 (subst (λ z. is_above live p.0.id z ≡ true) q.2 e)
 
-pub readable : (pieces : List RankedPiece) (all : List LivePiece) (held : Entries) → AreOfPieces pieces all held → AreReadable held (piece_by all held) all
+pub readable : (pieces : List RankedPiece) (all : List LivePiece) (held : IdEntries) → AreOfPieces pieces all held → AreReadable held (piece_by all held) all
 readable pieces all held of = record {
   apart = λ a b ka kb e. match_apart pieces all held a b of ka kb e;
   have = λ id known. let w = live_is all id known in subst (λ z. entry_at held z ≡ Some (entry_by (piece_by all held) z)) w.2 (read pieces all held w.0 of w.1).has;
@@ -170,7 +170,7 @@ readable pieces all held of = record {
 }
 
 -- ids of nested pieces are nested
-pub nested_ids : (pieces : List RankedPiece) (all : List LivePiece) (held : Entries) → AreOfPieces pieces all held → AreNested pieces → AreNestedIds (piece_by all held) all
+pub nested_ids : (pieces : List RankedPiece) (all : List LivePiece) (held : IdEntries) → AreOfPieces pieces all held → AreNested pieces → AreNestedIds (piece_by all held) all
 nested_ids pieces all held of nested upper id lower ku ki kl over_upper over_lower more less =
     nested (piece_by all held upper) (piece_by all held id) (piece_by all held lower)
     (known_member pieces all held upper of ku) (known_member pieces all held id of ki) (known_member pieces all held lower of kl) more less over_upper over_lower

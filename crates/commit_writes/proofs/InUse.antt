@@ -16,7 +16,7 @@ use Rattle.move_planner.specs.declared.Move.TheVariants.{Put, Erase}
 use Rattle.move_planner.specs.Placement.{Above, after_moves, first_lower, last_upper, next_slot, gap_start, gap_end, span_of, lower_of_held, upper_of_held, IsDownChain, IsUpChain, put_held, moves_along, DownChain, UpChain, Pass, passed, pass_down, pass_up, IsPlacing, into_gap, push_down, push_up, IsPlacement, straight_in, uncross}
 use Rattle.move_planner.proofs.Settled.{length-after_moves}
 use Rattle.tcam_device.specs.State.{IsInUse}
-use Rattle.commit_writes.specs.Planned.{Entries, Planned, ArePlanned, write_for, planned_writes, slots_after}
+use Rattle.commit_writes.specs.Planned.{IdEntries, Planned, ArePlanned, write_for, planned_writes, slots_after}
 
 -- the move's slot is one of so many
 abbrev IsInside : ℕ → Move → Type 0
@@ -110,13 +110,13 @@ placement_inside above id slots moves (uncross {passing = passing} {moves = rest
     both (length slots) passing rest (pass_inside above behind before cut slots passing pass)
     (subst (λ size. AreInside size rest) (length-after_moves slots passing) (placing_inside above id (after_moves slots passing) rest placing))
 
-writes_inside : (entries : Entries) (size : ℕ) (moves : List Move) → AreInside size moves → AllByRecursion (IsInUse size) (map (write_for entries) moves)
+writes_inside : (entries : IdEntries) (size : ℕ) (moves : List Move) → AreInside size moves → AllByRecursion (IsInUse size) (map (write_for entries) moves)
 writes_inside entries size [] inside = tt
 writes_inside entries size (Put at id ∷ moves) inside = (inside.0, writes_inside entries size moves inside.1)
 writes_inside entries size (Erase at ∷ moves) inside = (inside.0, writes_inside entries size moves inside.1)
 
 -- and so are the writes of planned insertions
-pub planned_in_use : (live : List LivePiece) (slots : Slots) (entries : Entries) (planned : List Planned)
+pub planned_in_use : (live : List LivePiece) (slots : Slots) (entries : IdEntries) (planned : List Planned)
     → ArePlanned live slots planned → AllByRecursion (IsInUse (length slots)) (planned_writes entries planned)
 planned_in_use live slots entries [] are = tt
 planned_in_use live slots entries (insertion ∷ planned) are =

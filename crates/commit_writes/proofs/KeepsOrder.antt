@@ -17,7 +17,7 @@ use Rattle.commit_writes.specs.declared.Rewrite.{Rewrite}
 use Rattle.commit_writes.specs.Bits.{no_bits}
 use Rattle.commit_writes.specs.Shape.{set_pieces, inserted_pieces}
 use Rattle.commit_writes.specs.Commit.{AreBetween, KeepsOrder, insertion_writes}
-use Rattle.commit_writes.specs.Planned.{Entries, Planned, IsPlannedRow, contents, plain_state, planned_writes}
+use Rattle.commit_writes.specs.Planned.{IdEntries, Planned, IsPlannedRow, contents, plain_state, planned_writes}
 use Rattle.commit_writes.specs.PlannedBatch.{batch_writes, IsPlannedBatch}
 use Rattle.commit_writes.proofs.BatchRules.{change_of, set_after-is}
 use Rattle.commit_writes.proofs.BatchRow.{row_of}
@@ -31,7 +31,7 @@ use Rattle.commit_writes.proofs.Ordered.{planned_ordered, planned_between}
 use Rattle.commit_writes.proofs.Row.{whole_insertions}
 use Rattle.commit_writes.proofs.Start.{commit_piece, commit_makes}
 
-module _ (rules : List Rule) (batch : List Command) (live : List LivePiece) (slots : Slots) (entries : Entries) (planned : List Planned) (rewrites : List Rewrite) (erased : List ℕ) (plan : IsPlannedBatch rules batch live slots entries planned rewrites erased) where
+module _ (rules : List Rule) (batch : List Command) (live : List LivePiece) (slots : Slots) (entries : IdEntries) (planned : List Planned) (rewrites : List Rewrite) (erased : List ℕ) (plan : IsPlannedBatch rules batch live slots entries planned rewrites erased) where
   abbrev start : State
   start = plain_state (contents entries slots)
 

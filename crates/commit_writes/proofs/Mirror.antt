@@ -12,7 +12,7 @@ use Rattle.ternary_word.specs.declared.Entry.{Entry}
 use Rattle.ternary_word.specs.Entry.{RankedPiece, entry_for, same_match, hits}
 use Rattle.ternary_word.specs.Word.{word_of}
 use Rattle.tcam_device.specs.State.{State, apply, state_after}
-use Rattle.tcam_device.specs.Order.{IsOrdered, Holds, StandsOnce}
+use Rattle.tcam_device.specs.Order.{IsOrdered, StandsAt, StandsOnce}
 use Rattle.tcam_device.proofs.Lookups.{HitAsPieces}
 use Rattle.tcam_device.proofs.One.{slot_write, same_match-same}
 use Rattle.move_planner.proofs.Chain.{AllKnown}
@@ -64,7 +64,7 @@ ordered_state piece P Known d state apart up same o = record {
     all : AllKnown Known d
     all place id s = up id (o.within place id s)
 
-    at : (place : ℕ) (ranked : RankedPiece) → (m : Pieces piece P ranked) → Holds state place ranked → slot d place ≡ Some m.0
+    at : (place : ℕ) (ranked : RankedPiece) → (m : Pieces piece P ranked) → StandsAt state place ranked → slot d place ≡ Some m.0
     at place ranked m s = same_id piece Known d state place m.0 apart all (up m.0 m.1) same (s ∙ ap (λ r. Some (entry_for r)) (sym m.2))
 
 -- ids that stand once are pieces that do
@@ -73,7 +73,7 @@ pub stands_once : (piece : ℕ → RankedPiece) (P Known : ℕ → Type 0) (d : 
     → IsOrdered state (Pieces piece P) → StandsOnce state (Pieces piece P)
 stands_once piece P Known d state apart up all same once o ranked m = let w = o.complete ranked m in (w.0, w.1, λ other s. once other w.0 m.0 (at other s) (at w.0 w.1))
   where
-    at : (place : ℕ) → Holds state place ranked → slot d place ≡ Some m.0
+    at : (place : ℕ) → StandsAt state place ranked → slot d place ≡ Some m.0
     at place s = same_id piece Known d state place m.0 apart all (up m.0 m.1) same (s ∙ ap (λ r. Some (entry_for r)) (sym m.2))
 
 -- and the other way round
@@ -85,7 +85,7 @@ ordered_ids piece P d state apart all same o = record {
   sorted = λ i j a b l s t v. o.order i j (piece a) (piece b) l (a, all i a s, refl) (b, all j b t, refl) (here i a s) (here j b t) v;
 }
   where
-    here : (at id : ℕ) → slot d at ≡ Some id → Holds state at (piece id)
+    here : (at id : ℕ) → slot d at ≡ Some id → StandsAt state at (piece id)
     here at id s = ap (λ xs. slot xs at) same ∙ (slot_entries (entry_by piece) d at ∙ ap (option_map (entry_by piece)) s)
 
 -- an order speaks of its members, by whatever name

@@ -12,7 +12,7 @@ use Rattle.move_planner.specs.Insertion.{IsLive}
 use Rattle.tcam_device.specs.State.{State, state_after}
 use Rattle.tcam_device.specs.Order.{IsOrdered, StandsOnce}
 use Rattle.tcam_device.specs.Insertion.{Insertion, insertions}
-use Rattle.commit_writes.specs.Planned.{Entries, Planned, IsPlannedRow, entry_at, ranked_of, contents, plain_state, planned_writes, live_after, slots_after}
+use Rattle.commit_writes.specs.Planned.{IdEntries, Planned, IsPlannedRow, entry_at, ranked_of, contents, plain_state, planned_writes, live_after, slots_after}
 use Rattle.commit_writes.proofs.Mirror.{Pieces, IsOrdered_same, StandsOnce_same}
 use Rattle.commit_writes.proofs.Ids.{whole_is}
 use Rattle.commit_writes.proofs.Members.{of_row}
@@ -20,7 +20,7 @@ use Rattle.commit_writes.proofs.Row.{whole_insertions}
 use Rattle.commit_writes.proofs.Start.{contents_are, commit_piece, planned_piece, commit_readable, commit_first, commit_done, commit_makes}
 
 -- the pieces of the standing ids and of some new ones
-members : (standing inserted : List RankedPiece) (live : List LivePiece) (slots : Slots) (entries : Entries) (planned some : List Planned) → IsPlannedRow standing inserted live slots entries planned
+members : (standing inserted : List RankedPiece) (live : List LivePiece) (slots : Slots) (entries : IdEntries) (planned some : List Planned) → IsPlannedRow standing inserted live slots entries planned
     → ((p : Planned) → Contains some p → Contains planned p)
     → (ranked : RankedPiece) → Pieces (commit_piece live entries planned) (IsLive (live_after live some)) ranked ↔ Contains (standing ++ map ranked_of some) ranked
 members standing inserted live slots entries planned some row up ranked = (to, from)
@@ -56,7 +56,7 @@ members standing inserted live slots entries planned some row up ranked = (to, f
     ]
 
 -- and of the first of them
-first_members : (standing inserted : List RankedPiece) (live : List LivePiece) (slots : Slots) (entries : Entries) (planned : List Planned) (k : ℕ) → IsPlannedRow standing inserted live slots entries planned
+first_members : (standing inserted : List RankedPiece) (live : List LivePiece) (slots : Slots) (entries : IdEntries) (planned : List Planned) (k : ℕ) → IsPlannedRow standing inserted live slots entries planned
     → (ranked : RankedPiece) → Pieces (commit_piece live entries planned) (IsLive (live_after live (take k planned))) ranked
     ↔ Contains (standing ++ take k inserted) ranked
 first_members standing inserted live slots entries planned k row ranked =
@@ -65,7 +65,7 @@ first_members standing inserted live slots entries planned k row ranked =
     (members standing inserted live slots entries planned (take k planned) row (λ p member. let c = contains_take k planned p member in (c.0, c.2, c.3)) ranked)
 
 -- after each of a planned row's writes the device is in order for the standing pieces and the first of the new ones,
-pub planned_ordered : (standing inserted : List RankedPiece) (live : List LivePiece) (slots : Slots) (entries : Entries) (planned : List Planned) (n : ℕ)
+pub planned_ordered : (standing inserted : List RankedPiece) (live : List LivePiece) (slots : Slots) (entries : IdEntries) (planned : List Planned) (n : ℕ)
     → IsPlannedRow standing inserted live slots entries planned
     → IsOrdered (state_after (plain_state (contents entries slots)) (take n (planned_writes entries planned)))
     (Contains (standing ++ take (whole_insertions planned n) inserted))
@@ -76,7 +76,7 @@ planned_ordered standing inserted live slots entries planned n row =
     (first_members standing inserted live slots entries planned count row) ((commit_done standing inserted live slots entries planned row).during n)
 
 -- where one of its insertions begins each of those pieces stands in one slot,
-pub planned_between : (standing inserted : List RankedPiece) (live : List LivePiece) (slots : Slots) (entries : Entries) (planned : List Planned) (k : ℕ) (insertion : Insertion)
+pub planned_between : (standing inserted : List RankedPiece) (live : List LivePiece) (slots : Slots) (entries : IdEntries) (planned : List Planned) (k : ℕ) (insertion : Insertion)
     → IsPlannedRow standing inserted live slots entries planned
     → slice_get (insertions (plain_state (contents entries slots)) (planned_writes entries planned)) k ≡ Some insertion
     → StandsOnce insertion.before (Contains (standing ++ take k inserted))
@@ -87,7 +87,7 @@ planned_between standing inserted live slots entries planned k insertion row rea
     (ap (λ (all : List Insertion). slice_get all k) (sym (commit_makes standing inserted live slots entries planned row)) ∙ read))
 
 -- and before the first for those that stood alone
-pub planned_first : (standing inserted : List RankedPiece) (live : List LivePiece) (slots : Slots) (entries : Entries) (planned : List Planned)
+pub planned_first : (standing inserted : List RankedPiece) (live : List LivePiece) (slots : Slots) (entries : IdEntries) (planned : List Planned)
     → IsPlannedRow standing inserted live slots entries planned
     → IsOrdered (plain_state (contents entries slots)) (Contains standing)
 planned_first standing inserted live slots entries planned row =
@@ -101,7 +101,7 @@ same_state : (a b : State) → a.slots ≡ b.slots → a.src ≡ b.src → a.dst
 same_state a b slots src dst = ap (λ x. record a { slots = x }) slots ∙ (ap (λ x. record { slots = b.slots; src = x; dst = a.dst }) src ∙ ap (λ x. record { slots = b.slots; src = b.src; dst = x }) dst)
 
 -- its writes lead to the arrangement that was planned
-pub planned_state : (standing inserted : List RankedPiece) (live : List LivePiece) (slots : Slots) (entries : Entries) (planned : List Planned)
+pub planned_state : (standing inserted : List RankedPiece) (live : List LivePiece) (slots : Slots) (entries : IdEntries) (planned : List Planned)
     → IsPlannedRow standing inserted live slots entries planned
     → state_after (plain_state (contents entries slots)) (planned_writes entries planned) ≡ plain_state (contents entries (slots_after slots planned))
 planned_state standing inserted live slots entries planned row =

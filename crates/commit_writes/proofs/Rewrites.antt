@@ -11,11 +11,11 @@ use Rattle.slot_pool.proofs.LeastSlots.{home_first}
 use Rattle.ternary_word.specs.declared.Entry.{Entry}
 use Rattle.tcam_device.specs.State.{state_after}
 use Rattle.commit_writes.specs.declared.Rewrite.{Rewrite}
-use Rattle.commit_writes.specs.Planned.{Entries, entry_at, held_entry, contents, plain_state}
-use Rattle.commit_writes.specs.PlannedBatch.{home, rewrite_write, rewritten_entries}
+use Rattle.commit_writes.specs.Planned.{IdEntries, entry_at, held_entry, contents, plain_state}
+use Rattle.commit_writes.specs.PlannedBatch.{home_slot, rewrite_write, rewritten_entries}
 
 -- the home of an id that stands once is where it stands
-pub home_is : (slots : Slots) (id at : ℕ) → AllOnce slots → slot slots at ≡ Some id → home slots id ≡ at
+pub home_is : (slots : Slots) (id at : ℕ) → AllOnce slots → slot slots at ≡ Some id → home_slot slots id ≡ at
 home_is slots id at once stands =
     ap (λ found. unwrap_or found 0) (home_first slots id (Some at) (
       omega arith,
@@ -24,7 +24,7 @@ home_is slots id at once stands =
     ))
 
 -- an id's entry is the one of a rewrite of it, or its own where there is none
-pub rewritten_at : (entries : Entries) (rewrites : List Rewrite) (id : ℕ) → id < length entries
+pub rewritten_at : (entries : IdEntries) (rewrites : List Rewrite) (id : ℕ) → id < length entries
     → ((rewrite : Rewrite) × Contains rewrites rewrite × (rewrite.id ≡ id) × (entry_at (rewritten_entries entries rewrites) id ≡ Some rewrite.entry))
     ⊎ (((rewrite : Rewrite) → Contains rewrites rewrite → rewrite.id ≡ id → ⊥) × (entry_at (rewritten_entries entries rewrites) id ≡ entry_at entries id))
 rewritten_at entries [] id inside = inr ((λ rewrite none is. contains_none rewrite none), refl)
@@ -49,17 +49,17 @@ rewritten_at entries (first ∷ rewrites) id inside =
     ]
 
 -- where an id doesn't stand its entry doesn't tell
-other_held : (entries : Entries) (held : Option ℕ) (id : ℕ) (entry : Option Entry) → held ≢ Some id → held_entry entries held ≡ held_entry (set entries id entry) held
+other_held : (entries : IdEntries) (held : Option ℕ) (id : ℕ) (entry : Option Entry) → held ≢ Some id → held_entry entries held ≡ held_entry (set entries id entry) held
 other_held entries None id entry other = refl
 other_held entries (Some at) id entry other = sym (get_or-set_other entries id at entry None (λ same. other (ap Some same)))
 
-other_contents : (entries : Entries) (slots : Slots) (id : ℕ) (entry : Option Entry) → ((at : ℕ) → slot slots at ≢ Some id) → contents entries slots ≡ contents (set entries id entry) slots
+other_contents : (entries : IdEntries) (slots : Slots) (id : ℕ) (entry : Option Entry) → ((at : ℕ) → slot slots at ≢ Some id) → contents entries slots ≡ contents (set entries id entry) slots
 other_contents entries [] id entry none = refl
 other_contents entries (held ∷ slots) id entry none =
     ap₂ (λ first rest. first ∷ rest) (other_held entries held id entry (none 0)) (other_contents entries slots id entry (λ at. none (suc at)))
 
 -- where it stands once, that slot is what changes with its entry
-changed_contents : (entries : Entries) (slots : Slots) (at id : ℕ) (entry : Option Entry) → slot slots at ≡ Some id → ((other : ℕ) → slot slots other ≡ Some id → other ≡ at)
+changed_contents : (entries : IdEntries) (slots : Slots) (at id : ℕ) (entry : Option Entry) → slot slots at ≡ Some id → ((other : ℕ) → slot slots other ≡ Some id → other ≡ at)
     → id < length entries → set (contents entries slots) at entry ≡ contents (set entries id entry) slots
 changed_contents entries [] at id entry here alone inside = absurd (cc)
 changed_contents entries (held ∷ slots) zero id entry here alone inside =
@@ -70,7 +70,7 @@ changed_contents entries (held ∷ slots) (suc at) id entry here alone inside =
     (changed_contents entries slots at id entry here (λ other e. let k : suc other ≡ suc at = alone (suc other) e in omega arith) inside)
 
 -- the writes of some rewrites change the entries of their ids
-pub rewritten_state : (entries : Entries) (slots : Slots) (rewrites : List Rewrite) → AllOnce slots
+pub rewritten_state : (entries : IdEntries) (slots : Slots) (rewrites : List Rewrite) → AllOnce slots
     → ((rewrite : Rewrite) → Contains rewrites rewrite → (rewrite.id < length entries) × ((at : ℕ) × (slot slots at ≡ Some rewrite.id)))
     → state_after (plain_state (contents entries slots)) (map (rewrite_write slots) rewrites) ≡ plain_state (contents (rewritten_entries entries rewrites) slots)
 rewritten_state entries slots [] once stand = refl
@@ -80,7 +80,7 @@ rewritten_state entries slots (first ∷ rewrites) once stand =
     let w = stand rewrite (contains_tail first rewrite rewrites member) in
     (let l = length-set entries first.id (Some first.entry) in let k = w.0 in omega arith, w.1))
   where
-    here : set (contents entries slots) (home slots first.id) (Some first.entry) ≡ contents (set entries first.id (Some first.entry)) slots
+    here : set (contents entries slots) (home_slot slots first.id) (Some first.entry) ≡ contents (set entries first.id (Some first.entry)) slots
     here = let w = stand first (contains_head first rewrites) in
         ap (λ at. set (contents entries slots) at (Some first.entry)) (home_is slots first.id w.1.0 once w.1.1)
         ∙ changed_contents entries slots w.1.0 first.id (Some first.entry) w.1.1 (λ other e. once other w.1.0 first.id e w.1.1) w.0

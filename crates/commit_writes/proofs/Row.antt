@@ -29,12 +29,12 @@ use Rattle.tcam_device.specs.Order.{IsOrdered, StandsOnce}
 use Rattle.tcam_device.specs.Insertion.{Insertion, insertions, IsCrossingSpan}
 use Rattle.tcam_device.proofs.Lookups.{HitAsPieces}
 use Rattle.tcam_device.proofs.Spans.{Makes, Makes-append, state_after-append}
-use Rattle.commit_writes.specs.Planned.{Entries, Planned, ArePlanned, write_for, planned_writes, live_after, slots_after}
+use Rattle.commit_writes.specs.Planned.{IdEntries, Planned, ArePlanned, write_for, planned_writes, live_after, slots_after}
 use Rattle.commit_writes.proofs.Mirror.{Pieces, entry_by, over, rank, MatchApart, ordered_state, stands_once, After, hits_after}
 use Rattle.commit_writes.proofs.Bridge.{HaveEntries, IsBridged, bridge}
 
 -- what is known of all ids: how they are told apart, their entries, and what the index says of any of them
-pub record AreReadable (held : Entries) (piece : ℕ → RankedPiece) (all : List LivePiece) : Type 0 where
+pub record AreReadable (held : IdEntries) (piece : ℕ → RankedPiece) (all : List LivePiece) : Type 0 where
   pub apart : MatchApart piece (IsLive all)
   pub have : HaveEntries held piece (IsLive all)
   pub reads : (live : List LivePiece) → ((one : LivePiece) → Contains live one → Contains all one) → Reads (over piece) (rank piece) (IsLive live) (is_above live)
@@ -91,7 +91,7 @@ span_none piece P Known above d id reads up known o nested = elim (cases_lt (gap
     all place a s = up a (o.within place a s)
 
 -- what planned insertions make, from a state on
-abbrev pub made_by : Entries → (ℕ → RankedPiece) → State → List Planned → List Insertion
+abbrev pub made_by : IdEntries → (ℕ → RankedPiece) → State → List Planned → List Insertion
 made_by held piece state [] = []
 made_by held piece state (planned ∷ rest) =
     record { before = state; writes = map (write_for held) planned.moves; entry = entry_by piece planned.one.id }
@@ -129,7 +129,7 @@ whole_insertions-rise (planned ∷ rest) n m more = elim (cases_lt n (length pla
 ]
 
 -- what planned insertions do to the device
-pub record AreDone (held : Entries) (piece : ℕ → RankedPiece) (all live : List LivePiece) (slots : Slots) (state : State) (planned : List Planned) : Type 0 where
+pub record AreDone (held : IdEntries) (piece : ℕ → RankedPiece) (all live : List LivePiece) (slots : Slots) (state : State) (planned : List Planned) : Type 0 where
   pub during : (n : ℕ) → IsOrdered (state_after state (take n (planned_writes held planned))) (Pieces piece (IsLive (live_after live (take (whole_insertions planned n) planned))))
   pub last : IsOrdered (state_after state (planned_writes held planned)) (Pieces piece (IsLive (live_after live planned)))
   pub changed : After piece (slots_after slots planned) state (state_after state (planned_writes held planned))
@@ -146,7 +146,7 @@ none_taken zero = refl
 none_taken (suc n) = refl
 
 -- nothing more is planned
-done_none : (held : Entries) (piece : ℕ → RankedPiece) (all live : List LivePiece) (slots : Slots) (state : State) → AreReadable held piece all
+done_none : (held : IdEntries) (piece : ℕ → RankedPiece) (all live : List LivePiece) (slots : Slots) (state : State) → AreReadable held piece all
     → ((one : LivePiece) → Contains live one → Contains all one) → state.slots ≡ entries (entry_by piece) slots → Ordered (over piece) (rank piece) (IsLive live) slots → AllOnce slots
     → AreDone held piece all live slots state []
 done_none held piece all live slots state readable up same o alone =
@@ -165,7 +165,7 @@ done_none held piece all live slots state readable up same o alone =
     }
 
 -- one more in front
-done_more : (held : Entries) (piece : ℕ → RankedPiece) (all live : List LivePiece) (slots : Slots) (state : State) (planned : Planned) (rest : List Planned) → AreReadable held piece all
+done_more : (held : IdEntries) (piece : ℕ → RankedPiece) (all live : List LivePiece) (slots : Slots) (state : State) (planned : Planned) (rest : List Planned) → AreReadable held piece all
     → ((one : LivePiece) → Contains (live ++ planned.one ∷ []) one → Contains all one) → Ordered (over piece) (rank piece) (IsLive live) slots
     → StandsOnce state (Pieces piece (IsLive live))
     → planned.span ≡ span_of (is_above (live ++ planned.one ∷ [])) slots planned.one.id
@@ -252,7 +252,7 @@ done_more held piece all live slots state planned rest readable up o single span
           (subst (λ s. IsOrdered s (Pieces piece (IsLive (live_after more some)))) (sym (state_after-append state ours (take later theirs))) (h.during later))))
     ]
 
-pub done_all : (held : Entries) (piece : ℕ → RankedPiece) (all live : List LivePiece) (slots : Slots) (state : State) (planned : List Planned) → AreReadable held piece all
+pub done_all : (held : IdEntries) (piece : ℕ → RankedPiece) (all live : List LivePiece) (slots : Slots) (state : State) (planned : List Planned) → AreReadable held piece all
     → ((one : LivePiece) → Contains live one → Contains all one) → ((insertion : Planned) → Contains planned insertion → Contains all insertion.one)
     → state.slots ≡ entries (entry_by piece) slots → Ordered (over piece) (rank piece) (IsLive live) slots → AllOnce slots
     → HitAsPieces state (Pieces piece (IsLive all)) → ArePlanned live slots planned → AreDone held piece all live slots state planned

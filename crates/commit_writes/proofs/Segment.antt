@@ -10,7 +10,7 @@ use Rattle.slot_pool.specs.Arrangement.{Slots}
 use Rattle.ternary_word.specs.Entry.{RankedPiece, entry_for}
 use Rattle.overlap_index.specs.declared.LivePiece.{LivePiece}
 use Rattle.tcam_device.specs.Insertion.{Insertion, insertions, longest_insertion, IsGreatestSpan, IsWithinTightBound, IsUncrossed}
-use Rattle.commit_writes.specs.Planned.{Entries, Planned, contents, plain_state, planned_writes, live_after, ranked_of, write_for, slots_after, longest_planned, greatest_planned, AreNested, BoundsPieceChains, IsPlannedRow}
+use Rattle.commit_writes.specs.Planned.{IdEntries, Planned, contents, plain_state, planned_writes, live_after, ranked_of, write_for, slots_after, longest_planned, greatest_planned, AreNested, BoundsPieceChains, IsPlannedRow}
 use Rattle.move_planner.specs.Insertion.{IsLive}
 use Rattle.commit_writes.proofs.Mirror.{entry_by, over, rank}
 use Rattle.commit_writes.proofs.Fits.{standing_bound}
@@ -22,7 +22,7 @@ use Rattle.commit_writes.proofs.Start.{commit_piece, commit_done, commit_makes, 
 use Rattle.commit_writes.proofs.Counted.{chains_of_ids, writes_of_made, entries_of_made, sizes_of_made, made_within, made_uncrossed, spans_of_made}
 
 -- planned insertions are nothing but insertions,
-pub planned_whole : (standing inserted : List RankedPiece) (live : List LivePiece) (slots : Slots) (entries : Entries) (planned : List Planned)
+pub planned_whole : (standing inserted : List RankedPiece) (live : List LivePiece) (slots : Slots) (entries : IdEntries) (planned : List Planned)
     → IsPlannedRow standing inserted live slots entries planned
     → flat_map (λ insertion. insertion.writes) (insertions (plain_state (contents entries slots)) (planned_writes entries planned)) ≡ planned_writes entries planned
 planned_whole standing inserted live slots entries planned row =
@@ -30,7 +30,7 @@ planned_whole standing inserted live slots entries planned row =
     ∙ writes_of_made entries (commit_piece live entries planned) (plain_state (contents entries slots)) planned
 
 -- one for each added piece,
-pub planned_pieces : (standing inserted : List RankedPiece) (live : List LivePiece) (slots : Slots) (entries : Entries) (planned : List Planned)
+pub planned_pieces : (standing inserted : List RankedPiece) (live : List LivePiece) (slots : Slots) (entries : IdEntries) (planned : List Planned)
     → IsPlannedRow standing inserted live slots entries planned
     → map (λ insertion. insertion.entry) (insertions (plain_state (contents entries slots)) (planned_writes entries planned)) ≡ map entry_for inserted
 planned_pieces standing inserted live slots entries planned row =
@@ -45,7 +45,7 @@ planned_pieces standing inserted live slots entries planned row =
     each (one ∷ some) up = ap₂ (λ first rest. first ∷ rest) (ap entry_for (planned_piece standing inserted live slots entries planned one row (up one (contains_head one some)))) (each some (λ other member. up other (contains_tail one other some member)))
 
 -- within the tight bound,
-pub planned_tight : (standing inserted : List RankedPiece) (live : List LivePiece) (slots : Slots) (entries : Entries) (planned : List Planned) (chain : ℕ)
+pub planned_tight : (standing inserted : List RankedPiece) (live : List LivePiece) (slots : Slots) (entries : IdEntries) (planned : List Planned) (chain : ℕ)
     → IsPlannedRow standing inserted live slots entries planned → BoundsPieceChains (standing ++ inserted) chain
     → IsWithinTightBound chain (insertions (plain_state (contents entries slots)) (planned_writes entries planned))
 planned_tight standing inserted live slots entries planned chain row bound =
@@ -55,7 +55,7 @@ planned_tight standing inserted live slots entries planned chain row bound =
     (chains_of_ids (standing ++ inserted) (live_after live planned) entries chain (of_row standing inserted live slots entries planned row) bound))
 
 -- crossing nothing where they are nested,
-pub planned_uncrossed : (standing inserted : List RankedPiece) (live : List LivePiece) (slots : Slots) (entries : Entries) (planned : List Planned)
+pub planned_uncrossed : (standing inserted : List RankedPiece) (live : List LivePiece) (slots : Slots) (entries : IdEntries) (planned : List Planned)
     → IsPlannedRow standing inserted live slots entries planned → AreNested (standing ++ inserted) → BoundsPieceChains (standing ++ inserted) 33
     → IsUncrossed 33 (insertions (plain_state (contents entries slots)) (planned_writes entries planned))
 planned_uncrossed standing inserted live slots entries planned row nested short =
@@ -67,7 +67,7 @@ planned_uncrossed standing inserted live slots entries planned row nested short 
     (chains_of_ids (standing ++ inserted) (live_after live planned) entries 33 pieces short))
 
 -- and as long as they were planned
-pub planned_longest : (standing inserted : List RankedPiece) (live : List LivePiece) (slots : Slots) (entries : Entries) (planned : List Planned)
+pub planned_longest : (standing inserted : List RankedPiece) (live : List LivePiece) (slots : Slots) (entries : IdEntries) (planned : List Planned)
     → IsPlannedRow standing inserted live slots entries planned
     → longest_insertion (plain_state (contents entries slots)) (planned_writes entries planned) ≡ longest_planned planned
 planned_longest standing inserted live slots entries planned row =
@@ -75,7 +75,7 @@ planned_longest standing inserted live slots entries planned row =
     ∙ sizes_of_made (commit_piece live entries planned) (live_after live planned) planned (made_by entries (commit_piece live entries planned) (plain_state (contents entries slots)) planned)
     (commit_done standing inserted live slots entries planned row).as_planned)
 
-pub planned_span : (standing inserted : List RankedPiece) (live : List LivePiece) (slots : Slots) (entries : Entries) (planned : List Planned)
+pub planned_span : (standing inserted : List RankedPiece) (live : List LivePiece) (slots : Slots) (entries : IdEntries) (planned : List Planned)
     → IsPlannedRow standing inserted live slots entries planned
     → IsGreatestSpan (insertions (plain_state (contents entries slots)) (planned_writes entries planned)) (greatest_planned planned)
 planned_span standing inserted live slots entries planned row =
@@ -84,7 +84,7 @@ planned_span standing inserted live slots entries planned row =
     (commit_done standing inserted live slots entries planned row).as_planned)
 
 -- their writes are as few as their bound allows
-few_made : (piece : ℕ → RankedPiece) (all : List LivePiece) (entries : Entries) (size : ℕ) (planned : List Planned) (made : List Insertion) → AllZip (IsAsPlanned piece all) planned made
+few_made : (piece : ℕ → RankedPiece) (all : List LivePiece) (entries : IdEntries) (size : ℕ) (planned : List Planned) (made : List Insertion) → AllZip (IsAsPlanned piece all) planned made
     → AllByRecursion (λ insertion. insertion.span ≤ size) planned → BoundsMemberChains (over piece) (rank piece) (IsLive all) size
     → length (planned_writes entries planned) ≤ size * (1 + size) * length planned
 few_made piece all entries size [] [] are spans bound = omega arith
@@ -103,7 +103,7 @@ few_made piece all entries size (p ∷ planned) (n ∷ made) are spans bound =
     grind arith
 
 -- which is one of the slots alone, as all ids that were live stand in the end
-pub planned_few : (standing inserted : List RankedPiece) (live : List LivePiece) (slots : Slots) (entries : Entries) (planned : List Planned)
+pub planned_few : (standing inserted : List RankedPiece) (live : List LivePiece) (slots : Slots) (entries : IdEntries) (planned : List Planned)
     → IsPlannedRow standing inserted live slots entries planned → length (planned_writes entries planned) ≤ 4096 * 4097 * length planned
 planned_few standing inserted live slots entries planned row =
     let few : length slots ≤ 4096 = row.arranged.few in

@@ -18,8 +18,8 @@ use Rattle.commit_writes.specs.Bits.{no_bits}
 use Rattle.commit_writes.specs.Shape.{erased_pieces}
 use Rattle.commit_writes.specs.declared.Done.{Done}
 use Rattle.commit_writes.specs.declared.Rewrite.{Rewrite}
-use Rattle.commit_writes.specs.Planned.{Entries, Planned, held_entry, contents, plain_state, planned_writes, slots_after}
-use Rattle.commit_writes.specs.PlannedBatch.{home, rewrite_write, erase_write, batch_writes, IsIdOf, IsPlannedBatch, IsPlannedSegment, AreNumbersOf}
+use Rattle.commit_writes.specs.Planned.{IdEntries, Planned, held_entry, contents, plain_state, planned_writes, slots_after}
+use Rattle.commit_writes.specs.PlannedBatch.{home_slot, rewrite_write, erase_write, batch_writes, IsIdOf, IsPlannedBatch, IsPlannedSegment, AreNumbersOf}
 use Rattle.commit_writes.proofs.InUse.{planned_in_use, slots_kept}
 use Rattle.commit_writes.proofs.Wider.{IsPlannedSegment-padded}
 use Rattle.commit_writes.proofs.BatchStands.{AreIdRewrites, batch_home, batch_rewrites}
@@ -27,7 +27,7 @@ use Rattle.commit_writes.proofs.BatchSegment.{batch_shape, batch_tight, batch_un
 use Rattle.commit_writes.proofs.Hitless.{batch_hitless, batch_turns}
 use Rattle.commit_writes.proofs.KeepsOrder.{batch_keeps}
 
-module _ (rules : List Rule) (batch : List Command) (live : List LivePiece) (slots : Slots) (entries : Entries) (planned : List Planned) (rewrites : List Rewrite) (erased : List ℕ) where
+module _ (rules : List Rule) (batch : List Command) (live : List LivePiece) (slots : Slots) (entries : IdEntries) (planned : List Planned) (rewrites : List Rewrite) (erased : List ℕ) where
   abbrev after : Slots
   after = slots_after slots planned
 
@@ -51,10 +51,10 @@ module _ (rules : List Rule) (batch : List Command) (live : List LivePiece) (slo
   }
 
   -- and write slots of the arrangement only,
-  home_inside : (plan : IsPlannedBatch rules batch live slots entries planned rewrites erased) (ranked : RankedPiece) (id : ℕ) → IsIdOf live ranked id → home after id < length slots
+  home_inside : (plan : IsPlannedBatch rules batch live slots entries planned rewrites erased) (ranked : RankedPiece) (id : ℕ) → IsIdOf live ranked id → home_slot after id < length slots
   home_inside plan ranked id is =
-      subst (λ n. home after id < n) (slots_kept slots planned)
-      (slot_inside after (home after id) id (batch_home rules batch live slots entries planned rewrites erased plan ranked id is))
+      subst (λ n. home_slot after id < n) (slots_kept slots planned)
+      (slot_inside after (home_slot after id) id (batch_home rules batch live slots entries planned rewrites erased plan ranked id is))
 
   in_use : IsPlannedBatch rules batch live slots entries planned rewrites erased → AllByRecursion (IsInUse (length slots)) made
   in_use plan =
@@ -74,7 +74,7 @@ module _ (rules : List Rule) (batch : List Command) (live : List LivePiece) (slo
       gone (ranked ∷ pieces) (id ∷ ids) zip = (home_inside plan ranked id zip.0, gone pieces ids zip.1)
 
 -- so on every device with so many slots or more
-pub batch_segment : (rules : List Rule) (batch : List Command) (live : List LivePiece) (slots : Slots) (entries : Entries) (planned : List Planned) (rewrites : List Rewrite) (erased : List ℕ)
+pub batch_segment : (rules : List Rule) (batch : List Command) (live : List LivePiece) (slots : Slots) (entries : IdEntries) (planned : List Planned) (rewrites : List Rewrite) (erased : List ℕ)
     (counts : Done) (device_slots : ℕ) → length slots ≤ device_slots → IsPlannedBatch rules batch live slots entries planned rewrites erased
     → AreNumbersOf (batch_writes entries slots planned rewrites erased) planned counts
     → IsPlannedSegment rules batch (on_device device_slots (plain_state (contents entries slots))) (batch_writes entries slots planned rewrites erased) counts

@@ -19,20 +19,20 @@ use Rattle.tcam_device.specs.declared.Write.TheVariants.{Slot}
 use Rattle.tcam_device.specs.State.{State, blank_table}
 
 -- the entry of each id, if it has one
-abbrev pub Entries : Type 0
-Entries = List (Option Entry)
+abbrev pub IdEntries : Type 0
+IdEntries = List (Option Entry)
 
 -- the entry of an id
-abbrev pub entry_at : Entries → ℕ → Option Entry
+abbrev pub entry_at : IdEntries → ℕ → Option Entry
 entry_at entries id = slice_index_or entries id None
 
 -- what stands in a slot that holds an id, or none
-abbrev pub held_entry : Entries → Option ℕ → Option Entry
+abbrev pub held_entry : IdEntries → Option ℕ → Option Entry
 held_entry entries None = None
 held_entry entries (Some id) = entry_at entries id
 
 -- what the slots hold where an arrangement of ids stands in them
-abbrev pub contents : Entries → Slots → List (Option Entry)
+abbrev pub contents : IdEntries → Slots → List (Option Entry)
 contents entries slots = map (held_entry entries) slots
 
 -- the state of a device with these slots, whose tables were never written
@@ -40,7 +40,7 @@ abbrev pub plain_state : List (Option Entry) → State
 plain_state slots = record { slots = slots; src = blank_table; dst = blank_table }
 
 -- the device write that a move is
-abbrev pub write_for : Entries → Move → Write
+abbrev pub write_for : IdEntries → Move → Write
 write_for entries (Put slot id) = Slot slot (entry_at entries id)
 write_for entries (Erase slot) = Slot slot None
 
@@ -76,7 +76,7 @@ abbrev pub slots_after : Slots → List Planned → Slots
 slots_after slots planned = fold (λ now insertion. after_moves now insertion.moves) slots planned
 
 -- all their device writes
-abbrev pub planned_writes : Entries → List Planned → List Write
+abbrev pub planned_writes : IdEntries → List Planned → List Write
 planned_writes entries planned = flat_map (λ insertion. map (write_for entries) insertion.moves) planned
 
 -- the writes of the longest of them, and their greatest span
@@ -87,7 +87,7 @@ abbrev pub greatest_planned : List Planned → ℕ
 greatest_planned planned = fold max 0 (map (λ insertion. insertion.span) planned)
 
 -- The live ids are those of some pieces, each once, and each has its piece's entry.
-pub record AreEntriesOf (pieces : List RankedPiece) (live : List LivePiece) (entries : Entries) : Type 0 where
+pub record AreEntriesOf (pieces : List RankedPiece) (live : List LivePiece) (entries : IdEntries) : Type 0 where
   pub of_piece : (one : LivePiece) → Contains live one → (ranked : RankedPiece) × Contains pieces ranked
       × (ranked.piece ≡ one.piece) × (ranked.rank ≡ one.rank) × (entry_at entries one.id ≡ Some (entry_for ranked))
   pub has_id : (ranked : RankedPiece) → Contains pieces ranked → (one : LivePiece) × Contains live one
@@ -121,7 +121,7 @@ AreNested pieces =
 
 -- Insertions of some pieces beside others that stand, as they were planned: before them those that stand have their
 -- entries in order, each new piece is one insertion, in their order, and each new id has its piece's entry.
-pub record IsPlannedRow (standing inserted : List RankedPiece) (live : List LivePiece) (slots : Slots) (entries : Entries) (planned : List Planned) : Type 0 where
+pub record IsPlannedRow (standing inserted : List RankedPiece) (live : List LivePiece) (slots : Slots) (entries : IdEntries) (planned : List Planned) : Type 0 where
   pub plain : AllByRecursion IsPlain (standing ++ inserted)
   -- of one rank no two are the same piece
   pub once : AllPairs (λ a b. a.rank ≡ b.rank → a.piece ≡ b.piece → ⊥) (standing ++ inserted)

@@ -22,7 +22,7 @@ use Rattle.commit_writes.specs.declared.Rewrite.{Rewrite}
 use Rattle.commit_writes.specs.Bits.{no_bits}
 use Rattle.commit_writes.specs.Shape.{set_pieces, inserted_pieces, rewritten_pieces, erased_pieces}
 use Rattle.commit_writes.specs.Commit.{IsSegment, AreCounts}
-use Rattle.commit_writes.specs.Planned.{Entries, Planned, ArePlanned, AreArranged, AreEntriesOf, entry_at, ranked_of, slots_after, planned_writes, longest_planned, greatest_planned}
+use Rattle.commit_writes.specs.Planned.{IdEntries, Planned, ArePlanned, AreArranged, AreEntriesOf, entry_at, ranked_of, slots_after, planned_writes, longest_planned, greatest_planned}
 
 -- a change of a set of rules: the conditions of what it adds are right
 abbrev pub ChangesRules : Command → Type 0
@@ -39,38 +39,38 @@ abbrev pub IsRewriteOf : List LivePiece → RankedPiece → Rewrite → Type 0
 IsRewriteOf live ranked rewrite = IsIdOf live ranked rewrite.id × (rewrite.entry ≡ entry_for ranked)
 
 -- the slot where an id stands
-abbrev pub home : Slots → ℕ → ℕ
-home slots id = unwrap_or (home_of slots id) 0
+abbrev pub home_slot : Slots → ℕ → ℕ
+home_slot slots id = unwrap_or (home_of slots id) 0
 
 -- the write of an entry in place of another
 abbrev pub rewrite_write : Slots → Rewrite → Write
-rewrite_write slots rewrite = Slot (home slots rewrite.id) (Some rewrite.entry)
+rewrite_write slots rewrite = Slot (home_slot slots rewrite.id) (Some rewrite.entry)
 
 -- the write that erases an id
 abbrev pub erase_write : Slots → ℕ → Write
-erase_write slots id = Slot (home slots id) None
+erase_write slots id = Slot (home_slot slots id) None
 
 -- the entries of the ids after some rewrites
-abbrev pub rewritten_entries : Entries → List Rewrite → Entries
+abbrev pub rewritten_entries : IdEntries → List Rewrite → IdEntries
 rewritten_entries entries rewrites = fold (λ now rewrite. slice_set now rewrite.id (Some rewrite.entry)) entries rewrites
 
 -- the arrangement after some ids are erased, one after the other
 abbrev pub erased_slots : Slots → List ℕ → Slots
-erased_slots slots ids = fold (λ now id. slice_set now (home now id) None) slots ids
+erased_slots slots ids = fold (λ now id. slice_set now (home_slot now id) None) slots ids
 
 -- the ids that are live then
 abbrev pub erased_live : List LivePiece → List ℕ → List LivePiece
 erased_live live ids = fold without_id live ids
 
 -- the writes of a commit whose insertions are planned: those of the insertions, then the results, then the erases
-abbrev pub batch_writes : Entries → Slots → List Planned → List Rewrite → List ℕ → List Write
+abbrev pub batch_writes : IdEntries → Slots → List Planned → List Rewrite → List ℕ → List Write
 batch_writes entries slots planned rewrites erased =
     planned_writes entries planned
     ++ (map (rewrite_write (slots_after slots planned)) rewrites ++ map (erase_write (slots_after slots planned)) erased)
 
 -- A commit of changes to a set of rules, as it was planned: before it the set's entries stand in order; each piece that is
 -- new is one insertion; each that stays and gets a result has its id with its new entry; and each that goes has its id.
-pub record IsPlannedBatch (rules : List Rule) (batch : List Command) (live : List LivePiece) (slots : Slots) (entries : Entries) (planned : List Planned) (rewrites : List Rewrite) (erased : List ℕ) : Type 0 where
+pub record IsPlannedBatch (rules : List Rule) (batch : List Command) (live : List LivePiece) (slots : Slots) (entries : IdEntries) (planned : List Planned) (rewrites : List Rewrite) (erased : List ℕ) : Type 0 where
   pub is_set : IsRuleSet rules
   pub right : AllByRecursion HasConditions rules
   pub changes : AllByRecursion ChangesRules batch

@@ -8,7 +8,7 @@ ghost use Rattle.move_planner.specs.Insertion.{AreMade, free_slots};
 ghost use Rattle.move_planner.specs.Steps.{IsTaken, AllLive, StepsDown, StepsUp, CanShift, IsDown, IsUp, FindsDown, FindsUp, shorter};
 
 use crate::places::{first_lower, last_upper};
-use crate::{Move, Plan};
+use crate::{Move, Moves};
 use overlap_index::Index;
 use slot_pool::Arrangement;
 use std::alloc::{AllocError, Global};
@@ -38,7 +38,7 @@ impl Chain {
 
     /// Moves the last member to the free slot, then each earlier one over the slot of the one
     /// after it. After a refusal the moves that the plan gained are made.
-    pub(crate) fn shift(&self, slots: &mut Arrangement, plan: &mut Plan) -> Result<(), AllocError>
+    pub(crate) fn shift(&self, slots: &mut Arrangement, plan: &mut Moves) -> Result<(), AllocError>
         requires { CanShift slots.old self.now.free self.now.members.items }
         ensures plan { OnOk result (plan.new ≡ plan.old ++ moves_along slots.old self.now.free self.now.members.items) }
         ensures slots { OnOk result (slots.new ≡ after_moves slots.old (moves_along slots.old self.now.free self.now.members.items)) }

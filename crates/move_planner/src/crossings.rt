@@ -10,7 +10,7 @@ use crate::boundary::best_boundary;
 use crate::chains::{Chain, down_chain, shorter_of, up_chain};
 use crate::places::Gap;
 use crate::sides::{Sides, find_sides, first_marked, last_marked};
-use crate::{Move, Plan};
+use crate::{Move, Moves};
 use overlap_index::Index;
 use slot_pool::Arrangement;
 use std::alloc::{AllocError, Global};
@@ -30,7 +30,7 @@ pub(crate) fn uncross(
     alloc: Global,
     slots: &mut Arrangement,
     index: &Index,
-    plan: &mut Plan,
+    plan: &mut Moves,
     id: u32,
     gap: Gap,
 ) -> Result<(), AllocError>
@@ -60,7 +60,7 @@ fn pass_one(
     alloc: Global,
     slots: &mut Arrangement,
     index: &Index,
-    plan: &mut Plan,
+    plan: &mut Moves,
     sides: &Sides,
     cut: Cut,
 ) -> Result<Option<Cut>, AllocError>
@@ -148,7 +148,7 @@ fn cleared(cut: Cut, slot: u32) -> Cut
 }
 
 /// Moves along a chain, and erases its first slot.
-fn turn(slots: &mut Arrangement, plan: &mut Plan, chain: &Chain) -> Result<(), AllocError>
+fn turn(slots: &mut Arrangement, plan: &mut Moves, chain: &Chain) -> Result<(), AllocError>
     requires { CanShift slots.old chain.now.free chain.now.members.items }
     ensures turned { OnOk result (IsShiftedOut slots.old slots.new plan.old plan.new chain.now) }
     ensures made { OnErr result (AreMade slots.old slots.new plan.old plan.new) }

@@ -125,11 +125,11 @@ pub struct Insert {
 
 /// Moves, one after the other.
 #[derive(Debug, Drop)]
-pub struct Plan {
+pub struct Moves {
     moves: Vec<Move>,
 }
 
-impl Model for Plan {
+impl Model for Moves {
     ghost use Rattle.std.specs.Prelude.{List};
     ghost use Rattle.move_planner.specs.declared.Move.{Move};
 
@@ -138,12 +138,12 @@ impl Model for Plan {
     ghost view = { λ p. p.moves.items };
 }
 
-impl Plan {
+impl Moves {
     /// Makes an empty plan, which takes its memory from `alloc` as it grows.
-    pub fn new(alloc: Global) -> Plan
+    pub fn new(alloc: Global) -> Moves
         ensures { result ≡ [] }
     {
-        Plan {
+        Moves {
             moves: Vec::new(alloc),
         }
     }
@@ -205,7 +205,7 @@ pub fn plan_insert(
     index: &Index,
     id: u32,
     aim: Aim,
-    plan: &mut Plan,
+    plan: &mut Moves,
 ) -> Result<Insert, AllocError>
     requires few { length slots.old ≤ 4096 }
     requires free { 0 < free_slots slots.old }
@@ -249,7 +249,7 @@ fn clear_gap(
     alloc: Global,
     slots: &mut Arrangement,
     index: &Index,
-    plan: &mut Plan,
+    plan: &mut Moves,
     id: u32,
     gap: Gap,
 ) -> Result<Gap, AllocError>

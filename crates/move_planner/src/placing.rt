@@ -7,7 +7,7 @@ ghost use Rattle.move_planner.specs.Steps.{IsReady, IsFull, IsPlaced, IsWay, Fin
 
 use crate::chains::{Chain, down_chain, shorter_of, up_chain};
 use crate::places::{Gap, choose, first_lower, last_upper};
-use crate::{Aim, Move, Plan};
+use crate::{Aim, Move, Moves};
 use overlap_index::Index;
 use slot_pool::Arrangement;
 use std::alloc::{AllocError, Global};
@@ -18,7 +18,7 @@ pub(crate) fn place(
     alloc: Global,
     slots: &mut Arrangement,
     index: &Index,
-    plan: &mut Plan,
+    plan: &mut Moves,
     id: u32,
     aim: Aim,
     gap: Gap,

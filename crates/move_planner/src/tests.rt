@@ -1,7 +1,7 @@
 ghost use Rattle.std.specs.Prelude.{◌≡◌, ◌≤◌, None, [], length, replicate};
 
 use crate::Move::{Erase, Put};
-use crate::{Aim, Insert, Move, Plan, plan_insert};
+use crate::{Aim, Insert, Move, Moves, plan_insert};
 use overlap_index::Index;
 use rule_model::{Piece, Prefix, Rank, list_rank, route_rule};
 use slot_pool::Arrangement;
@@ -46,7 +46,7 @@ fn insert_all(
     pieces: &[(Piece, Rank, Aim)],
     slots: &mut Arrangement,
     index: &mut Index,
-    plan: &mut Plan,
+    plan: &mut Moves,
 ) -> Result<Insert, AllocError>
     requires few { length pieces.now ≤ 8 }
     requires slots { slots.old ≡ replicate 8 None }
@@ -76,7 +76,7 @@ fn check(
 {
     let mut slots = Arrangement::new(alloc, 8)?;
     let mut index = Index::new(alloc, 8)?;
-    let mut plan = Plan::new(alloc);
+    let mut plan = Moves::new(alloc);
     let made = insert_all(alloc, pieces, &mut slots, &mut index, &mut plan)?;
     assert_eq!(rt; made, Insert { writes, span });
     assert!(rt; moves.len() as u64 <= plan.len());

@@ -15,7 +15,7 @@ use Rattle.replay.specs.declared.Act.{Act}
 use Rattle.replay.specs.declared.Act.TheVariants.{Command, Probe, Packet, Commit}
 use Rattle.replay.specs.declared.RunFault.{RunFault}
 use Rattle.replay.specs.declared.RunFault.TheVariants as fault
-use Rattle.replay.specs.Run.{Setting, Progress, Effect, Writes, Prints, Refuses, Judged, Step, TakesMemory, printed, lines_of, writes_of}
+use Rattle.replay.specs.Run.{Setting, Progress, Effect, Writes, Prints, Refuses, Judged, HasEffects, TakesMemory, printed, lines_of, write_effects}
 use Rattle.replay.specs.Text.{packet_line, accepted_line, refused_line}
 use Rattle.replay.specs.Outside.{AppendsPart}
 use Rattle.replay.specs.Carried.{CutsEffects}
@@ -33,7 +33,7 @@ pub push-acts : (result : Result (Unit {0}) RunFault) (slots : ℕ) (run new : R
     → (result ≢ Err fault.Sink) × ((result ≢ Err fault.Device) × (result ≢ Err fault.ProbesFull)) → ComesTo slots run act new result journal journal taken taken
 push-acts (Ok done) slots run new act change journal taken is pushed same kind = λ at. record {
   effects = [];
-  step = subst (λ one. Step (setting_of run) (progress_of slots run) one [] (progress_of slots new)) (sym is) (refl, ap (progress_of slots) pushed);
+  step = subst (λ one. HasEffects (setting_of run) (progress_of slots run) one [] (progress_of slots new)) (sym is) (refl, ap (progress_of slots) pushed);
   does = does-nothing journal taken;
 }
 push-acts (Err fault.Memory) slots run new act change journal taken is pushed same kind = (
@@ -51,7 +51,7 @@ pub probe-acts : (result : Result (Unit {0}) RunFault) (slots : ℕ) (run new : 
     → ComesTo slots run act new result journal journal taken taken
 probe-acts (Ok done) slots run new act key journal taken is probed same kind = λ at. record {
   effects = [];
-  step = subst (λ one. Step (setting_of run) (progress_of slots run) one [] (progress_of slots new)) (sym is) (refl, ap (progress_of slots) probed);
+  step = subst (λ one. HasEffects (setting_of run) (progress_of slots run) one [] (progress_of slots new)) (sym is) (refl, ap (progress_of slots) probed);
   does = does-nothing journal taken;
 }
 probe-acts (Err why) slots run new act key journal taken is probed same kind =
@@ -108,7 +108,7 @@ abbrev pub run_refused : Running → Running
 run_refused run = record run { pending = []; commits = run.commits + 1; refused = true }
 
 refuse-step : (slots : ℕ) (run : Running) (reason : Verdict) (line : List ℕ) → verdict_of run ≡ reason → reason ≢ Accepted → line ≡ refused_line run.family (run.commits + 1) reason
-    → Step (setting_of run) (progress_of slots run) Commit (Prints line ∷ []) (progress_of slots (run_refused run))
+    → HasEffects (setting_of run) (progress_of slots run) Commit (Prints line ∷ []) (progress_of slots (run_refused run))
 refuse-step slots run reason line judged other same =
     subst (λ verdict. Judged (setting_of run) (progress_of slots run) verdict (Prints line ∷ []) (progress_of slots (run_refused run))) (sym judged)
     (judged-refused (setting_of run) (progress_of slots run) reason (Prints line ∷ []) (progress_of slots (run_refused run)) other (ap (λ text. Prints text ∷ []) same, refl))
@@ -150,13 +150,13 @@ module _ (run : Running) (ready : Ready) (is : IsRun run) (holds : Holds (record
 
   -- the effects of some of its writes, and its line
   abbrev told : List Write → List Effect
-  told made = writes_of (setting_of run) run.probes 1 before made
+  told made = write_effects (setting_of run) run.probes 1 before made
 
   abbrev line : List ℕ
   line = accepted_line (run.commits + 1) holds.held.counts
 
   commit-step : (effects : List Effect) → effects ≡ told holds.held.writes ++ Prints line ∷ []
-      → Step (setting_of run) (progress_of slots run) Commit effects (progress_of slots (run_after run holds.held))
+      → HasEffects (setting_of run) (progress_of slots run) Commit effects (progress_of slots (run_after run holds.held))
   commit-step effects same =
       subst (λ verdict. Judged (setting_of run) (progress_of slots run) verdict effects (progress_of slots (run_after run holds.held))) (sym accepted)
       (commits-with run ready is holds slots within effects same)
@@ -164,7 +164,7 @@ module _ (run : Running) (ready : Ready) (is : IsRun run) (holds : Holds (record
   -- a commit that is accepted, with its line
   pub commit-carries : (new : Running) (journal_old journal_new : List Write) (old mid taken : Option (List ℕ)) → new ≡ run_after run holds.held
       → journal_new ≡ journal_old ++ holds.held.writes
-      → Appends old mid (printed (writes_of (setting_of run) run.probes 1 (replay slots journal_old) holds.held.writes)) → Appends mid taken line
+      → Appends old mid (printed (write_effects (setting_of run) run.probes 1 (replay slots journal_old) holds.held.writes)) → Appends mid taken line
       → ComesTo slots run Commit new (Ok tt) journal_old journal_new old taken
   commit-carries new journal_old journal_new old mid taken same journal made grown =
       subst (λ after. ComesTo slots run Commit after (Ok tt) journal_old journal_new old taken) (sym same) (λ at. record {
@@ -177,7 +177,7 @@ module _ (run : Running) (ready : Ready) (is : IsRun run) (holds : Holds (record
   -- with a part of it
   pub commit-cuts : (new : Running) (journal_old journal_new : List Write) (old mid taken : Option (List ℕ))
       → journal_new ≡ journal_old ++ holds.held.writes
-      → Appends old mid (printed (writes_of (setting_of run) run.probes 1 (replay slots journal_old) holds.held.writes)) → AppendsPart mid taken line
+      → Appends old mid (printed (write_effects (setting_of run) run.probes 1 (replay slots journal_old) holds.held.writes)) → AppendsPart mid taken line
       → ComesTo slots run Commit new (Err fault.Sink) journal_old journal_new old taken
   commit-cuts new journal_old journal_new old mid taken journal made part at = record {
     front = told holds.held.writes;
@@ -195,7 +195,7 @@ module _ (run : Running) (ready : Ready) (is : IsRun run) (holds : Holds (record
   -- with a part of the lines of its writes
   pub commit-halts : (new : Running) (made : List Write) (journal_old journal_new : List Write) (old taken : Option (List ℕ))
       → journal_new ≡ journal_old ++ made
-      → CutsEffects (writes_of (setting_of run) run.probes 1 (replay slots journal_old) holds.held.writes) journal_old journal_new old taken
+      → CutsEffects (write_effects (setting_of run) run.probes 1 (replay slots journal_old) holds.held.writes) journal_old journal_new old taken
       → ComesTo slots run Commit new (Err fault.Sink) journal_old journal_new old taken
   commit-halts new made journal_old journal_new old taken journal cuts at = record {
     front = cuts.front;
@@ -205,7 +205,7 @@ module _ (run : Running) (ready : Ready) (is : IsRun run) (holds : Holds (record
       back = cuts.back ++ Prints line ∷ [];
       after = progress_of slots (run_after run holds.held);
       step = commit-step (cuts.front ++ Prints (cuts.partial ++ cuts.rest) ∷ (cuts.back ++ Prints line ∷ []))
-          (sym (ap (λ effects. effects ++ Prints line ∷ []) (ap (λ state. writes_of (setting_of run) run.probes 1 state holds.held.writes) at ∙ cuts.cut)
+          (sym (ap (λ effects. effects ++ Prints line ∷ []) (ap (λ state. write_effects (setting_of run) run.probes 1 state holds.held.writes) at ∙ cuts.cut)
           ∙ append_assoc cuts.front (Prints (cuts.partial ++ cuts.rest) ∷ cuts.back) (Prints line ∷ [])));
     };
     does = cuts.does;
@@ -214,13 +214,13 @@ module _ (run : Running) (ready : Ready) (is : IsRun run) (holds : Holds (record
   -- and with a part of its writes
   pub commit-stops : (new : Running) (made left : List Write) (due : Write) (journal_old journal_new : List Write) (old taken : Option (List ℕ)) → holds.held.writes ≡ made ++ due ∷ left
       → journal_new ≡ journal_old ++ made
-      → Appends old taken (printed (writes_of (setting_of run) run.probes 1 (replay slots journal_old) made))
+      → Appends old taken (printed (write_effects (setting_of run) run.probes 1 (replay slots journal_old) made))
       → ComesTo slots run Commit new (Err fault.Device) journal_old journal_new old taken
   commit-stops new made left due journal_old journal_new old taken whole journal told_made at =
       let next = state_after before made in
       let number = 1 + length made in
       let lines = lines_of (setting_of run) run.probes number (apply next due) due in
-      let later = writes_of (setting_of run) run.probes (number + 1) (apply next due) left in record {
+      let later = write_effects (setting_of run) run.probes (number + 1) (apply next due) left in record {
         front = told made;
         write = due;
         cut = record {

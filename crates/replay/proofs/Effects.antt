@@ -7,7 +7,7 @@ use Rattle.rule_model.specs.declared.Key.{Key}
 use Rattle.tcam_device.specs.declared.Write.{Write}
 use Rattle.tcam_device.specs.State.{State, apply, state_after, replay}
 use Rattle.replay.specs.declared.Family.{Family}
-use Rattle.replay.specs.Run.{Setting, Effect, Writes, Prints, written, printed, trace_of, probes_of, lines_of, writes_of}
+use Rattle.replay.specs.Run.{Setting, Effect, Writes, Prints, written, printed, trace_of, probes_of, lines_of, write_effects}
 use Rattle.replay.specs.Carried.{Does}
 
 -- some writes, and others behind them
@@ -39,12 +39,12 @@ written-lines setting probes number state write =
     ∙ ap (λ writes. writes ++ written (probes_of setting.family number state 1 probes)) (written-trace setting.trace number write)
     ∙ written-probes setting.family number state 1 probes
 
-pub written-writes : (setting : Setting) (probes : List Key) (number : ℕ) (state : State) (made : List Write) → written (writes_of setting probes number state made) ≡ made
+pub written-writes : (setting : Setting) (probes : List Key) (number : ℕ) (state : State) (made : List Write) → written (write_effects setting probes number state made) ≡ made
 written-writes setting probes number state [] = refl
 written-writes setting probes number state (write ∷ made) =
     ap (λ writes. write ∷ writes)
-    (written-append (lines_of setting probes number (apply state write) write) (writes_of setting probes (number + 1) (apply state write) made)
-    ∙ ap (λ writes. writes ++ written (writes_of setting probes (number + 1) (apply state write) made)) (written-lines setting probes number (apply state write) write)
+    (written-append (lines_of setting probes number (apply state write) write) (write_effects setting probes (number + 1) (apply state write) made)
+    ∙ ap (λ writes. writes ++ written (write_effects setting probes (number + 1) (apply state write) made)) (written-lines setting probes number (apply state write) write)
     ∙ written-writes setting probes (number + 1) (apply state write) made)
 
 -- where no write is left behind a line, none was before it
@@ -55,16 +55,16 @@ written-front (Prints text ∷ front) line back none = written-front front line 
 
 -- the effects of writes, one part after the other
 pub writes_of-append : (setting : Setting) (probes : List Key) (number : ℕ) (state : State) (made more : List Write)
-    → writes_of setting probes number state (made ++ more) ≡ writes_of setting probes number state made ++ writes_of setting probes (number + length made) (state_after state made) more
-writes_of-append setting probes number state [] more = let same : number ≡ number + 0 = omega arith in ap (λ n. writes_of setting probes n state more) same
+    → write_effects setting probes number state (made ++ more) ≡ write_effects setting probes number state made ++ write_effects setting probes (number + length made) (state_after state made) more
+writes_of-append setting probes number state [] more = let same : number ≡ number + 0 = omega arith in ap (λ n. write_effects setting probes n state more) same
 writes_of-append setting probes number state (write ∷ made) more =
     let next = apply state write in
     let same : (number + 1) + length made ≡ number + length (write ∷ made) = omega arith in
     ap (λ effects. Writes write ∷ (lines_of setting probes number next write ++ effects))
     (writes_of-append setting probes (number + 1) next made more
-    ∙ ap (λ n. writes_of setting probes (number + 1) next made ++ writes_of setting probes n (state_after next made) more) same)
+    ∙ ap (λ n. write_effects setting probes (number + 1) next made ++ write_effects setting probes n (state_after next made) more) same)
     ∙ ap (λ effects. Writes write ∷ effects)
-    (sym (append_assoc (lines_of setting probes number next write) (writes_of setting probes (number + 1) next made) (writes_of setting probes (number + length (write ∷ made)) (state_after next made) more)))
+    (sym (append_assoc (lines_of setting probes number next write) (write_effects setting probes (number + 1) next made) (write_effects setting probes (number + length (write ∷ made)) (state_after next made) more)))
 
 -- a line alone
 pub does-line : (line : List ℕ) (journal : List Write) (old new : Option (List ℕ)) → Appends old new line → Does (Prints line ∷ []) [] journal journal old new
@@ -82,36 +82,36 @@ pub does-nothing : (journal : List Write) (taken : Option (List ℕ)) → Does [
 does-nothing journal taken = does-part [] journal taken taken (Appends-nil taken)
 
 module _ (setting : Setting) (probes : List Key) (state : State) (made : List Write) (journal_old journal_new : List Write) (old mid new : Option (List ℕ))
-    (journal : journal_new ≡ journal_old ++ made) (told : Appends old mid (printed (writes_of setting probes 1 state made))) where
+    (journal : journal_new ≡ journal_old ++ made) (told : Appends old mid (printed (write_effects setting probes 1 state made))) where
   -- writes, each told
-  pub does-writes : Does (writes_of setting probes 1 state made) [] journal_old journal_new old mid
+  pub does-writes : Does (write_effects setting probes 1 state made) [] journal_old journal_new old mid
   does-writes = record {
     journal = journal ∙ ap (λ more. journal_old ++ more) (sym (written-writes setting probes 1 state made));
-    report = subst (Appends old mid) (sym (append-nil (printed (writes_of setting probes 1 state made)))) told;
+    report = subst (Appends old mid) (sym (append-nil (printed (write_effects setting probes 1 state made)))) told;
   }
 
   -- and a part of a line
-  pub does-writes_part : (partial : List ℕ) → Appends mid new partial → Does (writes_of setting probes 1 state made) partial journal_old journal_new old new
+  pub does-writes_part : (partial : List ℕ) → Appends mid new partial → Does (write_effects setting probes 1 state made) partial journal_old journal_new old new
   does-writes_part partial grown = record {
     journal = does-writes.journal;
-    report = Appends-trans old mid new (printed (writes_of setting probes 1 state made)) partial told grown;
+    report = Appends-trans old mid new (printed (write_effects setting probes 1 state made)) partial told grown;
   }
 
   -- and a line
-  pub does-writes_line : (line : List ℕ) → Appends mid new line → Does (writes_of setting probes 1 state made ++ Prints line ∷ []) [] journal_old journal_new old new
+  pub does-writes_line : (line : List ℕ) → Appends mid new line → Does (write_effects setting probes 1 state made ++ Prints line ∷ []) [] journal_old journal_new old new
   does-writes_line line grown = record {
     journal = journal
         ∙ ap (λ more. journal_old ++ more)
-        (sym (written-append (writes_of setting probes 1 state made) (Prints line ∷ []) ∙ append-nil (written (writes_of setting probes 1 state made)) ∙ written-writes setting probes 1 state made));
+        (sym (written-append (write_effects setting probes 1 state made) (Prints line ∷ []) ∙ append-nil (written (write_effects setting probes 1 state made)) ∙ written-writes setting probes 1 state made));
     report = subst (Appends old new)
-        (sym (append-nil (printed (writes_of setting probes 1 state made ++ Prints line ∷ []))
-        ∙ printed-append (writes_of setting probes 1 state made) (Prints line ∷ [])
-        ∙ ap (λ text. printed (writes_of setting probes 1 state made) ++ text) (append-nil line)))
-        (Appends-trans old mid new (printed (writes_of setting probes 1 state made)) line told grown);
+        (sym (append-nil (printed (write_effects setting probes 1 state made ++ Prints line ∷ []))
+        ∙ printed-append (write_effects setting probes 1 state made) (Prints line ∷ [])
+        ∙ ap (λ text. printed (write_effects setting probes 1 state made) ++ text) (append-nil line)))
+        (Appends-trans old mid new (printed (write_effects setting probes 1 state made)) line told grown);
   }
 
 -- what is told where the device stands is told where the run stands
 pub told-at : (setting : Setting) (probes : List Key) (state : State) (slots : ℕ) (journal : List Write) (made : List Write) (old new : Option (List ℕ))
-    → state ≡ replay slots journal → Appends old new (printed (writes_of setting probes 1 (replay slots journal) made))
-    → Appends old new (printed (writes_of setting probes 1 state made))
-told-at setting probes state slots journal made old new at told = subst (λ one. Appends old new (printed (writes_of setting probes 1 one made))) (sym at) told
+    → state ≡ replay slots journal → Appends old new (printed (write_effects setting probes 1 (replay slots journal) made))
+    → Appends old new (printed (write_effects setting probes 1 state made))
+told-at setting probes state slots journal made old new at told = subst (λ one. Appends old new (printed (write_effects setting probes 1 one made))) (sym at) told

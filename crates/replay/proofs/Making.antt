@@ -96,7 +96,7 @@ lines_on watch slots number write writes = trace_of watch.trace number write ++ 
 one-told : (begun : Managed) (watch : Watching) (slots : ℕ) (before made : List Write) (write : Write) (left : List Write)
     → effects_on begun watch slots before (made ++ write ∷ left)
     ≡ effects_on begun watch slots before made ++ Writes write ∷ (lines_on watch slots (length made + 1) write (before ++ (made ++ write ∷ []))
-    ++ effects.writes_of (telling begun watch) watch.probes (length made + 2) (replay slots (before ++ (made ++ write ∷ []))) left)
+    ++ effects.write_effects (telling begun watch) watch.probes (length made + 2) (replay slots (before ++ (made ++ write ∷ []))) left)
 one-told begun watch slots before made write left =
     let state = replay slots before in
     let at : replay slots (before ++ (made ++ write ∷ [])) ≡ apply (state_after state made) write =
@@ -104,12 +104,12 @@ one-told begun watch slots before made write left =
     let first : 1 + length made ≡ length made + 1 = omega arith in
     let second : (length made + 1) + 1 ≡ length made + 2 = omega arith in
     writes_of-append (telling begun watch) watch.probes 1 state made (write ∷ left)
-    ∙ ap (λ n. effects_on begun watch slots before made ++ effects.writes_of (telling begun watch) watch.probes n (state_after state made) (write ∷ left)) first
+    ∙ ap (λ n. effects_on begun watch slots before made ++ effects.write_effects (telling begun watch) watch.probes n (state_after state made) (write ∷ left)) first
     ∙ ap (λ n. effects_on begun watch slots before made
     ++ Writes write ∷ (lines_of (telling begun watch) watch.probes (length made + 1) (apply (state_after state made) write) write
-    ++ effects.writes_of (telling begun watch) watch.probes n (apply (state_after state made) write) left)) second
+    ++ effects.write_effects (telling begun watch) watch.probes n (apply (state_after state made) write) left)) second
     ∙ ap (λ now. effects_on begun watch slots before made
-    ++ Writes write ∷ (lines_of (telling begun watch) watch.probes (length made + 1) now write ++ effects.writes_of (telling begun watch) watch.probes (length made + 2) now left)) (sym at)
+    ++ Writes write ∷ (lines_of (telling begun watch) watch.probes (length made + 1) now write ++ effects.write_effects (telling begun watch) watch.probes (length made + 2) now left)) (sym at)
 
 told-more : (begun : Managed) (watch : Watching) (slots : ℕ) (journal_begun journal : List Write) (made : List Write) (write : Write) (old mid new : Option (List ℕ)) (number : ℕ)
     → number ≡ length made → journal ≡ journal_begun ++ (made ++ write ∷ []) → Tells begun watch slots journal_begun made old mid
@@ -155,7 +155,7 @@ cut-more begun watch slots before journal made write left all old mid new number
     let cut : CutsLines now mid new =
     subst (λ n. CutsLines (lines_on watch slots (n + 1) write (before ++ (made ++ write ∷ []))) mid new) count
     (subst (λ writes. CutsLines (lines_on watch slots (number + 1) write writes) mid new) same cuts) in
-    let later = effects.writes_of (telling begun watch) watch.probes (length made + 2) (replay slots (before ++ (made ++ write ∷ []))) left in
+    let later = effects.write_effects (telling begun watch) watch.probes (length made + 2) (replay slots (before ++ (made ++ write ∷ []))) left in
     let ahead = effects_on begun watch slots before made in
     let none : written cut.front ≡ [] = written-front cut.front (cut.partial ++ cut.rest) cut.back
     (sym (ap written cut.cut) ∙ written-lines (telling begun watch) watch.probes (length made + 1) (replay slots (before ++ (made ++ write ∷ []))) write) in record {

@@ -18,7 +18,7 @@ use Rattle.batch_order.specs.Managed.{HeldCommit, Holds, OnlyChangesRoutes}
 use Rattle.batch_order.specs.Placing.{IsPlacedBy}
 use Rattle.replay.specs.declared.Family.{Family}
 use Rattle.replay.specs.declared.Family.TheVariants.{Route, Acl}
-use Rattle.replay.specs.Run.{Setting, Progress, Effect, Prints, Commits, OfFamily, slots_in_use, IsChangeOf, writes_of, after_segment}
+use Rattle.replay.specs.Run.{Setting, Progress, Effect, Prints, Commits, OfFamily, slots_in_use, IsChangeOf, write_effects, after_segment}
 use Rattle.replay.specs.Text.{accepted_line}
 use Rattle.replay.specs.Running.{Running, IsRun, setting_of, progress_of, begun}
 use Rattle.replay.proofs.RouteSets.{routes_after, changes_more}
@@ -136,7 +136,7 @@ module _ (run : Running) (ready : Ready) (is : IsRun run) (holds : Holds (record
 
   -- the commit, as what it writes and prints
   pub commits-with : (slots : ℕ) → run.manager.slots ≤ slots → (effects : List Effect)
-      → effects ≡ writes_of (setting_of run) run.probes 1 (on_device slots run.manager.state) holds.held.writes ++ Prints (accepted_line (run.commits + 1) holds.held.counts) ∷ []
+      → effects ≡ write_effects (setting_of run) run.probes 1 (on_device slots run.manager.state) holds.held.writes ++ Prints (accepted_line (run.commits + 1) holds.held.counts) ∷ []
       → Commits (setting_of run) (progress_of slots run) effects (progress_of slots (run_after run holds.held))
   commits-with slots within effects same = record {
     made = holds.held.writes;

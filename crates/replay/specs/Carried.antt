@@ -4,7 +4,7 @@ use Rattle.std.specs.Io.KnownBytes.{Appends}
 use Rattle.tcam_device.specs.declared.Write.{Write}
 use Rattle.tcam_device.specs.State.{replay}
 use Rattle.replay.specs.declared.Act.{Act}
-use Rattle.replay.specs.Run.{Setting, Effect, Writes, Prints, written, printed, Progress, Step, IsCutStep, TakesMemory}
+use Rattle.replay.specs.Run.{Setting, Effect, Writes, Prints, written, printed, Progress, HasEffects, IsCutStep, TakesMemory}
 
 -- the device is where the run stands
 abbrev pub IsAt : ℕ → List Write → Progress → Type 0
@@ -18,7 +18,7 @@ pub record Does (effects : List Effect) (partial : List ℕ) (journal_old journa
 -- the act is carried out, and the run stands there
 pub record Carries (setting : Setting) (old : Progress) (act : Act) (new : Progress) (journal_old journal_new : List Write) (taken_old taken_new : Option (List ℕ)) : Type 0 where
   pub effects : List Effect
-  pub step : Step setting old act effects new
+  pub step : HasEffects setting old act effects new
   pub does : Does effects [] journal_old journal_new taken_old taken_new
 
 -- it is cut at a line that the sink didn't take whole

@@ -90,11 +90,11 @@ lines_of setting probes number state write =
     trace_of setting.trace number write ++ probes_of setting.family number state 1 probes
 
 -- the writes of a commit from the one of a number on, each with its lines
-abbrev pub writes_of : Setting → List Key → ℕ → State → List Write → List Effect
-writes_of setting probes number state [] = []
-writes_of setting probes number state (write ∷ writes) =
+abbrev pub write_effects : Setting → List Key → ℕ → State → List Write → List Effect
+write_effects setting probes number state [] = []
+write_effects setting probes number state (write ∷ writes) =
     Writes write ∷ (lines_of setting probes number (apply state write) write
-    ++ writes_of setting probes (number + 1) (apply state write) writes)
+    ++ write_effects setting probes (number + 1) (apply state write) writes)
 
 -- where a run stands after an accepted commit
 abbrev pub after_segment : Setting → Progress → List Write → Progress
@@ -131,7 +131,7 @@ pub record Commits (setting : Setting) (old : Progress) (effects : List Effect) 
   pub of_family : OfFamily setting.family old.state made
   pub in_use : AllByRecursion (IsInUse setting.slots) made
   pub numbers : AreCounts old.state made counts
-  pub effects_are : effects ≡ writes_of setting old.probes 1 old.state made ++ Prints (accepted_line (old.commits + 1) counts) ∷ []
+  pub effects_are : effects ≡ write_effects setting old.probes 1 old.state made ++ Prints (accepted_line (old.commits + 1) counts) ∷ []
   pub after : new ≡ after_segment setting old made
 
 -- A refused one writes nothing, and says why.
@@ -147,19 +147,19 @@ Judged setting old (OutOfBits field needed free) effects new = Refuses setting o
 Judged setting old (OutOfSlots needed free) effects new = Refuses setting old (OutOfSlots needed free) effects new
 
 -- From where the run stands, an act has these effects, and the run stands there.
-abbrev pub Step : Setting → Progress → Act → List Effect → Progress → Type 0
-Step setting old (Command change) effects new = (effects ≡ []) × (new ≡ record old { batch = old.batch ++ change ∷ [] })
-Step setting old (Probe key) effects new = (effects ≡ []) × (new ≡ record old { probes = old.probes ++ key ∷ [] })
-Step setting old (Packet key) effects new =
+abbrev pub HasEffects : Setting → Progress → Act → List Effect → Progress → Type 0
+HasEffects setting old (Command change) effects new = (effects ≡ []) × (new ≡ record old { batch = old.batch ++ change ∷ [] })
+HasEffects setting old (Probe key) effects new = (effects ≡ []) × (new ≡ record old { probes = old.probes ++ key ∷ [] })
+HasEffects setting old (Packet key) effects new =
     (effects ≡ Prints (packet_line setting.family (answer old.rules key)) ∷ []) × (new ≡ old)
-Step setting old Commit effects new =
+HasEffects setting old Commit effects new =
     Judged setting old (verdict setting.slots setting.mode old.rules old.batch) effects new
 
 -- An act that is cut before an effect that is due: these are its effects before that.
 pub record IsCutStep (setting : Setting) (before : Progress) (act : Act) (effects : List Effect) (due : Effect) : Type 0 where
   pub back : List Effect
   pub after : Progress
-  pub step : Step setting before act (effects ++ due ∷ back) after
+  pub step : HasEffects setting before act (effects ++ due ∷ back) after
 
 -- an act that takes memory: a change, or a commit that is accepted
 abbrev pub TakesMemory : Setting → Progress → Act → Type 0
@@ -172,7 +172,7 @@ TakesMemory setting before Commit = verdict setting.slots setting.mode before.ru
 abbrev pub Run : Setting → Progress → List Act → List Effect → Progress → Type 0
 Run setting old [] effects new = (effects ≡ []) × (new ≡ old)
 Run setting old (act ∷ acts) effects new =
-    (front : List Effect) × (mid : Progress) × (back : List Effect) × Step setting old act front mid
+    (front : List Effect) × (mid : Progress) × (back : List Effect) × HasEffects setting old act front mid
     × Run setting mid acts back new × (effects ≡ front ++ back)
 
 -- all that a run does over a device of so many slots by its acts, before its last line

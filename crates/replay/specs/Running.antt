@@ -16,7 +16,7 @@ use Rattle.batch_order.specs.Managed.{Managed, HeldCommit, Holds, OnlyChangesRou
 use Rattle.replay.specs.declared.Act.{Act}
 use Rattle.replay.specs.declared.Family.{Family}
 use Rattle.replay.specs.declared.Family.TheVariants.{Route}
-use Rattle.replay.specs.Run.{Setting, Effect, Progress, printed, writes_of}
+use Rattle.replay.specs.Run.{Setting, Effect, Progress, printed, write_effects}
 use Rattle.replay.specs.declared.RunFault.{RunFault}
 use Rattle.replay.specs.declared.RunFault.TheVariants.{BatchFull, ProbesFull, Sink, Device, Memory}
 use Rattle.replay.specs.Carried.{IsAt, Carries, CutsAtLine, CutsAtWrite, CutsEffects, Wants}
@@ -152,7 +152,7 @@ telling manager watch =
 -- the effects of a commit's writes over a device of so many slots that these writes were made to
 abbrev pub effects_on : Managed → Watching → ℕ → List Write → List Write → List Effect
 effects_on manager watch device_slots before made =
-    writes_of (telling manager watch) watch.probes 1 (replay device_slots before) made
+    write_effects (telling manager watch) watch.probes 1 (replay device_slots before) made
 
 -- these writes are told, behind those of the journal
 abbrev pub Tells : Managed → Watching → ℕ → List Write → List Write → Option (List ℕ) → Option (List ℕ) → Type 0

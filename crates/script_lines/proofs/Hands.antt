@@ -12,20 +12,20 @@ use Rattle.script_lines.specs.declared.LineFault.TheVariants.{Read, ScriptTooLon
 use Rattle.script_lines.specs.declared.Over.TheVariants as over
 use Rattle.script_lines.specs.declared.scan.Found.TheVariants as found
 use Rattle.script_lines.specs.Lines.{limits, NumberedLine, EndOfInput, Faulty, line_feed, byte_fault, ends_at, onto_lines, lines_from, ScriptLines}
-use Rattle.script_lines.specs.Reader.{Held, IsOpenLine, HandsByGiven, HandsWhole, HandsLast, Hands, Follows, lines_held}
+use Rattle.script_lines.specs.Reader.{HeldBytes, IsOpenLine, HandsByGiven, HandsWhole, HandsLast, Hands, Follows, lines_held}
 use Rattle.script_lines.specs.Scan.{IsScanned, StopsAt, Gathers}
 use Rattle.script_lines.specs.Given.{HasEnd, MayGive, GivesPieces}
 use Rattle.script_lines.proofs.FirstLines.{picks, lines-open, lines-whole, lines-last}
 
 -- a reader held some bytes and read more, of which so many are scanned, and these are left
-pub record IsGathered (old : Held) (left after buffer : List ℕ) (scanned : ℕ) : Type 0 where
+pub record IsGathered (old : HeldBytes) (left after buffer : List ℕ) (scanned : ℕ) : Type 0 where
   pub got : List ℕ
   pub grown : buffer ≡ old.pending ++ got
   pub taken : left ≡ got ++ after
   pub scan : IsScanned buffer scanned old.before
 
 -- the bytes that were held and left are the line's, those after it, and those left now
-gathered : (old : Held) (left after buffer : List ℕ) (n : ℕ) → IsGathered old left after buffer n → old.pending ++ left ≡ take n buffer ++ (drop n buffer ++ after)
+gathered : (old : HeldBytes) (left after buffer : List ℕ) (n : ℕ) → IsGathered old left after buffer n → old.pending ++ left ≡ take n buffer ++ (drop n buffer ++ after)
 gathered old left after buffer n is =
     ap (λ l. old.pending ++ l) is.taken ∙ sym (append_assoc old.pending is.got after) ∙ ap (λ b. b ++ after) (sym is.grown ∙ sym (take-append-drop n buffer))
     ∙ append_assoc (take n buffer) (drop n buffer) after
@@ -44,7 +44,7 @@ faults-at before number text byte after fault is e =
 no_read-fault : (at number in_line byte : ℕ) → byte_fault limits at number in_line byte ≢ Some Read
 no_read-fault at number in_line byte e = grind (arith, nat_tests)
 
-faulty : (old : Held) (left after buffer : List ℕ) (n : ℕ) (fault : LineFault) → IsGathered old left after buffer n
+faulty : (old : HeldBytes) (left after buffer : List ℕ) (n : ℕ) (fault : LineFault) → IsGathered old left after buffer n
     → StopsAt (found.Fault fault) old.before old.number (take n buffer) (drop n buffer) → (lines_held old left ≡ ends_at (Faulty fault)) × (fault ≢ Read)
 faulty old left after buffer n fault is (byte, rest, stands, why) =
     let text = take n buffer in
@@ -53,30 +53,30 @@ faulty old left after buffer n fault is (byte, rest, stands, why) =
       λ read. no_read-fault (old.before + length text) old.number (length text) byte (why ∙ ap Some read),
     )
 
-hands-by : (old new : Held) (left after : List ℕ) (fault : LineFault) → lines_held old left ≡ ends_at (Faulty fault) → fault ≢ Read → Hands old left (Err fault) new after
+hands-by : (old new : HeldBytes) (left after : List ℕ) (fault : LineFault) → lines_held old left ≡ ends_at (Faulty fault) → fault ≢ Read → Hands old left (Err fault) new after
 hands-by old new left after Read e other = absurd (other refl)
 hands-by old new left after (ScriptTooLong line) e other = e
 hands-by old new left after (TooLong line) e other = e
 hands-by old new left after (BadByte line) e other = e
 
-follows-by : (old new : Held) (left after : List ℕ) (fault : LineFault) → lines_held old left ≡ ends_at (Faulty fault) → fault ≢ Read → Follows old left (Err fault) new after
+follows-by : (old new : HeldBytes) (left after : List ℕ) (fault : LineFault) → lines_held old left ≡ ends_at (Faulty fault) → fault ≢ Read → Follows old left (Err fault) new after
 follows-by old new left after Read e other = absurd (other refl)
 follows-by old new left after (ScriptTooLong line) e other = e
 follows-by old new left after (TooLong line) e other = e
 follows-by old new left after (BadByte line) e other = e
 
-hands-fault-at : (old new : Held) (left after buffer : List ℕ) (n : ℕ) (fault : LineFault) → IsGathered old left after buffer n
+hands-fault-at : (old new : HeldBytes) (left after buffer : List ℕ) (n : ℕ) (fault : LineFault) → IsGathered old left after buffer n
     → StopsAt (found.Fault fault) old.before old.number (take n buffer) (drop n buffer) → Hands old left (Err fault) new after
 hands-fault-at old new left after buffer n fault is stops = let e = faulty old left after buffer n fault is stops in hands-by old new left after fault e.0 e.1
 
-follows-fault-at : (old new : Held) (left after buffer : List ℕ) (n : ℕ) (fault : LineFault) → IsGathered old left after buffer n
+follows-fault-at : (old new : HeldBytes) (left after buffer : List ℕ) (n : ℕ) (fault : LineFault) → IsGathered old left after buffer n
     → StopsAt (found.Fault fault) old.before old.number (take n buffer) (drop n buffer) → Follows old left (Err fault) new after
 follows-fault-at old new left after buffer n fault is stops = let e = faulty old left after buffer n fault is stops in follows-by old new left after fault e.0 e.1
 
 -- ---- a line that its line feed ends
 
 -- the reader after it
-pub record IsPast (old new : Held) (buffer : List ℕ) (n : ℕ) (line : NumberedLine) : Type 0 where
+pub record IsPast (old new : HeldBytes) (buffer : List ℕ) (n : ℕ) (line : NumberedLine) : Type 0 where
   pub text : line.text ≡ take n buffer
   pub number : line.number ≡ old.number
   pub pending : new.pending ≡ drop (n + 1) buffer
@@ -84,7 +84,7 @@ pub record IsPast (old new : Held) (buffer : List ℕ) (n : ℕ) (line : Numbere
   pub number_new : new.number ≡ old.number + 1
   pub going : new.over ≡ over.Going
 
-hands-whole-at : (old new : Held) (left after buffer : List ℕ) (n : ℕ) (line : NumberedLine) → IsGathered old left after buffer n
+hands-whole-at : (old new : HeldBytes) (left after buffer : List ℕ) (n : ℕ) (line : NumberedLine) → IsGathered old left after buffer n
     → StopsAt found.LineFeed old.before old.number (take n buffer) (drop n buffer) → IsPast old new buffer n line → HandsWhole old left line new after
 hands-whole-at old new left after buffer n line is (rest, stands, room) past =
     let front = take n buffer in
@@ -102,7 +102,7 @@ hands-whole-at old new left after buffer n line is (rest, stands, room) past =
       going = past.going;
     }
 
-pub follows-whole : (old new : Held) (left after : List ℕ) (line : NumberedLine) → HandsWhole old left line new after → lines_held old left ≡ onto_lines line (lines_held new after)
+pub follows-whole : (old new : HeldBytes) (left after : List ℕ) (line : NumberedLine) → HandsWhole old left line new after → lines_held old left ≡ onto_lines line (lines_held new after)
 follows-whole old new left after line whole =
     let rest = new.pending ++ after in
     ap (lines_from limits old.before old.number []) whole.bytes
@@ -117,7 +117,7 @@ follows-whole old new left after line whole =
 ends-empty : (before number : ℕ) (pending after : List ℕ) → pending ≡ [] → after ≡ [] → lines_from limits before number [] (pending ++ after) ≡ ends_at EndOfInput
 ends-empty before number pending after used none = ap (λ p. lines_from limits before number [] (p ++ after)) used ∙ ap (lines_from limits before number []) none
 
-follows-last-at : (old : Held) (left after buffer : List ℕ) (n : ℕ) (line : NumberedLine) (before number : ℕ) (pending : List ℕ) → IsGathered old left after buffer n → drop n buffer ≡ [] → after ≡ [] → n ≢ 0
+follows-last-at : (old : HeldBytes) (left after buffer : List ℕ) (n : ℕ) (line : NumberedLine) (before number : ℕ) (pending : List ℕ) → IsGathered old left after buffer n → drop n buffer ≡ [] → after ≡ [] → n ≢ 0
     → line.text ≡ take n buffer → line.number ≡ old.number → pending ≡ [] → lines_held old left ≡ onto_lines line (lines_from limits before number [] (pending ++ after))
 follows-last-at old left after buffer n line before number pending is used none some text same_number empty =
     let there : n ≤ length buffer = is.scan.there in
@@ -131,19 +131,19 @@ follows-last-at old left after buffer n line before number pending is used none 
 
 -- ---- the same, where the reader's fields were seen
 
-pub hands-fault : (seen old new : Held) (left after buffer : List ℕ) (n : ℕ) (fault : LineFault) → seen ≡ old → IsGathered seen left after buffer n
+pub hands-fault : (seen old new : HeldBytes) (left after buffer : List ℕ) (n : ℕ) (fault : LineFault) → seen ≡ old → IsGathered seen left after buffer n
     → StopsAt (found.Fault fault) seen.before seen.number (take n buffer) (drop n buffer) → Hands old left (Err fault) new after
 hands-fault seen old new left after buffer n fault same is stops = subst (λ h. Hands h left (Err fault) new after) same (hands-fault-at seen new left after buffer n fault is stops)
 
-pub follows-fault : (seen old new : Held) (left after buffer : List ℕ) (n : ℕ) (fault : LineFault) → seen ≡ old → IsGathered seen left after buffer n
+pub follows-fault : (seen old new : HeldBytes) (left after buffer : List ℕ) (n : ℕ) (fault : LineFault) → seen ≡ old → IsGathered seen left after buffer n
     → StopsAt (found.Fault fault) seen.before seen.number (take n buffer) (drop n buffer) → Follows old left (Err fault) new after
 follows-fault seen old new left after buffer n fault same is stops = subst (λ h. Follows h left (Err fault) new after) same (follows-fault-at seen new left after buffer n fault is stops)
 
-pub hands-whole : (seen old new : Held) (left after buffer : List ℕ) (n : ℕ) (line : NumberedLine) → seen ≡ old → IsGathered seen left after buffer n
+pub hands-whole : (seen old new : HeldBytes) (left after buffer : List ℕ) (n : ℕ) (line : NumberedLine) → seen ≡ old → IsGathered seen left after buffer n
     → StopsAt found.LineFeed seen.before seen.number (take n buffer) (drop n buffer) → IsPast seen new buffer n line → HandsWhole old left line new after
 hands-whole seen old new left after buffer n line same is stops past = subst (λ h. HandsWhole h left line new after) same (hands-whole-at seen new left after buffer n line is stops past)
 
-pub follows-last : (seen old : Held) (left after buffer : List ℕ) (n : ℕ) (line : NumberedLine) (before number : ℕ) (pending : List ℕ) → seen ≡ old → IsGathered seen left after buffer n → drop n buffer ≡ []
+pub follows-last : (seen old : HeldBytes) (left after buffer : List ℕ) (n : ℕ) (line : NumberedLine) (before number : ℕ) (pending : List ℕ) → seen ≡ old → IsGathered seen left after buffer n → drop n buffer ≡ []
     → after ≡ [] → n ≢ 0 → line.text ≡ take n buffer → line.number ≡ seen.number → pending ≡ [] → lines_held old left ≡ onto_lines line (lines_from limits before number [] (pending ++ after))
 follows-last seen old left after buffer n line before number pending same is used none some text same_number empty =
     subst (λ h. lines_held h left ≡ onto_lines line (lines_from limits before number [] (pending ++ after))) same
@@ -152,7 +152,7 @@ follows-last seen old left after buffer n line before number pending same is use
 -- ---- by the pieces that were given
 
 -- what was gathered, as pieces
-pub by-pieces : (old : Held) (buffer : List ℕ) (n : ℕ) (a b : Option (List ℕ)) (given0 given1 pieces : List (List ℕ)) (left after : List ℕ)
+pub by-pieces : (old : HeldBytes) (buffer : List ℕ) (n : ℕ) (a b : Option (List ℕ)) (given0 given1 pieces : List (List ℕ)) (left after : List ℕ)
     → Gathers old.before old.pending buffer a b given0 given1 pieces → IsScanned buffer n old.before → MayGive left pieces after → IsGathered old left after buffer n
 by-pieces old buffer n a b given0 given1 pieces left after is scan may = record { got = concat pieces; grown = is.grown; taken = may.bytes; scan = scan }
 
@@ -165,10 +165,10 @@ pub gives-none : (given : List (List ℕ)) (a : Option (List ℕ)) → GivesPiec
 gives-none given a = record { given = sym (append-nil given); taken = Consumes-nil a; end = λ e. absurd e }
 
 -- it was over before
-pub hands-over : (old : Held) (result : Result (Option Line) LineFault) → old.over ≢ over.Going → HandsByGiven old [] result old
+pub hands-over : (old : HeldBytes) (result : Result (Option Line) LineFault) → old.over ≢ over.Going → HandsByGiven old [] result old
 hands-over old result over = record { hands = λ going. absurd (over going); ended = λ e. absurd e; rests = λ _. refl; last = inl refl }
 
-hands-last-at : (old new : Held) (left after buffer : List ℕ) (n : ℕ) (line : NumberedLine) → IsGathered old left after buffer n → drop n buffer ≡ [] → after ≡ [] → n ≢ 0
+hands-last-at : (old new : HeldBytes) (left after buffer : List ℕ) (n : ℕ) (line : NumberedLine) → IsGathered old left after buffer n → drop n buffer ≡ [] → after ≡ [] → n ≢ 0
     → line.text ≡ take n buffer → line.number ≡ old.number → new.pending ≡ [] → new.over ≡ over.Ended → HandsLast old left line new after
 hands-last-at old new left after buffer n line is used none some text number empty ended =
     let there : n ≤ length buffer = is.scan.there in
@@ -183,38 +183,38 @@ hands-last-at old new left after buffer n line is used none some text number emp
       ended = ended;
     }
 
-pub hands-last : (seen old new : Held) (left after buffer : List ℕ) (n : ℕ) (line : NumberedLine) → seen ≡ old → IsGathered seen left after buffer n → drop n buffer ≡ [] → after ≡ [] → n ≢ 0
+pub hands-last : (seen old new : HeldBytes) (left after buffer : List ℕ) (n : ℕ) (line : NumberedLine) → seen ≡ old → IsGathered seen left after buffer n → drop n buffer ≡ [] → after ≡ [] → n ≢ 0
     → line.text ≡ take n buffer → line.number ≡ seen.number → new.pending ≡ [] → new.over ≡ over.Ended → HandsLast old left line new after
 hands-last seen old new left after buffer n line same is used none some text number empty ended =
     subst (λ h. HandsLast h left line new after) same (hands-last-at seen new left after buffer n line is used none some text number empty ended)
 
-hands-end-at : (old new : Held) (left after buffer : List ℕ) (n : ℕ) → IsGathered old left after buffer n → drop n buffer ≡ [] → n ≡ 0 → after ≡ [] → new.over ≡ over.Ended → Hands old left (Ok None) new after
+hands-end-at : (old new : HeldBytes) (left after buffer : List ℕ) (n : ℕ) → IsGathered old left after buffer n → drop n buffer ≡ [] → n ≡ 0 → after ≡ [] → new.over ≡ over.Ended → Hands old left (Ok None) new after
 hands-end-at old new left after buffer n is used zero none ended = (
   gathered old left after buffer n is ∙ ap (λ r. take n buffer ++ (r ++ after)) used ∙ ap (λ r. take n buffer ++ r) none ∙ ap (λ k. take k buffer ++ []) zero,
   none,
   ended,
 )
 
-pub hands-end : (seen old new : Held) (left after buffer : List ℕ) (n : ℕ) → seen ≡ old → IsGathered seen left after buffer n → drop n buffer ≡ [] → n ≡ 0 → after ≡ [] → new.over ≡ over.Ended
+pub hands-end : (seen old new : HeldBytes) (left after buffer : List ℕ) (n : ℕ) → seen ≡ old → IsGathered seen left after buffer n → drop n buffer ≡ [] → n ≡ 0 → after ≡ [] → new.over ≡ over.Ended
     → Hands old left (Ok None) new after
 hands-end seen old new left after buffer n same is used zero none ended = subst (λ h. Hands h left (Ok None) new after) same (hands-end-at seen new left after buffer n is used zero none ended)
 
-hands-read-at : (old new : Held) (left after buffer : List ℕ) (n : ℕ) → IsGathered old left after buffer n → n ≡ length buffer → new.pending ≡ buffer → new.over ≡ over.Going → Hands old left (Err Read) new after
+hands-read-at : (old new : HeldBytes) (left after buffer : List ℕ) (n : ℕ) → IsGathered old left after buffer n → n ≡ length buffer → new.pending ≡ buffer → new.over ≡ over.Going → Hands old left (Err Read) new after
 hands-read-at old new left after buffer n is all same going =
     let whole : take n buffer ≡ new.pending = ap (λ k. take k buffer) all ∙ take-length buffer ∙ sym same in
     let bytes : old.pending ++ left ≡ new.pending ++ after =
     ap (λ l. old.pending ++ l) is.taken ∙ sym (append_assoc old.pending is.got after) ∙ ap (λ b. b ++ after) (sym is.grown ∙ sym same) in
     (record { bytes = bytes; one_line = subst (λ t. IsOpenLine old.before t) whole is.scan.one_line }, going)
 
-pub hands-read : (seen old new : Held) (left after buffer : List ℕ) (n : ℕ) → seen ≡ old → IsGathered seen left after buffer n → n ≡ length buffer → new.pending ≡ buffer → new.over ≡ over.Going
+pub hands-read : (seen old new : HeldBytes) (left after buffer : List ℕ) (n : ℕ) → seen ≡ old → IsGathered seen left after buffer n → n ≡ length buffer → new.pending ≡ buffer → new.over ≡ over.Going
     → Hands old left (Err Read) new after
 hands-read seen old new left after buffer n same is all pending going = subst (λ h. Hands h left (Err Read) new after) same (hands-read-at seen new left after buffer n is all pending going)
 
 -- the rest of it, where it goes on
-pub by-given : (seen old new : Held) (result : Result (Option Line) LineFault) (buffer : List ℕ) (a b : Option (List ℕ)) (given0 given1 pieces : List (List ℕ))
+pub by-given : (seen old new : HeldBytes) (result : Result (Option Line) LineFault) (buffer : List ℕ) (a b : Option (List ℕ)) (given0 given1 pieces : List (List ℕ))
     → seen ≡ old → Gathers seen.before seen.pending buffer a b given0 given1 pieces → old.over ≡ over.Going
     → ((left after : List ℕ) → MayGive left pieces after → Hands old left result new after) → (HasEnd pieces → new.over ≡ over.Ended) → HandsByGiven old pieces result new
 by-given seen old new result buffer a b given0 given1 pieces same is going hands ended =
-    let P : Held → Type 0 = λ h. Gathers h.before h.pending buffer a b given0 given1 pieces in
+    let P : HeldBytes → Type 0 = λ h. Gathers h.before h.pending buffer a b given0 given1 pieces in
     let here = subst P same is in
     record { hands = λ _. hands; ended = ended; rests = λ other. absurd (other going); last = here.last }

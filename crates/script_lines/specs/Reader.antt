@@ -11,7 +11,7 @@ use Rattle.script_lines.specs.declared.Over.TheVariants as over
 use Rattle.script_lines.specs.Lines.{limits, NumberedLine, ScriptLines, EndOfInput, Faulty, line_feed, is_allowed, lines_from, ends_at, onto_lines, numbered}
 
 -- the bytes taken and not handed out, how many bytes of the script stand before them, the number of the line that they begin, and whether more comes
-pub record Held : Type 0 where
+pub record HeldBytes : Type 0 where
   pub pending : List ℕ
   pub before : ℕ
   pub number : ℕ
@@ -28,11 +28,11 @@ pub record IsOpenLine (before : ℕ) (text : List ℕ) : Type 0 where
   pub within : before + length text ≤ 16777216
 
 -- the lines of what is pending and what is left
-abbrev pub lines_held : Held → List ℕ → ScriptLines
+abbrev pub lines_held : HeldBytes → List ℕ → ScriptLines
 lines_held held left = lines_from limits held.before held.number [] (held.pending ++ left)
 
 -- a line that its line feed ends
-pub record HandsWhole (old : Held) (left : List ℕ) (line : NumberedLine) (new : Held) (after : List ℕ) : Type 0 where
+pub record HandsWhole (old : HeldBytes) (left : List ℕ) (line : NumberedLine) (new : HeldBytes) (after : List ℕ) : Type 0 where
   pub bytes : old.pending ++ left ≡ line.text ++ 10 ∷ (new.pending ++ after)
   pub one_line : IsOpenLine old.before line.text
   pub room : old.before + length line.text < 16777216
@@ -42,7 +42,7 @@ pub record HandsWhole (old : Held) (left : List ℕ) (line : NumberedLine) (new 
   pub going : new.over ≡ over.Going
 
 -- the last line, without one: nothing is read after it
-pub record HandsLast (old : Held) (left : List ℕ) (line : NumberedLine) (new : Held) (after : List ℕ) : Type 0 where
+pub record HandsLast (old : HeldBytes) (left : List ℕ) (line : NumberedLine) (new : HeldBytes) (after : List ℕ) : Type 0 where
   pub bytes : old.pending ++ left ≡ line.text
   pub some : line.text ≢ []
   pub one_line : IsOpenLine old.before line.text
@@ -52,12 +52,12 @@ pub record HandsLast (old : Held) (left : List ℕ) (line : NumberedLine) (new :
   pub ended : new.over ≡ over.Ended
 
 -- what is held is a part of one line, and so are the bytes that were to come
-pub record KeepsAll (old : Held) (left : List ℕ) (new : Held) (after : List ℕ) : Type 0 where
+pub record KeepsAll (old : HeldBytes) (left : List ℕ) (new : HeldBytes) (after : List ℕ) : Type 0 where
   pub bytes : old.pending ++ left ≡ new.pending ++ after
   pub one_line : IsOpenLine old.before new.pending
 
 -- what it answers where it goes on, by the bytes left before and after
-abbrev pub Hands : Held → List ℕ → Result (Option Line) LineFault → Held → List ℕ → Type 0
+abbrev pub Hands : HeldBytes → List ℕ → Result (Option Line) LineFault → HeldBytes → List ℕ → Type 0
 Hands old left (Ok (Some line)) new after = HandsWhole old left (numbered line) new after ⊎ HandsLast old left (numbered line) new after
 Hands old left (Ok None) new after = (old.pending ++ left ≡ []) × (after ≡ []) × (new.over ≡ over.Ended)
 Hands old left (Err fault.Read) new after = KeepsAll old left new after × (new.over ≡ over.Going)
@@ -66,7 +66,7 @@ Hands old left (Err (fault.TooLong line)) new after = lines_held old left ≡ en
 Hands old left (Err (fault.BadByte line)) new after = lines_held old left ≡ ends_at (Faulty (fault.BadByte line))
 
 -- the answers are the lines of the bytes held and left, one after the other, and then their end
-abbrev pub Follows : Held → List ℕ → Result (Option Line) LineFault → Held → List ℕ → Type 0
+abbrev pub Follows : HeldBytes → List ℕ → Result (Option Line) LineFault → HeldBytes → List ℕ → Type 0
 Follows old left (Ok (Some line)) new after = lines_held old left ≡ onto_lines (numbered line) (lines_held new after)
 Follows old left (Ok None) new after = lines_held old left ≡ ends_at EndOfInput
 Follows old left (Err fault.Read) new after = lines_held old left ≡ lines_held new after
@@ -75,7 +75,7 @@ Follows old left (Err (fault.TooLong line)) new after = lines_held old left ≡ 
 Follows old left (Err (fault.BadByte line)) new after = lines_held old left ≡ ends_at (Faulty (fault.BadByte line))
 
 -- it may read: it goes on, and holds no whole line and no byte that is a fault
-abbrev pub MayRead : Held → Type 0
+abbrev pub MayRead : HeldBytes → Type 0
 MayRead held = (held.over ≡ over.Going) × IsOpenLine held.before held.pending
 
 -- where it stands after an answer, whatever the source tells: a fault of a byte and the end stay, a failed read doesn't
@@ -100,7 +100,7 @@ LastAtOpenLine before held pieces =
 
 -- what it answers by the pieces that its source gave: the answer is right whatever bytes come after them, and none
 -- come after an end; it reads only where it holds no whole line, and not at all once it is over
-pub record HandsByGiven (old : Held) (pieces : List (List ℕ)) (result : Result (Option Line) LineFault) (new : Held) : Type 0 where
+pub record HandsByGiven (old : HeldBytes) (pieces : List (List ℕ)) (result : Result (Option Line) LineFault) (new : HeldBytes) : Type 0 where
   pub hands : old.over ≡ over.Going → (left after : List ℕ) → MayGive left pieces after → Hands old left result new after
   pub ended : HasEnd pieces → new.over ≡ over.Ended
   pub rests : old.over ≢ over.Going → pieces ≡ []

@@ -17,10 +17,10 @@ pub struct Lines {
 }
 
 impl Model for Lines {
-    ghost use Rattle.script_lines.specs.Reader.{Held};
+    ghost use Rattle.script_lines.specs.Reader.{HeldBytes};
     ghost use Rattle.script_lines.specs.Scan.{IsReader};
 
-    ghost Value = { Held };
+    ghost Value = { HeldBytes };
 
     ghost view = { λ l. record { pending = l.buffer; before = l.before; number = l.number; over = l.over } };
 

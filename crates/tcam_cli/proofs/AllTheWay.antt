@@ -14,7 +14,7 @@ use Rattle.tcam_device.proofs.Spans.{state_after-append}
 use Rattle.tcam_device.proofs.Wider.{blank_shows}
 use Rattle.replay.specs.declared.Act.{Act}
 use Rattle.replay.specs.declared.Act.TheVariants.{Command, Probe, Packet, Commit}
-use Rattle.replay.specs.Run.{Setting, Effect, Prints, written, Progress, start, writes_of, IsCutStep, Judged, Step, Run, Runs}
+use Rattle.replay.specs.Run.{Setting, Effect, Prints, written, Progress, start, write_effects, IsCutStep, Judged, HasEffects, Run, Runs}
 use Rattle.tcam_cli.specs.AllTheWay.{sets_through, ShowsSetOrNext, AnswersAllTheWay, EndsAtLast}
 use Rattle.tcam_cli.proofs.OneMore.{run-more}
 use Rattle.replay.proofs.Effects.{written-writes, written-append}
@@ -174,10 +174,10 @@ IsShown progress = Shows progress.state progress.rules
 abbrev GoesOn : Setting → Progress → List Act → List Write → Type 0
 GoesOn setting old acts writes = Goes old.state (sets_through setting old.rules old.batch acts) writes
 
-written-commit : (setting : Setting) (old : Progress) (made : List Write) (line : List ℕ) → written (writes_of setting old.probes 1 old.state made ++ Prints line ∷ []) ≡ made
+written-commit : (setting : Setting) (old : Progress) (made : List Write) (line : List ℕ) → written (write_effects setting old.probes 1 old.state made ++ Prints line ∷ []) ≡ made
 written-commit setting old made line =
-    written-append (writes_of setting old.probes 1 old.state made) (Prints line ∷ [])
-    ∙ append-nil (written (writes_of setting old.probes 1 old.state made)) ∙ written-writes setting old.probes 1 old.state made
+    written-append (write_effects setting old.probes 1 old.state made) (Prints line ∷ [])
+    ∙ append-nil (written (write_effects setting old.probes 1 old.state made)) ∙ written-writes setting old.probes 1 old.state made
 
 goes-judged : (setting : Setting) (old : Progress) (is : Verdict) (front : List Effect) (mid : Progress) (acts : List Act) (back : List Write)
     → IsShown old → Judged setting old is front mid → (IsShown mid → GoesOn setting mid acts back)
@@ -209,7 +209,7 @@ goes-judged setting old (OutOfSlots needed free) front mid acts back shown step 
 
 -- one act and those behind it
 goes-step : (setting : Setting) (old : Progress) (act : Act) (front : List Effect) (mid : Progress) (acts : List Act) (back : List Write)
-    → IsShown old → Step setting old act front mid → (IsShown mid → GoesOn setting mid acts back) → GoesOn setting old (act ∷ acts) (written front ++ back)
+    → IsShown old → HasEffects setting old act front mid → (IsShown mid → GoesOn setting mid acts back) → GoesOn setting old (act ∷ acts) (written front ++ back)
 goes-step setting old (Command change) front mid acts back shown step more =
     let P : Progress → Type 0 = λ p. IsShown p → GoesOn setting p acts back in
     subst (λ writes. GoesOn setting old (Command change ∷ acts) writes) (sym (ap (λ effects. written effects ++ back) step.0)) (subst P step.1 more shown)

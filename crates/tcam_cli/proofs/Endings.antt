@@ -13,7 +13,7 @@ use Rattle.tcam_cli.specs.declared.Status.{Status}
 use Rattle.tcam_cli.specs.declared.Status.TheVariants.{Done, Refused, ReadFault, WriteFault, DeviceFault, Memory}
 use Rattle.tcam_cli.specs.Headline.{acts_of, whole_lines, script_so_far, last_line, status_of, IsOutcome, IsComplete}
 use Rattle.tcam_cli.specs.Readings.{reading}
-use Rattle.script_lines.specs.Reader.{Held, HandsWhole, HandsLast, KeepsAll}
+use Rattle.script_lines.specs.Reader.{HeldBytes, HandsWhole, HandsLast, KeepsAll}
 use Rattle.replay.specs.Carried.{Carries, CutsAtLine, CutsAtWrite, Wants}
 use Rattle.tcam_cli.specs.Turns.{onto_all, acts_next, IsGoing, IsAllRead, IsRead, acts_only, Ends, Closes, GoesOn}
 use Rattle.script_lines.proofs.FirstLines.{lines-whole, lines-pending, lines-last}
@@ -61,10 +61,10 @@ line-act reading p q line rest act e l =
 
 -- ---- one line more
 
-abbrev HandsOne : Held → List ℕ → NumberedLine → Held → List ℕ → Type 0
+abbrev HandsOne : HeldBytes → List ℕ → NumberedLine → HeldBytes → List ℕ → Type 0
 HandsOne old left line new after = HandsWhole old left line new after ⊎ HandsLast old left line new after
 
-whole-at : (old : Held) (left : List ℕ) (line : NumberedLine) (new : Held) (after rest : List ℕ) → HandsWhole old left line new after
+whole-at : (old : HeldBytes) (left : List ℕ) (line : NumberedLine) (new : HeldBytes) (after rest : List ℕ) → HandsWhole old left line new after
     → lines_from limits old.before old.number [] (line.text ++ 10 ∷ rest) ≡ onto_lines line (lines_from limits new.before new.number [] rest)
 whole-at old left line new after rest h =
     lines-whole old.before old.number line.text rest h.one_line h.room
@@ -72,7 +72,7 @@ whole-at old left line new after rest h =
     ∙ ap (λ b. onto_lines line (lines_from limits b (old.number + 1) [] rest)) (sym h.before_new)
     ∙ ap (λ n. onto_lines line (lines_from limits new.before n [] rest)) (sym h.number_new)
 
-last-at : (old : Held) (left : List ℕ) (line : NumberedLine) (new : Held) (after : List ℕ) → HandsLast old left line new after
+last-at : (old : HeldBytes) (left : List ℕ) (line : NumberedLine) (new : HeldBytes) (after : List ℕ) → HandsLast old left line new after
     → lines_from limits old.before old.number [] line.text ≡ onto_lines line (ends_at EndOfInput)
 last-at old left line new after h =
     lines-last old.before old.number line.text h.one_line h.some
@@ -84,7 +84,7 @@ shift done text rest = append_assoc done (text ++ 10 ∷ []) rest ∙ ap (λ x. 
 pub onto-nil : (acts : List NumberedAct) (last : ScriptEnd) → onto_all acts (record { acts = []; last = last }) ≡ record { acts = acts; last = last }
 onto-nil acts last = let f : List NumberedAct → Script = λ a. record { acts = a; last = last } in ap f (append-nil acts)
 
-pub next-line : (reading : Reading) (bytes : List ℕ) (old : Held) (left : List ℕ) (line : NumberedLine) (new : Held) (after : List ℕ) (acts acts2 : List NumberedAct) (p q p2 q2 : ℕ)
+pub next-line : (reading : Reading) (bytes : List ℕ) (old : HeldBytes) (left : List ℕ) (line : NumberedLine) (new : HeldBytes) (after : List ℕ) (acts acts2 : List NumberedAct) (p q p2 q2 : ℕ)
     → IsGoing reading bytes old left acts p q → HandsOne old left line new after
     → ((rest : ScriptLines) → onto_all acts (acts_from reading p q (line ∷ rest.lines) rest.last) ≡ onto_all acts2 (acts_next reading p2 q2 rest))
     → IsRead new.over reading bytes new after acts2 p2 q2
@@ -111,7 +111,7 @@ next-line reading bytes old left line new after acts acts2 p q p2 q2 going (inr 
     ) in
     subst (λ o. IsRead o reading bytes new after acts2 p2 q2) (sym h.ended) is
 
-pub line-here : (reading : Reading) (bytes : List ℕ) (old : Held) (left : List ℕ) (line : NumberedLine) (new : Held) (after : List ℕ) (acts : List NumberedAct) (p q : ℕ)
+pub line-here : (reading : Reading) (bytes : List ℕ) (old : HeldBytes) (left : List ℕ) (line : NumberedLine) (new : HeldBytes) (after : List ℕ) (acts : List NumberedAct) (p q : ℕ)
     → IsGoing reading bytes old left acts p q → HandsOne old left line new after
     → (rest : ScriptLines) × (script_of reading bytes ≡ onto_all acts (acts_from reading p q (line ∷ rest.lines) rest.last))
 line-here reading bytes old left line new after acts p q going (inl h) = (
@@ -126,7 +126,7 @@ line-here reading bytes old left line new after acts p q going (inr h) = (
 )
 
 -- the fault of a byte
-pub bytes-fault : (reading : Reading) (bytes : List ℕ) (old : Held) (left : List ℕ) (acts : List NumberedAct) (p q : ℕ) (fault : LineFault)
+pub bytes-fault : (reading : Reading) (bytes : List ℕ) (old : HeldBytes) (left : List ℕ) (acts : List NumberedAct) (p q : ℕ) (fault : LineFault)
     → IsGoing reading bytes old left acts p q → lines_from limits old.before old.number [] (old.pending ++ left) ≡ ends_at (Faulty fault)
     → script_of reading bytes ≡ record { acts = acts; last = byte_end (Faulty fault) }
 bytes-fault reading bytes old left acts p q fault going e =
@@ -134,13 +134,13 @@ bytes-fault reading bytes old left acts p q fault going e =
     ∙ onto-nil acts (byte_end (Faulty fault))
 
 -- the end of the input
-pub bytes-end : (reading : Reading) (bytes : List ℕ) (old : Held) (left : List ℕ) (acts : List NumberedAct) (p q : ℕ)
+pub bytes-end : (reading : Reading) (bytes : List ℕ) (old : HeldBytes) (left : List ℕ) (acts : List NumberedAct) (p q : ℕ)
     → IsGoing reading bytes old left acts p q → old.pending ++ left ≡ [] → script_of reading bytes ≡ record { acts = acts; last = Whole }
 bytes-end reading bytes old left acts p q going e =
     ap (script_of reading) (going.parts ∙ ap (λ x. going.done ++ x) e) ∙ going.script [] ∙ onto-nil acts Whole
 
 -- a failed read: what was taken is the whole lines and a part of one
-pub so-far : (reading : Reading) (bytes taken : List ℕ) (old : Held) (left : List ℕ) (new : Held) (after : List ℕ) (acts : List NumberedAct) (p q : ℕ)
+pub so-far : (reading : Reading) (bytes taken : List ℕ) (old : HeldBytes) (left : List ℕ) (new : HeldBytes) (after : List ℕ) (acts : List NumberedAct) (p q : ℕ)
     → IsGoing reading bytes old left acts p q → KeepsAll old left new after → bytes ≡ taken ++ after
     → script_so_far reading taken ≡ record { acts = acts; last = Whole }
 so-far reading bytes taken old left new after acts p q going kept parts =
@@ -264,7 +264,7 @@ only-more : (acts : List NumberedAct) (number : ℕ) (act : Act) → acts_only a
 only-more [] number act = refl
 only-more (first ∷ acts) number act = ap (λ l. first.act ∷ l) (only-more acts number act)
 
-pub goes-act : (setting : Setting) (slots : ℕ) (bytes left : List ℕ) (old : Held) (line : NumberedLine) (new : Held) (after : List ℕ) (act : Act) (acts : List NumberedAct)
+pub goes-act : (setting : Setting) (slots : ℕ) (bytes left : List ℕ) (old : HeldBytes) (line : NumberedLine) (new : HeldBytes) (after : List ℕ) (act : Act) (acts : List NumberedAct)
     (effects : List Effect) (last next : Progress) (journal_old journal_new : List Write) (start before later : Option (List ℕ))
     → IsGoing (reading setting.family) bytes old left acts (length last.batch) (length last.probes)
     → HandsOne old left line new after
@@ -297,7 +297,7 @@ goes-act setting slots bytes left old line new after act acts effects last next 
     }
 
 -- the acts of the script around this one
-pub act-here : (reading : Reading) (bytes : List ℕ) (old : Held) (left : List ℕ) (line : NumberedLine) (new : Held) (after : List ℕ) (act : Act) (acts : List NumberedAct) (p q : ℕ)
+pub act-here : (reading : Reading) (bytes : List ℕ) (old : HeldBytes) (left : List ℕ) (line : NumberedLine) (new : HeldBytes) (after : List ℕ) (act : Act) (acts : List NumberedAct) (p q : ℕ)
     → IsGoing reading bytes old left acts p q → HandsOne old left line new after → reading line.text ≡ Ok (Some act) → limit_fault act p q ≡ None
     → (later : List Act) × (acts_of (script_of reading bytes) ≡ acts_only acts ++ act ∷ later)
 act-here reading bytes old left line new after act acts p q going hands is room =

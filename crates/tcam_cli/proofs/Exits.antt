@@ -15,20 +15,20 @@ use Rattle.tcam_cli.specs.Headline.{status_of}
 use Rattle.tcam_cli.specs.Readings.{reading}
 use Rattle.script_lines.specs.declared.Over.{Over}
 use Rattle.script_lines.specs.declared.Over.TheVariants as over
-use Rattle.script_lines.specs.Reader.{Held, lines_held, HandsWhole, HandsLast, Hands, Again}
+use Rattle.script_lines.specs.Reader.{HeldBytes, lines_held, HandsWhole, HandsLast, Hands, Again}
 use Rattle.replay.specs.Carried.{IsAt, Carries, CutsAtLine, CutsAtWrite, Wants}
 use Rattle.tcam_cli.specs.Turns.{onto_all, IsGoing, IsAllRead, IsRead, acts_only, SoFar, Ends, Closes, GoesOn, WantsNext}
 use Rattle.tcam_cli.proofs.OneMore.{run-at}
 use Rattle.tcam_cli.proofs.Endings.{line-none, line-fault, line-full, next-line, line-here, bytes-fault, bytes-end, so-far, onto-nil, ends-closed, ends-read, goes-act, act-here, ends-line, ends-device, ends-memory}
 
-abbrev pub HandsOne : Held → List ℕ → NumberedLine → Held → List ℕ → Type 0
+abbrev pub HandsOne : HeldBytes → List ℕ → NumberedLine → HeldBytes → List ℕ → Type 0
 HandsOne old left line new after = HandsWhole old left line new after ⊎ HandsLast old left line new after
 
 abbrev not-end : Result (Option Line) LineFault → Type 0
 not-end r = r ≢ Ok None
 
 -- where something else than the end came, the lines went on
-still-going : (o : Over) (reading : Reading) (bytes : List ℕ) (old : Held) (left : List ℕ) (acts : List NumberedAct) (p q : ℕ) (r : Result (Option Line) LineFault)
+still-going : (o : Over) (reading : Reading) (bytes : List ℕ) (old : HeldBytes) (left : List ℕ) (acts : List NumberedAct) (p q : ℕ) (r : Result (Option Line) LineFault)
     → r ≢ Ok None → Again o r → IsRead o reading bytes old left acts p q → (o ≡ over.Going) × IsGoing reading bytes old left acts p q
 still-going over.Going reads bytes old left acts p q r other again read = (refl, read)
 still-going over.Ended reads bytes old left acts p q r other again read = absurd (other again)
@@ -40,7 +40,7 @@ closes-script line result before after now (inl c) (inr d) = let e : ScriptFault
 closes-script line result before after now (inr c) (inl d) = let e : WriteFault ≡ Done = sym c.0 ∙ d in absurd (cc)
 closes-script line result before after now (inr c) (inr d) = let e : WriteFault ≡ Refused = sym c.0 ∙ d in absurd (cc)
 
-module _ (setting : Setting) (slots : ℕ) (bytes : List ℕ) (old : Held) (left : List ℕ) (last : Progress) (journal : List Write) (start before : Option (List ℕ)) (s : SoFar setting slots bytes old left last journal start before) where
+module _ (setting : Setting) (slots : ℕ) (bytes : List ℕ) (old : HeldBytes) (left : List ℕ) (last : Progress) (journal : List Write) (start before : Option (List ℕ)) (s : SoFar setting slots bytes old left last journal start before) where
   -- a fault of a byte
   pub exit-bytes : (taken now : List ℕ) (after : Option (List ℕ)) (result : Status) (found : LineFault) (number : ℕ) (text : List ℕ) → byte_end (Faulty found) ≡ FaultAt number text
       → Again old.over (Err found) → (old.over ≡ over.Going → lines_held old left ≡ ends_at (Faulty found)) → Closes (fault_line number text) ScriptFault result before after
@@ -55,7 +55,7 @@ module _ (setting : Setting) (slots : ℕ) (bytes : List ℕ) (old : Held) (left
       (whole ∙ ap (λ e. record { acts = s.acts; last = e }) end) s.run s.journal_is s.report closes (closes-script (fault_line number text) result before after now closes)
 
   -- the end of the input
-  pub exit-end : (new : Held) (taken now : List ℕ) (after : Option (List ℕ)) (result : Status)
+  pub exit-end : (new : HeldBytes) (taken now : List ℕ) (after : Option (List ℕ)) (result : Status)
       → (old.over ≡ over.Going → Hands old left (Ok None) new now) → (old.over ≢ over.Going → left ≡ now) → Closes (ending setting last) (status_of last Whole) result before after
       → Ends setting slots bytes taken now result journal start after
   exit-end new taken now after result hands rests closes =
@@ -73,7 +73,7 @@ module _ (setting : Setting) (slots : ℕ) (bytes : List ℕ) (old : Held) (left
       all-read (over.Stopped stopped) reading acts p q read hands rests = absurd read
 
   -- a failed read
-  pub exit-read : (new : Held) (taken now : List ℕ) → Again old.over (Err fault.Read) → (old.over ≡ over.Going → Hands old left (Err fault.Read) new now) → bytes ≡ taken ++ now
+  pub exit-read : (new : HeldBytes) (taken now : List ℕ) → Again old.over (Err fault.Read) → (old.over ≡ over.Going → Hands old left (Err fault.Read) new now) → bytes ≡ taken ++ now
       → Ends setting slots bytes taken now ReadFault journal start before
   exit-read new taken now again hands parts =
       let p = length last.batch in
@@ -83,7 +83,7 @@ module _ (setting : Setting) (slots : ℕ) (bytes : List ℕ) (old : Held) (left
       ends-read setting slots bytes taken now s.acts s.effects last journal start before (so-far (reading setting.family) bytes taken old left new now s.acts p q is (hands going).0 parts) s.run s.journal_is s.report
 
   -- a line came
-  module _ (line : Line) (new : Held) (now : List ℕ) (again : Again old.over (Ok (Some line))) (hands : old.over ≡ over.Going → HandsOne old left (numbered line) new now) where
+  module _ (line : Line) (new : HeldBytes) (now : List ℕ) (again : Again old.over (Ok (Some line))) (hands : old.over ≡ over.Going → HandsOne old left (numbered line) new now) where
     going : (old.over ≡ over.Going) × IsGoing (reading setting.family) bytes old left s.acts (length last.batch) (length last.probes)
     going =
         let other : not-end (Ok (Some line)) = λ e. cc in

@@ -8,7 +8,7 @@ use Rattle.script_lines.specs.declared.LineFault.{LineFault}
 use Rattle.script_lines.specs.declared.Over.{Over}
 use Rattle.script_lines.specs.declared.Over.TheVariants as over
 use Rattle.script_lines.specs.Given.{HasEnd, MayGive, GivesPieces}
-use Rattle.script_lines.specs.Reader.{Held, HandsByGiven}
+use Rattle.script_lines.specs.Reader.{HeldBytes, HandsByGiven}
 use Rattle.script_lines.proofs.Pieces.{concat-append, end-left, end-right, end-either}
 use Rattle.tcam_device.specs.declared.Write.{Write}
 use Rattle.replay.specs.Run.{Setting, Progress}
@@ -21,7 +21,7 @@ use Rattle.tcam_cli.proofs.WholeRun.{EndsTold, carried, may-end}
 use Rattle.tcam_cli.proofs.HitlessRuns.{hitless-job}
 
 -- a turn that ends the run, for want of memory
-pub turns-memory : (setting : Setting) (slots : ℕ) (old : Held) (before : Progress) (pieces : List (List ℕ)) (answer : Result (Option Line) LineFault) (held : Held) (status : Status) (new : Held) (after : Progress) (journal_old journal_new : List Write) (taken_old taken_new : Option (List ℕ))
+pub turns-memory : (setting : Setting) (slots : ℕ) (old : HeldBytes) (before : Progress) (pieces : List (List ℕ)) (answer : Result (Option Line) LineFault) (held : HeldBytes) (status : Status) (new : HeldBytes) (after : Progress) (journal_old journal_new : List Write) (taken_old taken_new : Option (List ℕ))
     → HandsByGiven old pieces answer held
     → ((bytes left now : List ℕ) (start : Option (List ℕ)) → MayGive left pieces now → SoFar setting slots bytes old left before journal_old start taken_old → Grows journal_old journal_new taken_old taken_new)
     → ((bytes taken left now : List ℕ) (start : Option (List ℕ)) → MayGive left pieces now → bytes ≡ taken ++ now → SoFar setting slots bytes old left before journal_old start taken_old → Ends setting slots bytes taken now status journal_new start taken_new)
@@ -31,7 +31,7 @@ turns-memory setting slots old before pieces answer held status new after journa
     record { goes = tt; ends = ends; wants = λ e. wants; ended = λ _. tt; rests = by.rests; last = by.last; grows = grows }
 
 -- for another reason
-pub turns-some : (setting : Setting) (slots : ℕ) (old : Held) (before : Progress) (pieces : List (List ℕ)) (answer : Result (Option Line) LineFault) (held : Held) (status : Status) (new : Held) (after : Progress) (journal_old journal_new : List Write) (taken_old taken_new : Option (List ℕ))
+pub turns-some : (setting : Setting) (slots : ℕ) (old : HeldBytes) (before : Progress) (pieces : List (List ℕ)) (answer : Result (Option Line) LineFault) (held : HeldBytes) (status : Status) (new : HeldBytes) (after : Progress) (journal_old journal_new : List Write) (taken_old taken_new : Option (List ℕ))
     → HandsByGiven old pieces answer held → status ≢ Memory
     → ((bytes left now : List ℕ) (start : Option (List ℕ)) → MayGive left pieces now → SoFar setting slots bytes old left before journal_old start taken_old → Grows journal_old journal_new taken_old taken_new)
     → ((bytes taken left now : List ℕ) (start : Option (List ℕ)) → MayGive left pieces now → bytes ≡ taken ++ now → SoFar setting slots bytes old left before journal_old start taken_old → Ends setting slots bytes taken now status journal_new start taken_new)
@@ -40,7 +40,7 @@ turns-some setting slots old before pieces answer held status new after journal_
     record { goes = tt; ends = ends; wants = λ e. absurd (other (cc)); ended = λ _. tt; rests = by.rests; last = by.last; grows = grows }
 
 -- a turn after which it goes on
-pub turns-none : (setting : Setting) (slots : ℕ) (old : Held) (before : Progress) (pieces : List (List ℕ)) (answer : Result (Option Line) LineFault) (new : Held) (after : Progress) (journal_old journal_new : List Write) (taken_old taken_new : Option (List ℕ))
+pub turns-none : (setting : Setting) (slots : ℕ) (old : HeldBytes) (before : Progress) (pieces : List (List ℕ)) (answer : Result (Option Line) LineFault) (new : HeldBytes) (after : Progress) (journal_old journal_new : List Write) (taken_old taken_new : Option (List ℕ))
     → HandsByGiven old pieces answer new
     → ((bytes left now : List ℕ) (start : Option (List ℕ)) → MayGive left pieces now → SoFar setting slots bytes old left before journal_old start taken_old → Grows journal_old journal_new taken_old taken_new)
     → ((bytes left now : List ℕ) (start : Option (List ℕ)) → MayGive left pieces now → (s : SoFar setting slots bytes old left before journal_old start taken_old) → GoesOn setting slots s.acts bytes new now after journal_new start taken_new)
@@ -49,7 +49,7 @@ turns-none setting slots old before pieces answer new after journal_old journal_
     record { goes = goes; ends = tt; wants = λ e. absurd (cc); ended = by.ended; rests = by.rests; last = by.last; grows = grows }
 
 -- a reader that was over leaves all as it was
-pub rests-same : (old : Held) (pieces : List (List ℕ)) (answer : Result (Option Line) LineFault) (new : Held) (left now : List ℕ) → HandsByGiven old pieces answer new → MayGive left pieces now → old.over ≢ over.Going → left ≡ now
+pub rests-same : (old : HeldBytes) (pieces : List (List ℕ)) (answer : Result (Option Line) LineFault) (new : HeldBytes) (left now : List ℕ) → HandsByGiven old pieces answer new → MayGive left pieces now → old.over ≢ over.Going → left ≡ now
 rests-same old pieces answer new left now by may other = may.bytes ∙ ap (λ p. concat p ++ now) (by.rests other)
 
 -- ---- several turns
@@ -147,8 +147,8 @@ pub no-more : (o : Over) → o ≡ over.Ended → o ≢ over.Going
 no-more o e going = let bad : over.Ended ≡ over.Going = sym e ∙ going in absurd (cc)
 
 -- the input is at its end after the first pieces, and nothing was read then, or after the second
-pub ended-both : (mid new : Held) (p q : List (List ℕ)) → HasEnd (p ++ q) → (HasEnd p → mid.over ≡ over.Ended) → (mid.over ≢ over.Going → new ≡ mid) → (HasEnd q → new.over ≡ over.Ended) → new.over ≡ over.Ended
+pub ended-both : (mid new : HeldBytes) (p q : List (List ℕ)) → HasEnd (p ++ q) → (HasEnd p → mid.over ≡ over.Ended) → (mid.over ≢ over.Going → new ≡ mid) → (HasEnd q → new.over ≡ over.Ended) → new.over ≡ over.Ended
 ended-both mid new p q e before still more = elim (end-either p q e) [
-  | inl l ↦ ap (λ (h : Held). h.over) (still (no-more mid.over (before l))) ∙ before l
+  | inl l ↦ ap (λ (h : HeldBytes). h.over) (still (no-more mid.over (before l))) ∙ before l
   | inr r ↦ more r
 ]

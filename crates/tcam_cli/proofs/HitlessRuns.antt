@@ -7,7 +7,7 @@ use Rattle.tcam_device.specs.State.{State, apply, blank}
 use Rattle.replay.specs.declared.Act.{Act}
 use Rattle.replay.specs.declared.Act.TheVariants.{Command, Probe, Packet, Commit}
 use Rattle.replay.specs.Script.{Script, Whole, script_of}
-use Rattle.replay.specs.Run.{Setting, Effect, Writes, Prints, written, Progress, start, trace_of, writes_of, Judged, Step, Runs}
+use Rattle.replay.specs.Run.{Setting, Effect, Writes, Prints, written, Progress, start, trace_of, write_effects, Judged, HasEffects, Runs}
 use Rattle.replay.specs.Text.{accepted_line}
 use Rattle.tcam_cli.specs.declared.Status.{Status}
 use Rattle.tcam_cli.specs.declared.Status.TheVariants.{Done, Refused, Script as ScriptFault, ReadFault, WriteFault, DeviceFault, Memory, Usage}
@@ -60,10 +60,10 @@ for-memory setting slots script effects (inr at) = (at.done, after-acts setting 
 -- ---- where no write has a line, a line is the last effect of its act
 
 -- the writes of a commit without a trace and without probes
-quiet-writes : (setting : Setting) (number : ℕ) (state : State) (made : List Write) → setting.trace ≡ false → writes_of setting [] number state made ≡ map Writes made
+quiet-writes : (setting : Setting) (number : ℕ) (state : State) (made : List Write) → setting.trace ≡ false → write_effects setting [] number state made ≡ map Writes made
 quiet-writes setting number state [] quiet = refl
 quiet-writes setting number state (write ∷ made) quiet =
-    ap (λ trace. Writes write ∷ ((trace_of trace number write ++ []) ++ writes_of setting [] (number + 1) (apply state write) made)) quiet
+    ap (λ trace. Writes write ∷ ((trace_of trace number write ++ []) ++ write_effects setting [] (number + 1) (apply state write) made)) quiet
     ∙ ap (λ effects. Writes write ∷ effects) (quiet-writes setting (number + 1) (apply state write) made quiet)
 
 not-none : (front : List Effect) (effect : Effect) (back : List Effect) → front ++ effect ∷ back ≡ [] → ⊥
@@ -82,13 +82,13 @@ last-judged : (setting : Setting) (before : Progress) (is : Verdict) (front back
 last-judged setting before Accepted front back line after quiet none step =
     last-line step.made front back line (accepted_line (before.commits + 1) step.counts)
     (step.effects_are ∙ ap (λ effects. effects ++ Prints (accepted_line (before.commits + 1) step.counts) ∷ [])
-    (ap (λ probes. writes_of setting probes 1 before.state step.made) none ∙ quiet-writes setting 1 before.state step.made quiet))
+    (ap (λ probes. write_effects setting probes 1 before.state step.made) none ∙ quiet-writes setting 1 before.state step.made quiet))
 last-judged setting before (Unsound fault) front back line after quiet none step = last-line [] front back line _ step.0
 last-judged setting before (OutOfBits field needed free) front back line after quiet none step = last-line [] front back line _ step.0
 last-judged setting before (OutOfSlots needed free) front back line after quiet none step = last-line [] front back line _ step.0
 
 last-step : (setting : Setting) (before : Progress) (act : Act) (front back : List Effect) (line : List ℕ) (after : Progress)
-    → setting.trace ≡ false → before.probes ≡ [] → Step setting before act (front ++ Prints line ∷ back) after → back ≡ []
+    → setting.trace ≡ false → before.probes ≡ [] → HasEffects setting before act (front ++ Prints line ∷ back) after → back ≡ []
 last-step setting before (Command change) front back line after quiet none step = absurd (not-none front (Prints line) back step.0)
 last-step setting before (Probe key) front back line after quiet none step = absurd (not-none front (Prints line) back step.0)
 last-step setting before (Packet key) front back line after quiet none step = last-line [] front back line _ step.0

@@ -7,7 +7,7 @@ use Rattle.std.proofs.lemmas.List.{append_cancel_left, same_from_push}
 use Rattle.script_lines.specs.declared.Over.{Over}
 use Rattle.script_lines.specs.declared.Over.TheVariants as over
 use Rattle.script_lines.specs.Given.{HasEnd, MayGive}
-use Rattle.script_lines.specs.Reader.{Held, IsOpenLine, KeepsAll, LastAtOpenLine}
+use Rattle.script_lines.specs.Reader.{HeldBytes, IsOpenLine, KeepsAll, LastAtOpenLine}
 use Rattle.script_lines.proofs.Pieces.{concat-append, concat-one, end-either}
 use Rattle.tcam_device.specs.declared.Write.{Write}
 use Rattle.replay.specs.declared.Act.{Act}
@@ -43,7 +43,7 @@ closes-grows journal line last status taken_old taken_new (inl c) = appends-grow
 closes-grows journal line last status taken_old taken_new (inr (is, (partial, rest, part, grown))) = appends-grows journal taken_old taken_new partial grown
 
 -- the device is where the run stands
-pub so-far-at : (setting : Setting) (slots : ℕ) (bytes : List ℕ) (held : Held) (left : List ℕ) (last : Progress) (journal : List Write) (start taken : Option (List ℕ))
+pub so-far-at : (setting : Setting) (slots : ℕ) (bytes : List ℕ) (held : HeldBytes) (left : List ℕ) (last : Progress) (journal : List Write) (start taken : Option (List ℕ))
     → SoFar setting slots bytes held left last journal start taken → IsAt slots journal last
 so-far-at setting slots bytes held left last journal start taken s = run-at setting slots (acts_only s.acts) s.effects last journal s.run s.journal_is
 
@@ -76,14 +76,14 @@ still-in-time setting slots before journal more old mid new bytes grown is = rec
   report_is = grown ∙ ap (λ l. l ++ bytes) is.report_is ∙ append_assoc (old ++ printed is.effects) is.report_rest bytes;
 }
 
-still-going : (o : Over) (reads : Reading) (bytes : List ℕ) (old : Held) (left : List ℕ) (acts : List NumberedAct) (p q : ℕ)
+still-going : (o : Over) (reads : Reading) (bytes : List ℕ) (old : HeldBytes) (left : List ℕ) (acts : List NumberedAct) (p q : ℕ)
     → (o ≢ over.Going → ⊥) → IsRead o reads bytes old left acts p q → IsGoing reads bytes old left acts p q
 still-going over.Going reads bytes old left acts p q other read = read
 still-going over.Ended reads bytes old left acts p q other read = absurd (other (λ e. let bad : over.Ended ≡ over.Going = e in cc))
 still-going (over.Stopped stopped) reads bytes old left acts p q other read = absurd read
 
 -- a read comes while a part of one line is held: the acts of what was given are those that are carried out
-known-before : (setting : Setting) (slots : ℕ) (p front : List (List ℕ)) (bytes left rest : List ℕ) (old : Held) (before : Progress) (writes : List Write) (start taken : Option (List ℕ))
+known-before : (setting : Setting) (slots : ℕ) (p front : List (List ℕ)) (bytes left rest : List ℕ) (old : HeldBytes) (before : Progress) (writes : List Write) (start taken : Option (List ℕ))
     → (s : SoFar setting slots bytes old left before writes start taken)
     → bytes ≡ concat p ++ left → left ≡ concat front ++ rest → (old.over ≢ over.Going → ⊥) → IsOpenLine old.before (old.pending ++ concat front)
     → given_so_far setting (p ++ front) ≡ record { acts = s.acts; last = Whole }
@@ -98,7 +98,7 @@ known-before setting slots p front bytes left rest old before writes start taken
     so-far (reading setting.family) bytes (concat (p ++ front)) old left (record old { pending = old.pending ++ concat front }) rest s.acts _ _ read kept parts
 
 -- so all lines before it are carried out and told
-module _ (setting : Setting) (slots : ℕ) (p front : List (List ℕ)) (last : List ℕ) (old : Held) (before : Progress) (writes : List Write) (accepted_old accepted_new : List ℕ)
+module _ (setting : Setting) (slots : ℕ) (p front : List (List ℕ)) (last : List ℕ) (old : HeldBytes) (before : Progress) (writes : List Write) (accepted_old accepted_new : List ℕ)
     (so_far : (left now : List ℕ) → MayGive left p now → SoFar setting slots left old now before writes (Some accepted_old) (Some accepted_new))
     (open_end : HasEnd p → ⊥) (going : old.over ≢ over.Going → ⊥) where
   abbrev all : List ℕ
@@ -124,7 +124,7 @@ module _ (setting : Setting) (slots : ℕ) (p front : List (List ℕ)) (last : L
       }
 
 -- one turn more
-pub turn-in-time : (setting : Setting) (slots : ℕ) (p q : List (List ℕ)) (old : Held) (before : Progress) (journal_old journal_new : List Write) (accepted_old accepted_mid accepted_new : List ℕ)
+pub turn-in-time : (setting : Setting) (slots : ℕ) (p q : List (List ℕ)) (old : HeldBytes) (before : Progress) (journal_old journal_new : List Write) (accepted_old accepted_mid accepted_new : List ℕ)
     → ((left now : List ℕ) → MayGive left p now → SoFar setting slots left old now before journal_old (Some accepted_old) (Some accepted_mid))
     → (HasEnd p → q ≡ []) → (old.over ≢ over.Going → q ≡ []) → LastAtOpenLine old.before old.pending q → Grows journal_old journal_new (Some accepted_mid) (Some accepted_new)
     → InTime setting slots p journal_old accepted_old accepted_mid → InTime setting slots (p ++ q) journal_new accepted_old accepted_new
@@ -146,17 +146,17 @@ abbrev Begins : Setting → List (List ℕ) → List NumberedAct → Type 0
 Begins setting pieces acts =
     (front : List (List ℕ)) (last : List ℕ) → pieces ≡ front ++ last ∷ [] → (more : List Act) × (acts_only acts ≡ acts_of (given_so_far setting front) ++ more)
 
-pub record StandsAt (setting : Setting) (slots : ℕ) (pieces : List (List ℕ)) (bytes : List ℕ) (held : Held) (left : List ℕ) (progress : Progress) (journal : List Write) (taken_old taken_new : Option (List ℕ)) : Type 0 where
+pub record StandsAt (setting : Setting) (slots : ℕ) (pieces : List (List ℕ)) (bytes : List ℕ) (held : HeldBytes) (left : List ℕ) (progress : Progress) (journal : List Write) (taken_old taken_new : Option (List ℕ)) : Type 0 where
   pub so_far : SoFar setting slots bytes held left progress journal taken_old taken_new
   pub begins : Begins setting pieces so_far.acts
 
 -- before any read
-pub stands-first : (setting : Setting) (slots : ℕ) (bytes : List ℕ) (held : Held) (left : List ℕ) (progress : Progress) (journal : List Write) (taken_old taken_new : Option (List ℕ))
+pub stands-first : (setting : Setting) (slots : ℕ) (bytes : List ℕ) (held : HeldBytes) (left : List ℕ) (progress : Progress) (journal : List Write) (taken_old taken_new : Option (List ℕ))
     → SoFar setting slots bytes held left progress journal taken_old taken_new → StandsAt setting slots [] bytes held left progress journal taken_old taken_new
 stands-first setting slots bytes held left progress journal taken_old taken_new s = record { so_far = s; begins = λ front last e. absurd (no-push front last e) }
 
 -- with the reads of one turn more
-begins-read : (setting : Setting) (slots : ℕ) (p q : List (List ℕ)) (old : Held) (before : Progress) (writes : List Write) (start taken : Option (List ℕ)) (left now : List ℕ)
+begins-read : (setting : Setting) (slots : ℕ) (p q : List (List ℕ)) (old : HeldBytes) (before : Progress) (writes : List Write) (start taken : Option (List ℕ)) (left now : List ℕ)
     → (s : SoFar setting slots left old (concat q ++ now) before writes start taken)
     → (old.over ≢ over.Going → q ≡ []) → LastAtOpenLine old.before old.pending q → MayGive left (p ++ q) now → Begins setting p s.acts → Begins setting (p ++ q) s.acts
 begins-read setting slots p q old before writes start taken left now s rests (inl none) may is =
@@ -176,7 +176,7 @@ begins-more setting pieces old new more grown is =
     λ front last e. let (some, first) = is front last e in
     (some ++ more, grown ∙ ap (λ l. l ++ more) first ∙ append_assoc (acts_of (given_so_far setting front)) some more)
 
-pub stands-next : (setting : Setting) (slots : ℕ) (p q : List (List ℕ)) (old : Held) (before : Progress) (new : Held) (after : Progress) (journal_old journal_new : List Write) (start mid end : Option (List ℕ)) (left now : List ℕ)
+pub stands-next : (setting : Setting) (slots : ℕ) (p q : List (List ℕ)) (old : HeldBytes) (before : Progress) (new : HeldBytes) (after : Progress) (journal_old journal_new : List Write) (start mid end : Option (List ℕ)) (left now : List ℕ)
     → TurnsBy setting slots old before q None new after journal_old journal_new mid end → MayGive left (p ++ q) now
     → StandsAt setting slots p left old (concat q ++ now) before journal_old start mid → StandsAt setting slots (p ++ q) left new now after journal_new start end
 stands-next setting slots p q old before new after journal_old journal_new start mid end left now turn may s =
@@ -192,7 +192,7 @@ abbrev WantsAll : Setting → ℕ → List (List ℕ) → List Write → List �
 WantsAll setting slots pieces journal accepted_old accepted_new =
     (front : List (List ℕ)) (last : List ℕ) → pieces ≡ front ++ last ∷ [] → (left after : List ℕ) → MayGive left pieces after → WantsInTime setting slots front left journal accepted_old accepted_new
 
-pub wants-in-time : (setting : Setting) (slots : ℕ) (p q : List (List ℕ)) (old : Held) (before : Progress) (status : Status) (new : Held) (after : Progress) (journal_old journal_new : List Write) (accepted_old accepted_mid accepted_new left now front_last : List ℕ) (front : List (List ℕ))
+pub wants-in-time : (setting : Setting) (slots : ℕ) (p q : List (List ℕ)) (old : HeldBytes) (before : Progress) (status : Status) (new : HeldBytes) (after : Progress) (journal_old journal_new : List Write) (accepted_old accepted_mid accepted_new left now front_last : List ℕ) (front : List (List ℕ))
     → TurnsBy setting slots old before q (Some status) new after journal_old journal_new (Some accepted_mid) (Some accepted_new) → status ≡ Memory → MayGive left (p ++ q) now
     → StandsAt setting slots p left old (concat q ++ now) before journal_old (Some accepted_old) (Some accepted_mid) → p ++ q ≡ front ++ front_last ∷ []
     → WantsInTime setting slots front left journal_new accepted_old accepted_new

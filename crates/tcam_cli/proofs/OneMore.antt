@@ -8,7 +8,7 @@ use Rattle.tcam_device.specs.State.{State, apply, state_after, replay}
 use Rattle.replay.specs.declared.Act.{Act}
 use Rattle.replay.specs.declared.Act.TheVariants.{Command, Probe, Packet, Commit}
 use Rattle.replay.specs.Script.{pending_after, probes_after}
-use Rattle.replay.specs.Run.{Setting, Effect, Writes, Prints, written, printed, Progress, start, writes_of, Judged, Step, Run, Runs}
+use Rattle.replay.specs.Run.{Setting, Effect, Writes, Prints, written, printed, Progress, start, write_effects, Judged, HasEffects, Run, Runs}
 use Rattle.replay.specs.Carried.{IsAt, Does}
 use Rattle.tcam_device.proofs.Spans.{state_after-append}
 use Rattle.replay.proofs.Effects.{written-append, printed-append, written-writes}
@@ -18,12 +18,12 @@ use Rattle.tcam_cli.specs.AllTheWay.{IsNoProbe}
 judged-state : (setting : Setting) (old : Progress) (v : Verdict) (effects : List Effect) (new : Progress) → Judged setting old v effects new → new.state ≡ state_after old.state (written effects)
 judged-state setting old Accepted effects new step =
     ap (λ p. p.state) step.after
-    ∙ ap (state_after old.state) (sym (written-writes setting old.probes 1 old.state step.made) ∙ sym (append-nil _) ∙ sym (written-append (writes_of setting old.probes 1 old.state step.made) _) ∙ sym (ap written step.effects_are))
+    ∙ ap (state_after old.state) (sym (written-writes setting old.probes 1 old.state step.made) ∙ sym (append-nil _) ∙ sym (written-append (write_effects setting old.probes 1 old.state step.made) _) ∙ sym (ap written step.effects_are))
 judged-state setting old (Unsound fault) effects new step = ap (λ p. p.state) step.1 ∙ ap (state_after old.state) (sym (ap written step.0))
 judged-state setting old (OutOfBits field needed free) effects new step = ap (λ p. p.state) step.1 ∙ ap (state_after old.state) (sym (ap written step.0))
 judged-state setting old (OutOfSlots needed free) effects new step = ap (λ p. p.state) step.1 ∙ ap (state_after old.state) (sym (ap written step.0))
 
-pub step-state : (setting : Setting) (old : Progress) (act : Act) (effects : List Effect) (new : Progress) → Step setting old act effects new → new.state ≡ state_after old.state (written effects)
+pub step-state : (setting : Setting) (old : Progress) (act : Act) (effects : List Effect) (new : Progress) → HasEffects setting old act effects new → new.state ≡ state_after old.state (written effects)
 step-state setting old (Command change) effects new step = ap (λ p. p.state) step.1 ∙ ap (state_after old.state) (sym (ap written step.0))
 step-state setting old (Probe key) effects new step = ap (λ p. p.state) step.1 ∙ ap (state_after old.state) (sym (ap written step.0))
 step-state setting old (Packet key) effects new step = ap (λ p. p.state) step.1 ∙ ap (state_after old.state) (sym (ap written step.0))
@@ -48,15 +48,15 @@ run-at setting slots acts effects last journal run told = run-state setting slot
 
 -- one act more
 run-more-from : (setting : Setting) (old : Progress) (acts : List Act) (effects : List Effect) (mid : Progress) (act : Act) (front : List Effect) (new : Progress)
-    → Run setting old acts effects mid → Step setting mid act front new → Run setting old (acts ++ act ∷ []) (effects ++ front) new
+    → Run setting old acts effects mid → HasEffects setting mid act front new → Run setting old (acts ++ act ∷ []) (effects ++ front) new
 run-more-from setting old [] effects mid act front new run step =
-    let P : Progress → Type 0 = λ p. Step setting p act front new in
+    let P : Progress → Type 0 = λ p. HasEffects setting p act front new in
     (front, new, [], subst P run.1 step, (refl, refl), ap (λ e. e ++ front) run.0 ∙ sym (append-nil front))
 run-more-from setting old (first ∷ acts) effects mid act front new (e, p, back, s, rest, whole) step =
     (e, p, back ++ front, s, run-more-from setting p acts back mid act front new rest step, ap (λ x. x ++ front) whole ∙ append_assoc e back front)
 
 pub run-more : (setting : Setting) (slots : ℕ) (acts : List Act) (effects : List Effect) (mid : Progress) (act : Act) (front : List Effect) (new : Progress)
-    → Runs setting slots acts effects mid → Step setting mid act front new → Runs setting slots (acts ++ act ∷ []) (effects ++ front) new
+    → Runs setting slots acts effects mid → HasEffects setting mid act front new → Runs setting slots (acts ++ act ∷ []) (effects ++ front) new
 run-more setting slots acts effects mid act front new run step = run-more-from setting (start slots) acts effects mid act front new run step
 
 -- what is pending after an act
@@ -66,7 +66,7 @@ judged-batch setting old (Unsound fault) effects new step = ap (λ p. length p.b
 judged-batch setting old (OutOfBits field needed free) effects new step = ap (λ p. length p.batch) step.1
 judged-batch setting old (OutOfSlots needed free) effects new step = ap (λ p. length p.batch) step.1
 
-pub step-pending : (setting : Setting) (old : Progress) (act : Act) (effects : List Effect) (new : Progress) → Step setting old act effects new → length new.batch ≡ pending_after act (length old.batch)
+pub step-pending : (setting : Setting) (old : Progress) (act : Act) (effects : List Effect) (new : Progress) → HasEffects setting old act effects new → length new.batch ≡ pending_after act (length old.batch)
 step-pending setting old (Command change) effects new step = ap (λ p. length p.batch) step.1 ∙ length-append old.batch (change ∷ [])
 step-pending setting old (Probe key) effects new step = ap (λ p. length p.batch) step.1
 step-pending setting old (Packet key) effects new step = ap (λ p. length p.batch) step.1
@@ -79,7 +79,7 @@ judged-probes setting old (Unsound fault) effects new step = ap (λ p. p.probes)
 judged-probes setting old (OutOfBits field needed free) effects new step = ap (λ p. p.probes) step.1
 judged-probes setting old (OutOfSlots needed free) effects new step = ap (λ p. p.probes) step.1
 
-pub step-probes : (setting : Setting) (old : Progress) (act : Act) (effects : List Effect) (new : Progress) → Step setting old act effects new → length new.probes ≡ probes_after act (length old.probes)
+pub step-probes : (setting : Setting) (old : Progress) (act : Act) (effects : List Effect) (new : Progress) → HasEffects setting old act effects new → length new.probes ≡ probes_after act (length old.probes)
 step-probes setting old (Command change) effects new step = ap (λ p. length p.probes) step.1
 step-probes setting old (Probe key) effects new step = ap (λ p. length p.probes) step.1 ∙ length-append old.probes (key ∷ [])
 step-probes setting old (Packet key) effects new step = ap (λ p. length p.probes) step.1

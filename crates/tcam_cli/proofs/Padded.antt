@@ -12,7 +12,7 @@ use Rattle.tcam_device.specs.declared.Write.TheVariants.{Slot}
 use Rattle.batch_order.proofs.Padded.{one-write}
 use Rattle.batch_order.specs.declared.Placement.TheVariants.{Middle}
 use Rattle.replay.specs.declared.Family.TheVariants.{Route}
-use Rattle.replay.specs.Run.{Setting, Effect, Prints, Progress, Commits, Judged, start, written, writes_of, slots_in_use}
+use Rattle.replay.specs.Run.{Setting, Effect, Prints, Progress, Commits, Judged, start, written, write_effects, slots_in_use}
 use Rattle.replay.proofs.Effects.{written-append, written-writes}
 use Rattle.tcam_cli.specs.declared.Status.TheVariants.{Done}
 use Rattle.tcam_cli.specs.CommandLine.{script_setting}
@@ -30,7 +30,7 @@ one-commit : (effects : List Effect) (new : Progress) → Commits setting pendin
 one-commit effects new commits =
     let made : written effects ≡ commits.made =
     ap written commits.effects_are
-    ∙ (written-append (writes_of setting [] 1 pending.state commits.made) (Prints _ ∷ [])
+    ∙ (written-append (write_effects setting [] 1 pending.state commits.made) (Prints _ ∷ [])
     ∙ (append-nil _ ∙ written-writes setting [] 1 pending.state commits.made)) in
     ap length made ∙ one-write setting.placement pending.batch (slots_in_use setting pending.state) commits.made refl refl commits.placed
 

@@ -14,17 +14,17 @@ use Rattle.tcam_cli.specs.Headline.{IsOutcome, IsCarriedOut, IsDecided, MayEnd, 
 use Rattle.tcam_cli.specs.Readings.{reading}
 use Rattle.tcam_cli.proofs.Decided.{complete-decided}
 use Rattle.script_lines.specs.declared.Over.TheVariants as over
-use Rattle.script_lines.specs.Reader.{Held}
+use Rattle.script_lines.specs.Reader.{HeldBytes}
 use Rattle.tcam_cli.specs.Turns.{IsGoing, SoFar, Ends}
 
-abbrev pub fresh : Held
+abbrev pub fresh : HeldBytes
 fresh = record { pending = []; before = 0; number = 1; over = over.Going }
 
 abbrev pub TakesSome : Option (List ℕ) → Option (List ℕ) → Type 0
 TakesSome old new = (bytes : List ℕ) × Consumes old new bytes
 
 -- nothing is read, and nothing done
-pub starts : (setting : Setting) (slots : ℕ) (bytes : List ℕ) (held : Held) (left : List ℕ) (progress : Progress) (journal : List Write) (taken : Option (List ℕ))
+pub starts : (setting : Setting) (slots : ℕ) (bytes : List ℕ) (held : HeldBytes) (left : List ℕ) (progress : Progress) (journal : List Write) (taken : Option (List ℕ))
     → held ≡ fresh → Some bytes ≡ Some left → progress ≡ start slots → journal ≡ [] → SoFar setting slots bytes held left progress journal taken taken
 starts setting slots bytes held left progress journal taken new all begun blank =
     let same : bytes ≡ left = cc in

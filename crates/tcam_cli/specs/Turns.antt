@@ -20,7 +20,7 @@ use Rattle.tcam_cli.specs.Headline.{acts_of, whole_lines, script_so_far, IsOutco
 use Rattle.tcam_cli.specs.Readings.{reading}
 use Rattle.script_lines.specs.declared.Over.{Over}
 use Rattle.script_lines.specs.declared.Over.TheVariants as over
-use Rattle.script_lines.specs.Reader.{Held, LastAtOpenLine}
+use Rattle.script_lines.specs.Reader.{HeldBytes, LastAtOpenLine}
 
 -- what a command of a route script adds is a route of IPv4
 abbrev pub IsIpv4Command : RouteCommand → Type 0
@@ -38,7 +38,7 @@ abbrev pub acts_next : Reading → ℕ → ℕ → ScriptLines → Script
 acts_next reading pending probes lines = acts_from reading pending probes lines.lines lines.last
 
 -- bytes of whole lines gave these acts, and more lines may come
-pub record IsGoing (reading : Reading) (bytes : List ℕ) (held : Held) (left : List ℕ) (acts : List NumberedAct) (pending probes : ℕ) : Type 0 where
+pub record IsGoing (reading : Reading) (bytes : List ℕ) (held : HeldBytes) (left : List ℕ) (acts : List NumberedAct) (pending probes : ℕ) : Type 0 where
   pub done : List ℕ
   pub parts : bytes ≡ done ++ (held.pending ++ left)
   pub script : (rest : List ℕ) → script_of reading (done ++ rest) ≡ onto_all acts (acts_next reading pending probes (lines_from limits held.before held.number [] rest))
@@ -50,7 +50,7 @@ abbrev pub IsAllRead : Reading → List ℕ → List ℕ → List NumberedAct �
 IsAllRead reading bytes left acts = (script_of reading bytes ≡ record { acts = acts; last = Whole }) × (left ≡ [])
 
 -- what of the script is read
-abbrev pub IsRead : Over → Reading → List ℕ → Held → List ℕ → List NumberedAct → ℕ → ℕ → Type 0
+abbrev pub IsRead : Over → Reading → List ℕ → HeldBytes → List ℕ → List NumberedAct → ℕ → ℕ → Type 0
 IsRead over.Going reads bytes held left acts pending probes = IsGoing reads bytes held left acts pending probes
 IsRead over.Ended reads bytes held left acts pending probes = IsAllRead reads bytes left acts
 IsRead (over.Stopped fault) reads bytes held left acts pending probes = ⊥
@@ -60,7 +60,7 @@ abbrev pub acts_only : List NumberedAct → List Act
 acts_only acts = map (λ numbered. numbered.act) acts
 
 -- the acts so far are carried out, also where no device tells of it
-pub record SoFar (setting : Setting) (slots : ℕ) (bytes : List ℕ) (held : Held) (left : List ℕ) (progress : Progress) (journal : List Write) (taken_old taken_new : Option (List ℕ)) : Type 0 where
+pub record SoFar (setting : Setting) (slots : ℕ) (bytes : List ℕ) (held : HeldBytes) (left : List ℕ) (progress : Progress) (journal : List Write) (taken_old taken_new : Option (List ℕ)) : Type 0 where
   pub acts : List NumberedAct
   pub effects : List Effect
   pub run : Runs setting slots (acts_only acts) effects progress
@@ -91,7 +91,7 @@ pub record ClosesReport {S : Type 0} (taken : S → Option (List ℕ)) (accepted
 
 -- A run between two lines: no commit is under way, and the bytes taken bound the commits, since a line with an act
 -- takes 5 bytes.
-pub record IsBetweenLines (held : Held) (run : Running) : Type 0 where
+pub record IsBetweenLines (held : HeldBytes) (run : Running) : Type 0 where
   pub idle : run.manager.held ≡ None
   pub commits : 5 * run.commits ≤ held.before
   pub within : held.before ≤ 16777216
@@ -104,7 +104,7 @@ pub record Grows (journal_old journal_new : List Write) (taken_old taken_new : O
   pub report : Appends taken_old taken_new bytes
 
 -- one turn more: the acts carried out before it, and perhaps one
-pub record GoesOn (setting : Setting) (slots : ℕ) (acts : List NumberedAct) (bytes : List ℕ) (held : Held) (left : List ℕ) (progress : Progress) (journal : List Write) (taken_old taken_new : Option (List ℕ)) : Type 0 where
+pub record GoesOn (setting : Setting) (slots : ℕ) (acts : List NumberedAct) (bytes : List ℕ) (held : HeldBytes) (left : List ℕ) (progress : Progress) (journal : List Write) (taken_old taken_new : Option (List ℕ)) : Type 0 where
   pub so_far : SoFar setting slots bytes held left progress journal taken_old taken_new
   pub more : List Act
   pub acts_are : acts_only so_far.acts ≡ acts_only acts ++ more
@@ -117,7 +117,7 @@ pub record WantsNext (setting : Setting) (acts : List NumberedAct) (bytes : List
   pub wants : Wants setting before act journal_old journal_new taken_old taken_new
 
 -- what a turn of a run comes to, whatever bytes come after those that were given in it
-pub record TurnsBy (setting : Setting) (slots : ℕ) (old : Held) (before : Progress) (pieces : List (List ℕ)) (result : Option Status) (new : Held) (after : Progress) (journal_old journal_new : List Write) (taken_old taken_new : Option (List ℕ)) : Type 0 where
+pub record TurnsBy (setting : Setting) (slots : ℕ) (old : HeldBytes) (before : Progress) (pieces : List (List ℕ)) (result : Option Status) (new : HeldBytes) (after : Progress) (journal_old journal_new : List Write) (taken_old taken_new : Option (List ℕ)) : Type 0 where
   pub goes : IfNone result ((bytes left now : List ℕ) (start : Option (List ℕ)) → MayGive left pieces now
       → (so_far : SoFar setting slots bytes old left before journal_old start taken_old) → GoesOn setting slots so_far.acts bytes new now after journal_new start taken_new)
   pub ends : IfSome result (λ status. (bytes taken left now : List ℕ) (start : Option (List ℕ)) → MayGive left pieces now → bytes ≡ taken ++ now

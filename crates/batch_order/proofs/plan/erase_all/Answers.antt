@@ -1,5 +1,5 @@
 use Rattle.std.proofs.Common.{◌∙◌, None, IsSome, take, get_or, set, arith, subst, sym, ap}
-use Rattle.commit_writes.specs.PlannedBatch.{home, erased_slots}
+use Rattle.commit_writes.specs.PlannedBatch.{home_slot, erased_slots}
 use Rattle.batch_order.specs.Planning.{IsStanding}
 use Rattle.batch_order.proofs.Walked.{next_number}
 use Rattle.batch_order.proofs.Standing.{home_inside, home_is, stands_still, erased_next}
@@ -22,5 +22,5 @@ loop-id-preserved c =
     let done = take c.loop-id.id-index c.args.ids.now in
     let id = get_or c.args.ids.now c.loop-id.id-index 0 in
     let at = home_is c.loop-id.arrangement id c.unwrap-slot.result (sym c.home.ensures ∙ c.unwrap-slot.ensures) in
-    c.erase.ensures ∙ ap (λ n. set c.loop-id.arrangement n None) (sym at) ∙ ap (λ now. set now (home now id) None) c.loop-id.invariant
+    c.erase.ensures ∙ ap (λ n. set c.loop-id.arrangement n None) (sym at) ∙ ap (λ now. set now (home_slot now id) None) c.loop-id.invariant
     ∙ sym (erased_next slots done id) ∙ ap (erased_slots slots) (sym (next_number (IsStanding slots) c.args.ids.now c.loop-id.id-index c.requires.distinct c.requires.standing (omega arith)).more)

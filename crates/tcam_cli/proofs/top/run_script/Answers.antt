@@ -3,7 +3,7 @@ use Rattle.std.specs.List.{concat}
 use Rattle.script_lines.specs.Given.{HasEnd, counted}
 use Rattle.tcam_cli.proofs.GivenRuns.{gives-none, gives-trans, may-first, may-second, ended-both, no-more, may-all, ends-told, promised}
 use Rattle.tcam_cli.proofs.InTime.{in-time-none, stands-first, stands-next, turn-in-time, wants-in-time, reads-in-time}
-use Rattle.script_lines.specs.Reader.{Held}
+use Rattle.script_lines.specs.Reader.{HeldBytes}
 use Rattle.replay.specs.Run.{Progress}
 use Rattle.replay.specs.Running.{progress_of, setting_of}
 use Rattle.tcam_cli.proofs.WholeRun.{starts, told-source, counted-last, carried, may-end}
@@ -16,7 +16,7 @@ acts-init g c = record {
   stands = record {
     idle = c.requires.idle;
     commits = let none : c.args.run.now.commits ≡ 0 = ap (λ (p : Progress). p.commits) c.requires.begun in omega (arith, none);
-    within = let none = ap (λ (h : Held). h.before) c.new-lines.ensures in omega (arith, none);
+    within = let none = ap (λ (h : HeldBytes). h.before) c.new-lines.ensures in omega (arith, none);
   };
   gives = ([], gives-none _ _, λ e. absurd e, λ which left now may. stands-first _ _ _ _ _ _ _ _ _ (starts _ _ left _ now _ _ _ c.new-lines.ensures (ap Some may.bytes) c.requires.begun c.requires.blank), in-time-none _ _ _ _ _);
   told = λ some. some;

@@ -1,6 +1,6 @@
 use Rattle.std.proofs.Common.{Ok, inl, inr, refl, sym, ◌∙◌, ap, take}
 use Rattle.std.specs.List.{concat}
-use Rattle.script_lines.specs.Reader.{Held}
+use Rattle.script_lines.specs.Reader.{HeldBytes}
 use Rattle.script_lines.proofs.Hands.{by-given, gives-pieces, hands-read, hands-last, hands-fault, hands-whole, follows-whole, follows-last, follows-fault}
 use Rattle.script_lines.proofs.reader.Lines.next.Goals as goal
 
@@ -27,7 +27,7 @@ returns-in-LineFeed-clause-hands g c = λ going left after el ea.
     let stops = rw c.in-LineFeed.is at x.stops in
     let line = c.line_of-line.ensures in
     let text = line.text ∙ ap (take c.gather.new.scanned) c.bytes.ensures in
-    let still = ap (λ (h : Held). h.over) c.self.view_is ∙ going in
+    let still = ap (λ (h : HeldBytes). h.over) c.self.view_is ∙ going in
     inl (hands-whole _ _ _ left after c.gather.new.buffer c.gather.new.scanned _ c.self.view_is
     (record { got = x.grown.0; grown = x.grown.1; taken = took; scan = x.scan }) stops
     (record { text = text; number = line.number; pending = c.skip.ensures; before = refl; number_new = refl; going = still }))
@@ -39,7 +39,7 @@ returns-in-LineFeed-clause-lines g c = λ going left after el ea.
     let stops = rw c.in-LineFeed.is at x.stops in
     let line = c.line_of-line.ensures in
     let text = line.text ∙ ap (take c.gather.new.scanned) c.bytes.ensures in
-    let still = ap (λ (h : Held). h.over) c.self.view_is ∙ going in
+    let still = ap (λ (h : HeldBytes). h.over) c.self.view_is ∙ going in
     follows-whole _ _ left after _ (hands-whole _ _ _ left after c.gather.new.buffer c.gather.new.scanned _ c.self.view_is
     (record { got = x.grown.0; grown = x.grown.1; taken = took; scan = x.scan }) stops
     (record { text = text; number = line.number; pending = c.skip.ensures; before = refl; number_new = refl; going = still }))
@@ -59,7 +59,7 @@ pub returns-in-Err-clause-gives : goal.returns-in-Err-clause-gives
 returns-in-Err-clause-gives g c =
     let x = c.in-Err.ensures in
     let still = c.in-Going.is in
-    let going = sym (ap (λ (h : Held). h.over) c.self.view_is) ∙ still in (
+    let going = sym (ap (λ (h : HeldBytes). h.over) c.self.view_is) ∙ still in (
       x.gives.0,
       gives-pieces _ _ _ _ _ _ _ _ x.gives.1 (λ e. let bad = x.gives.2 e in absurd (cc)),
       by-given _ _ _ _ _ _ _ _ _ _ c.self.view_is x.gives.1 going (λ left after may.
@@ -72,7 +72,7 @@ pub returns-in-Fault-clause-gives : goal.returns-in-Fault-clause-gives
 returns-in-Fault-clause-gives g c =
     let x = c.in-Ok.ensures in
     let stops = rw c.in-Fault.is at x.stops in
-    let going = sym (ap (λ (h : Held). h.over) c.self.view_is) ∙ c.in-Going.is in (
+    let going = sym (ap (λ (h : HeldBytes). h.over) c.self.view_is) ∙ c.in-Going.is in (
       x.gives.0,
       gives-pieces _ _ _ _ _ _ _ _ x.gives.1 (λ e. x.end (x.gives.2 e)),
       by-given _ _ _ _ _ _ _ _ _ _ c.self.view_is x.gives.1 going (λ left after may.
@@ -88,7 +88,7 @@ returns-in-LineFeed-clause-gives g c =
     let line = c.line_of-line.ensures in
     let text = line.text ∙ ap (take c.gather.new.scanned) c.bytes.ensures in
     let still = c.in-Going.is in
-    let going = sym (ap (λ (h : Held). h.over) c.self.view_is) ∙ still in (
+    let going = sym (ap (λ (h : HeldBytes). h.over) c.self.view_is) ∙ still in (
       x.gives.0,
       gives-pieces _ _ _ _ _ _ _ _ x.gives.1 (λ e. x.end (x.gives.2 e)),
       by-given _ _ _ _ _ _ _ _ _ _ c.self.view_is x.gives.1 going (λ left after may.
@@ -104,7 +104,7 @@ returns-else-self-eq0-clause-gives g c =
     let used = rw c.in-Open.is at x.stops in
     let line = c.line_of-line-in-Open.ensures in
     let text = line.text ∙ ap (take c.gather.new.scanned) c.bytes-in-Open.ensures in
-    let going = sym (ap (λ (h : Held). h.over) c.self.view_is) ∙ c.in-Going.is in (
+    let going = sym (ap (λ (h : HeldBytes). h.over) c.self.view_is) ∙ c.in-Going.is in (
       x.gives.0,
       gives-pieces _ _ _ _ _ _ _ _ x.gives.1 (λ e. x.end (x.gives.2 e)),
       by-given _ _ _ _ _ _ _ _ _ _ c.self.view_is x.gives.1 going (λ left after may.
