@@ -160,7 +160,7 @@ rewritten_ids live (ranked ∷ pieces) (rewrite ∷ rewrites) are = (are.0.0, re
 
 -- its writes are few: each id is inserted, rewritten or erased once, and each insertion's writes are few
 few_planned : (placement : Placement) (mode : Mode) (rules : StoredRules) (old new : Entries) (slots middle : Slots) (batch : List Command) (rewrites : List Rewrite) (erased : List ℕ) (writes : List Write) (counts : Done)
-    → IsPlanOf placement mode rules old new slots middle batch rewrites erased writes counts → length writes ≤ 2 ^ 40
+    → IsPlanOf placement mode rules old new slots middle batch rewrites erased writes counts → length writes ≤ 2 ^ 39
 few_planned placement mode rules old new slots middle batch rewrites erased writes counts plan =
     let apart = plan.managed.carried.settled.apart in
     let made : length writes ≡ length (batch_writes new.entries slots plan.planned rewrites erased) = ap length plan.writes_are in
@@ -191,7 +191,7 @@ holds_plan placement mode rules rules' old new slots middle batch held ready pla
   bits = subst (λ (m : Mode). no_bits ≡ bits_left (set_after rules.rules batch) (bits_with m rules.rules batch no_bits)) (sym plan.managed.cover) refl;
   counts = counts;
   in_use = subst (AllByRecursion (IsInUse (length slots))) (sym all) plan.in_use;
-  few = subst (λ (w : List Write). length w ≤ 2 ^ 40) (sym all) (few_planned placement mode rules old new slots middle batch held.rewrites.items held.erased.items held.writes.items held.counts plan);
+  few = subst (λ (w : List Write). length w ≤ 2 ^ 39) (sym all) (few_planned placement mode rules old new slots middle batch held.rewrites.items held.erased.items held.writes.items held.counts plan);
   segment = λ device_slots wide.
       subst (λ (m : Mode). IsSegment m no_bits rules.rules batch (on_device device_slots (plain_state (contents old.entries slots))) (drop held.made held.writes.items)) (sym plan.managed.cover)
       (subst (λ (w : List Write). IsSegment Cover no_bits rules.rules batch (on_device device_slots (plain_state (contents old.entries slots))) w) (sym all) (made_by device_slots wide).segment);

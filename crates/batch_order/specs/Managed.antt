@@ -91,7 +91,7 @@ pub record Holds (old : Managed) (batch : List Command) (ready : Ready) (new : M
   pub bits : held.bits ≡ bits_left (set_after old.rules batch) (bits_with old.mode old.rules batch old.bits)
   pub counts : ready ≡ ready_of held.counts
   pub in_use : AllByRecursion (IsInUse old.slots) held.writes
-  pub few : length held.writes ≤ 2 ^ 40
+  pub few : length held.writes ≤ 2 ^ 39
   -- hitless after every write, of the commit's shape, and within the bounds on insertions
   pub segment : (device_slots : ℕ) → old.slots ≤ device_slots
       → IsSegment old.mode old.bits old.rules batch (on_device device_slots old.state) held.writes

@@ -41,10 +41,10 @@ held-one run ready held holds is =
     let both : Some held ≡ Some holds.held = sym is ∙ other in cc
 
 -- it has few writes
-pub held-few : (inside run : Running) → inside ≡ run → HoldsPending run → IfSome inside.manager.held (λ held. length held.writes ≤ 2 ^ 40)
+pub held-few : (inside run : Running) → inside ≡ run → HoldsPending run → IfSome inside.manager.held (λ held. length held.writes ≤ 2 ^ 39)
 held-few inside run same holds =
     let is : inside.manager.held ≡ Some holds.1.held = ap (λ (r : Running). r.manager.held) same ∙ ap (λ (manager : Managed). manager.held) holds.1.new_is in
-    subst (λ held. IfSome held (λ (one : HeldCommit). length one.writes ≤ 2 ^ 40)) (sym is) holds.1.few
+    subst (λ held. IfSome held (λ (one : HeldCommit). length one.writes ≤ 2 ^ 39)) (sym is) holds.1.few
 
 -- a run whose commit was cut
 pub cut-held : (run : Running) (now : Managed) → IsRun run → MakesSome run.manager now → IsRun (record run { manager = now })

@@ -85,7 +85,7 @@ module _ (run : Running) (ready : Ready) (is : IsRun run) (holds : Holds (record
       (subst (λ size. AllByRecursion (IsInUse size) holds.held.writes) (sym is.size) holds.in_use))
 
   -- the run once the writes are made
-  pub made-run : (pending : List Change) (commits writes : ℕ) → (run.family ≡ Route → OnlyChangesRoutes pending) → writes ≤ commits * 2 ^ 40
+  pub made-run : (pending : List Change) (commits writes : ℕ) → (run.family ≡ Route → OnlyChangesRoutes pending) → writes ≤ commits * 2 ^ 39
       → IsRun (record (run_after run holds.held) { pending = pending; commits = commits; writes = writes })
   made-run pending commits writes changes few = record {
     changes = changes;

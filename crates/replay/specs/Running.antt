@@ -92,7 +92,7 @@ pub record IsRun (run : Running) : Type 0 where
   pub changes : run.family ≡ Route → OnlyChangesRoutes run.pending
   pub routes : run.family ≡ Route → AllByRecursion IsIpv4Route run.manager.rules
   pub size : length run.manager.state.slots ≡ run.manager.slots
-  pub few : run.writes ≤ run.commits * 2 ^ 40
+  pub few : run.writes ≤ run.commits * 2 ^ 39
   pub shows : ShowsRules run.manager
 
 -- the verdict on the pending batch

@@ -78,7 +78,7 @@ impl Run {
 
     /// Carries out an act of a script of the run's family, over a device with at least as many slots as the run uses.
     /// In a script of routes each rule that is added is one of an IPv4 prefix. The device is where the run stands: it
-    /// was blank before the first act, and nobody else has written it since. The run has made fewer than 4,194,304
+    /// was blank before the first act, and nobody else has written it since. The run has made fewer than 16,777,216
     /// commits.
     ///
     /// A change joins the pending batch. With 4,096 changes pending the answer is `BatchFull`, and nothing has
@@ -107,7 +107,7 @@ impl Run {
         requires slots { self.old.manager.slots ≤ D.slot_count device.old }
         requires act { IsActOf self.old.family act.now }
         requires idle { self.old.manager.held ≡ None }
-        requires commits { self.old.commits < 2 ^ 22 }
+        requires commits { self.old.commits < 2 ^ 24 }
         ensures acts { (which : Bool) → ComesTo (D.slot_count device.old) self.old act.now self.new result
             (D.journal device.old) (D.journal device.new) (counted which (K.taken sink.old) (K.accepted sink.old)) (counted which (K.taken sink.new) (K.accepted sink.new)) }
         ensures limit { limit_text result ≡ limit_fault act.now (length self.old.pending) (length self.old.probes) }
@@ -179,7 +179,7 @@ impl Run {
     fn commit<K: Sink, D: Device>(&mut self, sink: &mut K, device: &mut D) -> Result<(), RunFault>
         requires slots { self.old.manager.slots ≤ D.slot_count device.old }
         requires idle { self.old.manager.held ≡ None }
-        requires commits { self.old.commits < 2 ^ 22 }
+        requires commits { self.old.commits < 2 ^ 24 }
         ensures acts { (which : Bool) → ComesTo (D.slot_count device.old) self.old Act.Commit self.new result
             (D.journal device.old) (D.journal device.new) (counted which (K.taken sink.old) (K.accepted sink.old)) (counted which (K.taken sink.new) (K.accepted sink.new)) }
         ensures room { limit_text result ≡ None }
@@ -197,7 +197,7 @@ impl Run {
 
     // Counts a commit, and drops its batch.
     fn count_commit(&mut self)
-        requires { self.old.commits < 2 ^ 22 }
+        requires { self.old.commits < 2 ^ 24 }
         ensures { self.new ≡ record self.old { pending = []; commits = self.old.commits + 1 } }
     {
         self.pending.clear();
@@ -207,7 +207,7 @@ impl Run {
     // Counts a commit that is refused, drops its batch, and writes its line.
     fn refuse<K: Sink>(&mut self, refusal: &Refusal, sink: &mut K) -> Result<(), RunFault>
         requires judged { verdict_told refusal.now ≢ Accepted }
-        requires commits { self.old.commits < 2 ^ 22 }
+        requires commits { self.old.commits < 2 ^ 24 }
         ensures refused { self.new ≡ record self.old { pending = []; commits = self.old.commits + 1; refused = true } }
         ensures line { WritesLine K.taken K.accepted K.faults sink.old sink.new (refused_line self.old.family (self.old.commits + 1) (verdict_told refusal.now)) result }
         ensures kind { IfErr result (λ fault. fault ≡ RunFault.Sink) }
@@ -230,7 +230,7 @@ impl Run {
         requires holds { HoldsPending self.old }
         requires room { IfSome self.old.manager.held (λ held. length held.writes ≤ D.spare device.old) }
         requires accepted { verdict_of self.old ≡ Accepted }
-        requires commits { self.old.commits < 2 ^ 22 }
+        requires commits { self.old.commits < 2 ^ 24 }
         ensures acts { (which : Bool) → ComesTo (D.slot_count device.old) self.old Act.Commit self.new result
             (D.journal device.old) (D.journal device.new) (counted which (K.taken sink.old) (K.accepted sink.old)) (counted which (K.taken sink.new) (K.accepted sink.new)) }
         ensures kind { (result ≢ Err RunFault.Memory) × ((result ≢ Err RunFault.BatchFull) × (result ≢ Err RunFault.ProbesFull)) }
@@ -284,7 +284,7 @@ fn make_writes<K: Sink, D: Device>(
     requires slots { manager.old.slots ≤ D.slot_count device.old }
     requires held { IsSome manager.old.held }
     requires room { IfSome manager.old.held (λ held. length held.writes ≤ D.spare device.old) }
-    requires few { IfSome manager.old.held (λ held. length held.writes ≤ 2 ^ 40) }
+    requires few { IfSome manager.old.held (λ held. length held.writes ≤ 2 ^ 39) }
     ensures makes { (which : Bool) → Makes manager.old manager.new watch.now (D.slot_count device.old) result
         (D.journal device.old) (D.journal device.new) (counted which (K.taken sink.old) (K.accepted sink.old)) (counted which (K.taken sink.new) (K.accepted sink.new)) }
     ensures leaves { Leaves K.taken K.faults sink.old sink.new D.slot_count D.faults device.old device.new (result ≡ Err RunFault.Sink) (result ≡ Err RunFault.Device) }

@@ -1,12 +1,12 @@
 -- What a line adds is a route of IPv4.
-use Rattle.std.proofs.Common.{◌≡◌, ℕ, ◌≤◌, ◌-◌, ◌%◌, ◌^◌, ◌==◌, ◌&&◌, nat_le, inl, inr, List, [], ◌∷◌, codes, Option, Some, None, Result, Ok, Err, ok_or, refl, subst, arith}
+use Rattle.std.proofs.Common.{◌≡◌, ℕ, ◌≤◌, ◌-◌, ◌%◌, ◌^◌, ◌==◌, ◌&&◌, nat_le, inl, inr, List, [], ◌∷◌, codes, Option, Some, None, Result, Ok, Err, ok_or, cond, refl, ap, subst, arith}
 use Rattle.std.specs.Str.{bytes_eq}
 use Rattle.std.proofs.lemmas.Bool.{cases_Bool, and_parts, leb-true}
 use Rattle.rule_model.specs.declared.Key.{Key}
 use Rattle.rule_model.specs.AddressBlock.{AddressBlock, IsIpv4Block, ipv4_block}
 use Rattle.line_words.specs.declared.WordFault.{WordFault}
 use Rattle.line_words.specs.declared.WordFault.TheVariants.{BadPrefix}
-use Rattle.line_words.specs.Words.{◌>>=◌, words_of}
+use Rattle.line_words.specs.Words.{◌>>=◌, words_of, is_skipped}
 use Rattle.line_words.specs.Kinds.{ipv4_notation, result_of, key_of, ipv4_number, ipv4_prefix, number_up_to, is_number, number_value, block_of, parts_at}
 use Rattle.line_words.specs.Commands.{common_command, commit_of, frame_of}
 use Rattle.line_words.specs.declared.commands.CommonCommand.{CommonCommand}
@@ -14,7 +14,23 @@ use Rattle.route_reader.specs.declared.RouteCommand.{RouteCommand}
 use Rattle.route_reader.specs.declared.RouteCommand.TheVariants.{Add, Set, Del, Common}
 use Rattle.route_reader.specs.Grammar.{addition, change, removal, route_words, route_command, route_line}
 use Rattle.tcam_cli.specs.Turns.{IsIpv4Command}
-use Rattle.tcam_cli.proofs.ActLines.{line-command}
+
+-- ---- the command of a line that has one
+
+kept : {C : Type 0} (read : Result C WordFault) (command : C) → (read >>= λ found. Ok (Some found)) ≡ Ok (Some command) → read ≡ Ok command
+kept {C = C} (Ok found) command e =
+    let some : Some found ≡ Some command = cc in
+    let same : found ≡ command = cc in ap Ok same
+kept (Err fault) command e = let bad = e in absurd (cc)
+
+line-command : {C : Type 0} (words : List (List ℕ)) (read : Result C WordFault) (command : C)
+    → cond (is_skipped words) (Ok None) (read >>= λ found. Ok (Some found)) ≡ Ok (Some command) → read ≡ Ok command
+line-command words read command is = elim (cases_Bool (is_skipped words)) [
+  | inl same ↦
+      let bad : Ok None ≡ Ok (Some command) = rw same at is in
+      absurd (cc)
+  | inr other ↦ kept read command (rw other at is)
+]
 
 -- ---- a prefix
 

@@ -11,7 +11,6 @@ mod Endings
 mod Exits
 mod WholeRun
 mod TopCall
-mod ActLines
 mod Ipv4Lines
 mod Closings
 mod Begun

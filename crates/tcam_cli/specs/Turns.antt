@@ -89,11 +89,10 @@ pub record ClosesReport {S : Type 0} (taken : S → Option (List ℕ)) (accepted
   pub told : IsSome (taken old) → IsSome (taken new)
   pub cause : IsCounted (status ≡ WriteFault) (faults old) (faults new)
 
--- A run between two lines: no commit is under way, and the bytes taken bound the commits, since a line with an act
--- takes 5 bytes.
+-- A run between two lines: no commit is under way, and there are no more commits than bytes taken, since a line takes one.
 pub record IsBetweenLines (held : HeldBytes) (run : Running) : Type 0 where
   pub idle : run.manager.held ≡ None
-  pub commits : 5 * run.commits ≤ held.before
+  pub commits : run.commits ≤ held.before
   pub within : held.before ≤ 16777216
 
 -- a journal and a report that a call has added to

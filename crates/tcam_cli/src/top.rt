@@ -1,6 +1,6 @@
 //! The top call: a command line, a source, a sink and a device.
 
-ghost use Rattle.std.specs.Prelude.{Bool, ◌≡◌, ◌≢◌, ◌⊎◌, ◌*◌, ◌<◌, ◌≤◌, ◌++◌, ℕ, List, Option, [], Ok, Err, Some, None, IsSome, IfNone, IfSome, IfOk, IfErr, length, map, string_bytes};
+ghost use Rattle.std.specs.Prelude.{Bool, ◌≡◌, ◌≢◌, ◌⊎◌, ◌<◌, ◌≤◌, ◌++◌, ℕ, List, Option, [], Ok, Err, Some, None, IsSome, IfNone, IfSome, IfOk, IfErr, length, map, string_bytes};
 ghost use Rattle.std.specs.Io.KnownBytes.{Consumes};
 ghost use Rattle.call_history.specs.Cause.{IsCounted};
 ghost use Rattle.script_lines.specs.Lines.{numbered};
@@ -117,8 +117,8 @@ fn run_script<S: Source, K: Sink, D: Device>(
     }
 }
 
-/// Carries out the next line. None: the run goes on. A line with an act takes 5 bytes, so that no script has more
-/// commits than a run counts.
+/// Carries out the next line. None: the run goes on. A line takes a byte at least, so that no script has more commits
+/// than a run counts.
 fn turn<S: Source, K: Sink, D: Device>(
     lines: &mut Lines,
     run: &mut Run,
@@ -167,7 +167,6 @@ fn read_act(run: &Run, line: &Line) -> Result<Option<Act>, &'static str>
     ensures ok { IfOk result (λ found. reading run.now.family (numbered line.now).text ≡ Ok found) }
     ensures err { IfErr result (λ text. reading run.now.family (numbered line.now).text ≡ Err text.now) }
     ensures act { IfOk result (λ found. IfSome found (IsActOf run.now.family)) }
-    ensures long { IfOk result (λ found. IfSome found (λ _. 5 ≤ line.now.len)) }
     ensures short { IfErr result (λ text. length text.now ≤ 32) }
 {
     match run.family() {
@@ -182,7 +181,6 @@ fn read_route_act(line: &Line) -> Result<Option<Act>, &'static str>
     ensures ok { IfOk result (λ found. reading Family.Route (numbered line.now).text ≡ Ok found) }
     ensures err { IfErr result (λ text. reading Family.Route (numbered line.now).text ≡ Err text.now) }
     ensures act { IfOk result (λ found. IfSome found (IsActOf Family.Route)) }
-    ensures long { IfOk result (λ found. IfSome found (λ _. 5 ≤ line.now.len)) }
     ensures short { IfErr result (λ text. length text.now ≤ 32) }
 {
     match read_route(line) {
@@ -198,7 +196,6 @@ fn read_acl_act(line: &Line) -> Result<Option<Act>, &'static str>
     ensures ok { IfOk result (λ found. reading Family.Acl (numbered line.now).text ≡ Ok found) }
     ensures err { IfErr result (λ text. reading Family.Acl (numbered line.now).text ≡ Err text.now) }
     ensures act { IfOk result (λ found. IfSome found (IsActOf Family.Acl)) }
-    ensures long { IfOk result (λ found. IfSome found (λ _. 5 ≤ line.now.len)) }
     ensures short { IfErr result (λ text. length text.now ≤ 32) }
 {
     match read_acl(line) {

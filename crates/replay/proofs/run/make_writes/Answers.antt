@@ -37,10 +37,10 @@ step-requires-clause-room g c = let h = c.making.invariant.making true in search
 pub overflow_add-number : goal.overflow_add-number
 overflow_add-number g c =
     let making = c.making.invariant.making true in
-    let few : length making.held.writes ≤ 2 ^ 40 = subst (λ held. IfSome held (λ (one : HeldCommit). length one.writes ≤ 2 ^ 40)) making.held_is c.requires.few in
+    let few : length making.held.writes ≤ 2 ^ 39 = subst (λ held. IfSome held (λ (one : HeldCommit). length one.writes ≤ 2 ^ 39)) making.held_is c.requires.few in
     let all : length making.held.writes ≡ length making.made + length making.left = ap length making.whole ∙ length-append making.made making.left in
     let count = making.count in
-    let most : c.making.number ≤ 2 ^ 40 = omega arith in
+    let most : c.making.number ≤ 2 ^ 39 = omega arith in
     search rules
 
 pub unreachable-requires : goal.unreachable-requires

@@ -1,14 +1,6 @@
-use Rattle.std.proofs.Common.{◌≤◌, length, take, Ok, sym, ◌∙◌, ap, arith, length-take}
-use Rattle.tcam_cli.proofs.ActLines.{route_line-long}
+use Rattle.std.proofs.Common.{take, Ok, sym, ◌∙◌, ap}
 use Rattle.tcam_cli.proofs.Ipv4Lines.{line-ipv4}
 use Rattle.tcam_cli.proofs.top.read_route_act.Goals as goal
-
-pub returns-in-Ok-Some-clause-long : goal.returns-in-Ok-Some-clause-long
-returns-in-Ok-Some-clause-long c =
-    let line = c.args.line.now in
-    let long : 5 ≤ length (take line.len line.bytes) = route_line-long _ _ (sym c.read_route.ensures ∙ c.in-Ok-Some.is ∙ ap Ok c.in-Ok-Some.field-0-is) in
-    let less = simp length-take at long in
-    omega (arith, less)
 
 pub route_act-requires : goal.route_act-requires
 route_act-requires c =
