@@ -1,7 +1,7 @@
 -- The changes of a sound batch insert, rewrite and erase the pieces of its commit.
-use Rattle.std.proofs.Common.{◌≡◌, ℕ, ◌<◌, ◌≤◌, true, false, not, ◌||◌, cond, Bool, Option, Some, None, List, [], ◌∷◌, ◌++◌, reverse, map, filter, flat_map, IsTrue, IsFalse, Contains, inl, inr, refl, sym, ap, ap₂, subst, ◌∙◌, arith, ltb-true, eqb-true, eq-eqb}
+use Rattle.std.proofs.Common.{◌≡◌, ℕ, ◌<◌, ◌≤◌, true, false, not, ◌||◌, cond, Bool, Option, Some, None, List, [], ◌∷◌, ◌++◌, reverse, filter, flat_map, IsTrue, Contains, inl, inr, refl, sym, ap, ap₂, subst, ◌∙◌, arith, ltb-true, eq-eqb}
 use Rattle.std.specs.Prelude.{AllPairs, nat_eq, nat_lt, option_map}
-use Rattle.std.specs.List.{AllByRecursion, list_any, filter_map, cons_option}
+use Rattle.std.specs.List.{filter_map, cons_option}
 use Rattle.std.specs.Option.{option_or}
 use Rattle.std.proofs.lemmas.Bool.{cases_Bool, cases_eq, cond-true, cond-false, both_ways, ne_eqb}
 use Rattle.std.proofs.lemmas.List.{append-nil, reverse-append}
@@ -23,15 +23,14 @@ use Rattle.rule_store.proofs.After.{set_after-set}
 use Rattle.rule_store.proofs.Falling.{IsRuleSet-filter}
 use Rattle.rule_store.proofs.Members.{sound-gone}
 use Rattle.rule_store.proofs.RulesAt.{cases_rule_at}
-use Rattle.rule_store.proofs.Sets.{rule_at-none, has_priority-found}
+use Rattle.rule_store.proofs.Sets.{has_priority-found}
 use Rattle.ternary_word.specs.Entry.{RankedPiece}
 use Rattle.commit_writes.specs.Bits.{no_bits}
 use Rattle.commit_writes.specs.Shape.{names, common_pieces, dropped_pieces, ranked_piece, ranked_pieces, inserted_pieces, rewritten_pieces, erased_pieces}
 use Rattle.commit_writes.proofs.BatchRules.{added_named, unnamed_stays}
-use Rattle.batch_order.specs.declared.pieces.Choice.{Choice}
 use Rattle.batch_order.specs.declared.pieces.Choice.TheVariants.{Common, Fresh}
-use Rattle.batch_order.specs.Changes.{RuleChange, AreChanges, names_at, change_at, pieces_at, is_among, wants, chosen_pieces, inserted_by, rewritten_by, erased_by}
-use Rattle.batch_order.proofs.Named.{rule_at-filter, kept_at, after_at, map_reverse}
+use Rattle.batch_order.specs.Changes.{RuleChange, AreChanges, names_at, change_at, pieces_at, is_among, chosen_pieces, inserted_by, rewritten_by, erased_by}
+use Rattle.batch_order.proofs.Named.{own_priority, rule_at-filter, after_at, map_reverse}
 
 -- the images of what is found, if something is
 abbrev images_at : {X Y : Type 0} → (X → List Y) → Option X → List Y
@@ -149,12 +148,6 @@ none_fresh : (rule : Rule) → filter (λ piece. not (has_piece (cover_pieces ru
 none_fresh rule = filter_nothing (λ piece. not (has_piece (cover_pieces rule) piece)) (cover_pieces rule)
     (λ piece member. ap not (any_from (same_piece piece) (cover_pieces rule) piece member (same_piece-self piece)))
 
-own_priority : (rules : List Rule) (priority : ℕ) (rule : Rule) → rule_at rules priority ≡ Some rule → rule.priority ≡ priority
-own_priority rules priority rule is = elim (cases_rule_at rules priority) [
-  | inl found ↦ let both : Some found.0 ≡ Some rule = sym found.1 ∙ is in let same : found.0 ≡ rule = cc in ap (λ (r : Rule). r.priority) (sym same) ∙ found.3
-  | inr none ↦ absurd (let bad : None ≡ Some rule = sym none.0 ∙ is in cc)
-]
-
 module _ (rules : List Rule) (batch : List Command) (is_set : IsRuleSet rules) (sound : IsSound rules batch) where
   stands_after : (priority : ℕ) (new old : Option Rule) (gone : Bool) → rule_at (additions batch) priority ≡ new → rule_at rules priority ≡ old → removes priority batch ≡ gone
       → change_at rules batch priority ≡ record { old = old; new = option_or new (option_map (with_result_after batch) (cond (not gone) old None)) }
@@ -247,13 +240,13 @@ module _ (rules : List Rule) (batch : List Command) (is_set : IsRuleSet rules) (
     found : (set : List Rule) → IsRuleSet set → ((rule : Rule) → Contains set rule → IsTrue (names batch rule)) → filter_map (rule_at set) are.priorities ≡ set
     found set is_one named = found_all set are.priorities is_one are.falling (λ rule member. (are.named rule.priority).1 (named rule member))
 
-    pub inserted_are : flat_map inserted_by changes ≡ inserted_pieces Cover no_bits rules batch
+    inserted_are : flat_map inserted_by changes ≡ inserted_pieces Cover no_bits rules batch
     inserted_are =
         ap (flat_map inserted_by) are.are ∙ flat_map-map inserted_by (change_at rules batch) are.priorities
         ∙ images_found (λ priority. inserted_by (change_at rules batch priority)) inserts (rule_at (new_rules batch)) are.priorities (λ priority member. inserted_at priority)
         ∙ ap (flat_map inserts) (found (new_rules batch) (additions_set rules batch sound) (λ rule member. added_named batch rule (new_rules-member batch rule member)))
 
-    pub rewritten_are : flat_map rewritten_by changes ≡ rewritten_pieces Cover no_bits rules batch
+    rewritten_are : flat_map rewritten_by changes ≡ rewritten_pieces Cover no_bits rules batch
     rewritten_are =
         ap (flat_map rewritten_by) are.are ∙ flat_map-map rewritten_by (change_at rules batch) are.priorities
         ∙ images_found (λ priority. rewritten_by (change_at rules batch priority)) rewrites (rule_at changed) are.priorities (λ priority member. rewritten_at priority ((are.named priority).0 member))
@@ -262,7 +255,7 @@ module _ (rules : List Rule) (batch : List Command) (is_set : IsRuleSet rules) (
         changed : List Rule
         changed = filter (names batch) (set_after rules batch)
 
-    pub erased_are : flat_map erased_by (reverse changes) ≡ erased_pieces Cover no_bits rules batch
+    erased_are : flat_map erased_by (reverse changes) ≡ erased_pieces Cover no_bits rules batch
     erased_are =
         ap (λ some. flat_map erased_by (reverse some)) are.are ∙ ap (flat_map erased_by) (sym (map_reverse (change_at rules batch) are.priorities)) ∙ flat_map-map erased_by (change_at rules batch) (reverse are.priorities)
         ∙ images_found (λ priority. erased_by (change_at rules batch priority)) erases (rule_at removed) (reverse are.priorities) (λ priority member. erased_at priority)
@@ -273,3 +266,16 @@ module _ (rules : List Rule) (batch : List Command) (is_set : IsRuleSet rules) (
           | inl is ↦ is
           | inr none ↦ absurd (both_ways _ (unnamed_stays batch rule none) (in_filter (λ one. removes one.priority batch) rules rule member).1)
         ]
+
+-- so their pieces are those of the commit
+pub record ArePieces (rules : List Rule) (batch : List Command) (changes : List RuleChange) : Type 0 where
+  pub inserted : flat_map inserted_by changes ≡ inserted_pieces Cover no_bits rules batch
+  pub rewritten : flat_map rewritten_by changes ≡ rewritten_pieces Cover no_bits rules batch
+  pub erased : flat_map erased_by (reverse changes) ≡ erased_pieces Cover no_bits rules batch
+
+pub pieces_are : (rules : List Rule) (batch : List Command) → IsRuleSet rules → IsSound rules batch → (changes : List RuleChange) → AreChanges rules batch changes → (listed : List RuleChange) → listed ≡ changes → ArePieces rules batch listed
+pieces_are rules batch set sound changes are listed same = subst (ArePieces rules batch) (sym same) (record {
+  inserted = inserted_are rules batch set sound changes are;
+  rewritten = rewritten_are rules batch set sound changes are;
+  erased = erased_are rules batch set sound changes are;
+})

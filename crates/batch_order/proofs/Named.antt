@@ -29,7 +29,7 @@ use Rattle.rule_store.proofs.After.{set_after-set}
 use Rattle.rule_store.proofs.Members.{with_rules-to, with_rules-from}
 use Rattle.rule_store.proofs.RulesAt.{cases_rule_at, rule_at-member}
 use Rattle.rule_store.proofs.Sound.{IsTaken, taken, sound-parts}
-use Rattle.rule_store.proofs.Sums.{slice_get-within, slice_get-read, take-read}
+use Rattle.rule_store.proofs.Sums.{slice_get-within, take-read}
 use Rattle.commit_writes.proofs.Filters.{all_from, in_reverse, reverse_in, pairs_reverse}
 use Rattle.batch_order.specs.Changes.{RuleChange, AreChanges, AreLast, names_at, change_at, change_by, last_of, placed, rule_behind, with_answer}
 
@@ -165,6 +165,13 @@ after_at rules batch priority set = elim (cases_rule_at (additions batch) priori
     stands : (rule : Rule) → rule.priority ≡ priority → Contains (set_after rules batch) rule → rule_at (set_after rules batch) priority ≡ Some rule
     stands rule own member = subst (λ n. rule_at (set_after rules batch) n ≡ Some rule) own (rule_at-member (set_after rules batch) rule (IsRuleSet-distinct (set_after rules batch) set) member)
 
+-- what is found at a priority has it
+pub own_priority : (rules : List Rule) (priority : ℕ) (rule : Rule) → rule_at rules priority ≡ Some rule → rule.priority ≡ priority
+own_priority rules priority rule is = elim (cases_rule_at rules priority) [
+  | inl found ↦ let both : Some found.0 ≡ Some rule = sym found.1 ∙ is in let same : found.0 ≡ rule = cc in ap (λ (r : Rule). r.priority) (sym same) ∙ found.3
+  | inr none ↦ absurd (let bad : None ≡ Some rule = sym none.0 ∙ is in cc)
+]
+
 or_first : (found other : Option Rule) (rule : Rule) → found ≡ Some rule → option_or found other ≡ Some rule
 or_first found other rule is = ap (λ some. option_or some other) is
 
@@ -176,32 +183,14 @@ named_change rules batch priority last set sound last_is = go (commands_naming p
     after : rule_at (set_after rules batch) priority ≡ option_or (rule_at (additions batch) priority) (kept_at rules batch priority)
     after = after_at rules batch priority (set_after-set rules batch set sound)
 
-    -- by the commands that name it
-    behind : (commands : List Command) → commands_naming priority batch ≡ commands → rule_at (set_after rules batch) priority
-        ≡ option_or (rule_at (additions commands) priority) (option_map {T = Rule} (λ rule. record rule { result = result_after commands priority rule.result }) (cond (not (list_any is_removal commands)) (rule_at rules priority) None))
-    behind commands is = after ∙ ap₂ option_or (additions_at batch priority ∙ ap (λ some. rule_at (additions some) priority) is) (kept_by (rule_at rules priority) refl)
-      where
-        kept_by : (found : Option Rule) → rule_at rules priority ≡ found
-            → option_map (with_result_after batch) (cond (not (removes priority batch)) found None) ≡ option_map {T = Rule} (λ rule. record rule { result = result_after commands priority rule.result }) (cond (not (list_any is_removal commands)) found None)
-        kept_by None read = ap (λ some. option_map (with_result_after batch) (cond (not (list_any is_removal some)) None None)) is ∙ either (not (list_any is_removal commands))
-          where
-            either : (passes : Bool) → option_map (with_result_after batch) (cond passes None None) ≡ option_map {T = Rule} (λ rule. record rule { result = result_after commands priority rule.result }) (cond passes None None)
-            either true = refl
-            either false = refl
-        kept_by (Some old) read = ap (λ some. option_map (with_result_after batch) (cond (not (list_any is_removal some)) (Some old) None)) is ∙ either (not (list_any is_removal commands))
-          where
-            own : old.priority ≡ priority
-            own = elim (cases_rule_at rules priority) [
-              | inl found ↦ let both : Some found.0 ≡ Some old = sym found.1 ∙ read in let same : found.0 ≡ old = cc in ap (λ (r : Rule). r.priority) (sym same) ∙ found.3
-              | inr none ↦ absurd (let bad : None ≡ Some old = sym none.0 ∙ read in cc)
-            ]
+    -- what stands there by the commands that name it, where they add this, and where they keep this
+    adds : (commands : List Command) (rule : Rule) → commands_naming priority batch ≡ commands → rule_at (additions commands) priority ≡ Some rule → rule_at (set_after rules batch) priority ≡ Some rule
+    adds commands rule is new = after ∙ or_first _ _ rule (additions_at batch priority ∙ ap (λ some. rule_at (additions some) priority) is ∙ new)
 
-            result : result_after batch old.priority old.result ≡ result_after commands priority old.result
-            result = ap (λ n. result_after batch n old.result) own ∙ result_at batch priority old.result ∙ ap (λ some. result_after some priority old.result) is
-
-            either : (passes : Bool) → option_map (with_result_after batch) (cond passes (Some old) None) ≡ option_map {T = Rule} (λ rule. record rule { result = result_after commands priority rule.result }) (cond passes (Some old) None)
-            either true = ap (λ n. Some (record old { result = n })) result
-            either false = refl
+    keeps : (commands : List Command) → commands_naming priority batch ≡ commands → rule_at (additions commands) priority ≡ None
+        → rule_at (set_after rules batch) priority ≡ option_map (with_result_after batch) (cond (not (list_any is_removal commands)) (rule_at rules priority) None)
+    keeps commands is none = after ∙ ap₂ option_or (additions_at batch priority ∙ ap (λ some. rule_at (additions some) priority) is ∙ none)
+        (ap (λ some. option_map (with_result_after batch) (cond (not (list_any is_removal some)) (rule_at rules priority) None)) is)
 
     told : (commands : List Command) (command : Command) → commands_naming priority batch ≡ commands → last_of commands ≡ Some command → named_priority command ≡ priority
         → rule_at (set_after rules batch) priority ≡ rule_behind (rule_at rules priority) command → change_by rules last ≡ change_at rules batch priority
@@ -213,19 +202,20 @@ named_change rules batch priority last set sound last_is = go (commands_naming p
 
     go : (commands : List Command) → commands_naming priority batch ≡ commands → IsNamed priority commands → change_by rules last ≡ change_at rules batch priority
     go commands is unnamed = absurd (let bad : None ≡ Some last = sym (ap last_of is) ∙ last_is in cc)
-    go commands is (once command own) = told (command ∷ []) command is refl own (behind (command ∷ []) is ∙ by command own)
+    go commands is (once command own) = told (command ∷ []) command is refl own (by command own is)
       where
-        by : (one : Command) → named_priority one ≡ priority
-            → option_or (rule_at (additions (one ∷ [])) priority) (option_map {T = Rule} (λ rule. record rule { result = result_after (one ∷ []) priority rule.result }) (cond (not (list_any is_removal (one ∷ []))) (rule_at rules priority) None)) ≡ rule_behind (rule_at rules priority) one
-        by (Add rule) same = or_first _ _ rule (cond-true _ _ _ (eq-eqb _ _ same))
-        by (Set changed answer) same = given (rule_at rules priority)
+        by : (one : Command) → named_priority one ≡ priority → commands_naming priority batch ≡ one ∷ [] → rule_at (set_after rules batch) priority ≡ rule_behind (rule_at rules priority) one
+        by (Add rule) same named = adds (Add rule ∷ []) rule named (cond-true _ _ _ (eq-eqb _ _ same))
+        by (Del removed) same named = keeps (Del removed ∷ []) named refl
+        by (Set changed answer) same named = keeps (Set changed answer ∷ []) named refl ∙ given (rule_at rules priority) refl
           where
-            given : (found : Option Rule) → option_map {T = Rule} (λ rule. record rule { result = result_after (Set changed answer ∷ []) priority rule.result }) found ≡ with_answer answer found
-            given None = refl
-            given (Some rule) = ap (λ passes. Some (record rule { result = unwrap_or (cond passes (Some answer) None) rule.result })) (eq-eqb _ _ same)
-        by (Del removed) same = refl
+            given : (found : Option Rule) → rule_at rules priority ≡ found → option_map (with_result_after batch) found ≡ with_answer answer found
+            given None read = refl
+            given (Some rule) read = ap (λ n. Some (record rule { result = n }))
+                (ap (λ n. result_after batch n rule.result) (own_priority rules priority rule read) ∙ result_at batch priority rule.result ∙ ap (λ some. result_after some priority rule.result) named
+                ∙ ap (λ passes. unwrap_or (cond passes (Some answer) None) rule.result) (eq-eqb _ _ same))
     go commands is (replaced rule own) =
-        told (Del priority ∷ Add rule ∷ []) (Add rule) is refl own (behind (Del priority ∷ Add rule ∷ []) is ∙ or_first _ _ rule (cond-true _ _ _ (eq-eqb _ _ own)))
+        told (Del priority ∷ Add rule ∷ []) (Add rule) is refl own (adds (Del priority ∷ Add rule ∷ []) rule is (cond-true _ _ _ (eq-eqb _ _ own)))
 
 -- a priority has a last command where some command names it
 last_names : (batch : List Command) (priority : ℕ) (command : Command) → last_of (commands_naming priority batch) ≡ Some command → IsTrue (names_at batch priority)

@@ -20,6 +20,7 @@ use move_planner::{Aim, Move, Moves, plan_insert};
 use rule_store::{Mode, Store};
 use slot_pool::Arrangement;
 use std::alloc::{AllocError, Global};
+use tcam_device::Write;
 
 /// Plans an insertion for each piece that a commit puts into a set, in their order and with the aims of the placement,
 /// and answers the ids of their entries. On want of memory the live entries are as they were.
@@ -118,24 +119,26 @@ fn plan_moves(
 {
     let mut moves = Moves::new(alloc);
     let insert = plan_insert(alloc, arrangement, live.index(), id, aim, &mut moves)?;
-    push_all(live, &moves, plan)?;
+    push_all(live, &moves, &mut plan.writes)?;
     plan.count(insert);
     Ok(())
 }
 
-/// Each of some moves becomes a device write of the plan.
-fn push_all(live: &LiveEntries, moves: &Moves, plan: &mut Plan) -> Result<(), AllocError>
+/// Puts the device writes that some moves are behind others.
+fn push_all(
+    live: &LiveEntries,
+    moves: &Moves,
+    writes: &mut Vec<Write>,
+) -> Result<(), AllocError>
     requires inside { AllByRecursion (IsInside live.now.slots) moves.now }
-    requires in_use { AllByRecursion (IsInUse live.now.slots) plan.old.writes.items }
-    ensures in_use { OnOk result (AllByRecursion (IsInUse live.now.slots) plan.new.writes.items) }
-    ensures writes { OnOk result (plan.new.writes.items ≡ plan.old.writes.items ++ map (write_for live.now.entries) moves.now) }
-    ensures most { OnOk result (plan.new.most ≡ plan.old.most) }
-    ensures span { OnOk result (plan.new.span ≡ plan.old.span) }
+    requires in_use { AllByRecursion (IsInUse live.now.slots) writes.old.items }
+    ensures in_use { OnOk result (AllByRecursion (IsInUse live.now.slots) writes.new.items) }
+    ensures writes { OnOk result (writes.new.items ≡ writes.old.items ++ map (write_for live.now.entries) moves.now) }
 {
     for place in 0..moves.len() {
         match moves.at(place) {
-            Move::Put(slot, id) => plan.push(slot, live.at(id))?,
-            Move::Erase(slot) => plan.push(slot, None)?,
+            Move::Put(slot, id) => writes.push(Write::Slot(slot, live.at(id)))?,
+            Move::Erase(slot) => writes.push(Write::Slot(slot, None))?,
         }
     }
     Ok(())

@@ -1,6 +1,6 @@
 //! The plan of a commit: its writes, made before the first of them goes out.
 
-ghost use Rattle.std.specs.Prelude.{◌≡◌, ◌≤◌, ◌++◌, ◌∷◌, [], OnOk, OnErr, length, map, max, nat_eq};
+ghost use Rattle.std.specs.Prelude.{◌≡◌, ◌≤◌, ◌++◌, [], OnOk, length, map, max, nat_eq};
 ghost use Rattle.std.specs.List.{AllByRecursion, IsDistinct};
 ghost use Rattle.tcam_device.specs.State.{IsInUse};
 ghost use Rattle.commit_writes.specs.PlannedBatch.{erase_write, erased_slots, rewrite_write};
@@ -14,7 +14,6 @@ use move_planner::Insert;
 use slot_pool::Arrangement;
 use std::alloc::{AllocError, Global};
 use tcam_device::{Writable, Write};
-use ternary_word::Entry;
 
 /// The writes of a commit still to make, the writes of its longest insertion, and the greatest span of one.
 #[derive(Drop)]
@@ -36,17 +35,6 @@ impl Plan {
             most: 0,
             span: 0,
         }
-    }
-
-    /// The write of a slot more; want of memory changes nothing.
-    pub(crate) fn push(&mut self, slot: u32, entry: Option<Entry>) -> Result<(), AllocError>
-        ensures ok { OnOk result (self.new.writes.items ≡ self.old.writes.items ++ Write.Slot slot entry ∷ []) }
-        ensures err { OnErr result (self.new.writes.items ≡ self.old.writes.items) }
-        ensures most { self.new.most ≡ self.old.most }
-        ensures span { self.new.span ≡ self.old.span }
-    {
-        self.writes.push(Write::Slot(slot, entry))?;
-        Ok(())
     }
 
     /// Counts an insertion whose writes were pushed.
@@ -107,8 +95,8 @@ pub(crate) fn plan_changes<D: Writable>(
     ensures slot_count { D.slot_count device.new ≡ D.slot_count device.old }
     ensures faults { D.faults device.new ≡ D.faults device.old }
 {
-    plan_rewrites(&parts.rewrites, arrangement, plan)?;
-    plan_erases(&parts.erased, arrangement, plan)?;
+    plan_rewrites(&parts.rewrites, arrangement, &mut plan.writes)?;
+    plan_erases(&parts.erased, arrangement, &mut plan.writes)?;
     device.reserve(plan.writes.len() as u64)
 }
 
@@ -116,34 +104,34 @@ pub(crate) fn plan_changes<D: Writable>(
 fn plan_rewrites(
     rewrites: &[Rewrite],
     arrangement: &Arrangement,
-    plan: &mut Plan,
+    writes: &mut Vec<Write>,
 ) -> Result<(), AllocError>
     requires standing { AllByRecursion (λ rewrite. IsStanding arrangement.now rewrite.id) rewrites.now }
-    requires in_use { AllByRecursion (IsInUse (length arrangement.now)) plan.old.writes.items }
-    ensures writes { OnOk result (plan.new.writes.items ≡ plan.old.writes.items ++ map (rewrite_write arrangement.now) rewrites.now) }
-    ensures in_use { OnOk result (AllByRecursion (IsInUse (length arrangement.now)) plan.new.writes.items) }
-    ensures most { plan.new.most ≡ plan.old.most }
-    ensures span { plan.new.span ≡ plan.old.span }
+    requires in_use { AllByRecursion (IsInUse (length arrangement.now)) writes.old.items }
+    ensures writes { OnOk result (writes.new.items ≡ writes.old.items ++ map (rewrite_write arrangement.now) rewrites.now) }
+    ensures in_use { OnOk result (AllByRecursion (IsInUse (length arrangement.now)) writes.new.items) }
 {
     for rewrite in rewrites {
         let slot = arrangement.home(rewrite.id).unwrap();
-        plan.push(slot, Some(rewrite.entry))?;
+        writes.push(Write::Slot(slot, Some(rewrite.entry)))?;
     }
     Ok(())
 }
 
 /// The erase of each id where it stands.
-fn plan_erases(ids: &[u32], arrangement: &Arrangement, plan: &mut Plan) -> Result<(), AllocError>
+fn plan_erases(
+    ids: &[u32],
+    arrangement: &Arrangement,
+    writes: &mut Vec<Write>,
+) -> Result<(), AllocError>
     requires standing { AllByRecursion (IsStanding arrangement.now) ids.now }
-    requires in_use { AllByRecursion (IsInUse (length arrangement.now)) plan.old.writes.items }
-    ensures writes { OnOk result (plan.new.writes.items ≡ plan.old.writes.items ++ map (erase_write arrangement.now) ids.now) }
-    ensures in_use { OnOk result (AllByRecursion (IsInUse (length arrangement.now)) plan.new.writes.items) }
-    ensures most { plan.new.most ≡ plan.old.most }
-    ensures span { plan.new.span ≡ plan.old.span }
+    requires in_use { AllByRecursion (IsInUse (length arrangement.now)) writes.old.items }
+    ensures writes { OnOk result (writes.new.items ≡ writes.old.items ++ map (erase_write arrangement.now) ids.now) }
+    ensures in_use { OnOk result (AllByRecursion (IsInUse (length arrangement.now)) writes.new.items) }
 {
     for id in ids {
         let slot = arrangement.home(*id).unwrap();
-        plan.push(slot, None)?;
+        writes.push(Write::Slot(slot, None))?;
     }
     Ok(())
 }

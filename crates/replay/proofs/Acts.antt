@@ -20,7 +20,7 @@ use Rattle.replay.specs.Text.{packet_line, accepted_line, refused_line}
 use Rattle.replay.specs.Outside.{AppendsPart}
 use Rattle.replay.specs.Carried.{CutsEffects}
 use Rattle.replay.specs.Running.{Running, IsRun, IsUntouched, ShowsRules, ComesTo, setting_of, progress_of, verdict_of}
-use Rattle.replay.proofs.Effects.{does-line, does-part, does-nothing, does-writes_line, does-writes_part, does-writes, told-at, writes_of-append}
+use Rattle.replay.proofs.Effects.{does-line, does-part, does-nothing, does-writes_line, does-writes_part, does-writes, told-at, write_effects-append}
 use Rattle.replay.proofs.Runs.{run_after, commits-with}
 
 -- nothing was done
@@ -227,7 +227,7 @@ module _ (run : Running) (ready : Ready) (is : IsRun run) (holds : Holds (record
           back = (lines ++ later) ++ Prints line ∷ [];
           after = progress_of slots (run_after run holds.held);
           step = commit-step (told made ++ Writes due ∷ ((lines ++ later) ++ Prints line ∷ []))
-              (sym (ap (λ effects. effects ++ Prints line ∷ []) (ap told whole ∙ writes_of-append (setting_of run) run.probes 1 before made (due ∷ left))
+              (sym (ap (λ effects. effects ++ Prints line ∷ []) (ap told whole ∙ write_effects-append (setting_of run) run.probes 1 before made (due ∷ left))
               ∙ append_assoc (told made) (Writes due ∷ (lines ++ later)) (Prints line ∷ [])));
         };
         does = does-writes (setting_of run) run.probes before made journal_old journal_new old taken taken journal

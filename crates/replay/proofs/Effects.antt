@@ -54,14 +54,14 @@ written-front (Writes write ∷ front) line back none = absurd (cc)
 written-front (Prints text ∷ front) line back none = written-front front line back none
 
 -- the effects of writes, one part after the other
-pub writes_of-append : (setting : Setting) (probes : List Key) (number : ℕ) (state : State) (made more : List Write)
+pub write_effects-append : (setting : Setting) (probes : List Key) (number : ℕ) (state : State) (made more : List Write)
     → write_effects setting probes number state (made ++ more) ≡ write_effects setting probes number state made ++ write_effects setting probes (number + length made) (state_after state made) more
-writes_of-append setting probes number state [] more = let same : number ≡ number + 0 = omega arith in ap (λ n. write_effects setting probes n state more) same
-writes_of-append setting probes number state (write ∷ made) more =
+write_effects-append setting probes number state [] more = let same : number ≡ number + 0 = omega arith in ap (λ n. write_effects setting probes n state more) same
+write_effects-append setting probes number state (write ∷ made) more =
     let next = apply state write in
     let same : (number + 1) + length made ≡ number + length (write ∷ made) = omega arith in
     ap (λ effects. Writes write ∷ (lines_of setting probes number next write ++ effects))
-    (writes_of-append setting probes (number + 1) next made more
+    (write_effects-append setting probes (number + 1) next made more
     ∙ ap (λ n. write_effects setting probes (number + 1) next made ++ write_effects setting probes n (state_after next made) more) same)
     ∙ ap (λ effects. Writes write ∷ effects)
     (sym (append_assoc (lines_of setting probes number next write) (write_effects setting probes (number + 1) next made) (write_effects setting probes (number + length (write ∷ made)) (state_after next made) more)))

@@ -16,7 +16,8 @@ use Rattle.replay.specs.declared.RunFault.{RunFault}
 use Rattle.replay.specs.declared.RunFault.TheVariants as fault
 use Rattle.replay.specs.Run.{Setting, Progress, ending}
 use Rattle.replay.specs.Script.{limit_fault, most_pending, most_probes}
-use Rattle.replay.specs.Text.{verdict_told, accepted_line, refused_line, end_line}
+use Rattle.replay.specs.Text.{accepted_line, refused_line, end_line}
+use Rattle.replay.specs.Told.{verdict_told}
 use Rattle.replay.specs.Outside.{AppendsPart}
 use Rattle.replay.specs.Carried.{IsAt, Carries, CutsAtLine, CutsAtWrite, CutsEffects}
 use Rattle.replay.specs.Running.{Running, Watching, IsRun, HoldsPending, ComesTo, Makes, MakesAll, MakesSome, Tells, effects_on, watching, setting_of, progress_of, verdict_of}

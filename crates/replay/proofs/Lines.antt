@@ -1,7 +1,8 @@
 -- A line made word by word is the text of its words.
 use Rattle.std.proofs.Common.{◌≡◌, ℕ, ◌+◌, ◌*◌, ◌/◌, ◌%◌, ◌^◌, ◌<◌, List, [], ◌∷◌, ◌++◌, refl, sym, ap, ◌∙◌, append_assoc, decimal, arith}
 use Rattle.std.proofs.lemmas.Fmt.{decimal_digit, decimal_step_wide}
-use Rattle.replay.specs.Text.{line_text, with_words}
+use Rattle.replay.specs.Text.{line_text}
+use Rattle.replay.specs.Told.{with_words}
 
 -- what stands before the first word stands before the line
 line_text-behind : (before word : List ℕ) (words : List (List ℕ)) → line_text ((before ++ word) ∷ words) ≡ before ++ line_text (word ∷ words)

@@ -1,8 +1,8 @@
 -- The writes of a commit under way, one after the other.
-use Rattle.std.proofs.Common.{◌≡◌, ℕ, ◌+◌, ◌≤◌, true, false, List, [], ◌∷◌, ◌++◌, Option, Some, None, IsSome, length, refl, sym, ap, ◌∙◌, subst, append_assoc, length-append, arith}
+use Rattle.std.proofs.Common.{◌≡◌, ℕ, ◌+◌, ◌≤◌, true, false, List, [], ◌∷◌, ◌++◌, Option, Some, None, IsSome, IfSome, length, refl, sym, ap, ◌∙◌, subst, append_assoc, length-append, arith}
 use Rattle.std.specs.Prelude.{slice_get}
 use Rattle.std.specs.Io.KnownBytes.{Appends}
-use Rattle.std.proofs.KnownBytes.{Appends-trans}
+use Rattle.std.proofs.KnownBytes.{Appends-nil, Appends-trans}
 use Rattle.std.proofs.lemmas.List.{append-nil}
 use Rattle.tcam_device.specs.declared.Write.{Write}
 use Rattle.tcam_device.specs.State.{State, apply, blank, replay, state_after}
@@ -15,8 +15,8 @@ use Rattle.replay.specs.Run.{Effect, Writes, Prints, printed, written, trace_of,
 use Rattle.replay.specs.Run as effects
 use Rattle.replay.specs.Outside.{CutsLines}
 use Rattle.replay.specs.Carried.{CutsEffects}
-use Rattle.replay.specs.Running.{Watching, StopsAtLine, StopsAtWrite, Tells, telling, effects_on}
-use Rattle.replay.proofs.Effects.{grown-more, written-append, printed-append, written-lines, written-writes, written-front, writes_of-append}
+use Rattle.replay.specs.Running.{Watching, MakesSome, StopsAtLine, StopsAtWrite, Tells, telling, effects_on}
+use Rattle.replay.proofs.Effects.{grown-more, written-append, printed-append, written-lines, written-writes, written-front, write_effects-append}
 
 -- how many writes are left
 abbrev pub left_number : Option HeldCommit → ℕ
@@ -25,16 +25,27 @@ left_number (Some held) = length held.writes
 
 -- writes of a commit under way are being made: so many are made, and the device has room for those left
 pub record IsMaking (begun now : Managed) (watch : Watching) (device_slots : ℕ) (journal_begun journal_now : List Write) (taken_begun taken_now : Option (List ℕ)) (number spare : ℕ) : Type 0 where
-  pub held : HeldCommit
-  pub made : List Write
-  pub left : List Write
-  pub held_is : begun.held ≡ Some held
-  pub whole : held.writes ≡ made ++ left
-  pub now_is : now ≡ record begun { state = state_after begun.state made; held = Some (record held { writes = left }) }
-  pub journal : journal_now ≡ journal_begun ++ made
-  pub report : Tells begun watch device_slots journal_begun made taken_begun taken_now
-  pub count : number ≡ length made
-  pub room : length left ≤ spare
+  pub some : MakesSome begun now
+  pub journal : journal_now ≡ journal_begun ++ some.made
+  pub report : Tells begun watch device_slots journal_begun some.made taken_begun taken_now
+  pub count : number ≡ length some.made
+  pub room : length some.left ≤ spare
+
+some_held : (held : Option HeldCommit) → IsSome held → (one : HeldCommit) × (held ≡ Some one)
+some_held (Some one) some = (one, refl)
+some_held None some = absurd (cc)
+
+-- none is made yet
+pub making-none : (begun : Managed) (watch : Watching) (slots : ℕ) (journal : List Write) (taken : Option (List ℕ)) (spare : ℕ) → IsSome begun.held
+    → IfSome begun.held (λ held. length held.writes ≤ spare) → IsMaking begun begun watch slots journal journal taken taken 0 spare
+making-none begun watch slots journal taken spare some room =
+    let (held, is) = some_held begun.held some in record {
+      some = record { held = held; made = []; left = held.writes; held_is = is; whole = refl; now_is = ap (λ one. record begun { held = one }) is };
+      journal = sym (append-nil journal);
+      report = Appends-nil taken;
+      count = refl;
+      room = subst (λ one. IfSome one (λ (held : HeldCommit). length held.writes ≤ spare)) is room;
+    }
 
 -- a step that wrote made the first write that was left
 stepped : (now : Managed) (held : HeldCommit) (left : List Write) (step : Step) (new : Managed) (write : Write) → StepsOn now held left step new → step ≡ Wrote write
@@ -49,16 +60,13 @@ stepped now held (due ∷ rest) step new write steps wrote =
 
 -- a write is made, and isn't told yet
 pub record HasWritten (begun now : Managed) (watch : Watching) (device_slots : ℕ) (journal_begun journal_now : List Write) (taken_begun taken_now : Option (List ℕ)) (number spare : ℕ) (write : Write) : Type 0 where
-  pub held : HeldCommit
+  pub some : MakesSome begun now
   pub made : List Write
-  pub left : List Write
-  pub held_is : begun.held ≡ Some held
-  pub whole : held.writes ≡ made ++ write ∷ left
-  pub now_is : now ≡ record begun { state = state_after begun.state (made ++ write ∷ []); held = Some (record held { writes = left }) }
+  pub made_is : some.made ≡ made ++ write ∷ []
   pub journal : journal_now ≡ journal_begun ++ (made ++ write ∷ [])
   pub report : Tells begun watch device_slots journal_begun made taken_begun taken_now
   pub count : number ≡ length made
-  pub room : length left ≤ spare
+  pub room : length some.left ≤ spare
 
 -- one write more
 pub making-more : (begun now new : Managed) (watch : Watching) (slots : ℕ) (journal_begun journal_now journal_new : List Write) (taken_begun taken : Option (List ℕ)) (number spare spare_new : ℕ) (step : Step) (write : Write)
@@ -66,22 +74,27 @@ pub making-more : (begun now new : Managed) (watch : Watching) (slots : ℕ) (jo
     → journal_new ≡ journal_now ++ writes_of step → spare_new + length (writes_of step) ≡ spare
     → HasWritten begun new watch slots journal_begun journal_new taken_begun taken number spare_new write
 making-more begun now new watch slots journal_begun journal_now journal_new taken_begun taken number spare spare_new step write making steps wrote journal room =
-    let standing : now.held ≡ Some (record making.held { writes = making.left }) = ap (λ (manager : Managed). manager.held) making.now_is in
-    let on : StepsOn now (record making.held { writes = making.left }) making.left step new = subst (λ held. Steps now held step new) standing steps in
-    let more = stepped now (record making.held { writes = making.left }) making.left step new write on wrote in
+    let was = making.some in
+    let held = record was.held { writes = was.left } in
+    let on : StepsOn now held was.left step new = subst (λ held. Steps now held step new) (ap (λ (manager : Managed). manager.held) was.now_is) steps in
+    let more = stepped now held was.left step new write on wrote in
     let one : writes_of step ≡ write ∷ [] = ap writes_of wrote in
     let count : spare_new + 1 ≡ spare = subst (λ writes. spare_new + length writes ≡ spare) one room in
-    let lengths : length making.left ≡ length more.0 + 1 = let same : length making.left ≡ length (write ∷ more.0) = ap length more.1 in omega arith in
+    let lengths : length was.left ≡ length more.0 + 1 = let same : length was.left ≡ length (write ∷ more.0) = ap length more.1 in omega arith in
     let before = making.room in record {
-      held = making.held;
-      made = making.made;
-      left = more.0;
-      held_is = making.held_is;
-      whole = making.whole ∙ ap (λ left. making.made ++ left) more.1;
-      now_is = more.2
-          ∙ ap (λ (manager : Managed). record manager { state = apply manager.state write; held = Some (record making.held { writes = more.0 }) }) making.now_is
-          ∙ ap (λ (state : State). record begun { state = state; held = Some (record making.held { writes = more.0 }) }) (sym (state_after-append begun.state making.made (write ∷ [])));
-      journal = grown-more journal_begun journal_now journal_new making.made (write ∷ []) making.journal
+      some = record {
+        held = was.held;
+        made = was.made ++ write ∷ [];
+        left = more.0;
+        held_is = was.held_is;
+        whole = was.whole ∙ ap (λ left. was.made ++ left) more.1 ∙ sym (append_assoc was.made (write ∷ []) more.0);
+        now_is = more.2
+            ∙ ap (λ (manager : Managed). record manager { state = apply manager.state write; held = Some (record was.held { writes = more.0 }) }) was.now_is
+            ∙ ap (λ (state : State). record begun { state = state; held = Some (record was.held { writes = more.0 }) }) (sym (state_after-append begun.state was.made (write ∷ [])));
+      };
+      made = was.made;
+      made_is = refl;
+      journal = grown-more journal_begun journal_now journal_new was.made (write ∷ []) making.journal
           (journal ∙ ap (λ last. journal_now ++ last) one);
       report = making.report;
       count = making.count;
@@ -103,7 +116,7 @@ one-told begun watch slots before made write left =
     state_after-append (blank slots) before (made ++ write ∷ []) ∙ state_after-append state made (write ∷ []) in
     let first : 1 + length made ≡ length made + 1 = omega arith in
     let second : (length made + 1) + 1 ≡ length made + 2 = omega arith in
-    writes_of-append (telling begun watch) watch.probes 1 state made (write ∷ left)
+    write_effects-append (telling begun watch) watch.probes 1 state made (write ∷ left)
     ∙ ap (λ n. effects_on begun watch slots before made ++ effects.write_effects (telling begun watch) watch.probes n (state_after state made) (write ∷ left)) first
     ∙ ap (λ n. effects_on begun watch slots before made
     ++ Writes write ∷ (lines_of (telling begun watch) watch.probes (length made + 1) (apply (state_after state made) write) write
@@ -133,15 +146,12 @@ pub making-told : (begun now : Managed) (watch : Watching) (slots : ℕ) (journa
     → IsMaking begun now watch slots journal_begun journal taken_begun taken_new (number + 1) spare
 making-told begun now watch slots journal_begun journal taken_begun taken taken_new number spare write has lines =
     let count = has.count in
-    let lengths = length-append has.made (write ∷ []) in record {
-      held = has.held;
-      made = has.made ++ write ∷ [];
-      left = has.left;
-      held_is = has.held_is;
-      whole = has.whole ∙ sym (append_assoc has.made (write ∷ []) has.left);
-      now_is = has.now_is;
-      journal = has.journal;
-      report = told-more begun watch slots journal_begun journal has.made write taken_begun taken taken_new number has.count has.journal has.report lines;
+    let lengths = length-append has.made (write ∷ []) in
+    let longer : length has.some.made ≡ length (has.made ++ write ∷ []) = ap length has.made_is in record {
+      some = has.some;
+      journal = has.journal ∙ ap (λ made. journal_begun ++ made) (sym has.made_is);
+      report = subst (λ made. Tells begun watch slots journal_begun made taken_begun taken_new) (sym has.made_is)
+          (told-more begun watch slots journal_begun journal has.made write taken_begun taken taken_new number has.count has.journal has.report lines);
       count = omega arith;
       room = has.room;
     }
@@ -186,16 +196,10 @@ pub making-stops : (begun now : Managed) (watch : Watching) (slots : ℕ) (journ
     → CutsLines (lines_on watch slots (number + 1) write journal) taken taken_new
     → StopsAtLine begun now watch slots journal_begun journal taken_begun taken_new
 making-stops begun now watch slots journal_begun journal taken_begun taken taken_new number spare write has cuts = record {
-  some = record {
-    held = has.held;
-    made = has.made ++ write ∷ [];
-    left = has.left;
-    held_is = has.held_is;
-    whole = has.whole ∙ sym (append_assoc has.made (write ∷ []) has.left);
-    now_is = has.now_is;
-  };
-  journal = has.journal;
-  cuts = cut-more begun watch slots journal_begun journal has.made write has.left has.held.writes taken_begun taken taken_new number has.count has.whole has.journal has.report cuts;
+  some = has.some;
+  journal = has.journal ∙ ap (λ made. journal_begun ++ made) (sym has.made_is);
+  cuts = cut-more begun watch slots journal_begun journal has.made write has.some.left has.some.held.writes taken_begun taken taken_new number has.count
+      (has.some.whole ∙ ap (λ made. made ++ has.some.left) has.made_is ∙ append_assoc has.made (write ∷ []) has.some.left) has.journal has.report cuts;
 }
 
 some_left : (left : List Write) → IsSome (slice_get left 0) → (due : Write) × (rest : List Write) × (left ≡ due ∷ rest)
@@ -207,24 +211,12 @@ pub making-cut : (begun now new : Managed) (watch : Watching) (slots : ℕ) (jou
     → IsMaking begun now watch slots journal_begun journal_now taken_begun taken number spare → new ≡ now → journal_new ≡ journal_now → IsSome (next_of now.held)
     → StopsAtWrite begun new watch slots journal_begun journal_new taken_begun taken
 making-cut begun now new watch slots journal_begun journal_now journal_new taken_begun taken number spare making same journal next =
-    let standing : now.held ≡ Some (record making.held { writes = making.left }) = ap (λ (manager : Managed). manager.held) making.now_is in
-    let some = some_left making.left (subst (λ held. IsSome (next_of held)) standing next) in record {
-      some = record {
-        held = making.held;
-        made = making.made;
-        left = making.left;
-        held_is = making.held_is;
-        whole = making.whole;
-        now_is = same ∙ making.now_is;
-      };
+    let was = making.some in
+    let some = some_left was.left (subst (λ held. IsSome (next_of held)) (ap (λ (manager : Managed). manager.held) was.now_is) next) in record {
+      some = record { held = was.held; made = was.made; left = was.left; held_is = was.held_is; whole = was.whole; now_is = same ∙ was.now_is };
       due = some.0;
       left = some.1;
       left_is = some.2;
       journal = journal ∙ making.journal;
       report = making.report;
     }
-
-finished-none : (now : Managed) (held : HeldCommit) (left : List Write) (step : Step) (new : Managed) (done : Done) → StepsOn now held left step new → step ≡ Finished done
-    → (left ≡ []) × (done ≡ held.counts) × (new ≡ record now { rules = held.rules; bits = held.bits; held = None })
-finished-none now held [] step new done steps is = (refl, let same : Finished done ≡ Finished held.counts = sym is ∙ steps.0 in cc, steps.1)
-finished-none now held (write ∷ left) step new done steps is = absurd (let bad : Finished done ≡ Wrote write = sym is ∙ steps.0 in cc)

@@ -6,7 +6,7 @@ use Rattle.batch_order.specs.declared.Refusal.{Refusal}
 use Rattle.batch_order.specs.declared.Refusal.TheVariants as refusal
 use Rattle.rule_store.specs.Verdict.{Verdict, Accepted, Unsound, OutOfBits, OutOfSlots}
 use Rattle.batch_order.specs.Managed.{Answers}
-use Rattle.replay.specs.Text.{verdict_told}
+use Rattle.replay.specs.Told.{verdict_told}
 
 -- the verdict is the one that the refusal tells
 pub told-verdict : (verdict : Verdict) (reason : Refusal) → Answers verdict (Err reason) → reason ≢ refusal.Memory → verdict_told reason ≡ verdict

@@ -12,7 +12,7 @@ use Rattle.commit_writes.proofs.Filters.{all_members}
 use Rattle.batch_order.specs.Managed.{OnlyChangesRoutes}
 use Rattle.replay.specs.declared.Family.{Family}
 use Rattle.replay.specs.declared.Family.TheVariants.{Route}
-use Rattle.replay.specs.Run.{IsChangeOf}
+use Rattle.replay.specs.Running.{IsChangeOf}
 
 pub routes_after : (rules : List Rule) (batch : List Change) → AllByRecursion IsIpv4Route rules → OnlyChangesRoutes batch → AllByRecursion IsIpv4Route (set_after rules batch)
 routes_after rules batch routes changes = all_members IsIpv4Route (set_after rules batch) (λ rule member. elim ((set_after-member rules batch rule).0 member) [

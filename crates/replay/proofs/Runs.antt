@@ -18,9 +18,9 @@ use Rattle.batch_order.specs.Managed.{HeldCommit, Holds, OnlyChangesRoutes}
 use Rattle.batch_order.specs.Placing.{IsPlacedBy}
 use Rattle.replay.specs.declared.Family.{Family}
 use Rattle.replay.specs.declared.Family.TheVariants.{Route, Acl}
-use Rattle.replay.specs.Run.{Setting, Progress, Effect, Prints, Commits, OfFamily, slots_in_use, IsChangeOf, write_effects, after_segment}
+use Rattle.replay.specs.Run.{Setting, Progress, Effect, Prints, Commits, OfFamily, slots_in_use, write_effects, after_segment}
 use Rattle.replay.specs.Text.{accepted_line}
-use Rattle.replay.specs.Running.{Running, IsRun, setting_of, progress_of, begun}
+use Rattle.replay.specs.Running.{Running, IsRun, setting_of, progress_of, begun, IsChangeOf}
 use Rattle.replay.proofs.RouteSets.{routes_after, changes_more}
 use Rattle.tcam_device.proofs.Wider.{slots-after, state_after-on_device, Shows-padded, blank_shows}
 use Rattle.std.proofs.lemmas.List.{length-replicate}

@@ -1,4 +1,5 @@
 pub mod Text
+pub mod Told
 pub mod Run
 pub mod Script
 pub mod Outside

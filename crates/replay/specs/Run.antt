@@ -15,7 +15,6 @@ use Rattle.commit_writes.specs.declared.Done.{Done}
 use Rattle.commit_writes.specs.Bits.{FieldBits, no_bits, bits_with, bits_left}
 use Rattle.commit_writes.specs.Commit.{AreCounts, IsSegment}
 use Rattle.batch_order.specs.declared.Placement.{Placement}
-use Rattle.batch_order.specs.Managed.{OnlyChangesRoutes}
 use Rattle.batch_order.specs.Placing.{IsPlacedBy}
 use Rattle.replay.specs.declared.Family.{Family}
 use Rattle.replay.specs.declared.Family.TheVariants.{Route, Acl}
@@ -183,15 +182,3 @@ Runs setting device_slots acts effects last = Run setting (start device_slots) a
 abbrev pub ending : Setting → Progress → List ℕ
 ending setting progress =
     end_line (length progress.rules) (entries_of setting.mode progress.rules) progress.writes (length progress.batch)
-
--- a change in a script of the family: a route that is added is one of IPv4, and an access list takes any rule
-abbrev pub IsChangeOf : Family → Change → Type 0
-IsChangeOf Route change = OnlyChangesRoutes (change ∷ [])
-IsChangeOf Acl change = Unit {0}
-
--- an act of a script of the family
-abbrev pub IsActOf : Family → Act → Type 0
-IsActOf family (Command change) = IsChangeOf family change
-IsActOf family (Probe key) = Unit {0}
-IsActOf family (Packet key) = Unit {0}
-IsActOf family Commit = Unit {0}

@@ -14,8 +14,9 @@ use Rattle.batch_order.specs.declared.Placement.{Placement}
 use Rattle.batch_order.specs.declared.Ready.{Ready}
 use Rattle.batch_order.specs.Managed.{Managed, HeldCommit, Holds, OnlyChangesRoutes, fresh}
 use Rattle.replay.specs.declared.Act.{Act}
+use Rattle.replay.specs.declared.Act.TheVariants.{Command, Probe, Packet, Commit}
 use Rattle.replay.specs.declared.Family.{Family}
-use Rattle.replay.specs.declared.Family.TheVariants.{Route}
+use Rattle.replay.specs.declared.Family.TheVariants.{Route, Acl}
 use Rattle.replay.specs.Run.{Setting, Effect, Progress, printed, write_effects}
 use Rattle.replay.specs.declared.RunFault.{RunFault}
 use Rattle.replay.specs.declared.RunFault.TheVariants.{BatchFull, ProbesFull, Sink, Device, Memory}
@@ -102,6 +103,18 @@ verdict_of run = verdict run.manager.slots run.manager.mode run.manager.rules ru
 -- the commit under way is that of the pending batch
 abbrev pub HoldsPending : Running → Type 0
 HoldsPending run = (ready : Ready) × Holds (record run.manager { held = None }) run.pending ready run.manager
+
+-- a change in a script of the family: a route that is added is one of IPv4, and an access list takes any rule
+abbrev pub IsChangeOf : Family → Change → Type 0
+IsChangeOf Route change = OnlyChangesRoutes (change ∷ [])
+IsChangeOf Acl change = Unit {0}
+
+-- an act of a script of the family
+abbrev pub IsActOf : Family → Act → Type 0
+IsActOf family (Command change) = IsChangeOf family change
+IsActOf family (Probe key) = Unit {0}
+IsActOf family (Packet key) = Unit {0}
+IsActOf family Commit = Unit {0}
 
 -- nothing is done, not of the run, of the device, or of the sink
 pub record IsUntouched (old new : Running) (journal_old journal_new : List Write) (taken_old taken_new : Option (List ℕ)) : Type 0 where

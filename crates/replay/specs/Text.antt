@@ -11,8 +11,6 @@ use Rattle.ternary_word.specs.declared.Word.{Word}
 use Rattle.tcam_device.specs.declared.Write.{Write}
 use Rattle.tcam_device.specs.declared.Write.TheVariants.{Slot, Table}
 use Rattle.batch_order.specs.declared.Done.{Done}
-use Rattle.batch_order.specs.declared.Refusal.{Refusal}
-use Rattle.batch_order.specs.declared.Refusal.TheVariants as refusal
 use Rattle.replay.specs.declared.Family.{Family}
 use Rattle.replay.specs.declared.Family.TheVariants.{Route, Acl}
 
@@ -21,11 +19,6 @@ abbrev pub line_text : List (List ℕ) → List ℕ
 line_text [] = 10 ∷ []
 line_text (word ∷ []) = word ++ 10 ∷ []
 line_text (word ∷ next ∷ words) = word ++ 32 ∷ line_text (next ∷ words)
-
--- a line with these words more, each behind a space
-abbrev pub with_words : List ℕ → List (List ℕ) → List ℕ
-with_words line [] = line
-with_words line (word ∷ words) = with_words (line ++ 32 ∷ word) words
 
 -- an IPv4 address in dotted decimal, from the number that it is
 abbrev pub dotted : ℕ → List ℕ
@@ -111,16 +104,6 @@ reason_words family (Unsound fault) = fault_words family fault
 reason_words family (OutOfBits field needed free) =
     codes "bits" ∷ field_text field ∷ decimal needed ∷ decimal free ∷ []
 reason_words family (OutOfSlots needed free) = codes "slots" ∷ decimal needed ∷ decimal free ∷ []
-
--- the verdict that a refusal tells: a held plan and want of memory tell none against the batch
-abbrev pub verdict_told : Refusal → Verdict
-verdict_told (refusal.Busy left) = Accepted
-verdict_told (refusal.Twice priority) = Unsound (Twice priority)
-verdict_told (refusal.Taken priority) = Unsound (Taken priority)
-verdict_told (refusal.Absent priority) = Unsound (Absent priority)
-verdict_told (refusal.Bits field needed free) = OutOfBits field needed free
-verdict_told (refusal.Slots needed free) = OutOfSlots needed free
-verdict_told refusal.Memory = Accepted
 
 -- a refused commit, by its number and the reason
 abbrev pub refused_line : Family → ℕ → Verdict → List ℕ

@@ -2,7 +2,8 @@
 //! What is said of a sink's bytes (`WritesLine`) holds of either count of them: of what it tells, and of what it accepted.
 ghost use Rattle.std.specs.Prelude.{◌≡◌, ◌≢◌, ℕ, ◌+◌, ◌<◌, ◌≤◌, ◌%◌, [], ◌∷◌, ◌++◌, codes, decimal, length};
 ghost use Rattle.rule_store.specs.Verdict.{Accepted};
-ghost use Rattle.replay.specs.Text.{with_words, dotted, answer_words, result_name, rule_name, reason_words, field_text, verdict_told, hex_digit, lane_text, word_text, tag_text, write_words, packet_line, probe_line, trace_line, accepted_line, refused_line, fault_line, end_line};
+ghost use Rattle.replay.specs.Text.{dotted, answer_words, result_name, rule_name, reason_words, field_text, hex_digit, lane_text, word_text, tag_text, write_words, packet_line, probe_line, trace_line, accepted_line, refused_line, fault_line, end_line};
+ghost use Rattle.replay.specs.Told.{with_words, verdict_told};
 ghost use Rattle.replay.specs.Outside.{WritesLine};
 ghost use Rattle.replay.specs.declared.Family.TheVariants as family_is;
 

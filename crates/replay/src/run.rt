@@ -4,11 +4,12 @@ ghost use Rattle.std.specs.Prelude.{Bool, true, ◌≡◌, ◌≢◌, ◌+◌, �
 ghost use Rattle.script_lines.specs.Given.{counted};
 ghost use Rattle.call_history.specs.Cause.{HasCause};
 ghost use Rattle.rule_store.specs.Verdict.{Accepted};
-ghost use Rattle.replay.specs.Text.{verdict_told, refused_line};
-ghost use Rattle.replay.specs.Run.{IsActOf, IsChangeOf, ending};
+ghost use Rattle.replay.specs.Text.{refused_line};
+ghost use Rattle.replay.specs.Told.{verdict_told};
+ghost use Rattle.replay.specs.Run.{ending};
 ghost use Rattle.replay.specs.Script.{limit_fault};
 ghost use Rattle.replay.specs.Outside.{Leaves, WritesLine};
-ghost use Rattle.replay.specs.Running.{HoldsPending, ComesTo, Makes, begun, limit_text, progress_of, setting_of, verdict_of};
+ghost use Rattle.replay.specs.Running.{HoldsPending, ComesTo, Makes, begun, limit_text, progress_of, setting_of, verdict_of, IsActOf, IsChangeOf};
 
 use crate::report::{Totals, write_accepted, write_end, write_packet, write_refused};
 use crate::watch::Watch;

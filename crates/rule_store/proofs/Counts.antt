@@ -2,10 +2,9 @@
 use Rattle.std.proofs.Common.{◌≡◌, ℕ, ◌+◌, ◌*◌, Bool, true, false, not, ◌&&◌, cond, List, [], ◌∷◌, ◌++◌, length, get_or, map, filter, count_by, All, refl, sym, ap, ap₂, ◌∙◌, arith}
 use Rattle.std.proofs.Math.Bool.{not-not}
 use Rattle.std.proofs.lemmas.List.Sums.{sum_by-cons, sum_by-append, length-filter}
-use Rattle.std.proofs.lemmas.List.Elements.{All-head, All-tail, All-contains}
+use Rattle.std.proofs.lemmas.List.Elements.{All-head, All-tail}
 use Rattle.std.proofs.lemmas.List.Filters.{length-filter_both}
 use Rattle.std.proofs.lemmas.Bool.{cond-true, cond-false}
-use Rattle.slot_order.proofs.Lists.{filter_nothing}
 use Rattle.rule_model.proofs.Pairs.{products}
 
 abbrev pub one : {X : Type 0} → (X → Bool) → X → ℕ
@@ -24,10 +23,6 @@ count_by-agree test other (x ∷ xs) agree =
     count_by-cons test x xs
     ∙ ap₂ (λ (t : Bool) (n : ℕ). cond t 1 0 + n) (All-head (λ y. test y ≡ other y) x xs agree) (count_by-agree test other xs (All-tail (λ y. test y ≡ other y) x xs agree))
     ∙ sym (count_by-cons other x xs)
-
--- a test that no element passes
-pub count_by-none : {X : Type 0} (test : X → Bool) (xs : List X) → All (λ x. test x ≡ false) xs → count_by test xs ≡ 0
-count_by-none test xs none = sym (length-filter test xs) ∙ ap length (filter_nothing test xs (λ x member. All-contains (λ y. test y ≡ false) xs x none member))
 
 pub count_by-map : {X Y : Type 0} (test : Y → Bool) (f : X → Y) (xs : List X) → count_by test (map f xs) ≡ count_by (λ x. test (f x)) xs
 count_by-map test f [] = refl

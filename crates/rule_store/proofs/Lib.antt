@@ -3,8 +3,6 @@ pub mod After
 pub mod Best
 pub mod Counts
 mod Examples
-pub mod CommonBlocks
-pub mod Halves
 pub mod Falling
 pub mod Faults
 pub mod Members

@@ -1,19 +1,18 @@
 -- What a replaced rule and the rule in its place have in common.
-use Rattle.std.specs.Prelude.{ℕ, ◌*◌, Bool, ◌&&◌, if◌then◌else◌, count_by}
+use Rattle.std.specs.Prelude.{ℕ, ◌*◌, Bool, ◌&&◌, if◌then◌else◌, List, count_by}
 use Rattle.std.specs.List.{list_any}
 use Rattle.rule_model.specs.declared.Rule.{Rule}
 use Rattle.rule_model.specs.AddressBlock.{same_block}
-use Rattle.rule_model.specs.PortRange.{PortRange, same_range, cover_within}
+use Rattle.rule_model.specs.PortRange.{PortRange, same_range, cover}
 use Rattle.rule_model.specs.Piece.{same_proto}
 
--- how many blocks of the first range's cover are blocks of the second one's, of the ports of one block
-abbrev pub common_within : PortRange → PortRange → ℕ → ℕ → ℕ
-common_within a b k first =
-    count_by (λ block. list_any (same_range block) (cover_within b k first)) (cover_within a k first)
+-- how many blocks of the first list stand in the second one
+abbrev pub common_blocks : List PortRange → List PortRange → ℕ
+common_blocks blocks others = count_by (λ block. list_any (same_range block) others) blocks
 
 -- how many blocks of the first range's cover are blocks of the second one's
 abbrev pub common_size : PortRange → PortRange → ℕ
-common_size a b = common_within a b 16 0
+common_size a b = common_blocks (cover a) (cover b)
 
 -- the same addresses and protocol
 abbrev pub same_ends : Rule → Rule → Bool

@@ -1,83 +1,38 @@
 //! How many entries of the memory rules take.
 
-ghost use Rattle.std.specs.Prelude.{◌≡◌, ◌+◌, ◌-◌, ◌*◌, ◌^◌, ◌≤◌, length, option_copied};
+ghost use Rattle.std.specs.Prelude.{◌≡◌, ◌*◌, ◌≤◌, length, option_copied};
+ghost use Rattle.std.specs.List.{list_any};
 ghost use Rattle.rule_model.specs.PortRange as ports;
 ghost use Rattle.rule_model.specs.Piece as pieces;
 ghost use Rattle.rule_store.specs.Common as common;
 ghost use Rattle.rule_store.specs.Verdict as verdict;
 
 use crate::{Batch, Command, Mode, Store};
+use range_cover::{Cover, cover};
 use rule_model::{Ports, Rule};
 
-// The last port of the block of 2 ^ level ports from `first` on.
-fn last_of(level: u32, first: u32) -> u32
-    requires level { level ≤ 16 }
-    requires within { first + 2 ^ level ≤ 2 ^ 16 }
-    ensures { result ≡ first + 2 ^ level - 1 }
+// Whether a cover has a block.
+fn has_block(cover: &Cover, block: Ports) -> bool
+    ensures { result ≡ list_any (ports.same_range block) cover.now }
 {
-    first + (1 << level) - 1
-}
-
-// Whether the range has each port of that block.
-fn has_block(range: &Ports, level: u32, first: u32) -> bool
-    requires level { level ≤ 16 }
-    requires within { first + 2 ^ level ≤ 2 ^ 16 }
-    ensures { result ≡ ports.lies_within (ports.block_at level first) range.now }
-{
-    u32::from(range.lo()) <= first && last_of(level, first) <= u32::from(range.hi())
-}
-
-// Whether it has none of them.
-fn misses_block(range: &Ports, level: u32, first: u32) -> bool
-    requires level { level ≤ 16 }
-    requires within { first + 2 ^ level ≤ 2 ^ 16 }
-    ensures { result ≡ ports.is_disjoint (ports.block_at level first) range.now }
-{
-    last_of(level, first) < u32::from(range.lo()) || u32::from(range.hi()) < first
-}
-
-// How many blocks of the range's cover lie in that block.
-fn blocks_within(range: &Ports, level: u32, first: u32) -> u32
-    requires level { level ≤ 16 }
-    requires within { first + 2 ^ level ≤ 2 ^ 16 }
-    ensures count { result ≡ length (ports.cover_within range.now level first) }
-    ensures most { result ≤ 2 ^ level }
-{
-    if has_block(range, level, first) {
-        return 1;
+    for i in 0..cover.len() {
+        if block == cover.at(i) {
+            return true;
+        }
     }
-    if level == 0 || misses_block(range, level, first) {
-        return 0;
-    }
-    let half = level - 1;
-    blocks_within(range, half, first) + blocks_within(range, half, first + (1 << half))
+    false
 }
 
-// How many blocks of the first range's cover are blocks of the second one's and lie in that block.
-fn common_within(a: &Ports, b: &Ports, level: u32, first: u32) -> u32
-    requires level { level ≤ 16 }
-    requires within { first + 2 ^ level ≤ 2 ^ 16 }
-    ensures count { result ≡ common.common_within a.now b.now level first }
-    ensures most { result ≤ 2 ^ level }
-{
-    match (has_block(a, level, first), has_block(b, level, first)) {
-        (true, true) => return 1,
-        (false, false) => {}
-        _ => return 0,
-    }
-    if level == 0 || misses_block(a, level, first) || misses_block(b, level, first) {
-        return 0;
-    }
-    let half = level - 1;
-    common_within(a, b, half, first) + common_within(a, b, half, first + (1 << half))
-}
-
-// How many blocks the cover of a range has.
-fn cover_size(range: &Ports) -> u64
-    ensures count { result ≡ ports.cover_size range.now }
+// How many blocks of the first cover are blocks of the second one.
+fn common_blocks(a: &Cover, b: &Cover) -> u64
+    ensures count { result ≡ common.common_blocks a.now b.now }
     ensures most { result ≤ 30 }
 {
-    u64::from(blocks_within(range, 16, 0))
+    let mut count = 0;
+    for i in 0..a.len() {
+        count += u64::from(has_block(b, a.at(i)));
+    }
+    count
 }
 
 // How many blocks of the first range's cover are blocks of the second one's.
@@ -85,7 +40,7 @@ fn common_size(a: &Ports, b: &Ports) -> u64
     ensures count { result ≡ common.common_size a.now b.now }
     ensures most { result ≤ 30 }
 {
-    u64::from(common_within(a, b, 16, 0))
+    common_blocks(&cover(*a), &cover(*b))
 }
 
 // Whether two rules have the same addresses and the same protocol.
@@ -101,7 +56,8 @@ pub fn entries_needed(mode: Mode, rule: &Rule) -> u64
     ensures most { result ≤ 900 }
 {
     match mode {
-        Mode::Cover => cover_size(&rule.sport) * cover_size(&rule.dport),
+        Mode::Cover => u64::from(range_cover::pieces(rule.sport))
+            * u64::from(range_cover::pieces(rule.dport)),
         Mode::Bits => 1,
     }
 }

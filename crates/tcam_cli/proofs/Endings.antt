@@ -61,7 +61,7 @@ line-act reading p q line rest act e l =
 
 -- ---- one line more
 
-abbrev HandsOne : HeldBytes → List ℕ → NumberedLine → HeldBytes → List ℕ → Type 0
+abbrev pub HandsOne : HeldBytes → List ℕ → NumberedLine → HeldBytes → List ℕ → Type 0
 HandsOne old left line new after = HandsWhole old left line new after ⊎ HandsLast old left line new after
 
 whole-at : (old : HeldBytes) (left : List ℕ) (line : NumberedLine) (new : HeldBytes) (after rest : List ℕ) → HandsWhole old left line new after
@@ -158,7 +158,7 @@ so-far reading bytes taken old left new after acts p q going kept parts =
 -- ---- the ends
 
 -- to the end of the acts, by where the script ends
-outcome-complete : (setting : Setting) (slots : ℕ) (script came : Script) (last : Progress) (end : ScriptEnd) (status : Status) (effects : List Effect) → status ≡ status_of last end
+pub outcome-complete : (setting : Setting) (slots : ℕ) (script came : Script) (last : Progress) (end : ScriptEnd) (status : Status) (effects : List Effect) → status ≡ status_of last end
     → IsComplete setting slots script status effects → IsOutcome setting slots script came status effects []
 outcome-complete setting slots script came last Whole status effects e whole = by last.refused status e whole
   where
@@ -176,78 +176,13 @@ outcome-complete setting slots script came last (FaultAt line text) status effec
     let Q : Status → Type 0 = λ s. IsOutcome setting slots script came s effects [] in
     subst Q (sym e) (subst P e whole, refl)
 
-written-line : (effects : List Effect) (line : List ℕ) → written effects ≡ written (effects ++ Prints line ∷ [])
+pub written-line : (effects : List Effect) (line : List ℕ) → written effects ≡ written (effects ++ Prints line ∷ [])
 written-line effects line = sym (append-nil (written effects)) ∙ sym (written-append effects (Prints line ∷ []))
 
-printed-line : (effects : List Effect) (line : List ℕ) → printed effects ++ line ≡ printed (effects ++ Prints line ∷ []) ++ []
+pub printed-line : (effects : List Effect) (line : List ℕ) → printed effects ++ line ≡ printed (effects ++ Prints line ∷ []) ++ []
 printed-line effects line =
     ap (λ l. printed effects ++ l) (sym (append-nil line)) ∙ sym (printed-append effects (Prints line ∷ []))
     ∙ sym (append-nil (printed (effects ++ Prints line ∷ [])))
-
--- the last line
-pub ends-closed : (setting : Setting) (slots : ℕ) (bytes taken now : List ℕ) (acts : List NumberedAct) (end : ScriptEnd) (effects : List Effect) (last : Progress) (result : Status)
-    (journal : List Write) (start before after : Option (List ℕ))
-    → script_of (reading setting.family) bytes ≡ record { acts = acts; last = end }
-    → Runs setting slots (acts_only acts) effects last → journal ≡ written effects → Appends start before (printed effects)
-    → Closes (last_line setting last end) (status_of last end) result before after → ((result ≡ Done) ⊎ (result ≡ Refused) → now ≡ [])
-    → Ends setting slots bytes taken now result journal start after
-ends-closed setting slots bytes taken now acts end effects last result journal start before after is run told report (inl (e, line)) all =
-    let S = script_of (reading setting.family) bytes in
-    let P : Script → Type 0 = λ s. Runs setting slots (acts_of s) effects last in
-    let f : Script → Status = λ s. status_of last s.last in
-    let g : Script → List Effect = λ s. effects ++ Prints (last_line setting last s.last) ∷ [] in
-    let more : List Effect = effects ++ Prints (last_line setting last end) ∷ [] in
-    let whole : IsComplete setting slots S result more = record {
-      body = effects;
-      last = last;
-      run = subst P (sym is) run;
-      status_is = e ∙ sym (ap f is);
-      effects_are = sym (ap g is);
-    } in
-    record {
-      effects = more;
-      partial = [];
-      outcome = outcome-complete setting slots S (script_so_far (reading setting.family) taken) last end result more e whole;
-      journal_is = told ∙ written-line effects (last_line setting last end);
-      report = subst (Appends start after) (printed-line effects (last_line setting last end))
-          (Appends-trans start before after (printed effects) (last_line setting last end) report line);
-      all = all;
-    }
-ends-closed setting slots bytes taken now acts end effects last result journal start before after is run told report (inr (e, (partial, rest, part, line))) all =
-    let S = script_of (reading setting.family) bytes in
-    let P : Script → Type 0 = λ s. Runs setting slots (acts_of s) effects last in
-    let g : Script → Effect = λ s. Prints (last_line setting last s.last) in
-    let Q : Status → Type 0 = λ s. IsOutcome setting slots S (script_so_far (reading setting.family) taken) s effects partial in
-    record {
-      effects = effects;
-      partial = partial;
-      outcome = subst Q (sym e) (record {
-        line = last_line setting last end;
-        rest = rest;
-        due = inr (record { last = last; run = subst P (sym is) run; due_is = sym (ap g is) });
-        part = part;
-      });
-      journal_is = told;
-      report = Appends-trans start before after (printed effects) partial report line;
-      all = all;
-    }
-
--- a failed read
-pub ends-read : (setting : Setting) (slots : ℕ) (bytes taken now : List ℕ) (acts : List NumberedAct) (effects : List Effect) (last : Progress)
-    (journal : List Write) (start before : Option (List ℕ))
-    → script_so_far (reading setting.family) taken ≡ record { acts = acts; last = Whole }
-    → Runs setting slots (acts_only acts) effects last → journal ≡ written effects → Appends start before (printed effects)
-    → Ends setting slots bytes taken now ReadFault journal start before
-ends-read setting slots bytes taken now acts effects last journal start before is run told report =
-    let P : Script → Type 0 = λ s. Runs setting slots (acts_of s) effects last in
-    record {
-      effects = effects;
-      partial = [];
-      outcome = (record { sound = ap (λ s. s.last) is; last = last; run = subst P (sym is) run }, refl);
-      journal_is = told;
-      report = subst (Appends start before) (sym (append-nil (printed effects))) report;
-      all = λ e. elim e [ inl d ↦ absurd (cc) | inr r ↦ absurd (cc) ];
-    }
 
 -- ---- one act more
 
@@ -255,46 +190,14 @@ acts-more : (acts : List NumberedAct) (number : ℕ) (act : Act) (rest : Script)
 acts-more [] number act rest = refl
 acts-more (first ∷ acts) number act rest = ap (λ l. first.act ∷ l) (acts-more acts number act rest)
 
-onto-more : (acts : List NumberedAct) (number : ℕ) (act : Act) (rest : Script) → onto_all acts (onto_acts number act rest) ≡ onto_all (acts ++ record { line = number; act = act } ∷ []) rest
+pub onto-more : (acts : List NumberedAct) (number : ℕ) (act : Act) (rest : Script) → onto_all acts (onto_acts number act rest) ≡ onto_all (acts ++ record { line = number; act = act } ∷ []) rest
 onto-more acts number act rest =
     let f : List NumberedAct → Script = λ a. record { acts = a; last = rest.last } in
     ap f (sym (append_assoc acts (record { line = number; act = act } ∷ []) rest.acts))
 
-only-more : (acts : List NumberedAct) (number : ℕ) (act : Act) → acts_only acts ++ act ∷ [] ≡ acts_only (acts ++ record { line = number; act = act } ∷ [])
+pub only-more : (acts : List NumberedAct) (number : ℕ) (act : Act) → acts_only acts ++ act ∷ [] ≡ acts_only (acts ++ record { line = number; act = act } ∷ [])
 only-more [] number act = refl
 only-more (first ∷ acts) number act = ap (λ l. first.act ∷ l) (only-more acts number act)
-
-pub goes-act : (setting : Setting) (slots : ℕ) (bytes left : List ℕ) (old : HeldBytes) (line : NumberedLine) (new : HeldBytes) (after : List ℕ) (act : Act) (acts : List NumberedAct)
-    (effects : List Effect) (last next : Progress) (journal_old journal_new : List Write) (start before later : Option (List ℕ))
-    → IsGoing (reading setting.family) bytes old left acts (length last.batch) (length last.probes)
-    → HandsOne old left line new after
-    → Runs setting slots (acts_only acts) effects last → journal_old ≡ written effects → Appends start before (printed effects)
-    → reading setting.family line.text ≡ Ok (Some act) → limit_fault act (length last.batch) (length last.probes) ≡ None
-    → Carries setting last act next journal_old journal_new before later
-    → GoesOn setting slots acts bytes new after next journal_new start later
-goes-act setting slots bytes left old line new after act acts effects last next journal_old journal_new start before later going hands run told report is room made =
-    let p = length last.batch in
-    let q = length last.probes in
-    let acts2 : List NumberedAct = acts ++ record { line = line.number; act = act } ∷ [] in
-    let P : List Act → Type 0 = λ a. Runs setting slots a (effects ++ made.effects) next in
-    let e : pending_after act p ≡ length next.batch = sym (step-pending setting last act made.effects next made.step) in
-    let f : probes_after act q ≡ length next.probes = sym (step-probes setting last act made.effects next made.step) in
-    record {
-      so_far = record {
-        acts = acts2;
-        effects = effects ++ made.effects;
-        run = subst P (only-more acts line.number act) (run-more setting slots (acts_only acts) effects last act made.effects next run made.step);
-        journal_is = does-journal effects made.effects [] journal_old journal_new before later made.does told;
-        report = subst (Appends start later) (append-nil (printed (effects ++ made.effects))) (does-report effects made.effects [] journal_old journal_new start before later made.does report);
-        read = next-line (reading setting.family) bytes old left line new after acts acts2 p q (length next.batch) (length next.probes) going hands (λ rest.
-            ap (onto_all acts) (line-act (reading setting.family) p q line rest act is room)
-            ∙ onto-more acts line.number act (acts_next (reading setting.family) (pending_after act p) (probes_after act q) rest)
-            ∙ ap (λ n. onto_all acts2 (acts_next (reading setting.family) n (probes_after act q) rest)) e
-            ∙ ap (λ n. onto_all acts2 (acts_next (reading setting.family) (length next.batch) n rest)) f);
-      };
-      more = act ∷ [];
-      acts_are = sym (only-more acts line.number act);
-    }
 
 -- the acts of the script around this one
 pub act-here : (reading : Reading) (bytes : List ℕ) (old : HeldBytes) (left : List ℕ) (line : NumberedLine) (new : HeldBytes) (after : List ℕ) (act : Act) (acts : List NumberedAct) (p q : ℕ)
@@ -304,59 +207,3 @@ act-here reading bytes old left line new after act acts p q going hands is room 
     let (rest, e) = line-here reading bytes old left line new after acts p q going hands in
     let next = acts_next reading (pending_after act p) (probes_after act q) rest in
     (acts_of next, ap acts_of (e ∙ ap (onto_all acts) (line-act reading p q line rest act is room)) ∙ acts-more acts line.number act next)
-
-pub ends-line : (setting : Setting) (slots : ℕ) (bytes taken now : List ℕ) (act : Act) (acts : List NumberedAct) (later : List Act) (effects : List Effect) (last : Progress)
-    (journal_old journal_new : List Write) (start before after : Option (List ℕ))
-    → acts_of (script_of (reading setting.family) bytes) ≡ acts_only acts ++ act ∷ later
-    → Runs setting slots (acts_only acts) effects last → journal_old ≡ written effects → Appends start before (printed effects)
-    → CutsAtLine setting last act journal_old journal_new before after
-    → Ends setting slots bytes taken now WriteFault journal_new start after
-ends-line setting slots bytes taken now act acts later effects last journal_old journal_new start before after is run told report cut = record {
-  effects = effects ++ cut.front;
-  partial = cut.partial;
-  outcome = record {
-    line = cut.partial ++ cut.rest;
-    rest = cut.rest;
-    due = inl (record { done = acts_only acts; act = act; later = later; acts = is; body = effects; before = last; run = run; front = cut.front; cut = cut.cut; effects_are = refl });
-    part = refl;
-  };
-  journal_is = does-journal effects cut.front cut.partial journal_old journal_new before after cut.does told;
-  report = does-report effects cut.front cut.partial journal_old journal_new start before after cut.does report;
-  all = λ e. elim e [ inl d ↦ absurd (cc) | inr r ↦ absurd (cc) ];
-}
-
-pub ends-device : (setting : Setting) (slots : ℕ) (bytes taken now : List ℕ) (act : Act) (acts : List NumberedAct) (later : List Act) (effects : List Effect) (last : Progress)
-    (journal_old journal_new : List Write) (start before after : Option (List ℕ))
-    → acts_of (script_of (reading setting.family) bytes) ≡ acts_only acts ++ act ∷ later
-    → Runs setting slots (acts_only acts) effects last → journal_old ≡ written effects → Appends start before (printed effects)
-    → CutsAtWrite setting last act journal_old journal_new before after
-    → Ends setting slots bytes taken now DeviceFault journal_new start after
-ends-device setting slots bytes taken now act acts later effects last journal_old journal_new start before after is run told report cut = record {
-  effects = effects ++ cut.front;
-  partial = [];
-  outcome = (
-    record {
-      write = cut.write;
-      due = inl (record { done = acts_only acts; act = act; later = later; acts = is; body = effects; before = last; run = run; front = cut.front; cut = cut.cut; effects_are = refl });
-    },
-    refl,
-  );
-  journal_is = does-journal effects cut.front [] journal_old journal_new before after cut.does told;
-  report = does-report effects cut.front [] journal_old journal_new start before after cut.does report;
-  all = λ e. elim e [ inl d ↦ absurd (cc) | inr r ↦ absurd (cc) ];
-}
-
-pub ends-memory : (setting : Setting) (slots : ℕ) (bytes taken now : List ℕ) (act : Act) (acts : List NumberedAct) (later : List Act) (effects : List Effect) (last : Progress)
-    (journal_old journal_new : List Write) (start before after : Option (List ℕ))
-    → acts_of (script_of (reading setting.family) bytes) ≡ acts_only acts ++ act ∷ later
-    → Runs setting slots (acts_only acts) effects last → journal_old ≡ written effects → Appends start before (printed effects)
-    → Wants setting last act journal_old journal_new before after
-    → Ends setting slots bytes taken now Memory journal_new start after
-ends-memory setting slots bytes taken now act acts later effects last journal_old journal_new start before after is run told report wants = record {
-  effects = effects;
-  partial = [];
-  outcome = (inr (record { done = acts_only acts; act = act; later = later; acts = is; before = last; run = run; needs = wants.needs }), refl);
-  journal_is = does-journal effects [] [] journal_old journal_new before after wants.does told ∙ ap written (append-nil effects);
-  report = subst (λ e. Appends start after (printed e ++ [])) (append-nil effects) (does-report effects [] [] journal_old journal_new start before after wants.does report);
-  all = λ e. elim e [ inl d ↦ absurd (cc) | inr r ↦ absurd (cc) ];
-}

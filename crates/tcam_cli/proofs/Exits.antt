@@ -1,28 +1,27 @@
 -- What a turn comes to, by what its callees answer.
-use Rattle.std.proofs.Common.{◌≡◌, ◌≢◌, ◌⊎◌, inl, inr, ℕ, ◌++◌, Option, Some, None, Result, Ok, Err, List, [], length, refl, ap, sym, ◌∙◌, append-nil}
+use Rattle.std.proofs.Common.{◌≡◌, ◌≢◌, ◌⊎◌, inl, inr, ℕ, ◌∷◌, ◌++◌, Option, Some, None, Result, Ok, Err, List, [], length, refl, ap, sym, ◌∙◌, subst, append-nil}
+use Rattle.std.specs.Io.KnownBytes.{Appends}
+use Rattle.std.proofs.KnownBytes.{Appends-trans}
 use Rattle.script_lines.specs.declared.Line.{Line}
 use Rattle.script_lines.specs.declared.LineFault.{LineFault}
 use Rattle.script_lines.specs.declared.LineFault.TheVariants as fault
 use Rattle.script_lines.specs.Lines.{NumberedLine, Faulty, ends_at, numbered}
 use Rattle.tcam_device.specs.declared.Write.{Write}
 use Rattle.replay.specs.declared.Act.{Act}
-use Rattle.replay.specs.Script.{Whole, FaultAt, Reading, NumberedAct, byte_end, limit_fault}
+use Rattle.replay.specs.Script.{ScriptEnd, Whole, FaultAt, Reading, NumberedAct, byte_end, script_of, pending_after, probes_after, limit_fault}
 use Rattle.replay.specs.Text.{fault_line}
-use Rattle.replay.specs.Run.{Setting, Progress, ending}
+use Rattle.replay.specs.Run.{Setting, Effect, Writes, Prints, Progress, IsCutStep, Runs, written, printed, ending}
 use Rattle.tcam_cli.specs.declared.Status.{Status}
 use Rattle.tcam_cli.specs.declared.Status.TheVariants.{Done, Refused, Script as ScriptFault, ReadFault, WriteFault, DeviceFault, Memory}
-use Rattle.tcam_cli.specs.Headline.{status_of}
+use Rattle.tcam_cli.specs.Headline.{IsAtAct, IsComplete, IsOutcome, acts_of, last_line, script_so_far, status_of}
 use Rattle.tcam_cli.specs.Readings.{reading}
 use Rattle.script_lines.specs.declared.Over.{Over}
 use Rattle.script_lines.specs.declared.Over.TheVariants as over
 use Rattle.script_lines.specs.Reader.{HeldBytes, lines_held, HandsWhole, HandsLast, Hands, Again}
 use Rattle.replay.specs.Carried.{IsAt, Carries, CutsAtLine, CutsAtWrite, Wants}
-use Rattle.tcam_cli.specs.Turns.{onto_all, IsGoing, IsAllRead, IsRead, acts_only, SoFar, Ends, Closes, GoesOn, WantsNext}
-use Rattle.tcam_cli.proofs.OneMore.{run-at}
-use Rattle.tcam_cli.proofs.Endings.{line-none, line-fault, line-full, next-line, line-here, bytes-fault, bytes-end, so-far, onto-nil, ends-closed, ends-read, goes-act, act-here, ends-line, ends-device, ends-memory}
-
-abbrev pub HandsOne : HeldBytes → List ℕ → NumberedLine → HeldBytes → List ℕ → Type 0
-HandsOne old left line new after = HandsWhole old left line new after ⊎ HandsLast old left line new after
+use Rattle.tcam_cli.specs.Turns.{onto_all, acts_next, IsGoing, IsAllRead, IsRead, acts_only, SoFar, Ends, Closes, GoesOn, WantsNext}
+use Rattle.tcam_cli.proofs.OneMore.{run-at, run-more, does-journal, does-report, step-pending, step-probes}
+use Rattle.tcam_cli.proofs.Endings.{HandsOne, line-none, line-fault, line-full, line-act, next-line, line-here, bytes-fault, bytes-end, so-far, onto-nil, onto-more, only-more, outcome-complete, written-line, printed-line, act-here}
 
 abbrev not-end : Result (Option Line) LineFault → Type 0
 not-end r = r ≢ Ok None
@@ -40,7 +39,47 @@ closes-script line result before after now (inl c) (inr d) = let e : ScriptFault
 closes-script line result before after now (inr c) (inl d) = let e : WriteFault ≡ Done = sym c.0 ∙ d in absurd (cc)
 closes-script line result before after now (inr c) (inr d) = let e : WriteFault ≡ Refused = sym c.0 ∙ d in absurd (cc)
 
-module _ (setting : Setting) (slots : ℕ) (bytes : List ℕ) (old : HeldBytes) (left : List ℕ) (last : Progress) (journal : List Write) (start before : Option (List ℕ)) (s : SoFar setting slots bytes old left last journal start before) where
+module _ (setting : Setting) (slots : ℕ) (bytes : List ℕ) (old : Held) (left : List ℕ) (last : Progress) (journal : List Write) (start before : Option (List ℕ)) (s : SoFar setting slots bytes old left last journal start before) where
+  -- the last line is written, or a part of it
+  closed : (taken now : List ℕ) (end : ScriptEnd) (after : Option (List ℕ)) (result : Status) → script_of (reading setting.family) bytes ≡ record { acts = s.acts; last = end }
+      → Closes (last_line setting last end) (status_of last end) result before after → ((result ≡ Done) ⊎ (result ≡ Refused) → now ≡ [])
+      → Ends setting slots bytes taken now result journal start after
+  closed taken now end after result is (inl (e, line)) all =
+      let S = script_of (reading setting.family) bytes in
+      let more : List Effect = s.effects ++ Prints (last_line setting last end) ∷ [] in
+      let whole : IsComplete setting slots S result more = record {
+        body = s.effects;
+        last = last;
+        run = subst (λ script. Runs setting slots (acts_of script) s.effects last) (sym is) s.run;
+        status_is = e ∙ sym (ap (λ script. status_of last script.last) is);
+        effects_are = sym (ap (λ script. s.effects ++ Prints (last_line setting last script.last) ∷ []) is);
+      } in
+      record {
+        effects = more;
+        partial = [];
+        outcome = outcome-complete setting slots S (script_so_far (reading setting.family) taken) last end result more e whole;
+        journal_is = s.journal_is ∙ written-line s.effects (last_line setting last end);
+        report = subst (Appends start after) (printed-line s.effects (last_line setting last end)) (Appends-trans start before after (printed s.effects) (last_line setting last end) s.report line);
+        all = all;
+      }
+  closed taken now end after result is (inr (e, (partial, rest, part, line))) all = record {
+    effects = s.effects;
+    partial = partial;
+    outcome = subst (λ status. IsOutcome setting slots (script_of (reading setting.family) bytes) (script_so_far (reading setting.family) taken) status s.effects partial) (sym e) (record {
+      line = last_line setting last end;
+      rest = rest;
+      due = inr (record {
+        last = last;
+        run = subst (λ script. Runs setting slots (acts_of script) s.effects last) (sym is) s.run;
+        due_is = sym (ap (λ script. Prints (last_line setting last script.last)) is);
+      });
+      part = part;
+    });
+    journal_is = s.journal_is;
+    report = Appends-trans start before after (printed s.effects) partial s.report line;
+    all = all;
+  }
+
   -- a fault of a byte
   pub exit-bytes : (taken now : List ℕ) (after : Option (List ℕ)) (result : Status) (found : LineFault) (number : ℕ) (text : List ℕ) → byte_end (Faulty found) ≡ FaultAt number text
       → Again old.over (Err found) → (old.over ≡ over.Going → lines_held old left ≡ ends_at (Faulty found)) → Closes (fault_line number text) ScriptFault result before after
@@ -51,8 +90,7 @@ module _ (setting : Setting) (slots : ℕ) (bytes : List ℕ) (old : HeldBytes) 
       let other : not-end (Err found) = λ e. cc in
       let (going, is) = still-going old.over (reading setting.family) bytes old left s.acts p q (Err found) other again s.read in
       let whole = bytes-fault (reading setting.family) bytes old left s.acts p q found is (hands going) in
-      ends-closed setting slots bytes taken now s.acts (FaultAt number text) s.effects last result journal start before after
-      (whole ∙ ap (λ e. record { acts = s.acts; last = e }) end) s.run s.journal_is s.report closes (closes-script (fault_line number text) result before after now closes)
+      closed taken now (FaultAt number text) after result (whole ∙ ap (λ e. record { acts = s.acts; last = e }) end) closes (closes-script (fault_line number text) result before after now closes)
 
   -- the end of the input
   pub exit-end : (new : HeldBytes) (taken now : List ℕ) (after : Option (List ℕ)) (result : Status)
@@ -62,7 +100,7 @@ module _ (setting : Setting) (slots : ℕ) (bytes : List ℕ) (old : HeldBytes) 
       let p = length last.batch in
       let q = length last.probes in
       let whole = all-read old.over (reading setting.family) s.acts p q s.read hands rests in
-      ends-closed setting slots bytes taken now s.acts Whole s.effects last result journal start before after whole.0 s.run s.journal_is s.report closes (λ _. whole.1)
+      closed taken now Whole after result whole.0 closes (λ _. whole.1)
     where
       all-read : (o : Over) (reading : Reading) (acts : List NumberedAct) (p q : ℕ) → IsRead o reading bytes old left acts p q
           → (o ≡ over.Going → Hands old left (Ok None) new now) → (o ≢ over.Going → left ≡ now) → IsAllRead reading bytes now acts
@@ -80,7 +118,15 @@ module _ (setting : Setting) (slots : ℕ) (bytes : List ℕ) (old : HeldBytes) 
       let q = length last.probes in
       let other : not-end (Err fault.Read) = λ e. cc in
       let (going, is) = still-going old.over (reading setting.family) bytes old left s.acts p q (Err fault.Read) other again s.read in
-      ends-read setting slots bytes taken now s.acts s.effects last journal start before (so-far (reading setting.family) bytes taken old left new now s.acts p q is (hands going).0 parts) s.run s.journal_is s.report
+      let same = so-far (reading setting.family) bytes taken old left new now s.acts p q is (hands going).0 parts in
+      record {
+        effects = s.effects;
+        partial = [];
+        outcome = (record { sound = ap (λ script. script.last) same; last = last; run = subst (λ script. Runs setting slots (acts_of script) s.effects last) (sym same) s.run }, refl);
+        journal_is = s.journal_is;
+        report = subst (Appends start before) (sym (append-nil (printed s.effects))) s.report;
+        all = λ e. elim e [ inl d ↦ absurd (cc) | inr r ↦ absurd (cc) ];
+      }
 
   -- a line came
   module _ (line : Line) (new : HeldBytes) (now : List ℕ) (again : Again old.over (Ok (Some line))) (hands : old.over ≡ over.Going → HandsOne old left (numbered line) new now) where
@@ -114,8 +160,7 @@ module _ (setting : Setting) (slots : ℕ) (bytes : List ℕ) (old : HeldBytes) 
         let p = length last.batch in
         let q = length last.probes in
         let (rest, e) = line-here (reading setting.family) bytes old left (numbered line) new now s.acts p q going.1 (hands going.0) in
-        ends-closed setting slots bytes taken now s.acts (FaultAt line.number text) s.effects last result journal start before after
-        (e ∙ ap (onto_all s.acts) (line-fault (reading setting.family) p q (numbered line) rest text is) ∙ onto-nil s.acts (FaultAt line.number text)) s.run s.journal_is s.report closes
+        closed taken now (FaultAt line.number text) after result (e ∙ ap (onto_all s.acts) (line-fault (reading setting.family) p q (numbered line) rest text is) ∙ onto-nil s.acts (FaultAt line.number text)) closes
         (closes-script (fault_line line.number text) result before after now closes)
 
     -- there is no room for its act
@@ -126,35 +171,75 @@ module _ (setting : Setting) (slots : ℕ) (bytes : List ℕ) (old : HeldBytes) 
         let p = length last.batch in
         let q = length last.probes in
         let (rest, e) = line-here (reading setting.family) bytes old left (numbered line) new now s.acts p q going.1 (hands going.0) in
-        ends-closed setting slots bytes taken now s.acts (FaultAt line.number text) s.effects last result journal start before after
-        (e ∙ ap (onto_all s.acts) (line-full (reading setting.family) p q (numbered line) rest act text is full) ∙ onto-nil s.acts (FaultAt line.number text)) s.run s.journal_is s.report closes
+        closed taken now (FaultAt line.number text) after result (e ∙ ap (onto_all s.acts) (line-full (reading setting.family) p q (numbered line) rest act text is full) ∙ onto-nil s.acts (FaultAt line.number text)) closes
         (closes-script (fault_line line.number text) result before after now closes)
 
     -- its act is carried out, or cut
     module _ (act : Act) (is : reading setting.family (numbered line).text ≡ Ok (Some act)) (room : limit_fault act (length last.batch) (length last.probes) ≡ None) (journal_new : List Write) (after : Option (List ℕ)) where
+      at : IsAt slots journal last
+      at = run-at setting slots _ s.effects last journal s.run s.journal_is
+
       pub goes-on : (next : Progress) → (IsAt slots journal last → Carries setting last act next journal journal_new before after) → GoesOn setting slots s.acts bytes new now next journal_new start after
       goes-on next carries =
-          goes-act setting slots bytes left old (numbered line) new now act s.acts s.effects last next journal journal_new start before after going.1 (hands going.0) s.run s.journal_is s.report is room
-          (carries (run-at setting slots _ s.effects last journal s.run s.journal_is))
+          let made = carries at in
+          let p = length last.batch in
+          let q = length last.probes in
+          let acts : List NumberedAct = s.acts ++ record { line = line.number; act = act } ∷ [] in
+          record {
+            so_far = record {
+              acts = acts;
+              effects = s.effects ++ made.effects;
+              run = subst (λ a. Runs setting slots a (s.effects ++ made.effects) next) (only-more s.acts line.number act) (run-more setting slots (acts_only s.acts) s.effects last act made.effects next s.run made.step);
+              journal_is = does-journal s.effects made.effects [] journal journal_new before after made.does s.journal_is;
+              report = subst (Appends start after) (append-nil (printed (s.effects ++ made.effects))) (does-report s.effects made.effects [] journal journal_new start before after made.does s.report);
+              read = next-line (reading setting.family) bytes old left (numbered line) new now s.acts acts p q (length next.batch) (length next.probes) going.1 (hands going.0) (λ rest.
+                  ap (onto_all s.acts) (line-act (reading setting.family) p q (numbered line) rest act is room)
+                  ∙ onto-more s.acts line.number act (acts_next (reading setting.family) (pending_after act p) (probes_after act q) rest)
+                  ∙ ap (λ n. onto_all acts (acts_next (reading setting.family) n (probes_after act q) rest)) (sym (step-pending setting last act made.effects next made.step))
+                  ∙ ap (λ n. onto_all acts (acts_next (reading setting.family) (length next.batch) n rest)) (sym (step-probes setting last act made.effects next made.step)));
+            };
+            more = act ∷ [];
+            acts_are = sym (only-more s.acts line.number act);
+          }
+
+      here : (later : List Act) × (acts_of (script_of (reading setting.family) bytes) ≡ acts_only s.acts ++ act ∷ later)
+      here = act-here (reading setting.family) bytes old left (numbered line) new now act s.acts _ _ going.1 (hands going.0) is room
+
+      cut-at : (front : List Effect) (due : Effect) → IsCutStep setting last act front due → IsAtAct setting slots (script_of (reading setting.family) bytes) (s.effects ++ front) due
+      cut-at front due cut =
+          record { done = acts_only s.acts; act = act; later = here.0; acts = here.1; body = s.effects; before = last; run = s.run; front = front; cut = cut; effects_are = refl }
 
       pub exit-line : (taken : List ℕ) → (IsAt slots journal last → CutsAtLine setting last act journal journal_new before after) → Ends setting slots bytes taken now WriteFault journal_new start after
       exit-line taken cuts =
-          let (later, e) = act-here (reading setting.family) bytes old left (numbered line) new now act s.acts _ _ going.1 (hands going.0) is room in
-          ends-line setting slots bytes taken now act s.acts later s.effects last journal journal_new start before after e s.run s.journal_is s.report
-          (cuts (run-at setting slots _ s.effects last journal s.run s.journal_is))
+          let cut = cuts at in record {
+            effects = s.effects ++ cut.front;
+            partial = cut.partial;
+            outcome = record { line = cut.partial ++ cut.rest; rest = cut.rest; due = inl (cut-at cut.front (Prints (cut.partial ++ cut.rest)) cut.cut); part = refl };
+            journal_is = does-journal s.effects cut.front cut.partial journal journal_new before after cut.does s.journal_is;
+            report = does-report s.effects cut.front cut.partial journal journal_new start before after cut.does s.report;
+            all = λ e. elim e [ inl d ↦ absurd (cc) | inr r ↦ absurd (cc) ];
+          }
 
       pub exit-device : (taken : List ℕ) → (IsAt slots journal last → CutsAtWrite setting last act journal journal_new before after) → Ends setting slots bytes taken now DeviceFault journal_new start after
       exit-device taken cuts =
-          let (later, e) = act-here (reading setting.family) bytes old left (numbered line) new now act s.acts _ _ going.1 (hands going.0) is room in
-          ends-device setting slots bytes taken now act s.acts later s.effects last journal journal_new start before after e s.run s.journal_is s.report
-          (cuts (run-at setting slots _ s.effects last journal s.run s.journal_is))
+          let cut = cuts at in record {
+            effects = s.effects ++ cut.front;
+            partial = [];
+            outcome = (record { write = cut.write; due = inl (cut-at cut.front (Writes cut.write) cut.cut) }, refl);
+            journal_is = does-journal s.effects cut.front [] journal journal_new before after cut.does s.journal_is;
+            report = does-report s.effects cut.front [] journal journal_new start before after cut.does s.report;
+            all = λ e. elim e [ inl d ↦ absurd (cc) | inr r ↦ absurd (cc) ];
+          }
 
       pub exit-memory : (taken : List ℕ) → Wants setting last act journal journal_new before after → Ends setting slots bytes taken now Memory journal_new start after
-      exit-memory taken wants =
-          let (later, e) = act-here (reading setting.family) bytes old left (numbered line) new now act s.acts _ _ going.1 (hands going.0) is room in
-          ends-memory setting slots bytes taken now act s.acts later s.effects last journal journal_new start before after e s.run s.journal_is s.report wants
+      exit-memory taken wants = record {
+        effects = s.effects;
+        partial = [];
+        outcome = (inr (record { done = acts_only s.acts; act = act; later = here.0; acts = here.1; before = last; run = s.run; needs = wants.needs }), refl);
+        journal_is = does-journal s.effects [] [] journal journal_new before after wants.does s.journal_is ∙ ap written (append-nil s.effects);
+        report = subst (λ e. Appends start after (printed e ++ [])) (append-nil s.effects) (does-report s.effects [] [] journal journal_new start before after wants.does s.report);
+        all = λ e. elim e [ inl d ↦ absurd (cc) | inr r ↦ absurd (cc) ];
+      }
 
       pub wants-next : Wants setting last act journal journal_new before after → WantsNext setting s.acts bytes last journal journal_new before after
-      wants-next wants =
-          let (later, e) = act-here (reading setting.family) bytes old left (numbered line) new now act s.acts _ _ going.1 (hands going.0) is room in
-          record { act = act; later = later; acts_are = e; wants = wants }
+      wants-next wants = record { act = act; later = here.0; acts_are = here.1; wants = wants }

@@ -7,7 +7,8 @@ use Rattle.clap.proofs.ValueTestLemmas.{accepts-Accepts, Accepts-accepts}
 use Rattle.clap.specs.declared.builder.value_parser.ValueParser.TheVariants as vp
 use Rattle.batch_order.specs.declared.Placement.{Placement}
 use Rattle.replay.specs.declared.Family.{Family}
-use Rattle.tcam_cli.specs.CommandLine.{job_at, job_of_slots, number_in}
+use Rattle.tcam_cli.specs.CommandLine.{job_at, number_in}
+use Rattle.tcam_cli.specs.Asked.{job_of_slots}
 use Rattle.tcam_cli.specs.Headline.{NoJob}
 
 -- what `u32` reads

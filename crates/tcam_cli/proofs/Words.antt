@@ -19,7 +19,8 @@ use Rattle.replay.specs.declared.Family.TheVariants.{Route, Acl}
 use Rattle.tcam_cli.specs.declared.command_line.Asked.{Asked}
 use Rattle.tcam_cli.specs.declared.command_line.Asked.TheVariants.{Script}
 use Rattle.tcam_cli.specs.declared.command_line.WordsFault.{WordsFault}
-use Rattle.tcam_cli.specs.CommandLine.{asked_by, job_by_faults, job_of, job_of_fault, job_of_subcommand, tested_job, job_at, number_of, placed_by, acl_command, placement_option, route_command, slots_option, tcam_command, text_of, trace_flag, is_traced}
+use Rattle.tcam_cli.specs.CommandLine.{job_by_faults, job_of, job_of_fault, job_of_subcommand, job_at, number_of, placed_by, acl_command, placement_option, route_command, slots_option, tcam_command, text_of, trace_flag, is_traced}
+use Rattle.tcam_cli.specs.Asked.{asked_by, tested_job}
 use Rattle.tcam_cli.specs.Headline.{Job, NoJob}
 use Rattle.std.specs.Str.{bytes_eq}
 use Rattle.clap.specs.ValueTests.{is_unsigned_in}

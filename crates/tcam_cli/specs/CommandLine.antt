@@ -17,8 +17,6 @@ use Rattle.batch_order.specs.declared.Placement.TheVariants.{Middle, Rank}
 use Rattle.replay.specs.declared.Family.{Family}
 use Rattle.replay.specs.declared.Family.TheVariants.{Route, Acl}
 use Rattle.replay.specs.Run.{Setting}
-use Rattle.tcam_cli.specs.declared.command_line.Asked.{Asked}
-use Rattle.tcam_cli.specs.declared.command_line.Asked.TheVariants as asked
 use Rattle.tcam_cli.specs.Headline.{Job, NoJob, Tells, Reads}
 
 -- a script of a family over so many slots in use, each insertion aiming as the placement says, with a trace or without
@@ -109,22 +107,6 @@ abbrev pub job_of_subcommand : Option (Text × List Row) → Job
 job_of_subcommand None = NoJob
 job_of_subcommand (Some (name, rows)) = job_of_rows name rows
 
--- the same for rows that may not be clap's, whose text of --slots is tested again; where clap takes
--- the words the test passes, and the two are one
-abbrev pub job_of_slots : Family → Text → Option Placement → Bool → Job
-job_of_slots family text placement trace =
-    if is_unsigned_in 1 4096 text then job_at family (number_in text) placement trace else NoJob
-
-abbrev pub tested_job_of_rows : Text → List Row → Job
-tested_job_of_rows name rows =
-    if bytes_eq name (codes "route") then job_of_slots Route (text_of (codes "slots") rows) (placed_by rows) (is_traced rows)
-    else if bytes_eq name (codes "acl") then job_of_slots Acl (text_of (codes "slots") rows) (placed_by rows) (is_traced rows)
-    else NoJob
-
-abbrev pub tested_job : Option (Text × List Row) → Job
-tested_job None = NoJob
-tested_job (Some (name, rows)) = tested_job_of_rows name rows
-
 -- the help: what the program does, its command lines and an example
 unfoldable pub help_text : List ℕ
 help_text = codes "tcam: the table manager of a ternary content-addressable memory."
@@ -165,9 +147,3 @@ job_by_faults (k ∷ l ∷ ks) subcommand = NoJob
 -- what words ask for, the program's name first
 abbrev pub job_of : List Text → Job
 job_of words = job_by_faults (fault_of tcam_command words) (subcommand_of tcam_command words)
-
--- what an answer says that words ask for
-abbrev pub asked_by : Asked → Job
-asked_by (asked.Script family slots placement trace) = Reads (script_setting family slots placement trace)
-asked_by asked.Help = Tells help_text
-asked_by asked.Version = Tells version_text

@@ -3,7 +3,8 @@
 ghost use Rattle.std.specs.Prelude.{◌≡◌, ◌≤◌, codes, Err, IfOk, IsErrOf, IfSome, IsNone, None, false, map, string_bytes};
 ghost use Rattle.clap.specs.Words.{app_of, rule_of, rows_of, found_of, subcommand_rows_of, kind_of};
 ghost use Rattle.clap.specs.declared.builder.command.Command.TheViews.{out-Command};
-ghost use Rattle.tcam_cli.specs.CommandLine.{asked_by, is_traced, job_at, job_of, job_of_fault, job_of_slots, placed_by, placement_in, tested_job};
+ghost use Rattle.tcam_cli.specs.CommandLine.{is_traced, job_at, job_of, job_of_fault, placed_by, placement_in};
+ghost use Rattle.tcam_cli.specs.Asked.{asked_by, job_of_slots, tested_job};
 ghost use Rattle.tcam_cli.specs.CommandLine.{acl_command as acl_app, placement_option, route_command as route_app, slots_option, tcam_command as tcam_app, text_of, trace_flag};
 ghost use Rattle.tcam_cli.specs.Headline.{NoJob};
 

@@ -1,4 +1,4 @@
-use Rattle.std.proofs.Common.{rules, ◌≡◌, ◌++◌, [], ◌∷◌, ◌<◌, List, ℕ, length, refl, subst, sym, arith}
+use Rattle.std.proofs.Common.{rules, ◌≡◌, [], ◌∷◌, ◌<◌, List, ℕ, length, refl, subst, sym, arith}
 use Rattle.batch_order.proofs.Named.{AreDone, done_none, done_within, done_more, done_all}
 use Rattle.batch_order.proofs.changes.changes_of.Goals as goal
 

@@ -1,4 +1,4 @@
-use Rattle.std.proofs.Common.{◌≡◌, ◌<◌, ◌∙◌, ◌++◌, List, ℕ, length, map, max, arith, subst, sym, ap, ap₂}
+use Rattle.std.proofs.Common.{◌≡◌, ◌<◌, ◌∙◌, ◌++◌, List, ℕ, length, map, max, arith, subst, sym, ap}
 use Rattle.std.specs.List.{AllByRecursion}
 use Rattle.std.proofs.lemmas.List.{take_all}
 use Rattle.overlap_index.specs.Live.{is_above}
@@ -64,7 +64,7 @@ returns c =
         placement = subst (λ l. IsPlacement (is_above l) c.args.aim c.args.id slots m) live c.in_ok-insert.ensures.placement;
         slots_are = after;
         writes = c.count.ensures.writes ∙ (c.in_ok-push_all.ensures.writes ∙ ap (λ (p : List Move). c.args.plan.now.writes.items ++ map (write_for kept.entries) p) all);
-        most = c.count.ensures.most ∙ ap₂ max c.in_ok-push_all.ensures.most c.in_ok-insert.ensures.writes;
-        span = c.count.ensures.span ∙ ap₂ max c.in_ok-push_all.ensures.span (subst (λ l. c.in_ok-insert.insert.span ≡ span_of (is_above l) slots c.args.id) live c.in_ok-insert.ensures.span);
+        most = c.count.ensures.most ∙ ap (max c.args.plan.now.most) c.in_ok-insert.ensures.writes;
+        span = c.count.ensures.span ∙ ap (max c.args.plan.now.span) (subst (λ l. c.in_ok-insert.insert.span ≡ span_of (is_above l) slots c.args.id) live c.in_ok-insert.ensures.span);
       };
     }

@@ -5,7 +5,5 @@ use Rattle.commit_writes.specs.Planned.{write_for}
 use Rattle.batch_order.proofs.insertions.push_all.Given as goal
 
 abbrev pub invariant-loop-place : goal.invariant-loop-place
-invariant-loop-place l = AllByRecursion (IsInUse l.live.slots) l.plan.writes.items
-    × (l.plan.writes.items ≡ l.fn.plan.writes.items ++ map (write_for l.live.entries) (take l.place l.moves))
-    × (l.plan.most ≡ l.fn.plan.most)
-    × (l.plan.span ≡ l.fn.plan.span)
+invariant-loop-place l = AllByRecursion (IsInUse l.live.slots) l.writes.items
+    × (l.writes.items ≡ l.fn.writes.items ++ map (write_for l.live.entries) (take l.place l.moves))

@@ -1,7 +1,7 @@
-use Rattle.std.proofs.Common.{◌≡◌, ◌∙◌, ◌++◌, List, Ok, Err, OnOk, Result, reverse, sym, ap, ap₂}
+use Rattle.std.proofs.Common.{◌≡◌, ◌∙◌, ◌++◌, List, Ok, Err, OnOk, Result, reverse, ap, ap₂}
 use Rattle.ternary_word.specs.Entry.{RankedPiece}
 use Rattle.batch_order.specs.declared.pieces.Choice.TheVariants.{Fresh}
-use Rattle.batch_order.specs.Changes.{RuleChange, chosen_pieces, pieces_at, erased_by, is_among, wants}
+use Rattle.batch_order.specs.Changes.{RuleChange, chosen_pieces, pieces_at, is_among, wants}
 use Rattle.batch_order.proofs.Walked.{kept_reverse}
 use Rattle.batch_order.proofs.pieces.push_change.Goals as goal
 

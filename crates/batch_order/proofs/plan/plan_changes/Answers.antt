@@ -15,6 +15,6 @@ returns-clause-writes g c =
     let before = c.args.plan.now.writes.items in
     let results = map (rewrite_write c.args.arrangement.now) c.args.parts.now.rewrites.items in
     let erases = map (erase_write c.args.arrangement.now) c.args.parts.now.erased.items in
-    let all : c.plan_erases.new.plan.writes.items ≡ before ++ (results ++ erases) =
+    let all : c.plan_erases.new.writes.items ≡ before ++ (results ++ erases) =
     rw c.deref-2.ensures.value at second ∙ (ap (λ (w : List Write). w ++ erases) (rw c.deref.ensures.value at first) ∙ append_assoc before results erases) in
     at_ok c.reserve.result _ all

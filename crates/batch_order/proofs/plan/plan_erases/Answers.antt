@@ -24,10 +24,8 @@ loop-id-preserved c =
     let within : c.loop-id.id-index < length c.args.ids.now = omega arith in
     let found : home_of slots one ≡ Some at = sym c.home.ensures ∙ c.unwrap-slot.ensures in
     record {
-      writes = write_next (erase_write slots) c.args.ids.now c.loop-id.id-index one (Slot at None) c.args.plan.now.writes.items c.loop-id.plan.writes.items _ within (number_is c.args.ids.now c.loop-id.id-index within) (ap (λ n. Slot n None) (home_is slots one at found))
-          c.loop-id.invariant.writes c.in_ok-push.ensures.ok;
-      in_use = subst (AllByRecursion (IsInUse (length slots))) (sym c.in_ok-push.ensures.ok)
-          (all_append (IsInUse (length slots)) c.loop-id.plan.writes.items (Slot at None ∷ []) c.loop-id.invariant.in_use (home_inside slots one at found, tt));
-      most = c.in_ok-push.ensures.most ∙ c.loop-id.invariant.most;
-      span = c.in_ok-push.ensures.span ∙ c.loop-id.invariant.span;
+      writes = write_next (erase_write slots) c.args.ids.now c.loop-id.id-index one (Slot at None) c.args.writes.now.items c.loop-id.writes.items _ within (number_is c.args.ids.now c.loop-id.id-index within) (ap (λ n. Slot n None) (home_is slots one at found))
+          c.loop-id.invariant.writes c.in_ok-push.ensures.items;
+      in_use = subst (AllByRecursion (IsInUse (length slots))) (sym c.in_ok-push.ensures.items)
+          (all_append (IsInUse (length slots)) c.loop-id.writes.items (Slot at None ∷ []) c.loop-id.invariant.in_use (home_inside slots one at found, tt));
     }

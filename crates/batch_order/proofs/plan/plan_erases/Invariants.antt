@@ -6,8 +6,6 @@ use Rattle.batch_order.proofs.plan.plan_erases.Given as goal
 
 abbrev pub invariant-loop-id : goal.invariant-loop-id
 invariant-loop-id l = record {
-  writes : l.plan.writes.items ≡ l.fn.plan.writes.items ++ map (erase_write l.arrangement) (take l.id-index l.ids);
-  in_use : AllByRecursion (IsInUse (length l.arrangement)) l.plan.writes.items;
-  most : l.plan.most ≡ l.fn.plan.most;
-  span : l.plan.span ≡ l.fn.plan.span;
+  writes : l.writes.items ≡ l.fn.writes.items ++ map (erase_write l.arrangement) (take l.id-index l.ids);
+  in_use : AllByRecursion (IsInUse (length l.arrangement)) l.writes.items;
 }

@@ -16,10 +16,8 @@ loop-rewrite-preserved c =
     let within : c.loop-rewrite.rewrite-index < length c.args.rewrites.now = omega arith in
     let found : home_of slots one.id ≡ Some at = sym c.home.ensures ∙ c.unwrap-slot.ensures in
     record {
-      writes = write_next (rewrite_write slots) c.args.rewrites.now c.loop-rewrite.rewrite-index one (Slot at (Some one.entry)) c.args.plan.now.writes.items c.loop-rewrite.plan.writes.items _ within (sym c.rewrite-item.is) (ap (λ n. Slot n (Some one.entry)) (home_is slots one.id at found))
-          c.loop-rewrite.invariant.writes c.in_ok-push.ensures.ok;
-      in_use = subst (AllByRecursion (IsInUse (length slots))) (sym c.in_ok-push.ensures.ok)
-          (all_append (IsInUse (length slots)) c.loop-rewrite.plan.writes.items (Slot at (Some one.entry) ∷ []) c.loop-rewrite.invariant.in_use (home_inside slots one.id at found, tt));
-      most = c.in_ok-push.ensures.most ∙ c.loop-rewrite.invariant.most;
-      span = c.in_ok-push.ensures.span ∙ c.loop-rewrite.invariant.span;
+      writes = write_next (rewrite_write slots) c.args.rewrites.now c.loop-rewrite.rewrite-index one (Slot at (Some one.entry)) c.args.writes.now.items c.loop-rewrite.writes.items _ within (sym c.rewrite-item.is) (ap (λ n. Slot n (Some one.entry)) (home_is slots one.id at found))
+          c.loop-rewrite.invariant.writes c.in_ok-push.ensures.items;
+      in_use = subst (AllByRecursion (IsInUse (length slots))) (sym c.in_ok-push.ensures.items)
+          (all_append (IsInUse (length slots)) c.loop-rewrite.writes.items (Slot at (Some one.entry) ∷ []) c.loop-rewrite.invariant.in_use (home_inside slots one.id at found, tt));
     }

@@ -6,8 +6,6 @@ use Rattle.batch_order.proofs.plan.plan_rewrites.Given as goal
 
 abbrev pub invariant-loop-rewrite : goal.invariant-loop-rewrite
 invariant-loop-rewrite l = record {
-  writes : l.plan.writes.items ≡ l.fn.plan.writes.items ++ map (rewrite_write l.arrangement) (take l.rewrite-index l.rewrites);
-  in_use : AllByRecursion (IsInUse (length l.arrangement)) l.plan.writes.items;
-  most : l.plan.most ≡ l.fn.plan.most;
-  span : l.plan.span ≡ l.fn.plan.span;
+  writes : l.writes.items ≡ l.fn.writes.items ++ map (rewrite_write l.arrangement) (take l.rewrite-index l.rewrites);
+  in_use : AllByRecursion (IsInUse (length l.arrangement)) l.writes.items;
 }

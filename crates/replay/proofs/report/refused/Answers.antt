@@ -1,6 +1,7 @@
 -- The words of the reason stand behind the three that each such line has.
 use Rattle.std.proofs.Common.{◌∷◌, codes, decimal}
-use Rattle.replay.specs.Text.{reason_words, verdict_told}
+use Rattle.replay.specs.Text.{reason_words}
+use Rattle.replay.specs.Told.{verdict_told}
 use Rattle.replay.proofs.Lines.{with_words-line}
 use Rattle.replay.proofs.report.refused.Goals as goal
 

@@ -1,8 +1,17 @@
 -- A step makes the next write that is left, and one that fails leaves it; each write is told.
-use Rattle.std.proofs.Common.{true, rules, ◌≡◌, ◌≤◌, ◌+◌, ◌^◌, IfSome, length, length-append, ap, subst, ◌∙◌, arith}
+use Rattle.std.proofs.Common.{true, rules, refl, ◌≡◌, ◌≤◌, ◌+◌, ◌^◌, IfSome, length, length-append, ap, subst, ◌∙◌, arith}
 use Rattle.batch_order.specs.Managed.{HeldCommit}
-use Rattle.replay.proofs.Making.{making-more, making-told, making-stops, making-cut}
+use Rattle.replay.proofs.Making.{making-none, making-more, making-told, making-stops, making-cut}
 use Rattle.replay.proofs.run.make_writes.Goals as goal
+
+pub making-init : goal.making-init
+making-init g c = record {
+  making = λ which. making-none _ _ _ _ _ _ c.requires.held c.requires.room;
+  slot_count = refl;
+  told = λ some. some;
+  sink_faults = refl;
+  device_faults = refl;
+}
 
 pub making-preserved : goal.making-preserved
 making-preserved g c =
@@ -37,8 +46,8 @@ step-requires-clause-room g c = let h = c.making.invariant.making true in search
 pub overflow_add-number : goal.overflow_add-number
 overflow_add-number g c =
     let making = c.making.invariant.making true in
-    let few : length making.held.writes ≤ 2 ^ 39 = subst (λ held. IfSome held (λ (one : HeldCommit). length one.writes ≤ 2 ^ 39)) making.held_is c.requires.few in
-    let all : length making.held.writes ≡ length making.made + length making.left = ap length making.whole ∙ length-append making.made making.left in
+    let few : length making.some.held.writes ≤ 2 ^ 39 = subst (λ held. IfSome held (λ (one : HeldCommit). length one.writes ≤ 2 ^ 39)) making.some.held_is c.requires.few in
+    let all : length making.some.held.writes ≡ length making.some.made + length making.some.left = ap length making.some.whole ∙ length-append making.some.made making.some.left in
     let count = making.count in
     let most : c.making.number ≤ 2 ^ 39 = omega arith in
     search rules

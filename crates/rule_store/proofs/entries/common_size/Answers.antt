@@ -1,6 +1,6 @@
-use Rattle.std.proofs.Common.{◌∙◌}
-use Rattle.rule_store.proofs.Pieces.{along, common_size-most}
+use Rattle.std.proofs.Common.{ap₂, ◌∙◌}
+use Rattle.rule_store.specs.Common.{common_blocks}
 use Rattle.rule_store.proofs.entries.common_size.Goals as goal
 
-pub returns-clause-most : goal.returns-clause-most
-returns-clause-most c = along _ _ _ (c.from.ensures ∙ c.common_within.ensures.count) (common_size-most c.args.a.now c.args.b.now)
+pub returns-clause-count : goal.returns-clause-count
+returns-clause-count c = c.common_blocks.ensures.count ∙ ap₂ common_blocks c.cover.ensures.list c.cover-2.ensures.list

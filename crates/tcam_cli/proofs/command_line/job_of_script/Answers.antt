@@ -2,7 +2,8 @@ use Rattle.std.proofs.Common.{◌∙◌, ap, codes, refl, rules, sym}
 use Rattle.std.specs.Str.{bytes_eq}
 use Rattle.clap.specs.Matches.{found_of}
 use Rattle.clap.specs.Walk.{rows_of}
-use Rattle.tcam_cli.specs.CommandLine.{is_traced, job_at, job_of_slots, placed_by, placement_in, script_setting, text_of}
+use Rattle.tcam_cli.specs.CommandLine.{is_traced, job_at, placed_by, placement_in, script_setting, text_of}
+use Rattle.tcam_cli.specs.Asked.{job_of_slots}
 use Rattle.tcam_cli.specs.Headline.{Reads}
 use Rattle.tcam_cli.proofs.Slots.{no_placement}
 use Rattle.tcam_cli.proofs.Words.{given_text}

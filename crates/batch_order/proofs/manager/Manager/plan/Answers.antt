@@ -18,9 +18,10 @@ use Rattle.commit_writes.specs.Bits.{no_bits}
 use Rattle.commit_writes.specs.Shape.{set_pieces, inserted_pieces, rewritten_pieces, erased_pieces}
 use Rattle.commit_writes.specs.PlannedBatch.{ChangesRules, IsIdOf, IsRewriteOf, erased_slots}
 use Rattle.commit_writes.proofs.BatchRules.{IsSoundChange}
+use Rattle.batch_order.specs.declared.Placement.{Placement}
 use Rattle.batch_order.specs.declared.manager.Held.{Held}
-use Rattle.batch_order.specs.Entries.{AddsIds, Entries, KeepEntries}
-use Rattle.batch_order.specs.Entries.{HaveIds}
+use Rattle.batch_order.specs.declared.plan.Plan.{Plan}
+use Rattle.batch_order.specs.Entries.{AddsIds, Entries, HaveIds, KeepEntries}
 use Rattle.batch_order.specs.Kept.{IsManaged, held_of}
 use Rattle.batch_order.specs.Placing.{aims_of}
 use Rattle.batch_order.specs.Planning.{ArePlannedSince}
@@ -62,48 +63,37 @@ taking mode rules kept slots held batch is none changes sound fits =
       ids = pieces_have_ids (set_pieces Cover no_bits rules.rules) kept.live kept.entries managed.carried.entries_are;
     }
 
-pub parts_of-requires-clause-is_set : goal.parts_of-requires-clause-is_set
-parts_of-requires-clause-is_set g c = c.self.invariant.is_set
+-- as the call tells it
+taking_as : (placement : Placement) (mode : Mode) (rules : StoredRules) (kept : Entries) (slots : Slots) (held : Option Held) (now : Managed) (batch : List Command) → IsManaged mode rules kept slots held
+    → view_of placement mode rules kept slots held ≡ now → now.held ≡ None → AllByRecursion ChangesRules batch → batch_fault now.rules batch ≡ None → verdict now.slots now.mode now.rules batch ≡ Accepted
+    → Taking mode rules kept slots batch
+taking_as placement mode rules kept slots held now batch is view idle changes sound fits =
+    taking mode rules kept slots held batch is (no_held rules.rules held (rw (← view) at idle)) changes (rw (← view) at sound) (rw (← view) at fits)
 
-pub parts_of-requires-clause-right : goal.parts_of-requires-clause-right
-parts_of-requires-clause-right g c = c.self.invariant.right
-
-pub parts_of-requires-clause-live : goal.parts_of-requires-clause-live
-parts_of-requires-clause-live g c =
-    (taking c.self.inside.mode c.self.inside.rules c.self.inside.live c.self.inside.arrangement c.self.inside.held c.args.batch.now c.self.invariant
-    (no_held c.self.inside.rules.rules c.self.inside.held (rw (← c.self.view_is) at c.requires.idle)) c.requires.changes (rw (← c.self.view_is) at c.requires.sound) (rw (← c.self.view_is) at c.requires.fits)).ids
+pub parts_of-requires : goal.parts_of-requires
+parts_of-requires g c =
+    let i = c.self.inside in
+    let t = taking_as i.placement i.mode i.rules i.live i.arrangement i.held c.args.self.now c.args.batch.now c.self.invariant c.self.view_is c.requires.idle c.requires.changes c.requires.sound c.requires.fits in
+    record { is_set = t.change.is_set; right = t.change.right; changes = t.change.changes; sound = t.change.sound; live = t.ids }
 
 pub reserve-requires : goal.reserve-requires
 reserve-requires g c =
-    let t = taking c.self.inside.mode c.self.inside.rules c.self.inside.live c.self.inside.arrangement c.self.inside.held c.args.batch.now c.self.invariant
-    (no_held c.self.inside.rules.rules c.self.inside.held (rw (← c.self.view_is) at c.requires.idle)) c.requires.changes (rw (← c.self.view_is) at c.requires.sound) (rw (← c.self.view_is) at c.requires.fits) in
+    let i = c.self.inside in
+    let t = taking_as i.placement i.mode i.rules i.live i.arrangement i.held c.args.self.now c.args.batch.now c.self.invariant c.self.view_is c.requires.idle c.requires.changes c.requires.sound c.requires.fits in
     let set : length c.self.inside.rules.rules ≤ 4096 = t.set in
     let most : c.len.result ≤ 4096 = c.len.ensures.most in
     omega arith
 
-pub plan_additions-requires-clause-standing : goal.plan_additions-requires-clause-standing
-plan_additions-requires-clause-standing g c =
-    let t = taking c.self.inside.mode c.self.inside.rules c.self.inside.live c.self.inside.arrangement c.self.inside.held c.args.batch.now c.self.invariant
-    (no_held c.self.inside.rules.rules c.self.inside.held (rw (← c.self.view_is) at c.requires.idle)) c.requires.changes (rw (← c.self.view_is) at c.requires.sound) (rw (← c.self.view_is) at c.requires.fits) in
-    arranged_number c.self.inside.rules.rules c.self.inside.live c.self.inside.arrangement t.managed.is_set t.managed.carried ∙ ap (entries_of Cover) (sym c.reserve.ensures.rules)
-
-pub plan_additions-requires-clause-room : goal.plan_additions-requires-clause-room
-plan_additions-requires-clause-room g c =
-    let t = taking c.self.inside.mode c.self.inside.rules c.self.inside.live c.self.inside.arrangement c.self.inside.held c.args.batch.now c.self.invariant
-    (no_held c.self.inside.rules.rules c.self.inside.held (rw (← c.self.view_is) at c.requires.idle)) c.requires.changes (rw (← c.self.view_is) at c.requires.sound) (rw (← c.self.view_is) at c.requires.fits) in
-    rw (c.deref.ensures.value, c.in_ok-parts.ensures.inserted) t.room
-
-pub plan_additions-requires-clause-encodable : goal.plan_additions-requires-clause-encodable
-plan_additions-requires-clause-encodable g c =
-    let t = taking c.self.inside.mode c.self.inside.rules c.self.inside.live c.self.inside.arrangement c.self.inside.held c.args.batch.now c.self.invariant
-    (no_held c.self.inside.rules.rules c.self.inside.held (rw (← c.self.view_is) at c.requires.idle)) c.requires.changes (rw (← c.self.view_is) at c.requires.sound) (rw (← c.self.view_is) at c.requires.fits) in
-    rw (c.deref.ensures.value, c.in_ok-parts.ensures.inserted) (inserted_encodable c.self.inside.rules.rules c.args.batch.now t.change)
-
-pub plan_additions-requires-clause-plannable : goal.plan_additions-requires-clause-plannable
-plan_additions-requires-clause-plannable g c =
-    let t = taking c.self.inside.mode c.self.inside.rules c.self.inside.live c.self.inside.arrangement c.self.inside.held c.args.batch.now c.self.invariant
-    (no_held c.self.inside.rules.rules c.self.inside.held (rw (← c.self.view_is) at c.requires.idle)) c.requires.changes (rw (← c.self.view_is) at c.requires.sound) (rw (← c.self.view_is) at c.requires.fits) in
-    rw (c.in_ok-arrangement.ensures, c.new-plan.ensures.writes) (plan_none c.self.inside.live c.self.inside.arrangement t.managed.carried.settled)
+pub plan_additions-requires : goal.plan_additions-requires
+plan_additions-requires g c =
+    let i = c.self.inside in
+    let t = taking_as i.placement i.mode i.rules i.live i.arrangement i.held c.args.self.now c.args.batch.now c.self.invariant c.self.view_is c.requires.idle c.requires.changes c.requires.sound c.requires.fits in
+    record {
+      standing = arranged_number i.rules.rules i.live i.arrangement t.managed.is_set t.managed.carried ∙ ap (entries_of Cover) (sym c.reserve.ensures.rules);
+      room = rw (c.deref.ensures.value, c.in_ok-parts.ensures.inserted) t.room;
+      encodable = rw (c.deref.ensures.value, c.in_ok-parts.ensures.inserted) (inserted_encodable i.rules.rules c.args.batch.now t.change);
+      plannable = rw (c.in_ok-arrangement.ensures, c.new-plan.ensures.writes) (plan_none i.live i.arrangement t.managed.carried.settled);
+    }
 
 -- with the new ids live, the ids that are rewritten and those that are erased are live
 parts_live : (mode : Mode) (rules : StoredRules) (old new : Entries) (slots : Slots) (batch : List Command) (ids : List ℕ) (rewrites : List Rewrite) (erased : List ℕ) → Taking mode rules old slots batch
@@ -114,41 +104,30 @@ parts_live mode rules old new slots batch ids rewrites erased t adds rewrites_ar
     (live_parts rules.rules batch old.slots old.live adds.made rewrites erased t.managed.carried.settled.apart
     record { change = t.change; rewrites_are = rewrites_are; erased_are = erased_are })
 
-pub plan_changes-requires-clause-rewritten : goal.plan_changes-requires-clause-rewritten
-plan_changes-requires-clause-rewritten g c =
-    let t = taking c.self.inside.mode c.self.inside.rules c.self.inside.live c.self.inside.arrangement c.self.inside.held c.args.batch.now c.self.invariant
-    (no_held c.self.inside.rules.rules c.self.inside.held (rw (← c.self.view_is) at c.requires.idle)) c.requires.changes (rw (← c.self.view_is) at c.requires.sound) (rw (← c.self.view_is) at c.requires.fits) in
-    let parts = parts_live c.self.inside.mode c.self.inside.rules c.self.inside.live c.plan_additions.new.live c.self.inside.arrangement c.args.batch.now c.in_ok-ids.ids.items c.in_ok-parts.parts.rewrites.items c.in_ok-parts.parts.erased.items t
-    c.in_ok-ids.ensures.adds c.in_ok-parts.ensures.rewrites c.in_ok-parts.ensures.erased in
-    changed_stand c.plan_additions.new.live c.plan_additions.new.arrangement c.in_ok-parts.parts.rewrites.items c.in_ok-ids.ensures.plannable.settled parts.changed
+pub plan_changes-requires : goal.plan_changes-requires
+plan_changes-requires g c =
+    let i = c.self.inside in
+    let t = taking_as i.placement i.mode i.rules i.live i.arrangement i.held c.args.self.now c.args.batch.now c.self.invariant c.self.view_is c.requires.idle c.requires.changes c.requires.sound c.requires.fits in
+    let rewrites = c.in_ok-parts.parts.rewrites.items in
+    let erased = c.in_ok-parts.parts.erased.items in
+    let parts = parts_live i.mode i.rules i.live c.plan_additions.new.live i.arrangement c.args.batch.now c.in_ok-ids.ids.items rewrites erased t c.in_ok-ids.ensures.adds c.in_ok-parts.ensures.rewrites c.in_ok-parts.ensures.erased in
+    let plannable = c.in_ok-ids.ensures.plannable in
+    record {
+      rewritten = changed_stand c.plan_additions.new.live c.plan_additions.new.arrangement rewrites plannable.settled parts.changed;
+      erased = all_stand c.plan_additions.new.live c.plan_additions.new.arrangement erased plannable.settled parts.gone;
+      in_use = subst (λ (n : ℕ). AllByRecursion (IsInUse n) c.plan_additions.new.plan.writes.items) (sym plannable.settled.size) plannable.in_use;
+    }
 
-pub plan_changes-requires-clause-erased : goal.plan_changes-requires-clause-erased
-plan_changes-requires-clause-erased g c =
-    let t = taking c.self.inside.mode c.self.inside.rules c.self.inside.live c.self.inside.arrangement c.self.inside.held c.args.batch.now c.self.invariant
-    (no_held c.self.inside.rules.rules c.self.inside.held (rw (← c.self.view_is) at c.requires.idle)) c.requires.changes (rw (← c.self.view_is) at c.requires.sound) (rw (← c.self.view_is) at c.requires.fits) in
-    let parts = parts_live c.self.inside.mode c.self.inside.rules c.self.inside.live c.plan_additions.new.live c.self.inside.arrangement c.args.batch.now c.in_ok-ids.ids.items c.in_ok-parts.parts.rewrites.items c.in_ok-parts.parts.erased.items t
-    c.in_ok-ids.ensures.adds c.in_ok-parts.ensures.rewrites c.in_ok-parts.ensures.erased in
-    all_stand c.plan_additions.new.live c.plan_additions.new.arrangement c.in_ok-parts.parts.erased.items c.in_ok-ids.ensures.plannable.settled parts.gone
-
-pub plan_changes-requires-clause-in_use : goal.plan_changes-requires-clause-in_use
-plan_changes-requires-clause-in_use g c =
-    subst (λ (n : ℕ). AllByRecursion (IsInUse n) c.plan_additions.new.plan.writes.items) (sym c.in_ok-ids.ensures.plannable.settled.size) c.in_ok-ids.ensures.plannable.in_use
-
-pub erase_all-requires-clause-distinct : goal.erase_all-requires-clause-distinct
-erase_all-requires-clause-distinct g c =
-    let t = taking c.self.inside.mode c.self.inside.rules c.self.inside.live c.self.inside.arrangement c.self.inside.held c.args.batch.now c.self.invariant
-    (no_held c.self.inside.rules.rules c.self.inside.held (rw (← c.self.view_is) at c.requires.idle)) c.requires.changes (rw (← c.self.view_is) at c.requires.sound) (rw (← c.self.view_is) at c.requires.fits) in
-    let parts = parts_live c.self.inside.mode c.self.inside.rules c.self.inside.live c.plan_additions.new.live c.self.inside.arrangement c.args.batch.now c.in_ok-ids.ids.items c.in_ok-parts.parts.rewrites.items c.in_ok-parts.parts.erased.items t
-    c.in_ok-ids.ensures.adds c.in_ok-parts.ensures.rewrites c.in_ok-parts.ensures.erased in
-    rw c.deref-2.ensures.value parts.once
-
-pub erase_all-requires-clause-standing : goal.erase_all-requires-clause-standing
-erase_all-requires-clause-standing g c =
-    let t = taking c.self.inside.mode c.self.inside.rules c.self.inside.live c.self.inside.arrangement c.self.inside.held c.args.batch.now c.self.invariant
-    (no_held c.self.inside.rules.rules c.self.inside.held (rw (← c.self.view_is) at c.requires.idle)) c.requires.changes (rw (← c.self.view_is) at c.requires.sound) (rw (← c.self.view_is) at c.requires.fits) in
-    let parts = parts_live c.self.inside.mode c.self.inside.rules c.self.inside.live c.plan_additions.new.live c.self.inside.arrangement c.args.batch.now c.in_ok-ids.ids.items c.in_ok-parts.parts.rewrites.items c.in_ok-parts.parts.erased.items t
-    c.in_ok-ids.ensures.adds c.in_ok-parts.ensures.rewrites c.in_ok-parts.ensures.erased in
-    rw c.deref-2.ensures.value (all_stand c.plan_additions.new.live c.plan_additions.new.arrangement c.in_ok-parts.parts.erased.items c.in_ok-ids.ensures.plannable.settled parts.gone)
+pub erase_all-requires : goal.erase_all-requires
+erase_all-requires g c =
+    let i = c.self.inside in
+    let t = taking_as i.placement i.mode i.rules i.live i.arrangement i.held c.args.self.now c.args.batch.now c.self.invariant c.self.view_is c.requires.idle c.requires.changes c.requires.sound c.requires.fits in
+    let erased = c.in_ok-parts.parts.erased.items in
+    let parts = parts_live i.mode i.rules i.live c.plan_additions.new.live i.arrangement c.args.batch.now c.in_ok-ids.ids.items c.in_ok-parts.parts.rewrites.items erased t c.in_ok-ids.ensures.adds c.in_ok-parts.ensures.rewrites c.in_ok-parts.ensures.erased in
+    record {
+      distinct = rw c.deref-2.ensures.value parts.once;
+      standing = rw c.deref-2.ensures.value (all_stand c.plan_additions.new.live c.plan_additions.new.arrangement erased c.in_ok-ids.ensures.plannable.settled parts.gone);
+    }
 
 -- the entries of the old ids are as they were where the new ones were forgotten
 kept_back : (old mid new : Entries) → KeepEntries old.live old.entries mid.entries → KeepEntries new.live mid.entries new.entries → new.live ≡ old.live → KeepEntries old.live old.entries new.entries
@@ -201,18 +180,22 @@ returns-in-Err-clause-refused g c =
     (view_same i.placement i.mode i.rules c.reserve.new.self i.live c.forget_all.new.live i.arrangement managed c.reserve.ensures.rules kept) in
     same ∙ view
 
+-- insertions that were planned over a copy, for the same rules and pieces
+planned_from : (old new : Entries) (slots copy middle : Slots) (plan plan' : Plan) (placement : Placement) (rules set : List Rule) (pieces listed : List RankedPiece) → copy ≡ slots → set ≡ rules → listed ≡ pieces
+    → ArePlannedSince old new copy middle plan plan' listed (aims_of placement (length copy) set listed) → ArePlannedSince old new slots middle plan plan' pieces (aims_of placement (length slots) rules pieces)
+planned_from old new slots copy middle plan plan' placement rules set pieces listed same_slots same_rules same_pieces planned =
+    subst (λ (some : List RankedPiece). ArePlannedSince old new slots middle plan plan' some (aims_of placement (length slots) rules some)) same_pieces
+    (subst (λ (at : Slots). ArePlannedSince old new at middle plan plan' listed (aims_of placement (length at) rules listed)) same_slots
+    (subst (λ (some : List Rule). ArePlannedSince old new copy middle plan plan' listed (aims_of placement (length copy) some listed)) same_rules planned))
+
 pub invariant_of-self-2 : goal.invariant_of-self-2
 invariant_of-self-2 g c =
     let i = c.self.inside in
     let parts = c.in_ok-parts.parts in
-    let t = taking i.mode i.rules i.live i.arrangement i.held c.args.batch.now c.self.invariant
-    (no_held i.rules.rules i.held (rw (← c.self.view_is) at c.requires.idle)) c.requires.changes (rw (← c.self.view_is) at c.requires.sound) (rw (← c.self.view_is) at c.requires.fits) in
+    let t = taking_as i.placement i.mode i.rules i.live i.arrangement i.held c.args.self.now c.args.batch.now c.self.invariant c.self.view_is c.requires.idle c.requires.changes c.requires.sound c.requires.fits in
     let held : Held = record { writes = c.plan_changes.new.plan.writes; made = 0; counts = c.counts-counts.result; batch = c.in_ok-copy.copy; rewrites = parts.rewrites; erased = parts.erased; arrangement = c.erase_all.new.arrangement } in
-    let since : ArePlannedSince i.live c.plan_additions.new.live i.arrangement c.plan_additions.new.arrangement c.new-plan.result c.plan_additions.new.plan (inserted_pieces Cover no_bits i.rules.rules c.args.batch.now)
-    (aims_of i.placement (length i.arrangement) i.rules.rules (inserted_pieces Cover no_bits i.rules.rules c.args.batch.now)) =
-    subst (λ (pieces : List RankedPiece). ArePlannedSince i.live c.plan_additions.new.live i.arrangement c.plan_additions.new.arrangement c.new-plan.result c.plan_additions.new.plan pieces (aims_of i.placement (length i.arrangement) i.rules.rules pieces)) (c.deref.ensures.value ∙ c.in_ok-parts.ensures.inserted)
-    (subst (λ (s : Slots). ArePlannedSince i.live c.plan_additions.new.live s c.plan_additions.new.arrangement c.new-plan.result c.plan_additions.new.plan c.deref.result.now (aims_of i.placement (length s) i.rules.rules c.deref.result.now)) c.in_ok-arrangement.ensures
-    (subst (λ (set : List Rule). ArePlannedSince i.live c.plan_additions.new.live c.in_ok-arrangement.arrangement c.plan_additions.new.arrangement c.new-plan.result c.plan_additions.new.plan c.deref.result.now (aims_of i.placement (length c.in_ok-arrangement.arrangement) set c.deref.result.now)) c.reserve.ensures.rules c.in_ok-ids.ensures.planned)) in
+    let since = planned_from i.live c.plan_additions.new.live i.arrangement c.in_ok-arrangement.arrangement c.plan_additions.new.arrangement c.new-plan.result c.plan_additions.new.plan i.placement i.rules.rules c.reserve.new.self.rules
+    (inserted_pieces Cover no_bits i.rules.rules c.args.batch.now) c.deref.result.now c.in_ok-arrangement.ensures c.reserve.ensures.rules (c.deref.ensures.value ∙ c.in_ok-parts.ensures.inserted) c.in_ok-ids.ensures.planned in
     let spare : length c.args.batch.now ≤ c.reserve.new.self.spare = (let n : c.len.result ≡ length c.args.batch.now = c.len.ensures.count in let e : c.len.result ≤ c.reserve.new.self.spare = c.in_ok-reserve.ensures.enough in omega arith) in
     managed_held i.placement i.mode i.rules c.reserve.new.self i.live c.plan_additions.new.live i.arrangement c.plan_additions.new.arrangement c.args.batch.now held
     (plan_made i.placement i.mode i.rules i.live c.plan_additions.new.live i.arrangement c.plan_additions.new.arrangement c.args.batch.now parts.rewrites.items parts.erased.items c.new-plan.result c.plan_additions.new.plan c.plan_changes.new.plan.writes.items c.counts-counts.result
@@ -226,14 +209,10 @@ returns-clause-ready g c =
     let i = c.self.inside in
     let parts = c.in_ok-parts.parts in
     let none = no_held i.rules.rules i.held (rw (← c.self.view_is) at c.requires.idle) in
-    let t = taking i.mode i.rules i.live i.arrangement i.held c.args.batch.now c.self.invariant
-    none c.requires.changes (rw (← c.self.view_is) at c.requires.sound) (rw (← c.self.view_is) at c.requires.fits) in
+    let t = taking_as i.placement i.mode i.rules i.live i.arrangement i.held c.args.self.now c.args.batch.now c.self.invariant c.self.view_is c.requires.idle c.requires.changes c.requires.sound c.requires.fits in
     let held : Held = record { writes = c.plan_changes.new.plan.writes; made = 0; counts = c.counts-counts.result; batch = c.in_ok-copy.copy; rewrites = parts.rewrites; erased = parts.erased; arrangement = c.erase_all.new.arrangement } in
-    let since : ArePlannedSince i.live c.plan_additions.new.live i.arrangement c.plan_additions.new.arrangement c.new-plan.result c.plan_additions.new.plan (inserted_pieces Cover no_bits i.rules.rules c.args.batch.now)
-    (aims_of i.placement (length i.arrangement) i.rules.rules (inserted_pieces Cover no_bits i.rules.rules c.args.batch.now)) =
-    subst (λ (pieces : List RankedPiece). ArePlannedSince i.live c.plan_additions.new.live i.arrangement c.plan_additions.new.arrangement c.new-plan.result c.plan_additions.new.plan pieces (aims_of i.placement (length i.arrangement) i.rules.rules pieces)) (c.deref.ensures.value ∙ c.in_ok-parts.ensures.inserted)
-    (subst (λ (s : Slots). ArePlannedSince i.live c.plan_additions.new.live s c.plan_additions.new.arrangement c.new-plan.result c.plan_additions.new.plan c.deref.result.now (aims_of i.placement (length s) i.rules.rules c.deref.result.now)) c.in_ok-arrangement.ensures
-    (subst (λ (set : List Rule). ArePlannedSince i.live c.plan_additions.new.live c.in_ok-arrangement.arrangement c.plan_additions.new.arrangement c.new-plan.result c.plan_additions.new.plan c.deref.result.now (aims_of i.placement (length c.in_ok-arrangement.arrangement) set c.deref.result.now)) c.reserve.ensures.rules c.in_ok-ids.ensures.planned)) in
+    let since = planned_from i.live c.plan_additions.new.live i.arrangement c.in_ok-arrangement.arrangement c.plan_additions.new.arrangement c.new-plan.result c.plan_additions.new.plan i.placement i.rules.rules c.reserve.new.self.rules
+    (inserted_pieces Cover no_bits i.rules.rules c.args.batch.now) c.deref.result.now c.in_ok-arrangement.ensures c.reserve.ensures.rules (c.deref.ensures.value ∙ c.in_ok-parts.ensures.inserted) c.in_ok-ids.ensures.planned in
     let view : view_of i.placement i.mode i.rules i.live i.arrangement i.held ≡ c.args.self.now = c.self.view_is in
     let new = view_of i.placement i.mode c.reserve.new.self c.plan_additions.new.live i.arrangement (Some held) in
     let holds : Holds (view_of i.placement i.mode i.rules i.live i.arrangement None) c.args.batch.now c.ready.result new =

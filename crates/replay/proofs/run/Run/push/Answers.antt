@@ -1,7 +1,6 @@
 -- What a change leaves of the run.
 use Rattle.std.proofs.Common.{sym, subst}
-use Rattle.replay.specs.Run.{IsChangeOf}
-use Rattle.replay.specs.Running.{Running}
+use Rattle.replay.specs.Running.{Running, IsChangeOf}
 use Rattle.replay.proofs.Runs.{pushed-run}
 use Rattle.replay.proofs.run.Run.push.Goals as goal
 

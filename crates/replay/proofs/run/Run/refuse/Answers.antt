@@ -1,6 +1,7 @@
 -- The line is that of the refusal.
 use Rattle.std.proofs.Common.{◌≡◌, ◌+◌, ap, ◌∙◌}
-use Rattle.replay.specs.Text.{refused_line, verdict_told}
+use Rattle.replay.specs.Text.{refused_line}
+use Rattle.replay.specs.Told.{verdict_told}
 use Rattle.replay.specs.Running.{Running}
 use Rattle.replay.proofs.Handing.{hands-ok, hands-err}
 use Rattle.replay.proofs.run.Run.refuse.Goals as goal
