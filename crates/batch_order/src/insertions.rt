@@ -125,11 +125,7 @@ fn plan_moves(
 }
 
 /// Puts the device writes that some moves are behind others.
-fn push_all(
-    live: &LiveEntries,
-    moves: &Moves,
-    writes: &mut Vec<Write>,
-) -> Result<(), AllocError>
+fn push_all(live: &LiveEntries, moves: &Moves, writes: &mut Vec<Write>) -> Result<(), AllocError>
     requires inside { AllByRecursion (IsInside live.now.slots) moves.now }
     requires in_use { AllByRecursion (IsInUse live.now.slots) writes.old.items }
     ensures in_use { OnOk result (AllByRecursion (IsInUse live.now.slots) writes.new.items) }

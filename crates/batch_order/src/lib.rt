@@ -18,6 +18,11 @@
 //! common don't stand against it and cross others later. All that is promised holds of both, and the writes are those of
 //! the one that was chosen: no insertion takes a write more.
 //!
+//! **A commit is a list of changes** (`changes`): by falling priority, at each priority that the batch names, the rule of
+//! the set and the rule after the batch, where there is one. Each rule is cut into its pieces once (`pieces`): those of
+//! the new rule alone go in, those of both get the new result, those of the old rule alone go; `parts` has the ids of the
+//! latter two. `insertions` plans the first, each where `aims` says, and `plan` the writes of the others.
+//!
 //! **Port ranges.** A rule takes an entry for each pair of blocks of its ranges' covers. A rule that replaces another
 //! keeps the entries that both have, and only the others are put in and erased.
 //!

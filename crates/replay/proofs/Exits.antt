@@ -1,9 +1,6 @@
 -- How each call of a run ends, by the values that the code has.
-use Rattle.std.proofs.Common.{true, false, refl, ◌≡◌, ◌≢◌, ◌⊎◌, inl, inr, ℕ, ◌+◌, ◌^◌, ◌≤◌, ◌==◌, List, [], ◌++◌, Option, Some, None, IfSome, Result, Ok, Err, IfErr, OnOk, OnErr, length, sym, ap, ◌∙◌, subst, codes}
-use Rattle.std.proofs.lemmas.Bool.{eqb-true, false_from_ne_true}
+use Rattle.std.proofs.Common.{refl, ◌≡◌, ◌≢◌, ◌⊎◌, inl, inr, ℕ, ◌+◌, ◌≤◌, List, [], ◌++◌, Option, Some, None, Result, Ok, Err, IfErr, OnOk, OnErr, length, sym, ap, ◌∙◌, subst}
 use Rattle.std.specs.Io.KnownBytes.{Appends}
-use Rattle.rule_model.specs.declared.Key.{Key}
-use Rattle.rule_store.specs.declared.Command.{Command as Change}
 use Rattle.rule_store.specs.Verdict.{Accepted, entries_of}
 use Rattle.tcam_device.specs.declared.Write.{Write}
 use Rattle.commit_writes.specs.declared.Done.{Done}
@@ -11,11 +8,10 @@ use Rattle.batch_order.specs.declared.Ready.{Ready}
 use Rattle.batch_order.specs.declared.Refusal.{Refusal}
 use Rattle.batch_order.specs.declared.Refusal.TheVariants as refusal
 use Rattle.batch_order.specs.Managed.{Managed, HeldCommit, Holds, Judges, Answers}
-use Rattle.replay.specs.declared.Act.TheVariants.{Command, Probe, Commit}
+use Rattle.replay.specs.declared.Act.TheVariants.{Commit}
 use Rattle.replay.specs.declared.RunFault.{RunFault}
 use Rattle.replay.specs.declared.RunFault.TheVariants as fault
 use Rattle.replay.specs.Run.{Setting, Progress, ending}
-use Rattle.replay.specs.Script.{limit_fault, most_pending, most_probes}
 use Rattle.replay.specs.Text.{accepted_line, refused_line, end_line}
 use Rattle.replay.specs.Told.{verdict_told}
 use Rattle.replay.specs.Outside.{AppendsPart}
@@ -25,15 +21,6 @@ use Rattle.replay.proofs.Refusals.{told-verdict, told-refused}
 use Rattle.replay.proofs.Runs.{run_after, held-run, made-run, after-run}
 use Rattle.replay.proofs.Acts.{run_refused, refuse-carries, refuse-cuts, commit-carries, commit-cuts, commit-halts, commit-stops}
 
--- an act for which there is room
-pub batch-room : (change : Change) (pending probes : ℕ) → pending ≢ most_pending → limit_fault (Command change) pending probes ≡ None
-batch-room change pending probes other =
-    ap (λ full. elim full [ true ↦ Some (codes "batch full") | false ↦ None ]) (false_from_ne_true (pending == most_pending) (λ e. other (eqb-true pending most_pending e)))
-
-pub probe-room : (key : Key) (pending probes : ℕ) → probes ≢ most_probes → limit_fault (Probe key) pending probes ≡ None
-probe-room key pending probes other =
-    ap (λ full. elim full [ true ↦ Some (codes "too many probes") | false ↦ None ]) (false_from_ne_true (probes == most_probes) (λ e. other (eqb-true probes most_probes e)))
-
 -- the commit that is held is that of the batch
 held-one : (run : Running) (ready : Ready) (held : HeldCommit) (holds : Holds (record run.manager { held = None }) run.pending ready run.manager)
     → run.manager.held ≡ Some held → held ≡ holds.held
@@ -41,34 +28,19 @@ held-one run ready held holds is =
     let other : run.manager.held ≡ Some holds.held = ap (λ (manager : Managed). manager.held) holds.new_is in
     let both : Some held ≡ Some holds.held = sym is ∙ other in cc
 
--- it has few writes
-pub held-few : (inside run : Running) → inside ≡ run → HoldsPending run → IfSome inside.manager.held (λ held. length held.writes ≤ 2 ^ 39)
-held-few inside run same holds =
-    let is : inside.manager.held ≡ Some holds.1.held = ap (λ (r : Running). r.manager.held) same ∙ ap (λ (manager : Managed). manager.held) holds.1.new_is in
-    subst (λ held. IfSome held (λ (one : HeldCommit). length one.writes ≤ 2 ^ 39)) (sym is) holds.1.few
-
 -- a run whose commit was cut
 pub cut-held : (run : Running) (now : Managed) → IsRun run → MakesSome run.manager now → IsRun (record run { manager = now })
 cut-held run now is some =
     subst (λ (manager : Managed). IsRun (record run { manager = manager })) (sym some.now_is) (held-run run some.made (record some.held { writes = some.left }) is)
 
--- some of its writes were made
+-- some of its writes were made, and it was cut at a line or at a write
 pub cut-some : (why : RunFault) (begun now : Managed) (watch : Watching) (slots : ℕ) (journal_old journal_new : List Write) (old taken : Option (List ℕ))
-    → Makes begun now watch slots (Err why) journal_old journal_new old taken → MakesSome begun now
-cut-some fault.Sink begun now watch slots journal_old journal_new old taken stops = stops.some
-cut-some fault.Device begun now watch slots journal_old journal_new old taken stops = stops.some
+    → Makes begun now watch slots (Err why) journal_old journal_new old taken → MakesSome begun now × ((why ≡ fault.Sink) ⊎ (why ≡ fault.Device))
+cut-some fault.Sink begun now watch slots journal_old journal_new old taken stops = (stops.some, inl refl)
+cut-some fault.Device begun now watch slots journal_old journal_new old taken stops = (stops.some, inr refl)
 cut-some fault.BatchFull begun now watch slots journal_old journal_new old taken stops = absurd stops
 cut-some fault.ProbesFull begun now watch slots journal_old journal_new old taken stops = absurd stops
 cut-some fault.Memory begun now watch slots journal_old journal_new old taken stops = absurd stops
-
--- it was cut at a line or at a write
-pub cut-kind : (why : RunFault) (begun now : Managed) (watch : Watching) (slots : ℕ) (journal_old journal_new : List Write) (old taken : Option (List ℕ))
-    → Makes begun now watch slots (Err why) journal_old journal_new old taken → (why ≡ fault.Sink) ⊎ (why ≡ fault.Device)
-cut-kind fault.Sink begun now watch slots journal_old journal_new old taken stops = inl refl
-cut-kind fault.Device begun now watch slots journal_old journal_new old taken stops = inr refl
-cut-kind fault.BatchFull begun now watch slots journal_old journal_new old taken stops = absurd stops
-cut-kind fault.ProbesFull begun now watch slots journal_old journal_new old taken stops = absurd stops
-cut-kind fault.Memory begun now watch slots journal_old journal_new old taken stops = absurd stops
 
 pub cut-acts : (why : RunFault) (slots : ℕ) (inside run new : Running) (now : Managed) (journal_old journal_new : List Write) (old taken : Option (List ℕ)) → inside ≡ run → IsRun inside
     → HoldsPending run → run.manager.slots ≤ slots → verdict_of run ≡ Accepted → Makes inside.manager now (watching inside) slots (Err why) journal_old journal_new old taken
@@ -166,20 +138,13 @@ planned-acts result slots inside run ready manager new journal_old journal_new o
     go (Err fault.BatchFull) kind = absurd (kind.1.0 refl)
     go (Err fault.ProbesFull) kind = absurd (kind.1.1 refl)
 
-answers : (inside run : Running) (reason : Refusal) → inside ≡ run → run.manager.held ≡ None → Judges inside.manager inside.manager.held inside.pending (Err reason)
-    → Answers (verdict_of run) (Err reason)
-answers inside run reason same idle judges =
-    subst (λ held. Judges run.manager held run.pending (Err reason)) idle
-    (subst (λ (r : Running). Judges r.manager r.manager.held r.pending (Err reason)) same judges)
-
--- the refusal of an idle manager tells the verdict
-judged-told : (inside run : Running) (reason : Refusal) → inside ≡ run → run.manager.held ≡ None → Judges inside.manager inside.manager.held inside.pending (Err reason)
-    → reason ≢ refusal.Memory → verdict_of run ≡ verdict_told reason
-judged-told inside run reason same idle judges other = sym (told-verdict (verdict_of run) reason (answers inside run reason same idle judges) other)
-
-judged-against : (inside run : Running) (reason : Refusal) → inside ≡ run → run.manager.held ≡ None → Judges inside.manager inside.manager.held inside.pending (Err reason)
-    → reason ≢ refusal.Memory → verdict_told reason ≢ Accepted
-judged-against inside run reason same idle judges other = told-refused (verdict_of run) reason (answers inside run reason same idle judges) other
+-- the refusal of an idle manager tells the verdict, which is against the batch
+judged : (inside run : Running) (reason : Refusal) → inside ≡ run → run.manager.held ≡ None → Judges inside.manager inside.manager.held inside.pending (Err reason)
+    → reason ≢ refusal.Memory → (verdict_of run ≡ verdict_told reason) × (verdict_told reason ≢ Accepted)
+judged inside run reason same idle judges other =
+    let answers : Answers (verdict_of run) (Err reason) =
+    subst (λ held. Judges run.manager held run.pending (Err reason)) idle (subst (λ (r : Running). Judges r.manager r.manager.held r.pending (Err reason)) same judges) in
+    (sym (told-verdict (verdict_of run) reason answers other), told-refused (verdict_of run) reason answers other)
 
 -- a refused commit, with its line or a part of it
 pub refused-acts : (result : Result (Unit {0}) RunFault) (slots : ℕ) (inside run new : Running) (reason : Refusal) (manager : Managed)
@@ -190,14 +155,14 @@ pub refused-acts : (result : Result (Unit {0}) RunFault) (slots : ℕ) (inside r
     → OnErr result (AppendsPart old taken (refused_line inside.family (inside.commits + 1) (verdict_told reason)))
     → ComesTo slots run Commit new result journal_old journal_new old taken
 refused-acts (Ok done) slots inside run new reason manager journal_old journal_new old taken same idle judges other kept journal is kind grown part =
+    let verdict = judged inside run reason same idle judges other in
     let whole : record inside { manager = manager } ≡ run = ap (λ (m : Managed). record inside { manager = m }) kept ∙ same in
-    refuse-carries slots run new (verdict_told reason) journal_old journal_new old taken (judged-told inside run reason same idle judges other)
-    (judged-against inside run reason same idle judges other) (is ∙ ap run_refused whole) journal
+    refuse-carries slots run new (verdict_told reason) journal_old journal_new old taken verdict.0 verdict.1 (is ∙ ap run_refused whole) journal
     (subst (λ (r : Running). Appends old taken (refused_line r.family (r.commits + 1) (verdict_told reason))) same grown)
 refused-acts (Err why) slots inside run new reason manager journal_old journal_new old taken same idle judges other kept journal is kind grown part =
+    let verdict = judged inside run reason same idle judges other in
     subst (λ one. ComesTo slots run Commit new (Err one) journal_old journal_new old taken) (sym kind)
-    (refuse-cuts slots run new (verdict_told reason) journal_old journal_new old taken (judged-told inside run reason same idle judges other)
-    (judged-against inside run reason same idle judges other) journal
+    (refuse-cuts slots run new (verdict_told reason) journal_old journal_new old taken verdict.0 verdict.1 journal
     (subst (λ (r : Running). AppendsPart old taken (refused_line r.family (r.commits + 1) (verdict_told reason))) same part))
 
 -- the numbers of a run's last line

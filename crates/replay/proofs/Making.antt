@@ -7,7 +7,6 @@ use Rattle.std.proofs.lemmas.List.{append-nil}
 use Rattle.tcam_device.specs.declared.Write.{Write}
 use Rattle.tcam_device.specs.State.{State, apply, blank, replay, state_after}
 use Rattle.tcam_device.proofs.Spans.{state_after-append}
-use Rattle.commit_writes.specs.declared.Done.{Done}
 use Rattle.batch_order.specs.declared.Step.{Step}
 use Rattle.batch_order.specs.declared.Step.TheVariants.{Wrote, Finished}
 use Rattle.batch_order.specs.Managed.{Managed, HeldCommit, Steps, StepsOn, next_of, writes_of}

@@ -33,10 +33,6 @@ pub pieces_of-length : (mode : Mode) (rule : Rule) → length (pieces_of mode ru
 pieces_of-length Cover rule = length-cover_pieces rule
 pieces_of-length Bits rule = refl
 
-pub common_size-most : (a b : PortRange) → common_size a b ≤ 30
-common_size-most a b =
-    within-most (common_size a b) (cover_size a) 30 (count_by-le-length (λ block. list_any (same_range block) (cover b)) (cover a)) (cover-size a)
-
 -- a piece by covers stands among another rule's where its blocks stand among that rule's blocks
 has_piece-cover : (old new : Rule) (sport dport : PortRange) → has_piece (cover_pieces old) (piece_of new sport dport) ≡ (same_ends new old && list_any (same_range sport) (cover old.sport) && list_any (same_range dport) (cover old.dport))
 has_piece-cover old new sport dport =

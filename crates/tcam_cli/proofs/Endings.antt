@@ -1,25 +1,20 @@
 -- One line more, and the ends of a run.
 use Rattle.std.proofs.Common.{◌≡◌, ◌⊎◌, inl, inr, ℕ, ◌+◌, Bool, true, false, Option, Some, None, Result, Ok, Err, List, [], ◌∷◌, ◌++◌, length, refl, ap, sym, ◌∙◌, subst, append_assoc, append-nil}
-use Rattle.std.specs.Io.KnownBytes.{Appends}
 use Rattle.std.proofs.lemmas.List.{append_cancel_right}
-use Rattle.std.proofs.KnownBytes.{Appends-trans}
 use Rattle.script_lines.specs.declared.LineFault.{LineFault}
 use Rattle.script_lines.specs.Lines.{limits, NumberedLine, ScriptLines, LinesEnd, EndOfInput, Faulty, ends_at, onto_lines, lines_from, lines_of}
-use Rattle.tcam_device.specs.declared.Write.{Write}
 use Rattle.replay.specs.declared.Act.{Act}
 use Rattle.replay.specs.Script.{Script, ScriptEnd, Whole, FaultAt, Reading, NumberedAct, stops_at, onto_acts, byte_end, acts_from, script_of, pending_after, probes_after, limit_fault}
-use Rattle.replay.specs.Run.{Setting, Effect, Prints, written, printed, Progress, Runs}
+use Rattle.replay.specs.Run.{Setting, Effect, Prints, written, printed, Progress}
 use Rattle.tcam_cli.specs.declared.Status.{Status}
-use Rattle.tcam_cli.specs.declared.Status.TheVariants.{Done, Refused, ReadFault, WriteFault, DeviceFault, Memory}
-use Rattle.tcam_cli.specs.Headline.{acts_of, whole_lines, script_so_far, last_line, status_of, IsOutcome, IsComplete}
+use Rattle.tcam_cli.specs.declared.Status.TheVariants.{Done, Refused}
+use Rattle.tcam_cli.specs.Headline.{acts_of, whole_lines, script_so_far, status_of, IsOutcome, IsComplete}
 use Rattle.tcam_cli.specs.Readings.{reading}
 use Rattle.script_lines.specs.Reader.{HeldBytes, HandsWhole, HandsLast, KeepsAll}
-use Rattle.replay.specs.Carried.{Carries, CutsAtLine, CutsAtWrite, Wants}
-use Rattle.tcam_cli.specs.Turns.{onto_all, acts_next, IsGoing, IsAllRead, IsRead, acts_only, Ends, Closes, GoesOn}
+use Rattle.tcam_cli.specs.Turns.{onto_all, acts_next, IsGoing, IsAllRead, IsRead, acts_only}
 use Rattle.script_lines.proofs.FirstLines.{lines-whole, lines-pending, lines-last}
 use Rattle.tcam_cli.proofs.WholeLines.{whole-line, whole-none}
 use Rattle.replay.proofs.Effects.{written-append, printed-append}
-use Rattle.tcam_cli.proofs.OneMore.{run-more, does-journal, does-report, step-pending, step-probes}
 
 -- ---- what a line does to the script
 

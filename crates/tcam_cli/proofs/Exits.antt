@@ -5,7 +5,7 @@ use Rattle.std.proofs.KnownBytes.{Appends-trans}
 use Rattle.script_lines.specs.declared.Line.{Line}
 use Rattle.script_lines.specs.declared.LineFault.{LineFault}
 use Rattle.script_lines.specs.declared.LineFault.TheVariants as fault
-use Rattle.script_lines.specs.Lines.{NumberedLine, Faulty, ends_at, numbered}
+use Rattle.script_lines.specs.Lines.{Faulty, ends_at, numbered}
 use Rattle.tcam_device.specs.declared.Write.{Write}
 use Rattle.replay.specs.declared.Act.{Act}
 use Rattle.replay.specs.Script.{ScriptEnd, Whole, FaultAt, Reading, NumberedAct, byte_end, script_of, pending_after, probes_after, limit_fault}
@@ -17,7 +17,7 @@ use Rattle.tcam_cli.specs.Headline.{IsAtAct, IsComplete, IsOutcome, acts_of, las
 use Rattle.tcam_cli.specs.Readings.{reading}
 use Rattle.script_lines.specs.declared.Over.{Over}
 use Rattle.script_lines.specs.declared.Over.TheVariants as over
-use Rattle.script_lines.specs.Reader.{HeldBytes, lines_held, HandsWhole, HandsLast, Hands, Again}
+use Rattle.script_lines.specs.Reader.{HeldBytes, lines_held, Hands, Again}
 use Rattle.replay.specs.Carried.{IsAt, Carries, CutsAtLine, CutsAtWrite, Wants}
 use Rattle.tcam_cli.specs.Turns.{onto_all, acts_next, IsGoing, IsAllRead, IsRead, acts_only, SoFar, Ends, Closes, GoesOn, WantsNext}
 use Rattle.tcam_cli.proofs.OneMore.{run-at, run-more, does-journal, does-report, step-pending, step-probes}
@@ -39,7 +39,7 @@ closes-script line result before after now (inl c) (inr d) = let e : ScriptFault
 closes-script line result before after now (inr c) (inl d) = let e : WriteFault ≡ Done = sym c.0 ∙ d in absurd (cc)
 closes-script line result before after now (inr c) (inr d) = let e : WriteFault ≡ Refused = sym c.0 ∙ d in absurd (cc)
 
-module _ (setting : Setting) (slots : ℕ) (bytes : List ℕ) (old : Held) (left : List ℕ) (last : Progress) (journal : List Write) (start before : Option (List ℕ)) (s : SoFar setting slots bytes old left last journal start before) where
+module _ (setting : Setting) (slots : ℕ) (bytes : List ℕ) (old : HeldBytes) (left : List ℕ) (last : Progress) (journal : List Write) (start before : Option (List ℕ)) (s : SoFar setting slots bytes old left last journal start before) where
   -- the last line is written, or a part of it
   closed : (taken now : List ℕ) (end : ScriptEnd) (after : Option (List ℕ)) (result : Status) → script_of (reading setting.family) bytes ≡ record { acts = s.acts; last = end }
       → Closes (last_line setting last end) (status_of last end) result before after → ((result ≡ Done) ⊎ (result ≡ Refused) → now ≡ [])

@@ -4,11 +4,11 @@ use Rattle.std.specs.Io.KnownBytes.{Appends}
 use Rattle.std.proofs.KnownBytes.{Appends-trans}
 use Rattle.rule_store.specs.Verdict.{Verdict, Accepted, Unsound, OutOfBits, OutOfSlots, verdict}
 use Rattle.tcam_device.specs.declared.Write.{Write}
-use Rattle.tcam_device.specs.State.{State, apply, state_after, replay}
+use Rattle.tcam_device.specs.State.{state_after, replay}
 use Rattle.replay.specs.declared.Act.{Act}
 use Rattle.replay.specs.declared.Act.TheVariants.{Command, Probe, Packet, Commit}
 use Rattle.replay.specs.Script.{pending_after, probes_after}
-use Rattle.replay.specs.Run.{Setting, Effect, Writes, Prints, written, printed, Progress, start, write_effects, Judged, HasEffects, Run, Runs}
+use Rattle.replay.specs.Run.{Setting, Effect, written, printed, Progress, start, write_effects, Judged, HasEffects, Run, Runs}
 use Rattle.replay.specs.Carried.{IsAt, Does}
 use Rattle.tcam_device.proofs.Spans.{state_after-append}
 use Rattle.replay.proofs.Effects.{written-append, printed-append, written-writes}

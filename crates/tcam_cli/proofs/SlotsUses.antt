@@ -50,10 +50,6 @@ or_nil (k ∷ ks) b e = cc
 some_kind : (k : ErrorKind) (ks : Kinds) → (k ∷ ks) ≡ [] → ⊥
 some_kind k ks e = cc
 
-cond_nil : (t : Bool) (k : ErrorKind) (b : Kinds) → cond t (k ∷ []) b ≡ [] → (t ≡ false) × (b ≡ [])
-cond_nil true k b e = absurd (some_kind k [] e)
-cond_nil false k b e = (refl, e)
-
 else_nil : (t : Bool) (k : ErrorKind) → cond t [] (k ∷ []) ≡ [] → t ≡ true
 else_nil true k e = refl
 else_nil false k e = absurd (some_kind k [] e)

@@ -48,11 +48,6 @@ starts setting slots bytes held left progress journal taken new all begun blank 
     subst (λ h. SoFar setting slots bytes h left progress journal taken taken) (sym new) whole
 
 -- what was told stays told
-pub told-forward : (a b : Option (List ℕ)) (left : List ℕ) → TakesSome a b → a ≡ Some left → (mid : List ℕ) × (b ≡ Some mid)
-told-forward None b left takes e = let bad : None ≡ Some left = e in absurd (cc)
-told-forward (Some x) None left takes e = absurd takes.1
-told-forward (Some x) (Some y) left takes e = (y, refl)
-
 pub told-source : (a b : Option (List ℕ)) → TakesSome a b → IsSome a → IsSome b
 told-source None b takes some = absurd (cc)
 told-source (Some x) None takes some = absurd takes.1

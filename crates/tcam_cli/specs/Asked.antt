@@ -1,5 +1,5 @@
 -- What the calls that read a command line answer: words that only their contracts need.
-use Rattle.std.specs.Prelude.{ℕ, Bool, Option, Some, None, List, codes, if◌then◌else◌}
+use Rattle.std.specs.Prelude.{Bool, Option, Some, None, List, codes, if◌then◌else◌}
 use Rattle.std.specs.Str.{bytes_eq}
 use Rattle.clap.specs.Walk.{Row, Text}
 use Rattle.clap.specs.ValueTests.{is_unsigned_in}

@@ -1,10 +1,10 @@
-use Rattle.std.proofs.Common.{◌≡◌, ◌∙◌, List, subst, sym}
+use Rattle.std.proofs.Common.{◌∙◌, List, subst, sym}
 use Rattle.std.specs.List.{AllByRecursion, AllZip}
 use Rattle.ternary_word.specs.Entry.{RankedPiece, IsEncodable}
 use Rattle.commit_writes.specs.PlannedBatch.{IsIdOf, IsRewriteOf}
 use Rattle.commit_writes.proofs.BatchRules.{IsSoundChange}
 use Rattle.batch_order.specs.Entries.{HaveIds}
-use Rattle.batch_order.proofs.Changed.{ArePieces, pieces_are}
+use Rattle.batch_order.proofs.Changed.{pieces_are}
 use Rattle.batch_order.proofs.Parted.{rewritten_encodable, rewritten_have_ids, erased_have_ids}
 use Rattle.batch_order.proofs.parts.parts_of.Goals as goal
 

@@ -165,5 +165,5 @@ pub returns-in-Ok-None-clause-leaves : goal.returns-in-Ok-None-clause-leaves
 returns-in-Ok-None-clause-leaves g c = let closes = c.finish.ensures.closes (g.D.Writable.slot_count c.args.device.now) in search rules
 
 pub returns-in-Err-BatchFull-clause-leaves : goal.returns-in-Err-BatchFull-clause-leaves
-returns-in-Err-BatchFull-clause-leaves g c = 
+returns-in-Err-BatchFull-clause-leaves g c =
     closes-leaves _ _ _ _ _ _ _ _ _ _ _ _ _ _ _ (rw c.in-Err-BatchFull.field-0-is at c.in-Err-BatchFull.ensures.leaves) (λ e. cc) (λ e. cc) c.fault-in-Err-BatchFull.ensures.closes c.fault-in-Err-BatchFull.ensures.kind.2
