@@ -31,7 +31,7 @@ use Rattle.rule_store.proofs.RulesAt.{cases_rule_at, rule_at-member}
 use Rattle.rule_store.proofs.Sound.{IsTaken, taken, sound-parts}
 use Rattle.rule_store.proofs.Sums.{slice_get-within, take-read}
 use Rattle.commit_writes.proofs.Filters.{all_from, in_reverse, reverse_in, pairs_reverse}
-use Rattle.batch_order.specs.Changes.{RuleChange, AreChanges, AreLast, names_at, change_at, change_by, last_of, placed, rule_behind, with_answer}
+use Rattle.batch_order.specs.Changes.{RuleChange, AreChanges, AreLastCommands, names_at, change_at, change_by, last_command, placed, rule_behind, with_new_result}
 
 -- no command of a sound batch names a priority, or one does, or a removal and then an addition do
 data IsNamed (priority : ℕ) : List Command → Type 0 where
@@ -177,7 +177,7 @@ or_first found other rule is = ap (λ some. option_or some other) is
 
 -- the last command that names a priority tells what stands there behind a sound batch
 pub named_change : (rules : List Rule) (batch : List Command) (priority : ℕ) (command : Command) → IsRuleSet rules → IsSound rules batch
-    → last_of (commands_naming priority batch) ≡ Some command → change_by rules command ≡ change_at rules batch priority
+    → last_command (commands_naming priority batch) ≡ Some command → change_by rules command ≡ change_at rules batch priority
 named_change rules batch priority last set sound last_is = go (commands_naming priority batch) refl (named_on rules [] batch priority sound unnamed)
   where
     after : rule_at (set_after rules batch) priority ≡ option_or (rule_at (additions batch) priority) (kept_at rules batch priority)
@@ -192,16 +192,16 @@ named_change rules batch priority last set sound last_is = go (commands_naming p
     keeps commands is none = after ∙ ap₂ option_or (additions_at batch priority ∙ ap (λ some. rule_at (additions some) priority) is ∙ none)
         (ap (λ some. option_map (with_result_after batch) (cond (not (list_any is_removal some)) (rule_at rules priority) None)) is)
 
-    told : (commands : List Command) (command : Command) → commands_naming priority batch ≡ commands → last_of commands ≡ Some command → named_priority command ≡ priority
+    told : (commands : List Command) (command : Command) → commands_naming priority batch ≡ commands → last_command commands ≡ Some command → named_priority command ≡ priority
         → rule_at (set_after rules batch) priority ≡ rule_behind (rule_at rules priority) command → change_by rules last ≡ change_at rules batch priority
     told commands command is one own now =
-        let both : Some last ≡ Some command = sym last_is ∙ ap last_of is ∙ one in
+        let both : Some last ≡ Some command = sym last_is ∙ ap last_command is ∙ one in
         let same : last ≡ command = cc in
         ap (change_by rules) same ∙ ap (λ n. record { old = rule_at rules n; new = rule_behind (rule_at rules n) command }) own
         ∙ ap (λ new. record { old = rule_at rules priority; new = new }) (sym now)
 
     go : (commands : List Command) → commands_naming priority batch ≡ commands → IsNamed priority commands → change_by rules last ≡ change_at rules batch priority
-    go commands is unnamed = absurd (let bad : None ≡ Some last = sym (ap last_of is) ∙ last_is in cc)
+    go commands is unnamed = absurd (let bad : None ≡ Some last = sym (ap last_command is) ∙ last_is in cc)
     go commands is (once command own) = told (command ∷ []) command is refl own (by command own is)
       where
         by : (one : Command) → named_priority one ≡ priority → commands_naming priority batch ≡ one ∷ [] → rule_at (set_after rules batch) priority ≡ rule_behind (rule_at rules priority) one
@@ -209,7 +209,7 @@ named_change rules batch priority last set sound last_is = go (commands_naming p
         by (Del removed) same named = keeps (Del removed ∷ []) named refl
         by (Set changed answer) same named = keeps (Set changed answer ∷ []) named refl ∙ given (rule_at rules priority) refl
           where
-            given : (found : Option Rule) → rule_at rules priority ≡ found → option_map (with_result_after batch) found ≡ with_answer answer found
+            given : (found : Option Rule) → rule_at rules priority ≡ found → option_map (with_result_after batch) found ≡ with_new_result answer found
             given None read = refl
             given (Some rule) read = ap (λ n. Some (record rule { result = n }))
                 (ap (λ n. result_after batch n rule.result) (own_priority rules priority rule read) ∙ result_at batch priority rule.result ∙ ap (λ some. result_after some priority rule.result) named
@@ -218,16 +218,16 @@ named_change rules batch priority last set sound last_is = go (commands_naming p
         told (Del priority ∷ Add rule ∷ []) (Add rule) is refl own (adds (Del priority ∷ Add rule ∷ []) rule is (cond-true _ _ _ (eq-eqb _ _ own)))
 
 -- a priority has a last command where some command names it
-last_names : (batch : List Command) (priority : ℕ) (command : Command) → last_of (commands_naming priority batch) ≡ Some command → IsTrue (names_at batch priority)
+last_names : (batch : List Command) (priority : ℕ) (command : Command) → last_command (commands_naming priority batch) ≡ Some command → IsTrue (names_at batch priority)
 last_names batch priority command is = go (commands_naming priority batch) refl is
   where
-    go : (commands : List Command) → commands_naming priority batch ≡ commands → last_of commands ≡ Some command → IsTrue (names_at batch priority)
+    go : (commands : List Command) → commands_naming priority batch ≡ commands → last_command commands ≡ Some command → IsTrue (names_at batch priority)
     go [] named last = absurd (cc)
     go (first ∷ rest) named last =
         let found = in_filter (λ one. nat_eq (named_priority one) priority) batch first (subst (λ some. Contains some first) (sym named) (contains_head first rest)) in
         any_from (λ one. nat_eq (named_priority one) priority) batch first found.0 found.1
 
-named_last : (batch : List Command) (priority : ℕ) → IsTrue (names_at batch priority) → (command : Command) × (last_of (commands_naming priority batch) ≡ Some command)
+named_last : (batch : List Command) (priority : ℕ) → IsTrue (names_at batch priority) → (command : Command) × (last_command (commands_naming priority batch) ≡ Some command)
 named_last batch priority named =
     let found = any_is (λ one. nat_eq (named_priority one) priority) batch named in
     go (commands_naming priority batch) (filter_in (λ one. nat_eq (named_priority one) priority) batch found.0 found.1 found.2)
@@ -236,17 +236,17 @@ named_last batch priority named =
     last_from first [] = (first, refl)
     last_from first (next ∷ rest) = last_from next rest
 
-    go : (commands : List Command) {one : Command} → Contains commands one → (command : Command) × (last_of commands ≡ Some command)
+    go : (commands : List Command) {one : Command} → Contains commands one → (command : Command) × (last_command commands ≡ Some command)
     go [] member = absurd (contains_none _ member)
     go (first ∷ rest) member = last_from first rest
 
 -- no command, no place
-pub last_none : (batch : List Command) (last : BTreeMap ℕ ℕ) → last.entries ≡ [] → IsOrdered nat_cmp last → AreLast batch [] last
+pub last_none : (batch : List Command) (last : BTreeMap ℕ ℕ) → last.entries ≡ [] → IsOrdered nat_cmp last → AreLastCommands batch [] last
 last_none batch last none ordered = record { ordered = ordered; within = λ priority. rw none tt; at = λ priority. rw none refl }
 
 -- a command more
-pub last_more : (batch : List Command) (place : ℕ) (command : Command) (old new : BTreeMap ℕ ℕ) → slice_get batch place ≡ Some command → AreLast batch (take place batch) old
-    → Updates nat_cmp old new (named_priority command) (Some place) → IsOrdered nat_cmp new → AreLast batch (take (place + 1) batch) new
+pub last_more : (batch : List Command) (place : ℕ) (command : Command) (old new : BTreeMap ℕ ℕ) → slice_get batch place ≡ Some command → AreLastCommands batch (take place batch) old
+    → Updates nat_cmp old new (named_priority command) (Some place) → IsOrdered nat_cmp new → AreLastCommands batch (take (place + 1) batch) new
 last_more batch place command old new read was updates ordered = record {
   ordered = ordered;
   within = λ priority. elim (cases_eq (named_priority command) priority) [
@@ -256,10 +256,10 @@ last_more batch place command old new read was updates ordered = record {
   at = λ priority. elim (cases_eq (named_priority command) priority) [
     | inl same ↦
         ap (placed batch) (here priority same) ∙ read
-        ∙ sym (ap last_of (split priority ∙ ap (λ some. commands_naming priority (take place batch) ++ some) (cond-true _ _ _ (eq-eqb _ _ same))) ∙ fold-append _ None (commands_naming priority (take place batch)) (command ∷ []))
+        ∙ sym (ap last_command (split priority ∙ ap (λ some. commands_naming priority (take place batch) ++ some) (cond-true _ _ _ (eq-eqb _ _ same))) ∙ fold-append _ None (commands_naming priority (take place batch)) (command ∷ []))
     | inr other ↦
         ap (placed batch) (there priority other) ∙ was.at priority
-        ∙ sym (ap last_of (split priority ∙ ap (λ some. commands_naming priority (take place batch) ++ some) (cond-false _ _ _ (ne_eqb _ _ other)) ∙ append-nil _))
+        ∙ sym (ap last_command (split priority ∙ ap (λ some. commands_naming priority (take place batch) ++ some) (cond-false _ _ _ (ne_eqb _ _ other)) ∙ append-nil _))
   ];
 }
   where
@@ -308,17 +308,17 @@ read_at batch place within = elim (slice_get_cases batch place).1 [
 -- the changes at some of the last places, those of the highest priorities: some of all places are left
 pub record AreDone (rules : List Rule) (batch : List Command) (left : List (ℕ × ℕ)) (changes : List RuleChange) : Type 0 where
   pub last : BTreeMap ℕ ℕ
-  pub are : AreLast batch batch last
+  pub are : AreLastCommands batch batch last
   pub done : List (ℕ × ℕ)
   pub entries : last.entries ≡ left ++ done
   pub changes_are : changes ≡ map (λ entry. change_at rules batch entry.0) (reverse done)
 
-pub done_none : (rules : List Rule) (batch : List Command) (last : BTreeMap ℕ ℕ) → AreLast batch batch last → AreDone rules batch last.entries []
+pub done_none : (rules : List Rule) (batch : List Command) (last : BTreeMap ℕ ℕ) → AreLastCommands batch batch last → AreDone rules batch last.entries []
 done_none rules batch last are = record { last = last; are = are; done = []; entries = sym (append-nil last.entries); changes_are = refl }
 
 module _ (rules : List Rule) (batch : List Command) where
   -- an entry's place is that of the last command of its priority
-  entry_place : (last : BTreeMap ℕ ℕ) → AreLast batch batch last → (entry : ℕ × ℕ) → Contains last.entries entry → (entry.1 < length batch) × (slice_get batch entry.1 ≡ last_of (commands_naming entry.0 batch))
+  entry_place : (last : BTreeMap ℕ ℕ) → AreLastCommands batch batch last → (entry : ℕ × ℕ) → Contains last.entries entry → (entry.1 < length batch) × (slice_get batch entry.1 ≡ last_command (commands_naming entry.0 batch))
   entry_place last are entry member =
       let found : get nat_cmp last entry.0 ≡ Some entry.1 = (btree_map_get_iff nat_cmp_total exact_unsigned last are.ordered entry.0 entry.1).1 member in (
         subst (λ found. IfSome found (λ at. at < length batch)) found (are.within entry.0),
@@ -370,7 +370,7 @@ module _ (rules : List Rule) (batch : List Command) where
           let (command, there) = read_at batch entry.1 within in
           subst (λ n. IsTrue (names_at batch n)) own (last_names batch entry.0 command (sym read ∙ there))
 
-      has_entry : (priority : ℕ) (found : Option ℕ) → get nat_cmp last priority ≡ found → (command : Command) × (last_of (commands_naming priority batch) ≡ Some command) → Contains (map (λ entry. entry.0) (reverse so.done)) priority
+      has_entry : (priority : ℕ) (found : Option ℕ) → get nat_cmp last priority ≡ found → (command : Command) × (last_command (commands_naming priority batch) ≡ Some command) → Contains (map (λ entry. entry.0) (reverse so.done)) priority
       has_entry priority None is (command, at) = absurd (let bad : None ≡ Some command = sym (ap (placed batch) is) ∙ so.are.at priority ∙ at in cc)
       has_entry priority (Some place) is (command, at) =
           map_in (λ entry. entry.0) (reverse so.done) (priority, place) (reverse_in so.done (priority, place)

@@ -38,8 +38,8 @@ pub record AreChanges (rules : List Rule) (batch : List Command) (changes : List
   pub are : changes ≡ map (change_at rules batch) priorities
 
 -- the last of some commands
-abbrev pub last_of : List Command → Option Command
-last_of commands = fold (λ before command. Some command) None commands
+abbrev pub last_command : List Command → Option Command
+last_command commands = fold (λ before command. Some command) None commands
 
 -- the command at a place, if there is one
 abbrev pub placed : List Command → Option ℕ → Option Command
@@ -47,20 +47,20 @@ placed batch None = None
 placed batch (Some place) = slice_get batch place
 
 -- at each priority that some commands of a batch name stands the place of the last of these
-pub record AreLast (batch commands : List Command) (last : BTreeMap ℕ ℕ) : Type 0 where
+pub record AreLastCommands (batch commands : List Command) (last : BTreeMap ℕ ℕ) : Type 0 where
   pub ordered : IsOrdered nat_cmp last
   pub within : (priority : ℕ) → IfSome (get nat_cmp last priority) (λ place. place < length batch)
-  pub at : (priority : ℕ) → placed batch (get nat_cmp last priority) ≡ last_of (commands_naming priority commands)
+  pub at : (priority : ℕ) → placed batch (get nat_cmp last priority) ≡ last_command (commands_naming priority commands)
 
 -- a rule with another result
-abbrev pub with_answer : ℕ → Option Rule → Option Rule
-with_answer answer None = None
-with_answer answer (Some rule) = Some (record rule { result = answer })
+abbrev pub with_new_result : ℕ → Option Rule → Option Rule
+with_new_result answer None = None
+with_new_result answer (Some rule) = Some (record rule { result = answer })
 
 -- what stands at a command's priority behind it, where this stood in the set
 abbrev pub rule_behind : Option Rule → Command → Option Rule
 rule_behind old (Add rule) = Some rule
-rule_behind old (Set priority answer) = with_answer answer old
+rule_behind old (Set priority answer) = with_new_result answer old
 rule_behind old (Del priority) = None
 
 -- what a command changes in a set at its priority

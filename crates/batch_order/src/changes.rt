@@ -4,7 +4,7 @@ ghost use Rattle.std.specs.Prelude.{◌≡◌, None, IfOk, option_copied};
 ghost use Rattle.rule_model.specs.RuleSet.{IsRuleSet, rule_at};
 ghost use Rattle.rule_store.specs.Batch.{batch_fault, named_priority};
 ghost use Rattle.batch_order.specs.Changes as changes;
-ghost use Rattle.batch_order.specs.Changes.{AreChanges, AreLast};
+ghost use Rattle.batch_order.specs.Changes.{AreChanges, AreLastCommands};
 
 use rule_model::{Rank, Rule};
 use rule_store::{Batch, Command, Store};
@@ -52,7 +52,7 @@ pub(crate) fn changes_of(
 
 /// The place of the last command that names each priority.
 fn last_commands(alloc: Global, batch: &Batch) -> Result<BTreeMap<Rank, u32>, AllocError>
-    ensures { IfOk result (λ last. AreLast batch.now batch.now last) }
+    ensures { IfOk result (λ last. AreLastCommands batch.now batch.now last) }
 {
     let mut last = BTreeMap::new(alloc);
     for place in 0..batch.len() {

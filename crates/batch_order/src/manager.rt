@@ -7,8 +7,7 @@ ghost use Rattle.tcam_device.specs.declared.Write.{Write};
 ghost use Rattle.tcam_device.specs.State.{IsInUse, Shows, apply, on_device, replay};
 ghost use Rattle.tcam_device.specs.Hitless.{ShowsOldOrNew};
 ghost use Rattle.rule_store.specs.Verdict.{entries_of, verdict, Accepted};
-ghost use Rattle.rule_store.specs.Batch.{batch_fault};
-ghost use Rattle.commit_writes.specs.PlannedBatch.{ChangesRules};
+ghost use Rattle.rule_store.specs.Batch.{ChangesRules, batch_fault};
 ghost use Rattle.batch_order.specs.Managed.{Judges, Answers, Holds, Steps, next_of, IsOn, Serves, fresh, writes_of};
 
 use crate::entries::LiveEntries;
@@ -17,7 +16,6 @@ use crate::parts::parts_of;
 use crate::plan::{Plan, erase_all, plan_changes, ready};
 use crate::{Done, Placement, Ready, Refusal, Step, refusal_of};
 use commit_writes::Rewrite;
-use rule_model::rule_conditions;
 use rule_store::{Batch, Command, Mode, Store};
 use slot_pool::Arrangement;
 use std::alloc::{AllocError, Global};
@@ -168,7 +166,7 @@ impl Manager {
             Ok(()) => {}
             Err(refusal) => return Err(refusal),
         }
-        rules_are_right(batch);
+        batch.changes_rules();
         match self.plan(batch, device) {
             Ok(ready) => Ok(ready),
             Err(AllocError) => Err(Refusal::Memory),
@@ -344,25 +342,5 @@ impl Manager {
                 Step::Finished(counts)
             }
         }
-    }
-}
-
-/// The conditions of each rule that a batch adds are right, by their types.
-fn rules_are_right(batch: &Batch)
-    ensures { AllByRecursion ChangesRules batch.now }
-{
-    for place in 0..batch.len() {
-        rule_is_right(&batch.at(place));
-    }
-}
-
-/// The conditions of a rule that a command adds are right, by their types.
-fn rule_is_right(command: &Command)
-    ensures { ChangesRules command.now }
-{
-    match command {
-        Command::Add(rule) => rule_conditions(rule),
-        Command::Set { .. } => {}
-        Command::Del(_) => {}
     }
 }

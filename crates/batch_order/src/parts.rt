@@ -4,11 +4,11 @@ ghost use Rattle.std.specs.Prelude.{◌≡◌, None, IfOk};
 ghost use Rattle.std.specs.List.{AllByRecursion, AllZip};
 ghost use Rattle.rule_model.specs.Rule.{HasConditions};
 ghost use Rattle.rule_model.specs.RuleSet.{IsRuleSet};
-ghost use Rattle.rule_store.specs.Batch.{batch_fault};
+ghost use Rattle.rule_store.specs.Batch.{ChangesRules, batch_fault};
 ghost use Rattle.ternary_word.specs.Entry.{IsEncodable};
 ghost use Rattle.commit_writes.specs.Bits.{no_bits};
 ghost use Rattle.commit_writes.specs.Shape.{erased_pieces, inserted_pieces, rewritten_pieces, set_pieces};
-ghost use Rattle.commit_writes.specs.PlannedBatch.{ChangesRules, IsIdOf, IsRewriteOf};
+ghost use Rattle.commit_writes.specs.PlannedBatch.{IsIdOf, IsRewriteOf};
 ghost use Rattle.batch_order.specs.Entries.{HasId, HaveIds};
 
 use crate::changes::changes_of;

@@ -10,12 +10,12 @@ use Rattle.rule_model.specs.Rule.{HasConditions}
 use Rattle.rule_model.specs.RuleSet.{IsRuleSet}
 use Rattle.rule_store.specs.declared.Command.{Command}
 use Rattle.rule_store.specs.declared.Command.TheVariants.{Add, Set, Del}
-use Rattle.rule_store.specs.Batch.{is_removal, batch_fault, commands_naming, removes, additions, result_after, with_result_after, set_after}
+use Rattle.rule_store.specs.Batch.{ChangesRules, is_removal, batch_fault, commands_naming, removes, additions, result_after, with_result_after, set_after}
 use Rattle.rule_store.proofs.After.{set_after-set}
 use Rattle.rule_store.proofs.Members.{set_after-member}
 use Rattle.commit_writes.specs.declared.Rewrite.{Rewrite}
 use Rattle.commit_writes.specs.Planned.{IdEntries, Planned}
-use Rattle.commit_writes.specs.PlannedBatch.{ChangesRules, IsPlannedBatch}
+use Rattle.commit_writes.specs.PlannedBatch.{IsPlannedBatch}
 use Rattle.commit_writes.specs.Shape.{names}
 use Rattle.commit_writes.proofs.Filters.{all_members}
 

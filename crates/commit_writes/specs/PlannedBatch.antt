@@ -8,8 +8,7 @@ use Rattle.rule_model.specs.RuleSet.{IsRuleSet}
 use Rattle.rule_model.specs.Routes.{IsIpv4Route}
 use Rattle.rule_store.specs.declared.Mode.TheVariants.{Cover}
 use Rattle.rule_store.specs.declared.Command.{Command}
-use Rattle.rule_store.specs.declared.Command.TheVariants.{Add, Set, Del}
-use Rattle.rule_store.specs.Batch.{additions, batch_fault}
+use Rattle.rule_store.specs.Batch.{ChangesRules, additions, batch_fault}
 use Rattle.ternary_word.specs.Entry.{RankedPiece, entry_for}
 use Rattle.overlap_index.specs.declared.LivePiece.{LivePiece}
 use Rattle.overlap_index.specs.Live.{without_id}
@@ -23,12 +22,6 @@ use Rattle.commit_writes.specs.Bits.{no_bits}
 use Rattle.commit_writes.specs.Shape.{set_pieces, inserted_pieces, rewritten_pieces, erased_pieces}
 use Rattle.commit_writes.specs.Commit.{IsSegment, AreCounts}
 use Rattle.commit_writes.specs.Planned.{IdEntries, Planned, ArePlanned, AreArranged, AreEntriesOf, entry_at, ranked_of, slots_after, planned_writes, longest_planned, greatest_planned}
-
--- a change of a set of rules: the conditions of what it adds are right
-abbrev pub ChangesRules : Command → Type 0
-ChangesRules (Add rule) = HasConditions rule
-ChangesRules (Set priority answer) = Unit {0}
-ChangesRules (Del priority) = Unit {0}
 
 -- the id is that of this live piece
 abbrev pub IsIdOf : List LivePiece → RankedPiece → ℕ → Type 0

@@ -3,7 +3,7 @@ use Rattle.std.proofs.Common.{Bool, true, ◌≡◌, ℕ, ◌≤◌, List, Optio
 use Rattle.std.specs.Io.KnownBytes.{Appends}
 use Rattle.script_lines.specs.Given.{counted}
 use Rattle.call_history.specs.Cause.{HasCause}
-use Rattle.replay.specs.Outside.{Hands, WritesLine, AppendsPart}
+use Rattle.replay.specs.Outside.{HandsOver, WritesLine, AppendsPart}
 
 -- a text that was handed over in part
 part-written : {E : Type 0} (result : Result (Unit {0}) E) (old new : Option (List ℕ)) (bytes : List ℕ)
@@ -33,10 +33,10 @@ writes-line taken accepted faults old new result bytes line same whole part caus
 
 module _ {S T U E F : Type 0} (taken : S → Option (List ℕ)) (accepted : S → List ℕ) (faults : S → ℕ) (old new : S) (Whole Part : Option (List ℕ) → Option (List ℕ) → Type 0) where
   -- the same handed by a call that answers something else
-  pub hands-ok : (value : T) (other : U) → Hands {T = T} {E = E} taken accepted faults old new Whole Part (Ok value) → Hands {T = U} {E = F} taken accepted faults old new Whole Part (Ok other)
+  pub hands-ok : (value : T) (other : U) → HandsOver {T = T} {E = E} taken accepted faults old new Whole Part (Ok value) → HandsOver {T = U} {E = F} taken accepted faults old new Whole Part (Ok other)
   hands-ok value other h =
       record { whole = h.whole; part = λ which. tt; told = h.told; cause = record { later = h.cause.later; once = h.cause.once; failed = tt; stayed = h.cause.stayed } }
 
-  pub hands-err : (value : E) (other : F) → Hands {T = T} {E = E} taken accepted faults old new Whole Part (Err value) → Hands {T = U} {E = F} taken accepted faults old new Whole Part (Err other)
+  pub hands-err : (value : E) (other : F) → HandsOver {T = T} {E = E} taken accepted faults old new Whole Part (Err value) → HandsOver {T = U} {E = F} taken accepted faults old new Whole Part (Err other)
   hands-err value other h =
       record { whole = λ which. tt; part = h.part; told = h.told; cause = record { later = h.cause.later; once = h.cause.once; failed = h.cause.failed; stayed = tt } }

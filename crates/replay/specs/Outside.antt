@@ -7,7 +7,7 @@ use Rattle.replay.specs.Run.{Effect, Prints, printed}
 
 -- What a call hands to a sink: one thing where it succeeds and another where it fails, by either count of the sink's
 -- bytes. What was told stays told, and the sink's failures are counted.
-pub record Hands {S T E : Type 0} (taken : S → Option (List ℕ)) (accepted : S → List ℕ) (faults : S → ℕ) (old new : S) (Whole Part : Option (List ℕ) → Option (List ℕ) → Type 0) (result : Result T E) : Type 0 where
+pub record HandsOver {S T E : Type 0} (taken : S → Option (List ℕ)) (accepted : S → List ℕ) (faults : S → ℕ) (old new : S) (Whole Part : Option (List ℕ) → Option (List ℕ) → Type 0) (result : Result T E) : Type 0 where
   pub whole : (which : Bool) → OnOk result (Whole (counted which (taken old) (accepted old)) (counted which (taken new) (accepted new)))
   pub part : (which : Bool) → OnErr result (Part (counted which (taken old) (accepted old)) (counted which (taken new) (accepted new)))
   pub told : IsSome (taken old) → IsSome (taken new)
@@ -21,7 +21,7 @@ AppendsPart taken_old taken_new line =
 -- one line, or a part of it
 abbrev pub WritesLine : {S T E : Type 0} → (S → Option (List ℕ)) → (S → List ℕ) → (S → ℕ) → S → S → List ℕ → Result T E → Type 0
 WritesLine taken accepted faults old new line result =
-    Hands taken accepted faults old new (λ before after. Appends before after line) (λ before after. AppendsPart before after line) result
+    HandsOver taken accepted faults old new (λ before after. Appends before after line) (λ before after. AppendsPart before after line) result
 
 -- some lines came about up to one that the sink didn't take whole
 pub record CutsLines (lines : List Effect) (taken_old taken_new : Option (List ℕ)) : Type 0 where
@@ -35,7 +35,7 @@ pub record CutsLines (lines : List Effect) (taken_old taken_new : Option (List �
 -- some lines one after the other, or those before one that is cut, and a part of that
 abbrev pub WritesLines : {S T E : Type 0} → (S → Option (List ℕ)) → (S → List ℕ) → (S → ℕ) → S → S → List Effect → Result T E → Type 0
 WritesLines taken accepted faults old new lines result =
-    Hands taken accepted faults old new (λ before after. Appends before after (printed lines)) (CutsLines lines) result
+    HandsOver taken accepted faults old new (λ before after. Appends before after (printed lines)) (CutsLines lines) result
 
 -- What a call leaves of a sink and a device, whatever comes of it: what was told stays told, and the slots stay. This
 -- failure has this cause: a count of failures rises, by one, exactly where the call ended by that failure.

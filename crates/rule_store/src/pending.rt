@@ -1,10 +1,12 @@
 //! The commands of a batch that waits for its commit.
 
 ghost use Rattle.std.specs.Prelude.{◌≡◌, ◌↔◌, ◌<◌, ◌≤◌, [], ◌∷◌, ◌++◌, Err, Some, IsTrue, length, IfOk, OnOk, OnErr, slice_get, take};
+ghost use Rattle.std.specs.List.{AllByRecursion};
+ghost use Rattle.rule_store.specs.Batch.{ChangesRules};
 ghost use Rattle.rule_store.specs.Naming as naming;
 
 use crate::Command;
-use rule_model::Rank;
+use rule_model::{Rank, rule_conditions};
 use std::alloc::{AllocError, Global};
 use std::collections::BTreeMap;
 use std::marker::Model;
@@ -92,6 +94,17 @@ fn naming_by(uses: Option<Uses>, command: &Command) -> Naming
     }
 }
 
+/// The conditions of a rule that a command adds are right, by their types.
+fn command_changes_rules(command: &Command)
+    ensures { ChangesRules command.now }
+{
+    match command {
+        Command::Add(rule) => rule_conditions(rule),
+        Command::Set { .. } => {}
+        Command::Del(_) => {}
+    }
+}
+
 impl Batch {
     ghost use Rattle.rule_store.specs.Naming.{naming_after};
 
@@ -115,6 +128,7 @@ impl Batch {
         if self.commands.len() >= BATCH_COMMANDS as usize {
             return Err(PushFault::Full);
         }
+        command_changes_rules(&command);
         let priority = command.priority();
         let uses = self.uses.get(&priority).copied();
         let naming = naming_by(uses, &command);
@@ -153,6 +167,13 @@ impl Batch {
         ensures { slice_get self.now i ≡ Some result }
     {
         self.commands[i as usize].command
+    }
+
+    /// The conditions of each rule that is added are right, by their types.
+    pub fn changes_rules(&self)
+        ensures { AllByRecursion ChangesRules self.now }
+    {
+        let _commands = self.commands.len();
     }
 
     /// Takes every command out. The memory of the list stays for later ones.

@@ -2,7 +2,7 @@ use Rattle.std.proofs.Common.{Some, subst, arith}
 use Rattle.std.specs.BTreeMap.{Updates}
 use Rattle.std.specs.Ordering.{nat_cmp}
 use Rattle.std.proofs.lemmas.List.{take_all}
-use Rattle.batch_order.specs.Changes.{AreLast}
+use Rattle.batch_order.specs.Changes.{AreLastCommands}
 use Rattle.batch_order.proofs.Named.{last_none, last_more}
 use Rattle.batch_order.proofs.changes.last_commands.Goals as goal
 
@@ -16,4 +16,4 @@ loop-place-preserved c =
     (subst (λ n. Updates nat_cmp c.loop-place.last c.insert.new.self n (Some place)) c.priority.ensures c.in_ok-insert.ensures.updates) c.in_ok-insert.ensures.ordered
 
 pub returns : goal.returns
-returns c = subst (λ commands. AreLast c.args.batch.now commands c.loop-place.last) (take_all c.loop-place.place c.args.batch.now (omega arith)) c.loop-place.invariant
+returns c = subst (λ commands. AreLastCommands c.args.batch.now commands c.loop-place.last) (take_all c.loop-place.place c.args.batch.now (omega arith)) c.loop-place.invariant

@@ -9,14 +9,14 @@ use Rattle.rule_store.specs.declared.Mode.{Mode}
 use Rattle.rule_store.specs.declared.Mode.TheVariants.{Cover}
 use Rattle.rule_store.specs.declared.Command.{Command}
 use Rattle.rule_store.specs.Store.{StoredRules}
-use Rattle.rule_store.specs.Batch.{batch_fault}
+use Rattle.rule_store.specs.Batch.{ChangesRules, batch_fault}
 use Rattle.rule_store.specs.Verdict.{verdict, Accepted, entries_of}
 use Rattle.ternary_word.specs.Entry.{RankedPiece}
 use Rattle.tcam_device.specs.State.{IsInUse}
 use Rattle.commit_writes.specs.declared.Rewrite.{Rewrite}
 use Rattle.commit_writes.specs.Bits.{no_bits}
 use Rattle.commit_writes.specs.Shape.{set_pieces, inserted_pieces, rewritten_pieces, erased_pieces}
-use Rattle.commit_writes.specs.PlannedBatch.{ChangesRules, IsIdOf, IsRewriteOf, erased_slots}
+use Rattle.commit_writes.specs.PlannedBatch.{IsIdOf, IsRewriteOf, erased_slots}
 use Rattle.commit_writes.proofs.BatchRules.{IsSoundChange}
 use Rattle.batch_order.specs.declared.Placement.{Placement}
 use Rattle.batch_order.specs.declared.manager.Held.{Held}
