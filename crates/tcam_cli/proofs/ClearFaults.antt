@@ -13,6 +13,7 @@ use Rattle.clap.specs.Simple.{App, Shape, label_of, names_of}
 use Rattle.clap.specs.Values.{refused_kind}
 use Rattle.clap.specs.Kinds.{Kinds, IsAmong, check_kinds, or_else, range_kinds, request_kinds, values_kinds}
 use Rattle.clap.specs.Faults.{count_fault, set_fault, action_fault, use_fault, settle_fault, react_fault, option_fault, long_fault, short_fault, bundle_step_fault, flags_fault, bundle_fault, flag_word_fault, other_fault, positional_fault, stray_fault, step_fault, turn_fault, walk_fault, given_default_fault, defaults_fault, level_fault, entered_fault, built_fault}
+use Rattle.replay.specs.declared.Family.{Family}
 use Rattle.tcam_cli.specs.CommandLine.{job_by_faults, job_of_fault}
 use Rattle.clap.specs.declared.builder.value_parser.ValueParser.{ValueParser}
 use Rattle.clap.specs.declared.builder.action.ArgAction.{ArgAction}
@@ -27,13 +28,14 @@ Clear (k ∷ []) = ⊤
 Clear (k ∷ l ∷ ks) = (k ≡ kind.UnknownArgument) × (l ≡ kind.InvalidSubcommand) × (ks ≡ [])
 
 -- the job by such kinds is that of the kind that came
-pub fault_job : (ks : Kinds) (sub : Option (Text × List Row)) (k : ErrorKind) → Clear ks → IsAmong k ks → job_by_faults ks sub ≡ job_of_fault k
-fault_job [] sub k clear among = absurd among
-fault_job (a ∷ []) sub k clear (inl e) = ap job_of_fault (sym e)
-fault_job (a ∷ []) sub k clear (inr none) = absurd none
-fault_job (a ∷ b ∷ ks) sub k clear (inl e) = sym (ap job_of_fault (e ∙ clear.0))
-fault_job (a ∷ b ∷ ks) sub k clear (inr (inl e)) = sym (ap job_of_fault (e ∙ clear.1))
-fault_job (a ∷ b ∷ ks) sub k clear (inr (inr more)) = absurd (subst (IsAmong k) clear.2 more)
+pub fault_job : (topic : Option Family) (ks : Kinds) (sub : Option (Text × List Row)) (k : ErrorKind) → Clear ks → IsAmong k ks
+    → job_by_faults topic ks sub ≡ job_of_fault topic k
+fault_job topic [] sub k clear among = absurd among
+fault_job topic (a ∷ []) sub k clear (inl e) = ap (job_of_fault topic) (sym e)
+fault_job topic (a ∷ []) sub k clear (inr none) = absurd none
+fault_job topic (a ∷ b ∷ ks) sub k clear (inl e) = sym (ap (job_of_fault topic) (e ∙ clear.0))
+fault_job topic (a ∷ b ∷ ks) sub k clear (inr (inl e)) = sym (ap (job_of_fault topic) (e ∙ clear.1))
+fault_job topic (a ∷ b ∷ ks) sub k clear (inr (inr more)) = absurd (subst (IsAmong k) clear.2 more)
 
 or_else-clear : (a b : Kinds) → Clear a → Clear b → Clear (or_else a b)
 or_else-clear [] b ha hb = hb

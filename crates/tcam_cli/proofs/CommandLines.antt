@@ -4,8 +4,9 @@ use Rattle.std.specs.Prelude.{codes}
 use Rattle.clap.proofs.OnLiterals.{clap_on_literals}
 use Rattle.batch_order.specs.declared.Placement.TheVariants.{Middle, Rank}
 use Rattle.replay.specs.declared.Family.TheVariants.{Route, Acl}
-use Rattle.tcam_cli.specs.CommandLine.{acl_command, help_text, job_of, placement_option, route_command, script_setting, slots_option, tcam_command, trace_flag, version_text}
+use Rattle.tcam_cli.specs.CommandLine.{acl_command, job_of, placement_option, route_command, script_setting, slots_option, tcam_command, trace_flag}
 use Rattle.tcam_cli.specs.Headline.{NoJob, Tells, Reads}
+use Rattle.tcam_cli.specs.OwnTexts.{acl_help, help_text, route_help, version_text}
 
 unknown : job_of (codes "tcam" ∷ codes "frob" ∷ []) ≡ NoJob
 unfolding clap_on_literals tcam_command route_command acl_command slots_option placement_option trace_flag
@@ -35,7 +36,7 @@ version : job_of (codes "tcam" ∷ codes "--version" ∷ []) ≡ Tells version_t
 unfolding clap_on_literals tcam_command route_command acl_command slots_option placement_option trace_flag
 version = refl
 
-help-of-routes : job_of (codes "tcam" ∷ codes "route" ∷ codes "--slots" ∷ codes "8" ∷ codes "-h" ∷ []) ≡ Tells help_text
+help-of-routes : job_of (codes "tcam" ∷ codes "route" ∷ codes "--slots" ∷ codes "8" ∷ codes "-h" ∷ []) ≡ Tells route_help
 unfolding clap_on_literals tcam_command route_command acl_command slots_option placement_option trace_flag
 help-of-routes = refl
 
@@ -46,6 +47,10 @@ no-help-command = refl
 help : job_of (codes "tcam" ∷ codes "--help" ∷ []) ≡ Tells help_text
 unfolding clap_on_literals tcam_command route_command acl_command slots_option placement_option trace_flag
 help = refl
+
+help-before-a-subcommand : job_of (codes "tcam" ∷ codes "-h" ∷ codes "acl" ∷ []) ≡ Tells help_text
+unfolding clap_on_literals tcam_command route_command acl_command slots_option placement_option trace_flag
+help-before-a-subcommand = refl
 
 help-behind-a-fault : job_of (codes "tcam" ∷ codes "route" ∷ codes "--slots" ∷ codes "0" ∷ codes "--help" ∷ []) ≡ NoJob
 unfolding clap_on_literals tcam_command route_command acl_command slots_option placement_option trace_flag
@@ -79,7 +84,7 @@ both : job_of (codes "tcam" ∷ codes "acl" ∷ codes "route" ∷ []) ≡ NoJob
 unfolding clap_on_literals tcam_command route_command acl_command slots_option placement_option trace_flag
 both = refl
 
-help-of-lists : job_of (codes "tcam" ∷ codes "acl" ∷ codes "--help" ∷ []) ≡ Tells help_text
+help-of-lists : job_of (codes "tcam" ∷ codes "acl" ∷ codes "--help" ∷ []) ≡ Tells acl_help
 unfolding clap_on_literals tcam_command route_command acl_command slots_option placement_option trace_flag
 help-of-lists = refl
 

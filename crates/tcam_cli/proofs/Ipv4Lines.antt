@@ -2,13 +2,12 @@
 use Rattle.std.proofs.Common.{◌≡◌, ℕ, ◌≤◌, ◌-◌, ◌%◌, ◌^◌, ◌==◌, ◌&&◌, nat_le, inl, inr, List, [], ◌∷◌, codes, Option, Some, None, Result, Ok, Err, ok_or, cond, refl, ap, subst, arith}
 use Rattle.std.specs.Str.{bytes_eq}
 use Rattle.std.proofs.lemmas.Bool.{cases_Bool, and_parts, leb-true}
-use Rattle.rule_model.specs.declared.Key.{Key}
 use Rattle.rule_model.specs.AddressBlock.{AddressBlock, IsIpv4Block, ipv4_block}
 use Rattle.line_words.specs.declared.WordFault.{WordFault}
 use Rattle.line_words.specs.declared.WordFault.TheVariants.{BadPrefix}
 use Rattle.line_words.specs.Words.{◌>>=◌, words_of, is_skipped}
-use Rattle.line_words.specs.Kinds.{ipv4_notation, result_of, key_of, ipv4_number, ipv4_prefix, number_up_to, is_number, number_value, block_of, parts_at}
-use Rattle.line_words.specs.Commands.{common_command, commit_of, frame_of}
+use Rattle.line_words.specs.Kinds.{ipv4_notation, result_of, ipv4_number, ipv4_prefix, number_up_to, is_number, number_value, block_of, parts_at}
+use Rattle.line_words.specs.Commands.{common_command}
 use Rattle.line_words.specs.declared.commands.CommonCommand.{CommonCommand}
 use Rattle.route_reader.specs.declared.RouteCommand.{RouteCommand}
 use Rattle.route_reader.specs.declared.RouteCommand.TheVariants.{Add, Set, Del, Common}

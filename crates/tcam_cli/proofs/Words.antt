@@ -19,7 +19,7 @@ use Rattle.replay.specs.declared.Family.TheVariants.{Route, Acl}
 use Rattle.tcam_cli.specs.declared.command_line.Asked.{Asked}
 use Rattle.tcam_cli.specs.declared.command_line.Asked.TheVariants.{Script}
 use Rattle.tcam_cli.specs.declared.command_line.WordsFault.{WordsFault}
-use Rattle.tcam_cli.specs.CommandLine.{job_by_faults, job_of, job_of_fault, job_of_subcommand, job_at, number_of, placed_by, acl_command, placement_option, route_command, slots_option, tcam_command, text_of, trace_flag, is_traced}
+use Rattle.tcam_cli.specs.CommandLine.{job_by_faults, job_of, job_of_fault, job_of_subcommand, job_at, number_of, placed_by, acl_command, placement_option, route_command, slots_option, tcam_command, text_of, trace_flag, is_traced, topic_in}
 use Rattle.tcam_cli.specs.Asked.{asked_by, tested_job}
 use Rattle.tcam_cli.specs.Headline.{Job, NoJob}
 use Rattle.std.specs.Str.{bytes_eq}
@@ -57,12 +57,14 @@ pub taken : (a : App) (words : List Text) (m : ArgMatches) → a ≡ tcam_comman
     → job_of words ≡ tested_job (subcommand_rows_of m)
 taken a words m is none rows =
     let free = ap (λ (x : App). fault_of x words) (sym is) ∙ none in
-    ap (λ ks. job_by_faults ks (subcommand_of tcam_command words)) free ∙ tested words free (subcommand_of tcam_command words) refl
+    ap (λ ks. job_by_faults (topic_in words) ks (subcommand_of tcam_command words)) free ∙ tested words free (subcommand_of tcam_command words) refl
     ∙ ap tested_job (ap (λ (x : App). subcommand_of x words) (sym is) ∙ sym rows)
 
-pub refused : (a : App) (words : List Text) (k : ErrorKind) → a ≡ tcam_command → IsAmong k (fault_of a words) → job_of words ≡ job_of_fault k
-refused a words k is among =
-    fault_job (fault_of tcam_command words) (subcommand_of tcam_command words) k (tcam-clear words) (subst (λ (x : App). IsAmong k (fault_of x words)) is among)
+pub refused : (a : App) (words : List Text) (topic : Option Family) (k : ErrorKind) → a ≡ tcam_command → topic ≡ topic_in words → IsAmong k (fault_of a words)
+    → job_of words ≡ job_of_fault topic k
+refused a words topic k is whose among =
+    fault_job (topic_in words) (fault_of tcam_command words) (subcommand_of tcam_command words) k (tcam-clear words) (subst (λ (x : App). IsAmong k (fault_of x words)) is among)
+    ∙ ap (λ t. job_of_fault t k) (sym whose)
 
 -- an answer that names a job
 pub then_asked : (r : Result Asked WordsFault) (x y : Job) → y ≡ x → IfOk r (λ job. x ≡ asked_by job) → IfOk r (λ job. y ≡ asked_by job)

@@ -8,7 +8,8 @@ use Rattle.replay.specs.declared.Family.{Family}
 use Rattle.replay.specs.declared.Family.TheVariants.{Route, Acl}
 use Rattle.tcam_cli.specs.declared.command_line.Asked.{Asked}
 use Rattle.tcam_cli.specs.declared.command_line.Asked.TheVariants as asked
-use Rattle.tcam_cli.specs.CommandLine.{help_text, is_traced, job_at, number_in, placed_by, script_setting, text_of, version_text}
+use Rattle.tcam_cli.specs.CommandLine.{is_traced, job_at, number_in, placed_by, script_setting, text_of}
+use Rattle.tcam_cli.specs.OwnTexts.{help_on, version_text}
 use Rattle.tcam_cli.specs.Headline.{Job, NoJob, Tells, Reads}
 
 -- the same for rows that may not be clap's, whose text of --slots is tested again; where clap takes
@@ -30,5 +31,5 @@ tested_job (Some (name, rows)) = tested_job_of_rows name rows
 -- what an answer says that words ask for
 abbrev pub asked_by : Asked → Job
 asked_by (asked.Script family slots placement trace) = Reads (script_setting family slots placement trace)
-asked_by asked.Help = Tells help_text
+asked_by (asked.Help topic) = Tells (help_on topic)
 asked_by asked.Version = Tells version_text

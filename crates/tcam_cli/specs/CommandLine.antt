@@ -1,5 +1,5 @@
 -- The command lines, by the declaration that clap is given, and what each asks for.
-use Rattle.std.specs.Prelude.{ℕ, Bool, Option, Some, None, unwrap_or, List, [], ◌∷◌, ◌++◌, true, codes, if◌then◌else◌}
+use Rattle.std.specs.Prelude.{ℕ, Bool, Option, Some, None, unwrap_or, option_and_then, slice_get, List, [], ◌∷◌, true, codes, if◌then◌else◌}
 use Rattle.std.specs.Str.{bytes_eq}
 use Rattle.std.specs.Str.Parse.{digits_value, without_leading_plus}
 use Rattle.clap.specs.Walk.{Rule, Row, Text, first_of}
@@ -17,6 +17,7 @@ use Rattle.replay.specs.declared.Family.{Family}
 use Rattle.replay.specs.declared.Family.TheVariants.{Route, Acl}
 use Rattle.replay.specs.Run.{Setting}
 use Rattle.tcam_cli.specs.Headline.{Job, NoJob, Tells, Reads}
+use Rattle.tcam_cli.specs.OwnTexts.{help_on, version_text}
 
 -- a script of a family over so many slots in use, each insertion aiming as the placement says, with a trace or without
 abbrev pub script_setting : Family → ℕ → Placement → Bool → Setting
@@ -106,43 +107,26 @@ abbrev pub job_of_subcommand : Option (Text × List Row) → Job
 job_of_subcommand None = NoJob
 job_of_subcommand (Some (name, rows)) = job_of_rows name rows
 
--- the help: what the program does, its command lines and an example
-unfoldable pub help_text : List ℕ
-help_text = codes "tcam: the table manager of a ternary content-addressable memory."
-    ++ 10 ∷ codes "It reads a script from standard input, carries its commits out over a modelled"
-    ++ 10 ∷ codes "device one write at a time, and writes a report to standard output."
-    ++ 10 ∷ 10 ∷ codes "    tcam route [--slots N] [--placement P] [--trace]    a script of routes"
-    ++ 10 ∷ codes "    tcam acl [--slots N] [--placement P] [--trace]      a script of an access list"
-    ++ 10 ∷ codes "    tcam --help                                         this text"
-    ++ 10 ∷ codes "    tcam --version                                      name and version"
-    ++ 10 ∷ 10 ∷ codes "    --slots N        N slots in use, 1 to 4096, by default 4096"
-    ++ 10 ∷ codes "    --placement P    where a new entry aims: middle, of the gap between the entries that it must stand"
-    ++ 10 ∷ codes "                     between, which is the default, or rank, its place among all entries; rank loads"
-    ++ 10 ∷ codes "                     a table in one write an entry"
-    ++ 10 ∷ codes "    --trace          a line for each device write"
-    ++ 10 ∷ 10 ∷ codes "Example:"
-    ++ 10 ∷ 10 ∷ codes "    printf 'route add 10.0.0.0/8 7"
-    ++ 92 ∷ codes "ncommit"
-    ++ 92 ∷ codes "npacket 0.0.0.0 10.1.2.3 0 0 0"
-    ++ 92 ∷ codes "n' | tcam route"
-    ++ 10 ∷ []
+-- the family of scripts whose subcommand a word names
+abbrev pub family_named : Text → Option Family
+family_named word = if bytes_eq word (codes "route") then Some Route else if bytes_eq word (codes "acl") then Some Acl else None
 
--- the name and the version
-unfoldable pub version_text : List ℕ
-version_text = codes "tcam 0.1.0" ++ 10 ∷ []
+-- whose help words ask for, the program's name first: that of the subcommand that follows the name, if one does
+abbrev pub topic_in : List Text → Option Family
+topic_in words = option_and_then family_named (slice_get words 1)
 
--- what words ask for that clap doesn't take, by the kind of error that it answers
-abbrev pub job_of_fault : ErrorKind → Job
-job_of_fault kind.DisplayHelp = Tells help_text
-job_of_fault kind.DisplayVersion = Tells version_text
-job_of_fault k = NoJob
+-- what words ask for that clap doesn't take, by the kind of error that it answers and whose help it would be
+abbrev pub job_of_fault : Option Family → ErrorKind → Job
+job_of_fault topic kind.DisplayHelp = Tells (help_on topic)
+job_of_fault topic kind.DisplayVersion = Tells version_text
+job_of_fault topic k = NoJob
 
 -- the same by the kinds that it may answer, and what the subcommand does where there is none
-abbrev pub job_by_faults : Kinds → Option (Text × List Row) → Job
-job_by_faults [] subcommand = job_of_subcommand subcommand
-job_by_faults (k ∷ []) subcommand = job_of_fault k
-job_by_faults (k ∷ l ∷ ks) subcommand = NoJob
+abbrev pub job_by_faults : Option Family → Kinds → Option (Text × List Row) → Job
+job_by_faults topic [] subcommand = job_of_subcommand subcommand
+job_by_faults topic (k ∷ []) subcommand = job_of_fault topic k
+job_by_faults topic (k ∷ l ∷ ks) subcommand = NoJob
 
 -- what words ask for, the program's name first
 abbrev pub job_of : List Text → Job
-job_of words = job_by_faults (fault_of tcam_command words) (subcommand_of tcam_command words)
+job_of words = job_by_faults (topic_in words) (fault_of tcam_command words) (subcommand_of tcam_command words)

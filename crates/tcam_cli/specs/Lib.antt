@@ -1,5 +1,6 @@
 pub mod Readings
 pub mod Headline
+pub mod OwnTexts
 pub mod CommandLine
 pub mod Asked
 pub mod Turns

@@ -1,5 +1,5 @@
 -- Where a run over a script stands between two lines, what a turn comes to, how a run ends, and what a command of it has.
-use Rattle.std.specs.Prelude.{◌≡◌, ◌≢◌, ◌⊎◌, ℕ, ◌*◌, ◌≤◌, ◌++◌, ◌∷◌, Bool, Option, None, Some, IsSome, IfNone, IfSome, List, [], length, map}
+use Rattle.std.specs.Prelude.{◌≡◌, ◌≢◌, ◌⊎◌, ℕ, ◌≤◌, ◌++◌, ◌∷◌, Bool, Option, None, Some, IsSome, IfNone, IfSome, List, [], length, map}
 use Rattle.std.specs.Io.KnownBytes.{Appends}
 use Rattle.call_history.specs.Cause.{IsCounted}
 use Rattle.script_lines.specs.Given.{HasEnd, MayGive, counted}

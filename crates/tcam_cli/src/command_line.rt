@@ -3,7 +3,7 @@
 ghost use Rattle.std.specs.Prelude.{◌≡◌, ◌≤◌, codes, Err, IfOk, IsErrOf, IfSome, IsNone, None, false, map, string_bytes};
 ghost use Rattle.clap.specs.Words.{app_of, rule_of, rows_of, found_of, subcommand_rows_of, kind_of};
 ghost use Rattle.clap.specs.declared.builder.command.Command.TheViews.{out-Command};
-ghost use Rattle.tcam_cli.specs.CommandLine.{is_traced, job_at, job_of, job_of_fault, placed_by, placement_in};
+ghost use Rattle.tcam_cli.specs.CommandLine.{family_named, is_traced, job_at, job_of, job_of_fault, placed_by, placement_in, topic_in};
 ghost use Rattle.tcam_cli.specs.Asked.{asked_by, job_of_slots, tested_job};
 ghost use Rattle.tcam_cli.specs.CommandLine.{acl_command as acl_app, placement_option, route_command as route_app, slots_option, tcam_command as tcam_app, text_of, trace_flag};
 ghost use Rattle.tcam_cli.specs.Headline.{NoJob};
@@ -12,31 +12,6 @@ use clap::error::ErrorKind;
 use clap::{Arg, ArgAction, ArgMatches, Command, Error};
 use replay::{Family, Placement};
 use std::alloc::{AllocError, Global};
-
-/// What `--help` prints.
-pub const HELP: &str = "\
-tcam: the table manager of a ternary content-addressable memory.
-It reads a script from standard input, carries its commits out over a modelled
-device one write at a time, and writes a report to standard output.
-
-    tcam route [--slots N] [--placement P] [--trace]    a script of routes
-    tcam acl [--slots N] [--placement P] [--trace]      a script of an access list
-    tcam --help                                         this text
-    tcam --version                                      name and version
-
-    --slots N        N slots in use, 1 to 4096, by default 4096
-    --placement P    where a new entry aims: middle, of the gap between the entries that it must stand
-                     between, which is the default, or rank, its place among all entries; rank loads
-                     a table in one write an entry
-    --trace          a line for each device write
-
-Example:
-
-    printf 'route add 10.0.0.0/8 7\\ncommit\\npacket 0.0.0.0 10.1.2.3 0 0 0\\n' | tcam route
-";
-
-/// What `--version` prints.
-pub const VERSION: &str = "tcam 0.1.0\n";
 
 /// What a command line asks for.
 #[derive(Clone, Copy, Debug, PartialEq, Eq)]
@@ -49,8 +24,8 @@ pub enum Asked {
         placement: Placement,
         trace: bool,
     },
-    /// The help text.
-    Help,
+    /// The help of the scripts of this family, or of the program where none is named.
+    Help(Option<Family>),
     /// Name and version.
     Version,
 }
@@ -151,7 +126,7 @@ pub fn read_words(alloc: Global, words: &[String]) -> Result<Asked, WordsFault>
     };
     match command.try_get_matches_from(words) {
         Ok(matches) => job_of_matches(&matches),
-        Err(error) => job_of_error(&error),
+        Err(error) => job_of_error(topic_of(words), &error),
     }
 }
 
@@ -212,15 +187,34 @@ fn slots_of(text: &str) -> Option<u32>
     }
 }
 
-/// The job of words that weren't: help, the version, or none.
-fn job_of_error(error: &Error) -> Result<Asked, WordsFault>
-    ensures asked { IfOk result (λ job. job_of_fault (kind_of error.now) ≡ asked_by job) }
-    ensures usage { IsErrOf result WordsFault.Usage → job_of_fault (kind_of error.now) ≡ NoJob }
+/// Whose help words ask for, the program's name first, if they ask for help: that of the subcommand that follows the
+/// name, or the program's own.
+fn topic_of(words: &[String]) -> Option<Family>
+    ensures { result ≡ topic_in (map string_bytes words.now) }
+{
+    family_of(words.get(1)?.as_str())
+}
+
+/// The family of scripts whose subcommand a word names.
+fn family_of(word: &str) -> Option<Family>
+    ensures { result ≡ family_named word.now }
+{
+    match word {
+        "route" => Some(Family::Route),
+        "acl" => Some(Family::Acl),
+        _ => None,
+    }
+}
+
+/// The job of words that weren't, where their help is that of a topic: help, the version, or none.
+fn job_of_error(topic: Option<Family>, error: &Error) -> Result<Asked, WordsFault>
+    ensures asked { IfOk result (λ job. job_of_fault topic (kind_of error.now) ≡ asked_by job) }
+    ensures usage { IsErrOf result WordsFault.Usage → job_of_fault topic (kind_of error.now) ≡ NoJob }
     ensures memory { kind_of error.now ≡ ErrorKind.OutOfMemory → result ≡ Err WordsFault.Memory }
     ensures slots { IfOk result (λ job. (family n placement trace : _) → job ≡ Asked.Script family n placement trace → ⊥) }
 {
     match error.kind() {
-        ErrorKind::DisplayHelp => Ok(Asked::Help),
+        ErrorKind::DisplayHelp => Ok(Asked::Help(topic)),
         ErrorKind::DisplayVersion => Ok(Asked::Version),
         ErrorKind::OutOfMemory => Err(WordsFault::Memory),
         _ => Err(WordsFault::Usage),

@@ -7,8 +7,8 @@
 //! gave and the sink accepted, for every rest that may come behind (`specs/Given`).
 //!
 //! # How it stands
-//! `command_line` says what `clap` is to take and what its answer asks for; `top` is the loop of lines, acts and the
-//! last line. Everything but the few lines of `main` is proved.
+//! `command_line` says what `clap` is to take and what its answer asks for, `own_texts` what the program says about
+//! itself; `top` is the loop of lines, acts and the last line. Everything but the few lines of `main` is proved.
 //!
 //! # What it cost
 //! Lines are carried out before the next read, so a source that gives one line a read is read once a line.
@@ -23,6 +23,7 @@ ghost use Rattle.tcam_cli.specs.ExitCodes.{exit_code};
 mod command_line;
 #[cfg(test)]
 mod list_tests;
+mod own_texts;
 #[cfg(test)]
 mod probe_tests;
 #[cfg(test)]

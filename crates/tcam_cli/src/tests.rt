@@ -116,6 +116,38 @@ fn usage(rt: HostRuntime) -> Result<(), Fail> {
     check(&rt, twice, FIRST, Status::Usage, "usage\n", 0)
 }
 
+/// Runs words that ask for a help, and compares its first line and its number of bytes.
+fn tells_help(
+    rt: &(impl Abort + AllocGlobal),
+    line: &str,
+    first: &str,
+    len: usize,
+) -> Result<(), Fail> {
+    let alloc = rt.alloc();
+    let words = words_of(alloc, line)?;
+    let mut source = MemSource::new(FIRST.as_bytes());
+    let mut sink = MemSink::new(alloc)?;
+    sink.reserve(4096)?;
+    let mut device = MemTcam::new(alloc, 4096)?;
+    let ended = run(alloc, words.as_slice(), &mut source, &mut sink, &mut device);
+    assert_eq!(rt; ended, Status::Done, "{line}");
+    assert_eq!(rt; sink.bytes().len(), len, "{line}");
+    assert_eq!(rt; sink.bytes().starts_with(first.as_bytes()), true, "{line}");
+    assert_eq!(rt; device.journal().len(), 0, "{line}");
+    Ok(())
+}
+
+#[test]
+fn helps(rt: HostRuntime) -> Result<(), Fail> {
+    let program = "tcam: the table manager of a ternary content-addressable memory.\n";
+    let routes = "tcam route: carries out a script of routes, and writes a report.\n";
+    let lists = "tcam acl: carries out a script of an access list, and writes a report.\n";
+    tells_help(&rt, "tcam --help", program, 1471)?;
+    tells_help(&rt, "tcam -h acl", program, 1471)?;
+    tells_help(&rt, "tcam route --slots 8 -h", routes, 1451)?;
+    tells_help(&rt, "tcam acl --help", lists, 1716)
+}
+
 #[test]
 fn pending(rt: HostRuntime) -> Result<(), Fail> {
     let report = "end rules 0 entries 0 writes 0 pending 1\n";

@@ -20,7 +20,8 @@ ghost use Rattle.tcam_cli.specs.Readings.{acl_act, common_act, reading, route_ac
 ghost use Rattle.tcam_cli.specs.Turns.{ClosesReport, IsBetweenLines, IsIpv4Command, TurnsBy};
 
 use crate::Status;
-use crate::command_line::{Asked, HELP, VERSION, WordsFault, read_words};
+use crate::command_line::{Asked, WordsFault, read_words};
+use crate::own_texts::{VERSION, help_of};
 use acl_reader::{AclCommand, read_acl};
 use line_words::{CommonCommand, WordFault};
 use replay::{Act, Family, Mode, Placement, Run, RunFault, write_fault, write_text};
@@ -78,7 +79,7 @@ pub fn run<S: Source, K: Sink, D: Device>(
             Ok(mut run) => run_script(&mut run, source, sink, device),
             Err(_) => Status::Memory,
         },
-        Ok(Asked::Help) => tell(sink, HELP, Status::Done),
+        Ok(Asked::Help(topic)) => tell(sink, help_of(topic), Status::Done),
         Ok(Asked::Version) => tell(sink, VERSION, Status::Done),
         Err(WordsFault::Usage) => tell(sink, "usage\n", Status::Usage),
         Err(WordsFault::Memory) => Status::Memory,

@@ -23,7 +23,7 @@ returns-in-Err-try_get_matches_from-clause-asked c =
     let is = c.in-Ok.ensures in
     elim (c.in-Err-try_get_matches_from.ensures.kinds (ap is_simple_and_free is ∙ simple_and_free)) [
       | inl memory ↦ rw (c.job_of_error.ensures.memory memory) tt
-      | inr among ↦ then_asked c.job_of_error.result _ _ (refused _ (map string_bytes c.args.words.now) _ is among) c.job_of_error.ensures.asked
+      | inr among ↦ then_asked c.job_of_error.result _ _ (refused _ (map string_bytes c.args.words.now) _ _ is c.topic_of.ensures among) c.job_of_error.ensures.asked
     ]
 
 pub returns-in-Err-try_get_matches_from-clause-usage : goal.returns-in-Err-try_get_matches_from-clause-usage
@@ -33,7 +33,7 @@ returns-in-Err-try_get_matches_from-clause-usage c =
       | inl memory ↦
           let bad = rw (c.job_of_error.ensures.memory memory) at e in
           cc
-      | inr among ↦ refused _ (map string_bytes c.args.words.now) _ is among ∙ c.job_of_error.ensures.usage e
+      | inr among ↦ refused _ (map string_bytes c.args.words.now) _ _ is c.topic_of.ensures among ∙ c.job_of_error.ensures.usage e
     ]
 
 pub returns-in-Err-try_get_matches_from-clause-slots : goal.returns-in-Err-try_get_matches_from-clause-slots

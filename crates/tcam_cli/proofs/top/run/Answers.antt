@@ -2,8 +2,8 @@ use Rattle.std.proofs.Common.{true, ◌≤◌, refl, ap, sym, ◌∙◌, Err, ar
 use Rattle.tcam_cli.specs.declared.Status.TheVariants.{Done, Usage}
 use Rattle.replay.specs.Running.{Running, progress_of, setting_of}
 use Rattle.replay.specs.Text.{usage_line}
-use Rattle.tcam_cli.specs.CommandLine.{help_text, version_text}
-use Rattle.tcam_cli.specs.Headline.{Reads}
+use Rattle.tcam_cli.specs.OwnTexts.{version_text}
+use Rattle.tcam_cli.specs.Headline.{Reads, Tells}
 use Rattle.tcam_cli.proofs.Begun.{begins}
 use Rattle.tcam_cli.proofs.TopCall.{memory-carried, told-alone}
 use Rattle.tcam_cli.proofs.HitlessRuns.{hitless-job}
@@ -57,10 +57,9 @@ pub returns-in-Err-clause-in_time : goal.returns-in-Err-clause-in_time
 returns-in-Err-clause-in_time g c = nothing-read _ _ _ _ _ _
 
 pub returns-in-Ok-Help-clause-carried_out : goal.returns-in-Ok-Help-clause-carried_out
-unfolding help_text
 returns-in-Ok-Help-clause-carried_out g c =
-    let is = rw c.in-Ok-Help.field-0-is at c.in-Ok-Help.ensures.asked in
-    rw is (told-alone help_text Done _ _ _ _ _ c.requires.blank (c.tell.ensures.closes.closes true))
+    let is = (rw c.in-Ok-Help.field-0-is at c.in-Ok-Help.ensures.asked) ∙ ap Tells (sym c.help_of.ensures) in
+    rw is (told-alone c.help_of.result.now Done _ _ _ _ _ c.requires.blank (c.tell.ensures.closes.closes true))
 
 pub returns-in-Ok-Version-clause-carried_out : goal.returns-in-Ok-Version-clause-carried_out
 unfolding version_text
@@ -80,10 +79,10 @@ pub returns-in-Err-Memory-clause-hitless : goal.returns-in-Err-Memory-clause-hit
 returns-in-Err-Memory-clause-hitless g c = hitless-job _ _ _ _ _ _ _ _ (memory-carried _ _ _ (g.K.Sink.taken c.args.sink.now) _ c.requires.blank)
 
 pub returns-in-Ok-Help-clause-given : goal.returns-in-Ok-Help-clause-given
-unfolding help_text
 returns-in-Ok-Help-clause-given g c = λ which.
-    let is = rw c.in-Ok-Help.field-0-is at c.in-Ok-Help.ensures.asked in
-    rw is (promised-none _ _ _ _ _ _ _ (λ left. told-alone help_text Done _ left _ _ _ c.requires.blank (c.tell.ensures.closes.closes which)) (λ left. may-tell help_text _ _ _ _ left (c.tell.ensures.closes.closes which)))
+    let is = (rw c.in-Ok-Help.field-0-is at c.in-Ok-Help.ensures.asked) ∙ ap Tells (sym c.help_of.ensures) in
+    let text = c.help_of.result.now in
+    rw is (promised-none _ _ _ _ _ _ _ (λ left. told-alone text Done _ left _ _ _ c.requires.blank (c.tell.ensures.closes.closes which)) (λ left. may-tell text _ _ _ _ left (c.tell.ensures.closes.closes which)))
 
 pub returns-in-Ok-Version-clause-given : goal.returns-in-Ok-Version-clause-given
 unfolding version_text

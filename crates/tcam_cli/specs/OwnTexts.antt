@@ -1,0 +1,110 @@
+-- The texts that the program prints about itself.
+use Rattle.std.specs.Prelude.{ℕ, Option, Some, None, List, [], ◌∷◌, ◌++◌, codes}
+use Rattle.replay.specs.declared.Family.{Family}
+use Rattle.replay.specs.declared.Family.TheVariants.{Route, Acl}
+
+-- the help of the program: what it does, its command lines, options and exit statuses
+unfoldable pub help_text : List ℕ
+help_text = codes "tcam: the table manager of a ternary content-addressable memory."
+    ++ 10 ∷ codes "It reads a script from standard input, carries its commits out over a modelled"
+    ++ 10 ∷ codes "device one write at a time, and writes a report to standard output."
+    ++ 10 ∷ 10 ∷ codes "    tcam route [OPTIONS] < FILE    a script of routes"
+    ++ 10 ∷ codes "    tcam acl [OPTIONS] < FILE      a script of an access list"
+    ++ 10 ∷ codes "    tcam route --help              the commands of a script of routes"
+    ++ 10 ∷ codes "    tcam acl --help                the commands of a script of an access list"
+    ++ 10 ∷ codes "    tcam --help                    this text"
+    ++ 10 ∷ codes "    tcam --version                 name and version"
+    ++ 10 ∷ 10 ∷ codes "Options:"
+    ++ 10 ∷ codes "    --slots N        N slots in use, 1 to 4096, by default 4096"
+    ++ 10 ∷ codes "    --placement P    where a new entry aims: middle, of the gap between the"
+    ++ 10 ∷ codes "                     entries that it must stand between, which is the default;"
+    ++ 10 ∷ codes "                     or rank, its place among all entries, for a table that is"
+    ++ 10 ∷ codes "                     loaded in one commit, or a list in its order"
+    ++ 10 ∷ codes "    --trace          a line for each device write"
+    ++ 10 ∷ 10 ∷ codes "Exit status:"
+    ++ 10 ∷ codes "    0     the script was read to its end and no commit was refused, or a text"
+    ++ 10 ∷ codes "          like this one was printed"
+    ++ 10 ∷ codes "    1     the script was read to its end, and some commit was refused"
+    ++ 10 ∷ codes "    2     a line of the script is at fault"
+    ++ 10 ∷ codes "    3     standard input could not be read"
+    ++ 10 ∷ codes "    4     standard output could not be written"
+    ++ 10 ∷ codes "    5     the device could not be written"
+    ++ 10 ∷ codes "    6     memory was wanting"
+    ++ 10 ∷ codes "    64    the words are no command line"
+    ++ 10 ∷ 10 ∷ codes "The manual is docs/SCRIPT.md."
+    ++ 10 ∷ []
+
+-- the commands that scripts of both families have, as their helps list them
+unfoldable pub script_commands : List ℕ
+script_commands = codes "    commit                     carries out all changes since the last, or none"
+    ++ 10 ∷ codes "    packet SRC DST PROTO SPORT DPORT    looks this packet up"
+    ++ 10 ∷ codes "    probe SRC DST PROTO SPORT DPORT     looks it up after each later write"
+    ++ 10 ∷ codes "    frame HEX                           looks up an IPv4 packet in hexadecimal"
+    ++ 10 ∷ codes "    # TEXT                              a comment"
+
+-- the options of both families, as their helps list them
+unfoldable pub script_options : List ℕ
+script_options = codes "    --slots N        N slots in use, 1 to 4096, by default 4096"
+    ++ 10 ∷ codes "    --placement P    where a new entry aims: middle, the default, or rank"
+    ++ 10 ∷ codes "    --trace          a line for each device write"
+
+-- the help of a script of routes: its commands, their words, options and an example
+unfoldable pub route_help : List ℕ
+route_help = codes "tcam route: carries out a script of routes, and writes a report."
+    ++ 10 ∷ 10 ∷ codes "    tcam route [--slots N] [--placement P] [--trace] < FILE"
+    ++ 10 ∷ 10 ∷ codes "Commands of a script, one a line:"
+    ++ 10 ∷ codes "    route add PREFIX RESULT    a new route: packets to the prefix get RESULT,"
+    ++ 10 ∷ codes "                               unless a route of a longer prefix holds"
+    ++ 10 ∷ codes "    route set PREFIX RESULT    the route of this prefix gives RESULT"
+    ++ 10 ∷ codes "    route del PREFIX           the route of this prefix goes"
+    ++ 10 ∷ script_commands
+    ++ 10 ∷ 10 ∷ codes "    PREFIX         an address, / and a length, as 10.0.0.0/8 or 10.0.0.1/32"
+    ++ 10 ∷ codes "    RESULT         a number up to 4294967295"
+    ++ 10 ∷ codes "    SRC, DST       an address, as 10.1.2.3"
+    ++ 10 ∷ codes "    PROTO          icmp, tcp, udp, or a number up to 255"
+    ++ 10 ∷ codes "    SPORT, DPORT   a number up to 65535"
+    ++ 10 ∷ 10 ∷ codes "Options, of which tcam --help says more:"
+    ++ 10 ∷ script_options
+    ++ 10 ∷ 10 ∷ codes "Example of a script, whose packet gets the answer 10.0.0.0/8 7:"
+    ++ 10 ∷ codes "    route add 10.0.0.0/8 7"
+    ++ 10 ∷ codes "    commit"
+    ++ 10 ∷ codes "    packet 0.0.0.0 10.1.2.3 tcp 1024 443"
+    ++ 10 ∷ 10 ∷ codes "The manual is docs/SCRIPT.md."
+    ++ 10 ∷ []
+
+-- the help of a script of an access list, likewise
+unfoldable pub acl_help : List ℕ
+acl_help = codes "tcam acl: carries out a script of an access list, and writes a report."
+    ++ 10 ∷ 10 ∷ codes "    tcam acl [--slots N] [--placement P] [--trace] < FILE"
+    ++ 10 ∷ 10 ∷ codes "Commands of a script, one a line, with the source's side and ports first:"
+    ++ 10 ∷ codes "    acl add SEQ ACTION SIDE SIDE PROTOSPEC PORTSPEC PORTSPEC"
+    ++ 10 ∷ codes "                               a new rule: packets that meet its conditions"
+    ++ 10 ∷ codes "                               get ACTION, unless a rule of lower SEQ holds"
+    ++ 10 ∷ codes "    acl set SEQ ACTION         the rule of this number gives ACTION"
+    ++ 10 ∷ codes "    acl del SEQ                the rule of this number goes"
+    ++ 10 ∷ script_commands
+    ++ 10 ∷ 10 ∷ codes "    SEQ            the rule's place in the list, from 1 to 4294967295"
+    ++ 10 ∷ codes "    ACTION         permit or deny"
+    ++ 10 ∷ codes "    SIDE           any, or a prefix as 10.0.0.0/8 or 10.0.0.1/32"
+    ++ 10 ∷ codes "    PROTOSPEC      any, or a PROTO: icmp, tcp, udp, or a number up to 255"
+    ++ 10 ∷ codes "    PORTSPEC       any, a port up to 65535, or two of them as 1024-65535"
+    ++ 10 ∷ codes "    SRC, DST       an address, as 10.1.2.3"
+    ++ 10 ∷ codes "    SPORT, DPORT   a number up to 65535"
+    ++ 10 ∷ 10 ∷ codes "Options, of which tcam --help says more:"
+    ++ 10 ∷ script_options
+    ++ 10 ∷ 10 ∷ codes "Example of a script, whose packet gets the answer 10 permit:"
+    ++ 10 ∷ codes "    acl add 10 permit any 10.0.0.0/8 tcp any 443"
+    ++ 10 ∷ codes "    commit"
+    ++ 10 ∷ codes "    packet 192.0.2.1 10.1.2.3 tcp 1024 443"
+    ++ 10 ∷ 10 ∷ codes "The manual is docs/SCRIPT.md."
+    ++ 10 ∷ []
+
+-- the help of the scripts of a family, or of the program where none is named
+abbrev pub help_on : Option Family → List ℕ
+help_on None = help_text
+help_on (Some Route) = route_help
+help_on (Some Acl) = acl_help
+
+-- the name and the version
+unfoldable pub version_text : List ℕ
+version_text = codes "tcam 0.1.0" ++ 10 ∷ []

@@ -1,0 +1,132 @@
+//! The texts that the program prints about itself.
+
+ghost use Rattle.std.specs.Prelude.{◌≡◌};
+ghost use Rattle.tcam_cli.specs.OwnTexts.{help_on};
+
+use replay::Family;
+
+/// The help of the program.
+const HELP: &str = "\
+tcam: the table manager of a ternary content-addressable memory.
+It reads a script from standard input, carries its commits out over a modelled
+device one write at a time, and writes a report to standard output.
+
+    tcam route [OPTIONS] < FILE    a script of routes
+    tcam acl [OPTIONS] < FILE      a script of an access list
+    tcam route --help              the commands of a script of routes
+    tcam acl --help                the commands of a script of an access list
+    tcam --help                    this text
+    tcam --version                 name and version
+
+Options:
+    --slots N        N slots in use, 1 to 4096, by default 4096
+    --placement P    where a new entry aims: middle, of the gap between the
+                     entries that it must stand between, which is the default;
+                     or rank, its place among all entries, for a table that is
+                     loaded in one commit, or a list in its order
+    --trace          a line for each device write
+
+Exit status:
+    0     the script was read to its end and no commit was refused, or a text
+          like this one was printed
+    1     the script was read to its end, and some commit was refused
+    2     a line of the script is at fault
+    3     standard input could not be read
+    4     standard output could not be written
+    5     the device could not be written
+    6     memory was wanting
+    64    the words are no command line
+
+The manual is docs/SCRIPT.md.
+";
+
+/// The help of a script of routes.
+const ROUTE_HELP: &str = "\
+tcam route: carries out a script of routes, and writes a report.
+
+    tcam route [--slots N] [--placement P] [--trace] < FILE
+
+Commands of a script, one a line:
+    route add PREFIX RESULT    a new route: packets to the prefix get RESULT,
+                               unless a route of a longer prefix holds
+    route set PREFIX RESULT    the route of this prefix gives RESULT
+    route del PREFIX           the route of this prefix goes
+    commit                     carries out all changes since the last, or none
+    packet SRC DST PROTO SPORT DPORT    looks this packet up
+    probe SRC DST PROTO SPORT DPORT     looks it up after each later write
+    frame HEX                           looks up an IPv4 packet in hexadecimal
+    # TEXT                              a comment
+
+    PREFIX         an address, / and a length, as 10.0.0.0/8 or 10.0.0.1/32
+    RESULT         a number up to 4294967295
+    SRC, DST       an address, as 10.1.2.3
+    PROTO          icmp, tcp, udp, or a number up to 255
+    SPORT, DPORT   a number up to 65535
+
+Options, of which tcam --help says more:
+    --slots N        N slots in use, 1 to 4096, by default 4096
+    --placement P    where a new entry aims: middle, the default, or rank
+    --trace          a line for each device write
+
+Example of a script, whose packet gets the answer 10.0.0.0/8 7:
+    route add 10.0.0.0/8 7
+    commit
+    packet 0.0.0.0 10.1.2.3 tcp 1024 443
+
+The manual is docs/SCRIPT.md.
+";
+
+/// The help of a script of an access list.
+const ACL_HELP: &str = "\
+tcam acl: carries out a script of an access list, and writes a report.
+
+    tcam acl [--slots N] [--placement P] [--trace] < FILE
+
+Commands of a script, one a line, with the source's side and ports first:
+    acl add SEQ ACTION SIDE SIDE PROTOSPEC PORTSPEC PORTSPEC
+                               a new rule: packets that meet its conditions
+                               get ACTION, unless a rule of lower SEQ holds
+    acl set SEQ ACTION         the rule of this number gives ACTION
+    acl del SEQ                the rule of this number goes
+    commit                     carries out all changes since the last, or none
+    packet SRC DST PROTO SPORT DPORT    looks this packet up
+    probe SRC DST PROTO SPORT DPORT     looks it up after each later write
+    frame HEX                           looks up an IPv4 packet in hexadecimal
+    # TEXT                              a comment
+
+    SEQ            the rule's place in the list, from 1 to 4294967295
+    ACTION         permit or deny
+    SIDE           any, or a prefix as 10.0.0.0/8 or 10.0.0.1/32
+    PROTOSPEC      any, or a PROTO: icmp, tcp, udp, or a number up to 255
+    PORTSPEC       any, a port up to 65535, or two of them as 1024-65535
+    SRC, DST       an address, as 10.1.2.3
+    SPORT, DPORT   a number up to 65535
+
+Options, of which tcam --help says more:
+    --slots N        N slots in use, 1 to 4096, by default 4096
+    --placement P    where a new entry aims: middle, the default, or rank
+    --trace          a line for each device write
+
+Example of a script, whose packet gets the answer 10 permit:
+    acl add 10 permit any 10.0.0.0/8 tcp any 443
+    commit
+    packet 192.0.2.1 10.1.2.3 tcp 1024 443
+
+The manual is docs/SCRIPT.md.
+";
+
+/// What `--version` prints.
+pub const VERSION: &str = "tcam 0.1.0\n";
+
+/// The help of the scripts of a family, or of the program where none is named.
+pub fn help_of(topic: Option<Family>) -> &'static str
+    ensures { result.now ≡ help_on topic }
+{
+    match topic {
+        None => HELP,
+        Some(family) => match family {
+            Family::Route => ROUTE_HELP,
+            Family::Acl => ACL_HELP,
+        },
+    }
+}
