@@ -23,3 +23,6 @@ pub mod Answered
 pub mod Aimed
 pub mod Padded
 mod Ahead
+pub mod Served
+pub mod Onward
+pub mod Tried

@@ -26,8 +26,8 @@
 //! **Port ranges.** A rule takes an entry for each pair of blocks of its ranges' covers. A rule that replaces another
 //! keeps the entries that both have, and only the others are put in and erased.
 //!
-//! **Memory.** `prepare` takes all of it, the device's too; `step` takes none. So want of memory can't come
-//! between two writes of a commit, and a batch that is refused changes nothing.
+//! **Memory.** `prepare` takes all of it, the device's too; `step` and `carry_out` take none. So want of memory can't
+//! come between two writes of a commit, and a batch that is refused changes nothing.
 #![tactic(auto)]
 
 ghost use Rattle.std.specs.Prelude.{◌≡◌};
@@ -105,6 +105,14 @@ pub enum Step {
     Finished(Done),
     /// No plan was held, and nothing changed.
     Idle,
+}
+
+/// A device whose writes fail. The commit is still under way, with this many writes to make, and the one that failed is
+/// the next.
+#[derive(Clone, Copy, Debug, PartialEq, Eq, Error)]
+#[error("the device failed with {left} writes to make")]
+pub struct Stuck {
+    pub left: u64,
 }
 
 /// The fault of a batch as a refusal.

@@ -7,20 +7,29 @@ ghost use Rattle.tcam_device.specs.declared.Write.{Write};
 ghost use Rattle.tcam_device.specs.State.{IsInUse, Shows, apply, on_device, replay};
 ghost use Rattle.tcam_device.specs.Hitless.{ShowsOldOrNew};
 ghost use Rattle.rule_store.specs.Verdict.{entries_of, verdict, Accepted};
-ghost use Rattle.rule_store.specs.Batch.{ChangesRules, batch_fault};
-ghost use Rattle.batch_order.specs.Managed.{Judges, Answers, Holds, Steps, next_of, IsOn, Serves, fresh, writes_of};
+ghost use Rattle.rule_store.specs.Batch.{ChangesRules, batch_fault, set_after};
+ghost use Rattle.batch_order.specs.Managed.{Managed, Judges, Answers, Holds, Steps, next_of, IsOn, Serves, fresh, writes_of};
+ghost use Rattle.batch_order.specs.CarriedOut.{HasRoomLeft, IsServed, IsTried, StopsAt, ahead, done_of, finished, writes_left};
 
 use crate::entries::LiveEntries;
 use crate::insertions::{forget_all, plan_additions};
 use crate::parts::parts_of;
 use crate::plan::{Plan, erase_all, plan_changes, ready};
-use crate::{Done, Placement, Ready, Refusal, Step, refusal_of};
+use crate::{Done, Placement, Ready, Refusal, Step, Stuck, refusal_of};
 use commit_writes::Rewrite;
 use rule_store::{Batch, Command, Mode, Store};
 use slot_pool::Arrangement;
 use std::alloc::{AllocError, Global};
 use std::marker::Model;
 use tcam_device::{DeviceFault, Writable, Write};
+
+/// The numbers where no commit is under way.
+const NOTHING_DONE: Done = Done {
+    writes: 0,
+    words: 0,
+    most: 0,
+    span: 0,
+};
 
 /// A commit under way: its writes and how many of them were made, its numbers, and what is to be done once its writes
 /// are made: the batch that takes the rules to the new set, the ids that get another entry, the ids that go, by
@@ -147,6 +156,7 @@ impl Manager {
         ensures ready { IfOk result (λ ready. Holds self.old batch.now ready self.new) }
         ensures refused { OnErr result (self.new ≡ self.old) }
         ensures reserved { IfOk result (λ ready. ready.writes ≤ D.spare device.new) }
+        ensures room { HasRoomLeft self.old.held (D.spare device.old) → HasRoomLeft self.new.held (D.spare device.new) }
         ensures spare { D.spare device.old ≤ D.spare device.new }
         ensures journal { D.journal device.new ≡ D.journal device.old }
         ensures slot_count { D.slot_count device.new ≡ D.slot_count device.old }
@@ -253,7 +263,7 @@ impl Manager {
     /// (`tcam_device::twice_as_once`).
     pub fn step<D: Writable>(&mut self, device: &mut D) -> Result<Step, DeviceFault>
         requires slots { self.old.slots ≤ D.slot_count device.old }
-        requires room { IfSome self.old.held (λ held. length held.writes ≤ D.spare device.old) }
+        requires room { HasRoomLeft self.old.held (D.spare device.old) }
         ensures stepped { IfOk result (λ step. Steps self.old self.old.held step self.new) }
         ensures journal { IfOk result (λ step. D.journal device.new ≡ D.journal device.old ++ writes_of step) }
         ensures spare { IfOk result (λ step. D.spare device.new + length (writes_of step) ≡ D.spare device.old) }
@@ -279,6 +289,54 @@ impl Manager {
                 let step = self.advance();
                 self.serving();
                 Ok(step)
+            }
+        }
+    }
+
+    /// Makes all writes that are left of the commit under way, in their order, over the device that `prepare` reserved,
+    /// each tried up to `tries` times, at least once: 1 tries none again. With the last of them the rules become the
+    /// new set, and the answer has the numbers of the commit. With no commit under way they are all 0, and nothing
+    /// changes. It takes no memory.
+    ///
+    /// `Stuck` comes where one write has failed `tries` times, and the device's count of failures rose by that, or stands
+    /// at its last value. The writes before it were made, and it is the next: so `carry_out` may be called again. Until
+    /// the commit has finished no other batch is taken, and nothing else may be written. A device that stays stuck is
+    /// blanked, and gets a new manager.
+    ///
+    /// Each key is answered, by the device's journal, as the old rules or the new ones do before the first write and after
+    /// each, also where the write that failed was made all the same; and once the commit has finished as the new ones do.
+    pub fn carry_out<D: Writable>(&mut self, device: &mut D, tries: u32) -> Result<Done, Stuck>
+        requires slots { self.old.slots ≤ D.slot_count device.old }
+        requires room { HasRoomLeft self.old.held (D.spare device.old) }
+        requires tries { 1 ≤ tries }
+        ensures done { IfOk result (λ done. done ≡ done_of self.old.held) }
+        ensures finished { OnOk result (self.new ≡ finished self.old) }
+        ensures rules { OnOk result ((was : Managed) → (batch : List Command) → (ready : Ready) → Holds was batch ready self.old → self.new.rules ≡ set_after was.rules batch) }
+        ensures journal { OnOk result (D.journal device.new ≡ D.journal device.old ++ writes_left self.old.held) }
+        ensures stuck { IfErr result (λ stuck. StopsAt self.old self.new (D.journal device.old) (D.journal device.new) stuck.left) }
+        ensures spare { D.spare device.new + length (writes_left self.old.held) ≡ D.spare device.old + length (writes_left self.new.held) }
+        ensures room { HasRoomLeft self.new.held (D.spare device.new) }
+        ensures slot_count { D.slot_count device.new ≡ D.slot_count device.old }
+        ensures tried { IsTried tries (length (D.journal device.new) - length (D.journal device.old)) (D.faults device.old) (D.faults device.new) result }
+        ensures stays_on { IsOn (D.slot_count device.old) (D.journal device.old) self.old → IsOn (D.slot_count device.new) (D.journal device.new) self.new }
+        ensures hitless { IsOn (D.slot_count device.old) (D.journal device.old) self.old → IsServed (D.slot_count device.new) (D.journal device.old) (D.journal device.new) self.old.rules (ahead self.old) }
+        ensures serves { IsOn (D.slot_count device.old) (D.journal device.old) self.old → Serves (replay (D.slot_count device.new) (D.journal device.new)) self.new.rules self.new.held }
+        ensures serves_err { OnErr result (IsOn (D.slot_count device.old) (D.journal device.old) self.old → IfSome (next_of self.new.held) (λ write. Serves (apply (replay (D.slot_count device.new) (D.journal device.new)) write) self.new.rules self.new.held)) }
+    {
+        self.serving();
+        let mut failures = 0;
+        'carrying: loop {
+            match self.step(device) {
+                Ok(Step::Wrote(_)) => failures = 0,
+                Ok(Step::Finished(done)) => return Ok(done),
+                Ok(Step::Idle) => return Ok(NOTHING_DONE),
+                Err(DeviceFault) => {
+                    failures += 1;
+                    if failures == tries {
+                        let left = self.left().unwrap_or(0);
+                        return Err(Stuck { left });
+                    }
+                }
             }
         }
     }

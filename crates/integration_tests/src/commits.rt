@@ -11,7 +11,7 @@ use std::test::Fail;
 use tcam_device::{Device, DeviceFault, Writable, Write};
 
 /// A packet to 10.1.2.3.
-fn packet() -> Key {
+pub(crate) fn packet() -> Key {
     packet_to(0x0a01_0203)
 }
 
@@ -27,7 +27,7 @@ fn packet_to(addr: u32) -> Key {
 }
 
 /// Priority and result of the rule of the set that answers the packet.
-fn best(manager: &Manager) -> Option<(Rank, u32)> {
+pub(crate) fn best(manager: &Manager) -> Option<(Rank, u32)> {
     match manager.rules().best(&packet()) {
         Some(rule) => Some((rule.priority, rule.result)),
         None => None,
@@ -48,7 +48,7 @@ pub(crate) fn adding(alloc: Global, addr: u32, len: u8) -> Result<Batch, Fail> {
 }
 
 /// Prepares the commit of a batch.
-fn prepare<D: Writable>(
+pub(crate) fn prepare<D: Writable>(
     manager: &mut Manager,
     device: &mut D,
     batch: &Batch,

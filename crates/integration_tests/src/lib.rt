@@ -5,6 +5,8 @@
 #[cfg(test)]
 mod by_rank;
 #[cfg(test)]
+mod carried;
+#[cfg(test)]
 mod commits;
 #[cfg(test)]
 mod devices;

@@ -1,30 +1,15 @@
--- What a daemon's device answers while a commit is carried out, and where it stops.
-use Rattle.std.specs.Prelude.{◌≡◌, ℕ, ◌++◌, Err, Option, Some, None, List, take}
+-- What the daemon's commit leaves: a batch that is refused or taken, and a write that failed.
+use Rattle.std.specs.Prelude.{◌≡◌, ℕ, ◌++◌, Err, Some, List}
 use Rattle.rule_model.specs.declared.Rule.{Rule}
 use Rattle.rule_store.specs.declared.Command.{Command}
 use Rattle.rule_store.specs.Verdict.{Accepted, verdict}
 use Rattle.tcam_device.specs.declared.Write.{Write}
-use Rattle.tcam_device.specs.State.{apply, replay, state_after}
+use Rattle.tcam_device.specs.State.{apply, replay}
 use Rattle.tcam_device.specs.Hitless.{ShowsOldOrNew}
 use Rattle.batch_order.specs.declared.Ready.{Ready}
 use Rattle.batch_order.specs.declared.Refusal.{Refusal}
-use Rattle.batch_order.specs.Managed.{Managed, HeldCommit, Answers, Holds, next_of}
-use Rattle.route_daemon.specs.Left.{writes_left}
-
--- the rules that a manager has once the commit under way, if there is one, has come to its end
-abbrev pub ahead_of : Option HeldCommit → List Rule → List Rule
-ahead_of None rules = rules
-ahead_of (Some held) rules = held.rules
-
-abbrev pub ahead : Managed → List Rule
-ahead manager = ahead_of manager.held manager.rules
-
--- The writes from one journal to a longer one: before them and after each of them each key is answered as the old rules
--- or the new ones do.
-pub record IsServed (device_slots : ℕ) (before after : List Write) (old new : List Rule) : Type 0 where
-  pub written : List Write
-  pub since : after ≡ before ++ written
-  pub during : (n : ℕ) → ShowsOldOrNew (state_after (replay device_slots before) (take n written)) old new
+use Rattle.batch_order.specs.Managed.{Managed, Answers, Holds, next_of}
+use Rattle.batch_order.specs.CarriedOut.{ahead, writes_left}
 
 -- A batch is refused as the verdict on it says, and nothing changes.
 pub record IsRefused (manager manager' : Managed) (batch : List Command) (journal journal' : List Write) (refusal : Refusal) : Type 0 where

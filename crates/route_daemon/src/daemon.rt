@@ -6,14 +6,14 @@ ghost use Rattle.tcam_device.specs.State.{Shows, replay};
 ghost use Rattle.rule_store.specs.Batch.{set_after};
 ghost use Rattle.batch_order.specs.Managed.{IsOn};
 ghost use Rattle.route_daemon.specs.Asked.{IsFull, IsPrefix, route_priority, route_to};
-ghost use Rattle.route_daemon.specs.Left.{HasRoom, writes_left};
-ghost use Rattle.route_daemon.specs.Served.{IsRefused, IsServed, IsStuck, IsTaken, ahead};
+ghost use Rattle.batch_order.specs.CarriedOut.{HasRoomLeft, IsServed, ahead, writes_left};
+ghost use Rattle.route_daemon.specs.Served.{IsRefused, IsStuck, IsTaken};
 
-use batch_order::{Manager, Refusal, Step};
+use batch_order::{Manager, Refusal, Stuck};
 use rule_model::{Key, Prefix, PrefixFault, ipv4_route_rank, route_rule};
 use rule_store::{Batch, Command, PushFault};
 use std::io;
-use tcam_device::{Device, DeviceFault, Write};
+use tcam_device::{Device, DeviceFault};
 use thiserror::Error;
 
 /// Why a change can't join a batch.
@@ -114,7 +114,7 @@ pub fn commit<D: Device>(
     ensures slots { manager.new.slots ≡ manager.old.slots }
     ensures slot_count { D.slot_count device.new ≡ D.slot_count device.old }
     ensures on { IsOn (D.slot_count device.new) (D.journal device.new) manager.new }
-    ensures room { HasRoom manager.new.held (D.spare device.new) }
+    ensures room { HasRoomLeft manager.new.held (D.spare device.new) }
     ensures before { Shows (replay (D.slot_count device.old) (D.journal device.old)) manager.old.rules }
     ensures hitless { IsServed (D.slot_count device.new) (D.journal device.old) (D.journal device.new) manager.old.rules (set_after manager.old.rules batch.now) }
     ensures idle { OnOk result (manager.new.held ≡ None) }
@@ -137,9 +137,10 @@ pub fn commit<D: Device>(
     }
 }
 
-/// Makes the writes that are left of the commit under way, in their order, and looks one packet up after each. With none
-/// under way there is nothing to do. Each packet is answered as [`commit`] says, before these writes as well, and a write
-/// that fails leaves what it says of `Stuck`: so `resume` may be called again. What can't be printed doesn't stop it.
+/// Makes the writes that are left of the commit under way, in their order, none of them twice, and looks one packet up
+/// behind them. With none under way there is nothing to do. Each packet is answered as [`commit`] says, before these
+/// writes as well, and a write that fails leaves what it says of `Stuck`: so `resume` may be called again. What can't be
+/// printed changes nothing.
 pub fn resume<D: Device>(
     rt: &HostRuntime,
     manager: &mut Manager,
@@ -147,11 +148,11 @@ pub fn resume<D: Device>(
 ) -> Result<(), DeviceFault>
     requires slots { manager.old.slots ≤ D.slot_count device.old }
     requires on { IsOn (D.slot_count device.old) (D.journal device.old) manager.old }
-    requires room { HasRoom manager.old.held (D.spare device.old) }
+    requires room { HasRoomLeft manager.old.held (D.spare device.old) }
     ensures slots { manager.new.slots ≡ manager.old.slots }
     ensures slot_count { D.slot_count device.new ≡ D.slot_count device.old }
     ensures on { IsOn (D.slot_count device.new) (D.journal device.new) manager.new }
-    ensures room { HasRoom manager.new.held (D.spare device.new) }
+    ensures room { HasRoomLeft manager.new.held (D.spare device.new) }
     ensures hitless { IsServed (D.slot_count device.new) (D.journal device.old) (D.journal device.new) manager.old.rules (ahead manager.old) }
     ensures made { D.journal device.new ++ writes_left manager.new.held ≡ D.journal device.old ++ writes_left manager.old.held }
     ensures idle { OnOk result (manager.new.held ≡ None) }
@@ -160,27 +161,16 @@ pub fn resume<D: Device>(
     ensures stuck { OnErr result (IsStuck (D.slot_count device.new) (D.journal device.new) manager.old.rules (ahead manager.old) manager.new) }
     ensures cause { HasCause (D.faults device.old) (D.faults device.new) result }
 {
-    // Its contract says what each packet is answered before the first of these writes.
-    let _rules = manager.rules();
-    'writing: loop {
-        match manager.step(device) {
-            Ok(Step::Wrote(write)) => {
-                let _ = tell(rt, &write, device);
-            }
-            Ok(Step::Finished(_)) => return Ok(()),
-            Ok(Step::Idle) => return Ok(()),
-            Err(fault) => return Err(fault),
-        }
+    let carried = manager.carry_out(device, 1);
+    let _ = tell(rt, device);
+    match carried {
+        Ok(_) => Ok(()),
+        Err(Stuck { .. }) => Err(DeviceFault),
     }
 }
 
-/// Prints a write, and where a packet to 10.1.2.3 goes after it.
-fn tell<D: Device>(rt: &HostRuntime, write: &Write, device: &D) -> io::Result<()> {
-    match write {
-        Write::Slot(slot, Some(_)) => println!(rt; "  slot {slot} written")?,
-        Write::Slot(slot, None) => println!(rt; "  slot {slot} erased")?,
-        _ => {}
-    }
+/// Prints where a packet to 10.1.2.3 goes.
+fn tell<D: Device>(rt: &HostRuntime, device: &D) -> io::Result<()> {
     let key = Key {
         src: 0,
         dst: 0x0a01_0203 << 96,

@@ -1,8 +1,8 @@
 //! How a route daemon drives the manager over a device of its own.
 //!
 //! The hardware is [`Registers`]: it stands for a memory behind registers, and tells nothing. `Shadowed` makes a device of
-//! it, with slots and tables in memory that follow what was written. A commit is a batch, one `prepare`, and `step`
-//! until it has finished; packets are looked up between any two steps. A write that fails leaves the commit under way, and
+//! it, with slots and tables in memory that follow what was written. A commit is a batch, one `prepare`, and one
+//! `carry_out`, which makes its writes; a packet is looked up behind it. A write that fails leaves the commit under way, and
 //! `resume` goes on with that write. To drive a memory of your own, write another `Registers`.
 #![tactic(auto)]
 

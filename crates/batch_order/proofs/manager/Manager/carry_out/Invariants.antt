@@ -1,0 +1,20 @@
+use Rattle.std.proofs.Common.{◌≡◌, ◌+◌, ◌*◌, ◌-◌, ◌<◌, IsSome, length}
+use Rattle.batch_order.specs.Managed.{IsOn, next_of}
+use Rattle.batch_order.specs.CarriedOut.{IsServed, ahead, writes_left}
+use Rattle.batch_order.proofs.Tried.{Goes}
+use Rattle.batch_order.proofs.manager.Manager.carry_out.Given as goal
+
+abbrev pub invariant-carrying : goal.invariant-carrying
+invariant-carrying g l = record {
+  goes : Goes l.fn.self l.self (g.D.Writable.journal l.fn.device) (g.D.Writable.journal l.device) (g.D.Writable.spare l.fn.device) (g.D.Writable.spare l.device)
+      l.tries l.failures (g.D.Writable.faults l.fn.device) (g.D.Writable.faults l.device);
+  slot_count : g.D.Writable.slot_count l.device ≡ g.D.Writable.slot_count l.fn.device;
+  on : IsOn (g.D.Writable.slot_count l.fn.device) (g.D.Writable.journal l.fn.device) l.fn.self → IsOn (g.D.Writable.slot_count l.device) (g.D.Writable.journal l.device) l.self;
+  served : IsOn (g.D.Writable.slot_count l.fn.device) (g.D.Writable.journal l.fn.device) l.fn.self
+      → IsServed (g.D.Writable.slot_count l.device) (g.D.Writable.journal l.fn.device) (g.D.Writable.journal l.device) l.fn.self.rules (ahead l.fn.self);
+  below : l.failures < l.tries;
+  due : 0 < l.failures → IsSome (next_of l.self.held);
+}
+
+abbrev pub decreases-carrying : goal.decreases-carrying
+decreases-carrying g l = length (writes_left l.self.held) * l.tries + (l.tries - l.failures)
