@@ -2,7 +2,7 @@
 ghost use Rattle.std.specs.Prelude.{◌≤◌};
 ghost use Rattle.batch_order.specs.CarriedOut.{HasRoomLeft};
 
-use crate::commits::{adding, best, packet, prepare, route};
+use crate::commits::{adding, addition, best, packet, prepare, route};
 use batch_order::{Done, Manager, Mode, Placement, Stuck};
 use memory_tcam::{FlakyTcam, MemTcam};
 use std::alloc::Global;
@@ -81,4 +81,34 @@ fn a_write_that_is_tried_again(rt: HostRuntime) -> Result<(), Fail> {
     let mut manager = Manager::new(rt.alloc(), 8, Mode::Cover, Placement::Middle)?;
     let mut device = FlakyTcam::new(rt.alloc(), 8, &[1, 2, 3])?;
     stuck_at_first(&rt, rt.alloc(), &mut manager, &mut device)
+}
+
+/// The first write of each of two routes fails. Each write has its own two tries, so neither is stuck.
+fn each_tried_twice<D: Device>(
+    alloc: Global,
+    manager: &mut Manager,
+    device: &mut D,
+) -> Result<Result<Done, Stuck>, Fail>
+    requires slots { manager.old.slots ≤ D.slot_count device.old }
+    requires room { HasRoomLeft manager.old.held (D.spare device.old) }
+{
+    let mut batch = adding(alloc, 0x0a00_0000, 8)?;
+    batch.push(addition(0x0b00_0000, 8, 9)?)?;
+    let _ready = prepare(manager, device, &batch)?;
+    Ok(manager.carry_out(device, 2))
+}
+
+#[test]
+fn each_write_has_its_own_tries(rt: HostRuntime) -> Result<(), Fail> {
+    let mut manager = Manager::new(rt.alloc(), 8, Mode::Cover, Placement::Middle)?;
+    let mut device = FlakyTcam::new(rt.alloc(), 8, &[1, 3])?;
+    let done = each_tried_twice(rt.alloc(), &mut manager, &mut device)?;
+    assert_eq!(rt;
+        done,
+        Ok(Done {
+            writes: 2,
+            ..ONE_WRITE
+        })
+    );
+    Ok(())
 }
