@@ -19,7 +19,7 @@ use Rattle.move_planner.specs.declared.Move.{Move}
 use Rattle.move_planner.specs.Placement.{after_moves, gap_start, gap_end, span_of, AreSides, IsCut, IsInOrder, IsPlacement, straight_in}
 use Rattle.std.proofs.Math.Seq.{drop-append_seam}
 use Rattle.move_planner.specs.Insertion.{IsLive, IsOther, StandOnce, BoundsLiveChains, AreMade, moves_since, free_slots}
-use Rattle.move_planner.specs.Steps.{IsReady, IsUncrossed, IsPlaced}
+use Rattle.move_planner.specs.Steps.{IsReady, UndoesCrossing, IsPlaced}
 use Rattle.move_planner.proofs.Shifted.{after_append, made_by}
 use Rattle.move_planner.proofs.Chain.{write_of, after_moves-applied, Reads, floor_is, ceiling_is}
 use Rattle.move_planner.proofs.Planned.{IsPlanned, planned}
@@ -161,7 +161,7 @@ inserted index id slots moves ready placement = record { order = order; standing
 
 -- nothing crosses, and nothing was done
 pub uncrossed_none : (index : LivePieces) (id : ℕ) (slots : Slots) (plan : List Move) → IsReady index id slots
-    → gap_start (is_above index.live) slots id ≤ gap_end (is_above index.live) slots id → IsUncrossed index id slots slots plan plan
+    → gap_start (is_above index.live) slots id ≤ gap_end (is_above index.live) slots id → UndoesCrossing index id slots slots plan plan
 uncrossed_none index id slots plan ready clear = record {
   moves = [];
   gained = sym (append-nil plan);
@@ -181,7 +181,7 @@ pub record IsWholly (index : LivePieces) (aim : Aim) (id : ℕ) (slots slots' : 
   pub one_fewer : free_slots slots' + 1 ≡ free_slots slots
   pub inserted : IsInserted index id slots (moves_since plan plan')
 
-pub wholly : (index : LivePieces) (aim : Aim) (id : ℕ) (a b c : Slots) (p q r : List Move) → IsReady index id a → IsUncrossed index id a b p q → IsPlaced index aim id b c q r → IsWholly index aim id a c p r
+pub wholly : (index : LivePieces) (aim : Aim) (id : ℕ) (a b c : Slots) (p q r : List Move) → IsReady index id a → UndoesCrossing index id a b p q → IsPlaced index aim id b c q r → IsWholly index aim id a c p r
 wholly index aim id a b c p q r ready x y = record {
   made = made;
   placement = placement;

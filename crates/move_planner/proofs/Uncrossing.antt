@@ -14,7 +14,7 @@ use Rattle.move_planner.specs.declared.crossings.Cut.{Cut}
 use Rattle.move_planner.specs.Placement.{after_moves, first_lower, last_upper, next_slot, gap_start, gap_end, straight, AreSides, Pass, passed, IsPlacing, uncross}
 use Rattle.move_planner.specs.Insertion.{IsLive, free_slots, moves_since, AreMade}
 use Rattle.move_planner.specs.Boundary.{IsBestTo}
-use Rattle.move_planner.specs.Steps.{IsReady, IsUnderway, OnePassed, NonePasses, IsUncrossed}
+use Rattle.move_planner.specs.Steps.{IsReady, IsUnderway, OnePassed, NonePasses, UndoesCrossing}
 use Rattle.move_planner.proofs.Chain.{Reads, lower_is, upper_is}
 use Rattle.move_planner.proofs.Planner.{Related, ranked_reads}
 use Rattle.move_planner.proofs.Orders.{ranked}
@@ -105,7 +105,7 @@ nothing_crosses index id slots behind before cut ready sides inside none_early n
 
 -- all turns
 pub uncrossed_all : (index : LivePieces) (id : ℕ) (a b c : Slots) (p q r : List Move) (sides : Sides) (boundary : ℕ) (cut : Cut) → IsBegun index id a sides → IsBestTo a sides sides.end boundary
-    → IsUncrossing index id a b p q sides boundary cut → NonePasses (is_behind (is_above index.live) a id) (is_before (is_above index.live) a id) b c q r cut → IsUncrossed index id a c p r
+    → IsUncrossing index id a b p q sides boundary cut → NonePasses (is_behind (is_above index.live) a id) (is_before (is_above index.live) a id) b c q r cut → UndoesCrossing index id a c p r
 uncrossed_all index id a b c p q r sides boundary cut w best x none = record {
   moves = x.moves;
   gained = none.same_plan ∙ x.gained;

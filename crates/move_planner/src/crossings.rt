@@ -4,7 +4,7 @@ ghost use Rattle.slot_pool.specs.Arrangement.{next_free_above, last_free_below};
 ghost use Rattle.overlap_index.specs.Live.{is_above};
 ghost use Rattle.move_planner.specs.Placement.{gap_start, gap_end, IsInOrder};
 ghost use Rattle.move_planner.specs.Insertion.{AreMade};
-ghost use Rattle.move_planner.specs.Steps.{CanShift, IsReady, IsShiftedOut, FindsEarly, FindsLate, FindsPasser, IsUnderway, MayPass, IsFurther, IsUncrossed, cleared};
+ghost use Rattle.move_planner.specs.Steps.{CanShift, IsReady, IsShiftedOut, FindsEarly, FindsLate, FindsPasser, IsUnderway, MayPass, IsFurther, UndoesCrossing, cleared};
 
 use crate::boundary::best_boundary;
 use crate::chains::{Chain, down_chain, shorter_of, up_chain};
@@ -38,7 +38,7 @@ pub(crate) fn uncross(
     requires start { gap.start ≡ gap_start (is_above index.now.live) slots.old id }
     requires end { gap.end ≡ gap_end (is_above index.now.live) slots.old id }
     requires crossed { gap_end (is_above index.now.live) slots.old id < gap_start (is_above index.now.live) slots.old id }
-    ensures uncrossed { OnOk result (IsUncrossed index.now id slots.old slots.new plan.old plan.new) }
+    ensures uncrossed { OnOk result (UndoesCrossing index.now id slots.old slots.new plan.old plan.new) }
     ensures made { OnErr result (AreMade slots.old slots.new plan.old plan.new) }
 {
     let sides = find_sides(alloc, slots, index, id, gap)?;

@@ -77,7 +77,7 @@ ghost use Rattle.overlap_index.specs.Live.{is_live, is_above};
 ghost use Rattle.slot_order.specs.Cuts.{wrong_side, HasRoomNear};
 ghost use Rattle.move_planner.specs.Placement.{AreSides, IsCut, IsPlacement, IsInOrder, gap_start, gap_end, span_of, after_move, after_moves};
 ghost use Rattle.move_planner.specs.Insertion.{IsLive, IsOther, StandOnce, BoundsLiveChains, AreMade, free_slots, moves_since};
-ghost use Rattle.move_planner.specs.Steps.{CanMake, IsReady, IsUncrossed};
+ghost use Rattle.move_planner.specs.Steps.{CanMake, IsReady, UndoesCrossing};
 
 mod boundary;
 mod chains;
@@ -256,7 +256,7 @@ fn clear_gap(
     requires ready { IsReady index.now id slots.old }
     requires start { gap.start ≡ gap_start (is_above index.now.live) slots.old id }
     requires end { gap.end ≡ gap_end (is_above index.now.live) slots.old id }
-    ensures clear { OnOk result (IsUncrossed index.now id slots.old slots.new plan.old plan.new) }
+    ensures clear { OnOk result (UndoesCrossing index.now id slots.old slots.new plan.old plan.new) }
     ensures start { IfOk result (λ now. now.start ≡ gap_start (is_above index.now.live) slots.new id) }
     ensures end { IfOk result (λ now. now.end ≡ gap_end (is_above index.now.live) slots.new id) }
     ensures made { OnErr result (AreMade slots.old slots.new plan.old plan.new) }

@@ -1,5 +1,5 @@
 -- The turns that take all past a boundary: as many as entries stand on its wrong side, of at most m writes each.
-use Rattle.std.proofs.Common.{◌≡◌, ℕ, ◌<◌, ◌+◌, ◌*◌, ◌≤◌, Bool, List, [], ◌∷◌, ◌++◌, length, Option, None, refl, arith, inl, inr, ◌⊎◌, sym, ◌∙◌, subst, ap, length-append, mul-suc, mul-le-mul_left, Contains}
+use Rattle.std.proofs.Common.{◌≡◌, ℕ, ◌<◌, ◌+◌, ◌*◌, ◌≤◌, Bool, List, [], ◌∷◌, ◌++◌, length, Option, None, refl, arith, inl, inr, ◌⊎◌, sym, ◌∙◌, subst, ap, length-append, mul-suc, Contains}
 use Rattle.slot_order.specs.Order.{Ordered}
 use Rattle.slot_order.specs.Moves.{applied, Along, chain_moves, IsChain, BoundsMemberChains, Turn, Down, Up, turn_moves, turns_moves}
 use Rattle.std.specs.Prelude.{count_by, is_none}
@@ -101,14 +101,6 @@ passes_keep over tag P Q behind before cut d (t ∷ ts) w o inside are =
           let a = length-append (turn_moves d t) (turns_moves b ts) in
           let z = mul-suc m (length ts) in omega arith;
     }
-
--- with the last part, of at most m writes, m for each entry on the wrong side and m more
-pub passes_writes : {E : Type 0} (over : E → E → Type 0) (tag : E → ℕ) (P Q : E → Type 0) (behind before : E → Bool) (cut m last : ℕ) (d : List (Option E)) (ts : List Turn)
-    → AllPassed over tag P Q behind before cut d ts → BoundsMemberChains over tag Q m → last ≤ m → length (turns_moves d ts) + last ≤ m * (1 + wrong_side behind before cut d)
-passes_writes over tag P Q behind before cut m last d ts w bound small =
-    let n : length ts ≤ wrong_side behind before cut d = (let c = w.count in omega arith) in
-    let a = w.few m bound in
-    let p = mul-le-mul_left m n in grind arith
 
 -- room is kept, and while any stands on the wrong side some turn has an empty slot to go to
 pub room_down : {E : Type 0} (behind before : E → Bool) (cut : ℕ) (d c : List (Option E)) → HasRoom behind before cut d → GoesDown behind before cut d c → HasRoom behind before cut c
