@@ -11,7 +11,7 @@ use Rattle.range_bits.specs.FieldMap.{IsFieldMap, AreNewRanges, NewRangesGetOneB
 use Rattle.range_bits.proofs.FieldMaps.{IsFieldMap-given, least_free, not_live, bit_of-none, given_at}
 
 -- with one range more, or with none where no bit is free
-cases_assigned : (live : LiveRanges) (range : PortRange)
+pub cases_assigned : (live : LiveRanges) (range : PortRange)
     → ((bit : ℕ) × (Some bit ≡ free_bit live) × (assigned live range (free_bit live) ≡ set live bit (Some range)))
     ⊎ ((None ≡ free_bit live) × (assigned live range (free_bit live) ≡ live))
 cases_assigned live range = go (free_bit live) refl
@@ -45,7 +45,7 @@ still_new live range other is none apart =
       | inr w ↦ rw w.1 none
     ]
 
-AreNewRanges-tail : (live : LiveRanges) (range : PortRange) (ranges : List PortRange) → IsFieldMap live → AreNewRanges live (range ∷ ranges)
+pub AreNewRanges-tail : (live : LiveRanges) (range : PortRange) (ranges : List PortRange) → IsFieldMap live → AreNewRanges live (range ∷ ranges)
     → AreNewRanges (assigned live range (free_bit live)) ranges
 AreNewRanges-tail live range ranges is new = record {
   right = All-tail (λ r. IsPortRange r) range ranges new.right;

@@ -1,14 +1,14 @@
 -- What is kept of the live ranges of a field: 16 bits, right ranges, and no range with two bits.
-use Rattle.std.proofs.Common.{◌≡◌, ◌≢◌, ℕ, ◌+◌, ◌<◌, true, false, ◌==◌, Option, Some, None, is_none, is_some, cond, IsSome, IfSome, length, get_or, set, ◌⊎◌, inl, inr, refl, ap, sym, ◌∙◌, subst, arith, eq-eqb, eqb-true}
+use Rattle.std.proofs.Common.{◌≡◌, ◌≢◌, ℕ, ◌+◌, ◌<◌, ◌≤◌, true, false, ◌==◌, Option, Some, None, is_none, is_some, cond, IsSome, IfSome, List, [], ◌∷◌, Contains, length, get_or, set, ◌⊎◌, inl, inr, refl, ap, sym, ◌∙◌, subst, arith, eq-eqb, eqb-true}
 use Rattle.std.proofs.lemmas.Bool.{cases_lt, cases_eq, and_parts, and_from, both_ways, false_from_ne_true}
 use Rattle.std.proofs.lemmas.List.{length-set, get_or-replicate, get_or-set_same, get_or-set_other, get_or_past, get_or_default}
 use Rattle.std.proofs.lemmas.List.Sums.{sum_by-set}
 use Rattle.std.proofs.lemmas.List.Quantifiers.{position-Some}
-use Rattle.slot_order.proofs.Lists.{position_found, position_none}
+use Rattle.slot_order.proofs.Lists.{position_found, position_none, contains_cases, contains_none}
 use Rattle.rule_model.specs.PortRange.{PortRange, IsPortRange, same_range}
 use Rattle.range_bits.specs.LiveRanges.{LiveRanges, no_ranges, is_range, bit_of, free_bit, range_at}
 use Rattle.range_bits.specs.FieldMap.{IsFieldMap, live_count}
-use Rattle.range_bits.proofs.Places.{fails_everywhere, free-none}
+use Rattle.range_bits.proofs.Places.{fails_everywhere, free-none, no_count}
 
 -- the test for a range
 pub same_range-is : (a b : PortRange) → same_range a b ≡ true → a ≡ b
@@ -54,7 +54,7 @@ found_range ranges live bit range same inside before held =
     let here : range_at ranges bit ≡ Some range = ap (λ (l : LiveRanges). range_at l bit) same ∙ held in
     sym (ap (λ (l : LiveRanges). bit_of l range) (sym same) ∙ position_found (is_range range) ranges bit None inside before (is_range-at range (range_at ranges bit) here))
 
-no_range : (bit : ℕ) → range_at no_ranges bit ≡ None
+pub no_range : (bit : ℕ) → range_at no_ranges bit ≡ None
 no_range bit =
     elim (cases_lt bit 16) [
       | inl inside ↦ get_or-replicate 16 bit None None inside
@@ -171,3 +171,49 @@ live_count-given live bit range free inside =
     sum_by-set (λ held. cond (is_some held) 1 0) live bit (Some range) None inside in
     let none : cond {A = ℕ} (is_some (range_at live bit)) 1 0 ≡ 0 = ap (λ (h : Option PortRange). cond {A = ℕ} (is_some h) 1 0) free in
     omega arith
+
+-- and one fewer
+pub live_count-freed : (live : LiveRanges) (bit : ℕ) (range : PortRange) → range_at live bit ≡ Some range → live_count (set live bit None) + 1 ≡ live_count live
+live_count-freed live bit range held =
+    let sums : live_count (set live bit None) + cond {A = ℕ} (is_some (range_at live bit)) 1 0 ≡ live_count live + 0 =
+    sum_by-set (λ held. cond (is_some held) 1 0) live bit None None (live_inside live bit range held) in
+    let one : cond {A = ℕ} (is_some (range_at live bit)) 1 0 ≡ 1 = ap (λ (h : Option PortRange). cond {A = ℕ} (is_some h) 1 0) held in
+    omega arith
+
+-- a range is live, or has no bit
+cases_live : (live : LiveRanges) (range : PortRange) → (bit_of live range ≡ None) ⊎ ((bit : ℕ) × (range_at live bit ≡ Some range))
+cases_live live range = go (bit_of live range) refl
+  where
+    go : (found : Option ℕ) → bit_of live range ≡ found → (bit_of live range ≡ None) ⊎ ((bit : ℕ) × (range_at live bit ≡ Some range))
+    go None e = inl e
+    go (Some bit) e = inr (bit, is_range-is range (range_at live bit) (position-Some (is_range range) live bit None e).1)
+
+-- no more ranges are live than a list has that each live one stands in
+pub live_count-within : (live : LiveRanges) (ranges : List PortRange) → IsFieldMap live → ((bit : ℕ) (range : PortRange) → range_at live bit ≡ Some range → Contains ranges range)
+    → live_count live ≤ length ranges
+live_count-within live [] is within = let none = no_count live (λ bit. free_at (range_at live bit) (λ range held. contains_none range (within bit range held))) in omega arith
+  where
+    free_at : (held : Option PortRange) → ((range : PortRange) → held ≡ Some range → ⊥) → held ≡ None
+    free_at None no_range_is = refl
+    free_at (Some range) no_range_is = absurd (no_range_is range refl)
+live_count-within live (range ∷ ranges) is within = elim (cases_live live range) [
+  | inl none ↦
+      let rest = live_count-within live ranges is (λ bit other held. elim (contains_cases range other ranges (within bit other held)) [
+        | inl same ↦ absurd (not_live live range none bit (held ∙ ap Some (sym same)))
+        | inr later ↦ later
+      ]) in
+      omega arith
+  | inr w ↦
+      let freed = live_count-freed live w.0 range w.1 in
+      let gone : range_at (set live w.0 None) w.0 ≡ None = get_or-set_same live w.0 None None (live_inside live w.0 range w.1) in
+      let rest = live_count-within (set live w.0 None) ranges (IsFieldMap-freed live w.0 is) (λ bit other held.
+      elim (contains_cases range other ranges (within bit other (freed_at live w.0 bit other held))) [
+        | inl same ↦ absurd (
+            let place : bit ≡ w.0 = is.one_bit bit w.0 range (freed_at live w.0 bit other held ∙ ap Some (sym same)) w.1 in
+            let was : range_at (set live w.0 None) bit ≡ None = ap (range_at (set live w.0 None)) place ∙ gone in
+            let both = sym was ∙ held in
+            cc)
+        | inr later ↦ later
+      ]) in
+      omega arith
+]

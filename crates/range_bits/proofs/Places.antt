@@ -57,3 +57,8 @@ free-none xs = (
   λ none. count-all xs (λ k inside. fails_everywhere is_none xs k None none inside),
   λ count. position_none is_none xs None (all_from_count xs count),
 )
+
+pub no_count : {X : Type 0} (xs : List (Option X)) → ((k : ℕ) → get_or xs k None ≡ None) → some_count xs ≡ 0
+no_count [] none = refl
+no_count (None ∷ xs) none = let step = count-none xs in let rest = no_count xs (λ k. none (suc k)) in omega arith
+no_count (Some x ∷ xs) none = absurd (let here = none 0 in cc)

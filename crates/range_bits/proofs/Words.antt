@@ -5,7 +5,7 @@ use Rattle.std.specs.Int.Bits.{or_add_and, xor_add_and}
 use Rattle.std.specs.List.{fold, enumerate_from}
 use Rattle.std.proofs.lemmas.Bool.{cases_Bool, cond-true, cond-false, eqb-false}
 use Rattle.std.proofs.lemmas.List.{drop_all}
-use Rattle.std.proofs.lemmas.Nat.{and_comm, and_le_l, and-not, pow_below}
+use Rattle.std.proofs.lemmas.Nat.{and_comm, and_le_l, and-not, or_lt, pow_below}
 use Rattle.std.proofs.lemmas.Nat.Bits.{bit_at_or, bit_at_xor, bit_at-pow_same, bit_at-pow_other, bit_at-lt, and_pow}
 use Rattle.std.proofs.Math.Nat.{mod-eq_of_lt}
 use Rattle.rule_model.specs.PortRange.{PortRange, is_bit_set, range_holds}
@@ -175,3 +175,17 @@ live_exactly live port old word is bit range held =
 
 pub others_kept : (live : LiveRanges) (port old word : ℕ) → word ≡ word_for live port old → (bit : ℕ) → range_at live bit ≡ None → is_bit_set word bit ≡ is_bit_set old bit
 others_kept live port old word is bit free = ap (λ w. is_bit_set w bit) is ∙ word_for-other live port old bit free
+
+-- a word keeps its 16 bits
+with_bit-below : (word bit : ℕ) (on : Bool) → word < 2 ^ 16 → bit < 16 → with_bit word bit on < 2 ^ 16
+with_bit-below word bit true fits small = let e = with_bit-on word bit in let low = or_lt 16 word (2 ^ bit) fits (pow_below bit 16 small) in omega arith
+with_bit-below word bit false fits small = let e = with_bit-off word bit fits small in let low = and_le_l word (65535 - 2 ^ bit) in omega arith
+
+bits_fit : (live : LiveRanges) (port first word : ℕ) → first + length live ≤ 16 → word < 2 ^ 16 → fold (bit_for port) word (enumerate_from first live) < 2 ^ 16
+bits_fit [] port first word small fits = fits
+bits_fit (None ∷ live) port first word small fits = bits_fit live port (first + 1) word (omega arith) fits
+bits_fit (Some range ∷ live) port first word small fits =
+    bits_fit live port (first + 1) (with_bit word first (range_holds range port)) (omega arith) (with_bit-below word first (range_holds range port) fits (omega arith))
+
+pub word_for-fits : (live : LiveRanges) (port old : ℕ) → length live ≡ 16 → old < 2 ^ 16 → word_for live port old < 2 ^ 16
+word_for-fits live port old size fits = bits_fit live port 0 old (omega arith) fits

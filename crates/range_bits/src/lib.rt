@@ -20,7 +20,7 @@ mod tests;
 
 ghost use Rattle.std.specs.Prelude.{◌≡◌, ◌≢◌, ℕ, ◌+◌, ◌<◌, ◌≤◌, ◌↔◌, None, Some, [], ◌∷◌, IsSome, IsNone, IsErr, IfSome, IfOk, OnErr, IsTrue, slice_set};
 ghost use Rattle.rule_model.specs.PortRange.{PortRange, IsPortRange, is_bit_set, range_holds};
-ghost use Rattle.range_bits.specs.LiveRanges.{no_ranges, range_at, bit_of, free_bit, with_ranges, with_bit, word_for};
+ghost use Rattle.range_bits.specs.LiveRanges.{no_ranges, range_at, bit_of, free_bit, with_ranges, newly_live, with_bit, word_for};
 ghost use Rattle.range_bits.specs.FieldMap.{IsFieldMap, live_count};
 
 pub use laws::{kept_ranges_have_one_bit, new_ranges_get_one_bit};
@@ -37,7 +37,7 @@ pub const FIELD_BITS: u8 = 16;
 pub struct NoBit;
 
 /// The live ranges of a field of ports, by their bits.
-#[derive(Debug, Drop)]
+#[derive(Clone, Copy, Debug)]
 pub struct BitMap {
     ranges: [Option<Ports>; FIELD_BITS as usize],
 }
@@ -49,6 +49,8 @@ impl Model for BitMap {
     ghost Value = { LiveRanges };
 
     ghost view = { λ m. m.ranges };
+
+    ghost inverse = { λ m. record { ranges = m } };
 
     ghost invariant = { λ m. IsFieldMap m.ranges };
 }
@@ -134,6 +136,7 @@ impl BitMap {
         ensures range { result ≡ range_at self.now bit }
         ensures right { IfSome result (λ range. IsPortRange range) }
         ensures below { IsSome result → bit < FIELD_BITS }
+        ensures map { IsFieldMap self.now }
     {
         let ranges = &self.ranges;
         if bit >= FIELD_BITS {
@@ -158,6 +161,23 @@ impl BitMap {
             }
         }
         word
+    }
+
+    /// The live ranges whose bits were free in an earlier map, under the same bits.
+    pub fn newer_than(&self, before: &BitMap) -> BitMap
+        ensures newer { result ≡ newly_live before.now self.now }
+        ensures live { (bit : ℕ) (range : PortRange) → (range_at result bit ≡ Some range) ↔
+            ((range_at before.now bit ≡ None) × (range_at self.now bit ≡ Some range)) }
+    {
+        let ranges = &self.ranges;
+        let earlier = &before.ranges;
+        let mut newer = [None; FIELD_BITS as usize];
+        for place in 0..FIELD_BITS {
+            if earlier[place as usize].is_none() {
+                newer[place as usize] = ranges[place as usize];
+            }
+        }
+        BitMap { ranges: newer }
     }
 
     /// The least free bit. None comes exactly where no bit is free.

@@ -53,3 +53,19 @@ fn words(rt: HostRuntime) {
     assert_eq!(rt; map.word_for(65535, 0xffff), 0xfffe);
     assert_eq!(rt; map.word_for(1, 0), 1);
 }
+
+#[test]
+fn newer_ranges(rt: HostRuntime) {
+    let mut before = BitMap::new();
+    let mut now = BitMap::new();
+    let (old, new) = (up_to(&rt, 2), up_to(&rt, 3));
+    assert_eq!(rt; (before.bit_of(old), now.bit_of(old)), (None, None));
+    assert_eq!(rt; (before.assign(old), now.assign(old)), (Ok(0), Ok(0)));
+    assert_eq!(rt; now.bit_of(new), None);
+    assert_eq!(rt; now.assign(new), Ok(1));
+    let newer = now.newer_than(&before);
+    assert_eq!(rt;
+        (newer.live(), newer.range_of(0), newer.range_of(1)),
+        (1, None, Some(new))
+    );
+}

@@ -70,16 +70,16 @@ removes-set priority changed answer = at (eqb changed priority)
     at false = refl
 
 -- a filter over a filter
-filter-filter : (first second both : Rule → Bool) → ((rule : Rule) → both rule ≡ (first rule && second rule)) → (rules : List Rule) → filter second (filter first rules) ≡ filter both rules
+pub filter-filter : {X : Type 0} (first second both : X → Bool) → ((x : X) → both x ≡ (first x && second x)) → (xs : List X) → filter second (filter first xs) ≡ filter both xs
 filter-filter first second both is [] = refl
-filter-filter first second both is (rule ∷ rules) =
-    cond_both (first rule) (rule ∷ filter first rules) (filter first rules) (λ left. filter second left ≡ filter both (rule ∷ rules))
+filter-filter {X} first second both is (x ∷ xs) =
+    cond_both (first x) (x ∷ filter first xs) (filter first xs) (λ left. filter second left ≡ filter both (x ∷ xs))
     (λ yes.
-    let same : both rule ≡ second rule = is rule ∙ ap (λ (t : Bool). t && second rule) yes in
-    ap₂ (λ (t : Bool) (rest : List Rule). cond t (rule ∷ rest) rest) (sym same) (filter-filter first second both is rules))
+    let same : both x ≡ second x = is x ∙ ap (λ (t : Bool). t && second x) yes in
+    ap₂ (λ (t : Bool) (rest : List X). cond t (x ∷ rest) rest) (sym same) (filter-filter first second both is xs))
     (λ no.
-    let none : both rule ≡ false = is rule ∙ ap (λ (t : Bool). t && second rule) no in
-    filter-filter first second both is rules ∙ sym (cond-false _ _ _ none))
+    let none : both x ≡ false = is x ∙ ap (λ (t : Bool). t && second x) no in
+    filter-filter first second both is xs ∙ sym (cond-false _ _ _ none))
 
 -- a removal more
 pub remaining-del : (rules : List Rule) (earlier : List Command) (priority : ℕ) → without_rule (remaining_rules rules earlier) priority ≡ remaining_rules rules (earlier ++ Del priority ∷ [])

@@ -1,10 +1,10 @@
 -- Every state that writes leave has its sizes, and words of 16 bits in its tables.
-use Rattle.std.proofs.Common.{◌≡◌, ◌<◌, ◌^◌, ℕ, length, replicate, Option, None, refl, sym, subst, arith, inl, inr}
+use Rattle.std.proofs.Common.{◌≡◌, ◌<◌, ◌^◌, ℕ, length, replicate, Option, None, sym, subst, arith, inl, inr}
 use Rattle.std.specs.Prelude.{slice_index}
 use Rattle.std.proofs.lemmas.Bool.{cases_lt}
 use Rattle.std.proofs.lemmas.List.{length-replicate, get_or-replicate, get_or_past}
 use Rattle.ternary_word.specs.declared.Entry.{Entry}
-use Rattle.tcam_device.specs.State.{State, IsState, blank, blank_table}
+use Rattle.tcam_device.specs.State.{IsState, blank, blank_table}
 use Rattle.tcam_device.proofs.Kept.{blank_table-is}
 
 blank_words : (port : ℕ) → slice_index blank_table port < 2 ^ 16
@@ -23,14 +23,4 @@ IsState-blank slots = record {
   dst_size = blank_size;
   src_words = blank_words;
   dst_words = blank_words;
-}
-
--- a state whose tables were never written is one, of as many slots as it has
-pub IsState-plain : (state : State) → state.src ≡ blank_table → state.dst ≡ blank_table → IsState (length state.slots) state
-IsState-plain state src dst = record {
-  size = refl;
-  src_size = subst (λ table. length table ≡ 2 ^ 16) (sym src) blank_size;
-  dst_size = subst (λ table. length table ≡ 2 ^ 16) (sym dst) blank_size;
-  src_words = subst (λ table. (port : ℕ) → slice_index table port < 2 ^ 16) (sym src) blank_words;
-  dst_words = subst (λ table. (port : ℕ) → slice_index table port < 2 ^ 16) (sym dst) blank_words;
 }
