@@ -5,6 +5,7 @@ use Rattle.ternary_word.specs.Entry.{RankedPiece, entry_for}
 use Rattle.overlap_index.specs.declared.LivePiece.{LivePiece}
 use Rattle.overlap_index.proofs.Above.{piece_in, piece_is, live_is}
 use Rattle.move_planner.specs.Insertion.{IsLive}
+use Rattle.tcam_device.specs.State.{State}
 use Rattle.commit_writes.specs.declared.Rewrite.{Rewrite}
 use Rattle.commit_writes.specs.Planned.{IdEntries, entry_at}
 use Rattle.commit_writes.specs.PlannedBatch.{rewritten_entries, IsRewriteOf}
@@ -14,8 +15,8 @@ use Rattle.commit_writes.proofs.Mirror.{entry_by}
 use Rattle.commit_writes.proofs.Rewrites.{rewritten_at}
 
 -- live pieces of one id are one
-pub one_live : (pieces : List RankedPiece) (all : List LivePiece) (held : IdEntries) (a b : LivePiece) → AreOfPieces pieces all held → Contains all a → Contains all b → a.id ≡ b.id → a ≡ b
-one_live pieces all held a b of in_a in_b same = sym (piece_is a all a of.ids in_a) ∙ (ap (piece_in a all) same ∙ piece_is a all b of.ids in_b)
+pub one_live : (state : State) (pieces : List RankedPiece) (all : List LivePiece) (held : IdEntries) (a b : LivePiece) → AreOfPieces state pieces all held → Contains all a → Contains all b → a.id ≡ b.id → a ≡ b
+one_live state pieces all held a b of in_a in_b same = sym (piece_is a all a of.ids in_a) ∙ (ap (piece_in a all) same ∙ piece_is a all b of.ids in_b)
 
 -- What a live piece shows while results change: what it was at first, or the same piece with its new result, where it has
 -- that already.
@@ -36,10 +37,10 @@ pub record IsTold (pieces changed : List RankedPiece) (all : List LivePiece) (he
 abbrev pub AreRewrites : List RankedPiece → List LivePiece → List Rewrite → Type 0
 AreRewrites changed live rewrites = (rewrite : Rewrite) → Contains rewrites rewrite → (ranked : RankedPiece) × Contains changed ranked × IsRewriteOf live ranked rewrite
 
-pub told : (pieces changed : List RankedPiece) (live all : List LivePiece) (held : IdEntries) (rewrites : List Rewrite) (one : LivePiece) → AreOfPieces pieces all held
+pub told : (state : State) (pieces changed : List RankedPiece) (live all : List LivePiece) (held : IdEntries) (rewrites : List Rewrite) (one : LivePiece) → AreOfPieces state pieces all held
     → ((other : LivePiece) → Contains live other → Contains all other) → AreRewrites changed live rewrites → Contains all one
     → IsTold pieces changed all (rewritten_entries held rewrites) rewrites one
-told pieces changed live all held rewrites one of up are member = elim (rewritten_at held rewrites one.id (slot_inside held one.id (entry_for own.0) own.4)) [
+told state pieces changed live all held rewrites one of up are member = elim (rewritten_at held rewrites one.id (slot_inside held one.id (entry_for own.0) own.4)) [
   | inl w ↦ new w.0 w.1 w.2 w.3
   | inr none ↦ record {
     was = own.0;
@@ -63,7 +64,7 @@ told pieces changed live all held rewrites one of up are member = elim (rewritte
     new rewrite given is holds =
         let w = are rewrite given in
         let other : LivePiece = record { id = rewrite.id; piece = w.0.piece; rank = w.0.rank } in
-        let whose : other ≡ one = one_live pieces all held other one of (up other w.2.0) member is in
+        let whose : other ≡ one = one_live state pieces all held other one of (up other w.2.0) member is in
         let piece : w.0.piece ≡ one.piece = ap (λ (l : LivePiece). l.piece) whose in
         let rank : w.0.rank ≡ one.rank = ap (λ (l : LivePiece). l.rank) whose in
         let entry : entry_at (rewritten_entries held rewrites) one.id ≡ Some (entry_for w.0) = holds ∙ ap Some w.2.1 in

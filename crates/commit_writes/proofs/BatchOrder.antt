@@ -13,7 +13,7 @@ use Rattle.slot_order.proofs.Writes.{slot_inside}
 use Rattle.slot_order.proofs.Images as images
 use Rattle.slot_pool.specs.Arrangement.{Slots}
 use Rattle.rule_model.specs.declared.Rule.{Rule}
-use Rattle.rule_store.specs.declared.Mode.TheVariants.{Cover}
+use Rattle.rule_store.specs.declared.Mode.{Mode}
 use Rattle.rule_store.specs.declared.Command.{Command}
 use Rattle.ternary_word.specs.Entry.{RankedPiece}
 use Rattle.overlap_index.specs.declared.LivePiece.{LivePiece}
@@ -26,14 +26,14 @@ use Rattle.tcam_device.specs.State.{State, state_after}
 use Rattle.tcam_device.specs.Order.{IsOrdered, StandsOnce}
 use Rattle.tcam_device.proofs.Spans.{state_after-append}
 use Rattle.commit_writes.specs.declared.Rewrite.{Rewrite}
-use Rattle.commit_writes.specs.Bits.{no_bits}
+use Rattle.commit_writes.specs.Bits.{FieldBits}
 use Rattle.commit_writes.specs.Shape.{set_pieces, inserted_pieces, rewritten_pieces, erased_pieces}
-use Rattle.commit_writes.specs.Planned.{IdEntries, Planned, contents, plain_state, live_after, slots_after, planned_writes}
+use Rattle.commit_writes.specs.Planned.{IdEntries, Planned, contents, with_slots, live_after, slots_after, planned_writes}
 use Rattle.commit_writes.specs.PlannedBatch.{rewrite_write, erase_write, rewritten_entries, erased_slots, erased_live, IsIdOf, IsPlannedBatch}
 use Rattle.commit_writes.proofs.Bridge.{HaveEntries}
 use Rattle.commit_writes.proofs.BatchIds.{IsTold, AreRewrites, one_live, told, told_have}
-use Rattle.commit_writes.proofs.BatchRow.{row_of, row_pieces, batch_of}
-use Rattle.commit_writes.proofs.BatchPieces.{erased_once}
+use Rattle.commit_writes.proofs.BatchRow.{row_of, batch_of}
+use Rattle.commit_writes.proofs.BatchPieces.{row_pieces, erased_once}
 use Rattle.commit_writes.proofs.BatchRules.{change_of}
 use Rattle.commit_writes.proofs.Zips.{zip_right, zip_at}
 use Rattle.commit_writes.proofs.Erases.{CanErase, in_erased, erased_state, erased_ordered}
@@ -69,9 +69,9 @@ abbrev pub late_pieces : List LivePiece → IdEntries → List Planned → List 
 late_pieces live entries planned rewrites erased told gone = shown_pieces (live_after live planned) (told_entries entries rewrites told) (live_then live planned erased gone)
 
 -- the state then, and the writes that lead to it
-abbrev pub late_state : Slots → IdEntries → List Planned → List Rewrite → List ℕ → ℕ → ℕ → State
-late_state slots entries planned rewrites erased told gone =
-    plain_state (contents (told_entries entries rewrites told) (erased_slots (slots_after slots planned) (take gone erased)))
+abbrev pub late_state : State → Slots → IdEntries → List Planned → List Rewrite → List ℕ → ℕ → ℕ → State
+late_state state slots entries planned rewrites erased told gone =
+    with_slots state (contents (told_entries entries rewrites told) (erased_slots (slots_after slots planned) (take gone erased)))
 
 abbrev pub late_writes : Slots → IdEntries → List Planned → List Rewrite → List ℕ → ℕ → ℕ → List Write
 late_writes slots entries planned rewrites erased told gone =
@@ -92,21 +92,21 @@ apart_ids (id ∷ ids) apart = (
 )
 
 -- what stands then
-record IsLate (all : List LivePiece) (held : IdEntries) (live : List LivePiece) (slots : Slots) : Type 0 where
-  ordered : IsOrdered (plain_state (contents held slots)) (Contains (shown_pieces all held live))
-  once : StandsOnce (plain_state (contents held slots)) (Contains (shown_pieces all held live))
+record IsLate (state : State) (all : List LivePiece) (held : IdEntries) (live : List LivePiece) (slots : Slots) : Type 0 where
+  ordered : IsOrdered (with_slots state (contents held slots)) (Contains (shown_pieces all held live))
+  once : StandsOnce (with_slots state (contents held slots)) (Contains (shown_pieces all held live))
 
-late : (all : List LivePiece) (held : IdEntries) (live : List LivePiece) (slots : Slots) → MatchApart (piece_by all held) (IsLive all) → HaveEntries held (piece_by all held) (IsLive all)
+late : (state : State) (all : List LivePiece) (held : IdEntries) (live : List LivePiece) (slots : Slots) → MatchApart (piece_by all held) (IsLive all) → HaveEntries held (piece_by all held) (IsLive all)
     → ((id : ℕ) → IsLive live id → IsLive all id) → Ordered (over (piece_by all held)) (rank (piece_by all held)) (IsLive live) slots → AllOnce slots
-    → IsLate all held live slots
-late all held live slots apart have up o once = record {
-  ordered = IsOrdered_same state (Pieces (piece_by all held) (IsLive live)) (Contains (shown_pieces all held live)) (shown_are all held live) ordered;
-  once = StandsOnce_same state (Pieces (piece_by all held) (IsLive live)) (Contains (shown_pieces all held live)) (shown_are all held live)
-      (stands_once (piece_by all held) (IsLive live) (IsLive all) slots state apart up known same once ordered);
+    → IsLate state all held live slots
+late state all held live slots apart have up o once = record {
+  ordered = IsOrdered_same now (Pieces (piece_by all held) (IsLive live)) (Contains (shown_pieces all held live)) (shown_are all held live) ordered;
+  once = StandsOnce_same now (Pieces (piece_by all held) (IsLive live)) (Contains (shown_pieces all held live)) (shown_are all held live)
+      (stands_once (piece_by all held) (IsLive live) (IsLive all) slots now apart up known same once ordered);
 }
   where
-    state : State
-    state = plain_state (contents held slots)
+    now : State
+    now = with_slots state (contents held slots)
 
     known : AllKnown (IsLive all) slots
     known at id s = up id (o.within at id s)
@@ -114,21 +114,21 @@ late all held live slots apart have up o once = record {
     same : contents held slots ≡ images.entries (entry_by (piece_by all held)) slots
     same = contents_are held (piece_by all held) (IsLive all) slots have known
 
-    ordered : IsOrdered state (Pieces (piece_by all held) (IsLive live))
-    ordered = ordered_state (piece_by all held) (IsLive live) (IsLive all) slots state apart up same o
+    ordered : IsOrdered now (Pieces (piece_by all held) (IsLive live))
+    ordered = ordered_state (piece_by all held) (IsLive live) (IsLive all) slots now apart up same o
 
-module _ (rules : List Rule) (batch : List Command) (live : List LivePiece) (slots : Slots) (entries : IdEntries) (planned : List Planned) (rewrites : List Rewrite) (erased : List ℕ) (plan : IsPlannedBatch rules batch live slots entries planned rewrites erased) where
+module _ (mode : Mode) (bits : FieldBits) (state : State) (rules : List Rule) (batch : List Command) (live : List LivePiece) (slots : Slots) (entries : IdEntries) (planned : List Planned) (rewrites : List Rewrite) (erased : List ℕ) (plan : IsPlannedBatch mode bits state rules batch live slots entries planned rewrites erased) where
   abbrev old : List RankedPiece
-  old = set_pieces Cover no_bits rules
+  old = set_pieces mode bits rules
 
   abbrev inserted : List RankedPiece
-  inserted = inserted_pieces Cover no_bits rules batch
+  inserted = inserted_pieces mode bits rules batch
 
   abbrev rewritten : List RankedPiece
-  rewritten = rewritten_pieces Cover no_bits rules batch
+  rewritten = rewritten_pieces mode bits rules batch
 
   abbrev goes : List RankedPiece
-  goes = erased_pieces Cover no_bits rules batch
+  goes = erased_pieces mode bits rules batch
 
   abbrev all : List LivePiece
   all = live_after live planned
@@ -137,10 +137,10 @@ module _ (rules : List Rule) (batch : List Command) (live : List LivePiece) (slo
   arranged = slots_after slots planned
 
   readable : AreReadable entries (commit_piece live entries planned) all
-  readable = commit_readable old inserted live slots entries planned (row_of rules batch live slots entries planned rewrites erased plan)
+  readable = commit_readable state old inserted live slots entries planned (row_of mode bits state rules batch live slots entries planned rewrites erased plan)
 
-  done : AreDone entries (commit_piece live entries planned) all live slots (plain_state (contents entries slots)) planned
-  done = commit_done old inserted live slots entries planned (row_of rules batch live slots entries planned rewrites erased plan)
+  done : AreDone entries (commit_piece live entries planned) all live slots state planned
+  done = commit_done state old inserted live slots entries planned (row_of mode bits state rules batch live slots entries planned rewrites erased plan)
 
   -- the ids before it are among them
   pub before_it : (one : LivePiece) → Contains live one → Contains all one
@@ -153,10 +153,10 @@ module _ (rules : List Rule) (batch : List Command) (live : List LivePiece) (slo
 
   -- each id shows its piece or that with its new result
   pub batch_told : (count : ℕ) (one : LivePiece) → Contains all one
-      → IsTold (row_pieces rules batch) rewritten all (told_entries entries rewrites count) (take count rewrites) one
+      → IsTold (row_pieces mode bits rules batch) rewritten all (told_entries entries rewrites count) (take count rewrites) one
   batch_told count one member =
-      told (row_pieces rules batch) rewritten live all entries (take count rewrites) one
-      (batch_of rules batch live slots entries planned rewrites erased plan) before_it (given count) member
+      told state (row_pieces mode bits rules batch) rewritten live all entries (take count rewrites) one
+      (batch_of mode bits state rules batch live slots entries planned rewrites erased plan) before_it (given count) member
 
   -- what the ids that go are: each is that of a piece that goes, in their order
   pub gone_id : (gone id : ℕ) (none : RankedPiece) → Contains (take gone erased) id
@@ -172,8 +172,8 @@ module _ (rules : List Rule) (batch : List Command) (live : List LivePiece) (slo
   -- a live piece is the one that its id is of
   pub id_piece : (one : LivePiece) (ranked : RankedPiece) → Contains all one → IsIdOf live ranked one.id → IsLiveAs one ranked
   id_piece one ranked member is =
-      let same = one_live (row_pieces rules batch) all entries one (record { id = one.id; piece = ranked.piece; rank = ranked.rank })
-      (batch_of rules batch live slots entries planned rewrites erased plan) member (before_it _ is) refl in
+      let same = one_live state (row_pieces mode bits rules batch) all entries one (record { id = one.id; piece = ranked.piece; rank = ranked.rank })
+      (batch_of mode bits state rules batch live slots entries planned rewrites erased plan) member (before_it _ is) refl in
       (ap (λ (l : LivePiece). l.piece) same, ap (λ (l : LivePiece). l.rank) same)
 
   gone_distinct : (gone : ℕ) → IsDistinct nat_eq (take gone erased)
@@ -194,12 +194,12 @@ module _ (rules : List Rule) (batch : List Command) (live : List LivePiece) (slo
           let early = get_or goes i none in
           let level = id_piece (record { id = get_or erased i 0; piece = early.piece; rank = early.rank }) (get_or goes k none) (before_it _ (is i (omega arith)))
           (subst (IsIdOf live (get_or goes k none)) (sym one) (is k (omega arith))) in
-          erased_once rules batch (change_of rules batch live slots entries planned rewrites erased plan) i k none less (omega arith) level.1 level.0
+          erased_once mode bits rules batch (change_of mode bits state rules batch live slots entries planned rewrites erased plan) i k none less (omega arith) level.1 level.0
 
   -- the ids stand in order after the insertions, each once
   pub ids_ordered : Ordered (over (commit_piece live entries planned)) (rank (commit_piece live entries planned)) (IsLive all) arranged
   ids_ordered =
-      ordered_ids (commit_piece live entries planned) (IsLive all) arranged (state_after (plain_state (contents entries slots)) (planned_writes entries planned))
+      ordered_ids (commit_piece live entries planned) (IsLive all) arranged (state_after state (planned_writes entries planned))
       readable.apart done.within done.changed.slots done.last
 
   -- an id of the set is live
@@ -214,37 +214,34 @@ module _ (rules : List Rule) (batch : List Command) (live : List LivePiece) (slo
     distinct = gone_distinct gone;
   }
 
-  late_is : (told gone : ℕ) → IsLate all (told_entries entries rewrites told) (live_then live planned erased gone) (erased_slots arranged (take gone erased))
+  late_is : (told gone : ℕ) → IsLate state all (told_entries entries rewrites told) (live_then live planned erased gone) (erased_slots arranged (take gone erased))
   late_is told gone =
       let e = erased_ordered (over (piece_by all held)) (rank (piece_by all held)) all arranged (take gone erased) (can_erase gone) ids_ordered in
-      late all held (live_then live planned erased gone) (erased_slots arranged (take gone erased)) readable.apart
-      (told_have (row_pieces rules batch) rewritten all held (take told rewrites) (batch_told told))
+      late state all held (live_then live planned erased gone) (erased_slots arranged (take gone erased)) readable.apart
+      (told_have (row_pieces mode bits rules batch) rewritten all held (take told rewrites) (batch_told told))
       (live_up (live_then live planned erased gone) all (λ one member. (in_erased all (take gone erased) one member).0)) e.0 e.1
     where
       held : IdEntries
       held = told_entries entries rewrites told
 
   -- the device is in order then,
-  pub late_ordered : (told gone : ℕ) → IsOrdered (late_state slots entries planned rewrites erased told gone) (Contains (late_pieces live entries planned rewrites erased told gone))
+  pub late_ordered : (told gone : ℕ) → IsOrdered (late_state state slots entries planned rewrites erased told gone) (Contains (late_pieces live entries planned rewrites erased told gone))
   late_ordered told gone = (late_is told gone).ordered
 
   -- and each piece stands in one slot
-  pub late_once : (told gone : ℕ) → StandsOnce (late_state slots entries planned rewrites erased told gone) (Contains (late_pieces live entries planned rewrites erased told gone))
+  pub late_once : (told gone : ℕ) → StandsOnce (late_state state slots entries planned rewrites erased told gone) (Contains (late_pieces live entries planned rewrites erased told gone))
   late_once told gone = (late_is told gone).once
 
   -- this is the state after those writes
   pub late_reached : (told gone : ℕ)
-      → state_after (plain_state (contents entries slots)) (late_writes slots entries planned rewrites erased told gone) ≡ late_state slots entries planned rewrites erased told gone
+      → state_after state (late_writes slots entries planned rewrites erased told gone) ≡ late_state state slots entries planned rewrites erased told gone
   late_reached told gone =
-      state_after-append start (planned_writes entries planned) (results ++ erases)
-      ∙ (ap (λ (s : State). state_after s (results ++ erases)) (planned_state old inserted live slots entries planned (row_of rules batch live slots entries planned rewrites erased plan))
-      ∙ (state_after-append (plain_state (contents entries arranged)) results erases
-      ∙ (ap (λ (s : State). state_after s erases) (rewritten_state entries arranged (take told rewrites) done.alone stand)
-      ∙ erased_state (told_entries entries rewrites told) arranged (take gone erased) (can_erase gone))))
+      state_after-append state (planned_writes entries planned) (results ++ erases)
+      ∙ (ap (λ (s : State). state_after s (results ++ erases)) (planned_state state old inserted live slots entries planned (row_of mode bits state rules batch live slots entries planned rewrites erased plan))
+      ∙ (state_after-append (with_slots state (contents entries arranged)) results erases
+      ∙ (ap (λ (s : State). state_after s erases) (rewritten_state state entries arranged (take told rewrites) done.alone stand)
+      ∙ erased_state state (told_entries entries rewrites told) arranged (take gone erased) (can_erase gone))))
     where
-      start : State
-      start = plain_state (contents entries slots)
-
       results : List Write
       results = map (rewrite_write arranged) (take told rewrites)
 

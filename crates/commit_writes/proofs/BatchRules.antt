@@ -8,12 +8,15 @@ use Rattle.overlap_index.specs.declared.LivePiece.{LivePiece}
 use Rattle.rule_model.specs.declared.Rule.{Rule}
 use Rattle.rule_model.specs.Rule.{HasConditions}
 use Rattle.rule_model.specs.RuleSet.{IsRuleSet}
+use Rattle.rule_store.specs.declared.Mode.{Mode}
 use Rattle.rule_store.specs.declared.Command.{Command}
 use Rattle.rule_store.specs.declared.Command.TheVariants.{Add, Set, Del}
 use Rattle.rule_store.specs.Batch.{ChangesRules, is_removal, batch_fault, commands_naming, removes, additions, result_after, with_result_after, set_after}
 use Rattle.rule_store.proofs.After.{set_after-set}
 use Rattle.rule_store.proofs.Members.{set_after-member}
+use Rattle.tcam_device.specs.State.{State}
 use Rattle.commit_writes.specs.declared.Rewrite.{Rewrite}
+use Rattle.commit_writes.specs.Bits.{FieldBits}
 use Rattle.commit_writes.specs.Planned.{IdEntries, Planned}
 use Rattle.commit_writes.specs.PlannedBatch.{IsPlannedBatch}
 use Rattle.commit_writes.specs.Shape.{names}
@@ -26,9 +29,9 @@ pub record IsSoundChange (rules : List Rule) (batch : List Command) : Type 0 whe
   pub changes : AllByRecursion ChangesRules batch
   pub sound : batch_fault rules batch ≡ None
 
-pub change_of : (rules : List Rule) (batch : List Command) (live : List LivePiece) (slots : Slots) (entries : IdEntries) (planned : List Planned) (rewrites : List Rewrite) (erased : List ℕ)
-    → IsPlannedBatch rules batch live slots entries planned rewrites erased → IsSoundChange rules batch
-change_of rules batch live slots entries planned rewrites erased plan = record { is_set = plan.is_set; right = plan.right; changes = plan.changes; sound = plan.sound }
+pub change_of : (mode : Mode) (bits : FieldBits) (state : State) (rules : List Rule) (batch : List Command) (live : List LivePiece) (slots : Slots) (entries : IdEntries) (planned : List Planned) (rewrites : List Rewrite) (erased : List ℕ)
+    → IsPlannedBatch mode bits state rules batch live slots entries planned rewrites erased → IsSoundChange rules batch
+change_of mode bits state rules batch live slots entries planned rewrites erased plan = record { is_set = plan.is_set; right = plan.right; changes = plan.changes; sound = plan.sound }
 
 -- what is added has right conditions,
 pub right_added : (batch : List Command) → AllByRecursion ChangesRules batch → AllByRecursion HasConditions (additions batch)

@@ -8,16 +8,16 @@ use Rattle.slot_pool.specs.Arrangement.{Slots}
 use Rattle.rule_model.specs.declared.Rule.{Rule}
 use Rattle.rule_store.specs.declared.Command.{Command}
 use Rattle.rule_store.specs.Batch.{set_after}
-use Rattle.rule_store.specs.declared.Mode.TheVariants.{Cover}
+use Rattle.rule_store.specs.declared.Mode.{Mode}
 use Rattle.ternary_word.specs.Entry.{RankedPiece}
 use Rattle.overlap_index.specs.declared.LivePiece.{LivePiece}
 use Rattle.tcam_device.specs.declared.Write.{Write}
 use Rattle.tcam_device.specs.State.{State, state_after}
 use Rattle.tcam_device.specs.Order.{IsOrdered, StandsOnce}
 use Rattle.commit_writes.specs.declared.Rewrite.{Rewrite}
-use Rattle.commit_writes.specs.Bits.{no_bits}
+use Rattle.commit_writes.specs.Bits.{FieldBits}
 use Rattle.commit_writes.specs.Shape.{set_pieces, inserted_pieces}
-use Rattle.commit_writes.specs.Planned.{IdEntries, Planned, contents, plain_state, planned_writes, slots_after}
+use Rattle.commit_writes.specs.Planned.{IdEntries, Planned, planned_writes, slots_after}
 use Rattle.commit_writes.specs.PlannedBatch.{rewrite_write, erase_write, batch_writes, IsPlannedBatch}
 use Rattle.commit_writes.proofs.BatchRow.{row_of}
 use Rattle.commit_writes.proofs.BatchOrder.{late_pieces, late_state, late_writes, late_ordered, late_once, late_reached}
@@ -46,18 +46,15 @@ pub record IsStage (old new : List RankedPiece) (state : State) (Later : Type 0)
   pub ordered : IsOrdered state (Contains standing)
   pub once : Later → StandsOnce state (Contains standing)
 
-module _ (rules : List Rule) (batch : List Command) (live : List LivePiece) (slots : Slots) (entries : IdEntries) (planned : List Planned) (rewrites : List Rewrite) (erased : List ℕ) (plan : IsPlannedBatch rules batch live slots entries planned rewrites erased) where
+module _ (mode : Mode) (bits : FieldBits) (state : State) (rules : List Rule) (batch : List Command) (live : List LivePiece) (slots : Slots) (entries : IdEntries) (planned : List Planned) (rewrites : List Rewrite) (erased : List ℕ) (plan : IsPlannedBatch mode bits state rules batch live slots entries planned rewrites erased) where
   abbrev old : List RankedPiece
-  old = set_pieces Cover no_bits rules
+  old = set_pieces mode bits rules
 
   abbrev new : List RankedPiece
-  new = set_pieces Cover no_bits (set_after rules batch)
+  new = set_pieces mode bits (set_after rules batch)
 
   abbrev added : List RankedPiece
-  added = inserted_pieces Cover no_bits rules batch
-
-  abbrev start : State
-  start = plain_state (contents entries slots)
+  added = inserted_pieces mode bits rules batch
 
   abbrev inserting : List Write
   inserting = planned_writes entries planned
@@ -95,52 +92,52 @@ module _ (rules : List Rule) (batch : List Command) (live : List LivePiece) (slo
 
   -- the state after some of them
   late_after : (writes : List Write) (told gone : ℕ) → writes ≡ late_writes slots entries planned rewrites erased told gone
-      → IsOrdered (state_after start writes) (Contains (late_pieces live entries planned rewrites erased told gone))
-      × StandsOnce (state_after start writes) (Contains (late_pieces live entries planned rewrites erased told gone))
+      → IsOrdered (state_after state writes) (Contains (late_pieces live entries planned rewrites erased told gone))
+      × StandsOnce (state_after state writes) (Contains (late_pieces live entries planned rewrites erased told gone))
   late_after writes told gone are =
-      let reached : state_after start writes ≡ late_state slots entries planned rewrites erased told gone =
-      ap (state_after start) are ∙ late_reached rules batch live slots entries planned rewrites erased plan told gone in (
-        subst (λ (state : State). IsOrdered state (Contains (late_pieces live entries planned rewrites erased told gone))) (sym reached)
-            (late_ordered rules batch live slots entries planned rewrites erased plan told gone),
-        subst (λ (state : State). StandsOnce state (Contains (late_pieces live entries planned rewrites erased told gone))) (sym reached)
-            (late_once rules batch live slots entries planned rewrites erased plan told gone),
+      let reached : state_after state writes ≡ late_state state slots entries planned rewrites erased told gone =
+      ap (state_after state) are ∙ late_reached mode bits state rules batch live slots entries planned rewrites erased plan told gone in (
+        subst (λ (now : State). IsOrdered now (Contains (late_pieces live entries planned rewrites erased told gone))) (sym reached)
+            (late_ordered mode bits state rules batch live slots entries planned rewrites erased plan told gone),
+        subst (λ (now : State). StandsOnce now (Contains (late_pieces live entries planned rewrites erased told gone))) (sym reached)
+            (late_once mode bits state rules batch live slots entries planned rewrites erased plan told gone),
       )
 
-  early_ordered : (n : ℕ) → n < length inserting → IsOrdered (state_after start (take n made)) (Contains (old ++ take (whole_insertions planned n) added))
+  early_ordered : (n : ℕ) → n < length inserting → IsOrdered (state_after state (take n made)) (Contains (old ++ take (whole_insertions planned n) added))
   early_ordered n short =
-      subst (λ (writes : List Write). IsOrdered (state_after start writes) (Contains (old ++ take (whole_insertions planned n) added))) (sym (take-append-le n inserting (results ++ erases) (omega arith)))
-      (planned_ordered old added live slots entries planned n (row_of rules batch live slots entries planned rewrites erased plan))
+      subst (λ (writes : List Write). IsOrdered (state_after state writes) (Contains (old ++ take (whole_insertions planned n) added))) (sym (take-append-le n inserting (results ++ erases) (omega arith)))
+      (planned_ordered state old added live slots entries planned n (row_of mode bits state rules batch live slots entries planned rewrites erased plan))
 
-  stage_at : (n : ℕ) → (n < length inserting) ⊎ (length inserting ≤ n) → IsStage old new (state_after start (take n made)) (length inserting ≤ n)
+  stage_at : (n : ℕ) → (n < length inserting) ⊎ (length inserting ≤ n) → IsStage old new (state_after state (take n made)) (length inserting ≤ n)
   stage_at n (inl short) = record {
     standing = old ++ take (whole_insertions planned n) added;
-    way = early_on_the_way rules batch live slots entries planned rewrites erased plan (whole_insertions planned n);
-    single = early_single rules batch live slots entries planned rewrites erased plan (whole_insertions planned n);
+    way = early_on_the_way mode bits state rules batch live slots entries planned rewrites erased plan (whole_insertions planned n);
+    single = early_single mode bits state rules batch live slots entries planned rewrites erased plan (whole_insertions planned n);
     ordered = early_ordered n short;
     once = λ long. absurd (omega arith);
   }
   stage_at n (inr long) = let are = late_after (take n made) (told_by n) (gone_by n) (taken n long) in record {
     standing = late_pieces live entries planned rewrites erased (told_by n) (gone_by n);
-    way = late_on_the_way rules batch live slots entries planned rewrites erased plan (told_by n) (gone_by n) (results_first n);
-    single = late_single rules batch live slots entries planned rewrites erased plan (told_by n) (gone_by n);
+    way = late_on_the_way mode bits state rules batch live slots entries planned rewrites erased plan (told_by n) (gone_by n) (results_first n);
+    single = late_single mode bits state rules batch live slots entries planned rewrites erased plan (told_by n) (gone_by n);
     ordered = are.0;
     once = λ known. are.1;
   }
 
   -- after each of the writes
-  pub batch_stage : (n : ℕ) → IsStage old new (state_after start (take n made)) (length inserting ≤ n)
+  pub batch_stage : (n : ℕ) → IsStage old new (state_after state (take n made)) (length inserting ≤ n)
   batch_stage n = stage_at n (cases_lt n (length inserting))
 
   onward_at : (n : ℕ) (now : (n < length inserting) ⊎ (length inserting ≤ n)) (next : (suc n < length inserting) ⊎ (length inserting ≤ suc n))
       → IsOnward new (stage_at n now).standing (stage_at (suc n) next).standing
   unfolding stage_at
   onward_at n (inl short) (inl next) =
-      inserting_onward rules batch live slots entries planned rewrites erased plan (whole_insertions planned n) (whole_insertions planned (suc n)) (whole_insertions-rise planned n (suc n) (omega arith))
+      inserting_onward mode bits state rules batch live slots entries planned rewrites erased plan (whole_insertions planned n) (whole_insertions planned (suc n)) (whole_insertions-rise planned n (suc n) (omega arith))
   onward_at n (inl short) (inr next) =
-      inserted_onward rules batch live slots entries planned rewrites erased plan (whole_insertions planned n) (told_by (suc n)) (gone_by (suc n)) (stage_at (suc n) (inr next)).way
+      inserted_onward mode bits state rules batch live slots entries planned rewrites erased plan (whole_insertions planned n) (told_by (suc n)) (gone_by (suc n)) (stage_at (suc n) (inr next)).way
   onward_at n (inr long) (inl next) = absurd (omega arith)
   onward_at n (inr long) (inr next) =
-      late_onward rules batch live slots entries planned rewrites erased plan (told_by n) (told_by (suc n)) (gone_by n) (gone_by (suc n)) (omega arith) (omega arith)
+      late_onward mode bits state rules batch live slots entries planned rewrites erased plan (told_by n) (told_by (suc n)) (gone_by n) (gone_by (suc n)) (omega arith) (omega arith)
 
   -- each goes onward
   pub batch_onward : (n : ℕ) → IsOnward new (batch_stage n).standing (batch_stage (suc n)).standing
@@ -149,22 +146,22 @@ module _ (rules : List Rule) (batch : List Command) (live : List LivePiece) (slo
 
   -- and after the last
   pub record IsLast : Type 0 where
-    pub ordered : IsOrdered (state_after start made) (Contains new)
-    pub once : StandsOnce (state_after start made) (Contains new)
+    pub ordered : IsOrdered (state_after state made) (Contains new)
+    pub once : StandsOnce (state_after state made) (Contains new)
 
   pub batch_last : IsLast
   batch_last = record {
-    ordered = IsOrdered_same (state_after start made) (Contains (late_pieces live entries planned rewrites erased (length rewrites) (length erased))) (Contains new) same are.0;
-    once = StandsOnce_same (state_after start made) (Contains (late_pieces live entries planned rewrites erased (length rewrites) (length erased))) (Contains new) same are.1;
+    ordered = IsOrdered_same (state_after state made) (Contains (late_pieces live entries planned rewrites erased (length rewrites) (length erased))) (Contains new) same are.0;
+    once = StandsOnce_same (state_after state made) (Contains (late_pieces live entries planned rewrites erased (length rewrites) (length erased))) (Contains new) same are.1;
   }
     where
       told_all : take (length rewrites) rewrites ≡ rewrites
       told_all = take_all (length rewrites) rewrites (le_refl (length rewrites))
 
       same : (ranked : RankedPiece) → Contains (late_pieces live entries planned rewrites erased (length rewrites) (length erased)) ranked ↔ Contains new ranked
-      same = arrived rules batch live slots entries planned rewrites erased plan (length rewrites) (length erased) told_all (le_refl (length erased))
+      same = arrived mode bits state rules batch live slots entries planned rewrites erased plan (length rewrites) (length erased) told_all (le_refl (length erased))
 
-      are : IsOrdered (state_after start made) (Contains (late_pieces live entries planned rewrites erased (length rewrites) (length erased)))
-          × StandsOnce (state_after start made) (Contains (late_pieces live entries planned rewrites erased (length rewrites) (length erased)))
+      are : IsOrdered (state_after state made) (Contains (late_pieces live entries planned rewrites erased (length rewrites) (length erased)))
+          × StandsOnce (state_after state made) (Contains (late_pieces live entries planned rewrites erased (length rewrites) (length erased)))
       are = late_after made (length rewrites) (length erased) (ap₂ (λ some ids. inserting ++ (map (rewrite_write (slots_after slots planned)) some ++ map (erase_write (slots_after slots planned)) ids))
           (sym told_all) (sym (take_all (length erased) erased (le_refl (length erased)))))

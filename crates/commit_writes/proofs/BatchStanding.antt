@@ -8,20 +8,21 @@ use Rattle.std.proofs.lemmas.Slice.Zip.{AllZip-long}
 use Rattle.slot_order.proofs.Lists.{take_contains, any_is, any_from, map_in}
 use Rattle.slot_pool.specs.Arrangement.{Slots}
 use Rattle.rule_model.specs.declared.Rule.{Rule}
-use Rattle.rule_store.specs.declared.Mode.TheVariants.{Cover}
+use Rattle.rule_store.specs.declared.Mode.{Mode}
 use Rattle.rule_store.specs.declared.Command.{Command}
 use Rattle.rule_store.specs.Batch.{set_after}
 use Rattle.ternary_word.specs.Entry.{RankedPiece, entry_for}
 use Rattle.overlap_index.specs.declared.LivePiece.{LivePiece}
+use Rattle.tcam_device.specs.State.{State}
 use Rattle.commit_writes.specs.declared.Rewrite.{Rewrite}
-use Rattle.commit_writes.specs.Bits.{no_bits}
+use Rattle.commit_writes.specs.Bits.{FieldBits}
 use Rattle.commit_writes.specs.Shape.{set_pieces, inserted_pieces, rewritten_pieces, erased_pieces}
 use Rattle.commit_writes.specs.Planned.{IdEntries, Planned, entry_at, live_after}
 use Rattle.commit_writes.specs.PlannedBatch.{IsIdOf, IsRewriteOf, IsPlannedBatch}
 use Rattle.commit_writes.proofs.BatchIds.{IsTold}
 use Rattle.commit_writes.proofs.BatchOrder.{told_entries, late_pieces, live_then, before_it, batch_told, gone_id, IsLiveAs, id_piece}
-use Rattle.commit_writes.proofs.BatchPieces.{old_piece, new_piece, rewritten_was, rewritten_stays, erased_was}
-use Rattle.commit_writes.proofs.BatchRow.{row_pieces, batch_of}
+use Rattle.commit_writes.proofs.BatchPieces.{row_pieces, old_piece, new_piece, rewritten_was, rewritten_stays, erased_was}
+use Rattle.commit_writes.proofs.BatchRow.{batch_of}
 use Rattle.commit_writes.proofs.PieceChanges.{inserted_stays}
 use Rattle.commit_writes.proofs.BatchRules.{IsSoundChange, change_of}
 use Rattle.commit_writes.proofs.Erases.{erased_in}
@@ -43,48 +44,48 @@ pub record IsHeld (all : List LivePiece) (standing : List RankedPiece) (ids : Li
   pub is : IsLiveAs one ranked
   pub stands : (Contains ids one.id → ⊥) → HasPiece standing ranked
 
-module _ (rules : List Rule) (batch : List Command) (live : List LivePiece) (slots : Slots) (entries : IdEntries) (planned : List Planned) (rewrites : List Rewrite) (erased : List ℕ) (plan : IsPlannedBatch rules batch live slots entries planned rewrites erased) where
+module _ (mode : Mode) (bits : FieldBits) (state : State) (rules : List Rule) (batch : List Command) (live : List LivePiece) (slots : Slots) (entries : IdEntries) (planned : List Planned) (rewrites : List Rewrite) (erased : List ℕ) (plan : IsPlannedBatch mode bits state rules batch live slots entries planned rewrites erased) where
   abbrev old : List RankedPiece
-  old = set_pieces Cover no_bits rules
+  old = set_pieces mode bits rules
 
   abbrev new : List RankedPiece
-  new = set_pieces Cover no_bits (set_after rules batch)
+  new = set_pieces mode bits (set_after rules batch)
 
   abbrev inserted : List RankedPiece
-  inserted = inserted_pieces Cover no_bits rules batch
+  inserted = inserted_pieces mode bits rules batch
 
   abbrev rewritten : List RankedPiece
-  rewritten = rewritten_pieces Cover no_bits rules batch
+  rewritten = rewritten_pieces mode bits rules batch
 
   abbrev goes : List RankedPiece
-  goes = erased_pieces Cover no_bits rules batch
+  goes = erased_pieces mode bits rules batch
 
   abbrev all : List LivePiece
   all = live_after live planned
 
   change : IsSoundChange rules batch
-  change = change_of rules batch live slots entries planned rewrites erased plan
+  change = change_of mode bits state rules batch live slots entries planned rewrites erased plan
 
-  of : AreOfPieces (row_pieces rules batch) all entries
-  of = batch_of rules batch live slots entries planned rewrites erased plan
+  of : AreOfPieces state (row_pieces mode bits rules batch) all entries
+  of = batch_of mode bits state rules batch live slots entries planned rewrites erased plan
 
   -- the id of a live piece's piece is its own
   piece_id : (one : LivePiece) (ranked : RankedPiece) (id : ℕ) → Contains all one → IsLiveAs one ranked → IsIdOf live ranked id → one.id ≡ id
   piece_id one ranked id member like is =
       of.entries_are.once one (record { id = id; piece = ranked.piece; rank = ranked.rank }) member
-      (before_it rules batch live slots entries planned rewrites erased plan _ is) like.1 like.0
+      (before_it mode bits state rules batch live slots entries planned rewrites erased plan _ is) like.1 like.0
 
   -- each piece of the new set has one, be it with another result
-  pub was_in : (ranked : RankedPiece) → Contains new ranked → HasPiece (row_pieces rules batch) ranked
-  was_in ranked member = elim (new_piece rules batch change ranked member) [
+  pub was_in : (ranked : RankedPiece) → Contains new ranked → HasPiece (row_pieces mode bits rules batch) ranked
+  was_in ranked member = elim (new_piece mode bits rules batch change ranked member) [
     | inl stood ↦ (ranked, Contains-append_left old inserted ranked stood.0, refl, refl)
     | inr rest ↦ elim rest [
-      | inl changed ↦ let w = rewritten_was rules batch change ranked changed in (w.0, Contains-append_left old inserted w.0 w.1, w.2, w.3)
+      | inl changed ↦ let w = rewritten_was mode bits rules batch change ranked changed in (w.0, Contains-append_left old inserted w.0 w.1, w.2, w.3)
       | inr put ↦ (ranked, Contains-append_right old inserted ranked put, refl, refl)
     ]
   ]
 
-  pub has_live : (told gone : ℕ) (ranked : RankedPiece) → Contains (row_pieces rules batch) ranked
+  pub has_live : (told gone : ℕ) (ranked : RankedPiece) → Contains (row_pieces mode bits rules batch) ranked
       → IsHeld all (late_pieces live entries planned rewrites erased told gone) (take gone erased) ranked
   has_live told gone ranked member = record { one = w.0; member = w.1; is = (sym w.2, sym w.3); stands = stands }
     where
@@ -93,7 +94,7 @@ module _ (rules : List Rule) (batch : List Command) (live : List LivePiece) (slo
 
       stands : (Contains (take gone erased) w.0.id → ⊥) → HasPiece (late_pieces live entries planned rewrites erased told gone) ranked
       stands stays =
-          let t = batch_told rules batch live slots entries planned rewrites erased plan told w.0 w.1 in (
+          let t = batch_told mode bits state rules batch live slots entries planned rewrites erased plan told w.0 w.1 in (
             piece_by all (told_entries entries rewrites told) w.0.id,
             map_in (λ one. piece_by all (told_entries entries rewrites told) one.id) (live_then live planned erased gone) w.0 (erased_in all (take gone erased) w.0 w.1 stays),
             ap (λ (r : RankedPiece). r.piece) t.shows ∙ (t.now_piece ∙ sym w.2),
@@ -103,11 +104,11 @@ module _ (rules : List Rule) (batch : List Command) (live : List LivePiece) (slo
   -- an id that was erased is none of the new set's
   stays_new : (gone : ℕ) (one : LivePiece) (ranked : RankedPiece) → Contains all one → Contains new ranked → IsLiveAs one ranked → Contains (take gone erased) one.id → ⊥
   stays_new gone one ranked live_one member like erases =
-      let w = gone_id rules batch live slots entries planned rewrites erased plan gone one.id ranked erases in
+      let w = gone_id mode bits state rules batch live slots entries planned rewrites erased plan gone one.id ranked erases in
       let left : RankedPiece = get_or goes w.0 ranked in
       let size = AllZip-long (IsIdOf live) goes erased plan.erased_are in
-      let is = id_piece rules batch live slots entries planned rewrites erased plan one left live_one w.3 in
-      (erased_was rules batch change left (Contains-get_or goes w.0 ranked (let inside = w.2 in omega arith))).1.0 ranked member (sym like.0 ∙ is.0) (sym like.1 ∙ is.1)
+      let is = id_piece mode bits state rules batch live slots entries planned rewrites erased plan one left live_one w.3 in
+      (erased_was mode bits rules batch change left (Contains-get_or goes w.0 ranked (let inside = w.2 in omega arith))).1.0 ranked member (sym like.0 ∙ is.0) (sym like.1 ∙ is.1)
 
   -- the live piece of a piece of the new set, which stays
   pub new_held : (told gone : ℕ) (ranked : RankedPiece) → Contains new ranked
@@ -122,13 +123,13 @@ module _ (rules : List Rule) (batch : List Command) (live : List LivePiece) (slo
 
   -- once all results are given each that shows is a piece of the new set, or one that goes
   pub settled : (told : ℕ) (one : LivePiece) → Contains all one → take told rewrites ≡ rewrites
-      → (t : IsTold (row_pieces rules batch) rewritten all (told_entries entries rewrites told) (take told rewrites) one)
+      → (t : IsTold (row_pieces mode bits rules batch) rewritten all (told_entries entries rewrites told) (take told rewrites) one)
       → Contains new t.now ⊎ Contains goes t.now
   settled told one member whole t = elim t.which [
-    | inr changed ↦ inl (rewritten_stays rules batch change t.now changed.1)
+    | inr changed ↦ inl (rewritten_stays mode bits rules batch change t.now changed.1)
     | inl own ↦ elim (Contains-append_cases old inserted t.was t.member) [
-      | inr put ↦ inl (subst (Contains new) (sym own.0) (inserted_stays rules batch change t.was put).0)
-      | inl stood ↦ elim (old_piece rules batch change t.was stood) [
+      | inr put ↦ inl (subst (Contains new) (sym own.0) (inserted_stays mode bits rules batch change t.was put).0)
+      | inl stood ↦ elim (old_piece mode bits rules batch change t.was stood) [
         | inl stays ↦ inl (subst (Contains new) (sym own.0) stays.0)
         | inr rest ↦ elim rest [
           | inr left ↦ inr (subst (Contains goes) (sym own.0) left)

@@ -7,20 +7,20 @@ use Rattle.slot_order.proofs.Lists.{contains_none, contains_take, in_map}
 use Rattle.slot_order.proofs.Between.{adding}
 use Rattle.slot_pool.specs.Arrangement.{Slots}
 use Rattle.rule_model.specs.declared.Rule.{Rule}
-use Rattle.rule_store.specs.declared.Mode.TheVariants.{Cover}
+use Rattle.rule_store.specs.declared.Mode.{Mode}
 use Rattle.rule_store.specs.declared.Command.{Command}
 use Rattle.rule_store.specs.Batch.{set_after}
 use Rattle.ternary_word.specs.Entry.{RankedPiece}
 use Rattle.overlap_index.specs.declared.LivePiece.{LivePiece}
+use Rattle.tcam_device.specs.State.{State}
 use Rattle.commit_writes.specs.declared.Rewrite.{Rewrite}
-use Rattle.commit_writes.specs.Bits.{no_bits}
+use Rattle.commit_writes.specs.Bits.{FieldBits}
 use Rattle.commit_writes.specs.Shape.{set_pieces, inserted_pieces, rewritten_pieces, erased_pieces}
 use Rattle.commit_writes.specs.Planned.{IdEntries, Planned, live_after}
 use Rattle.commit_writes.specs.PlannedBatch.{IsIdOf, IsPlannedBatch}
 use Rattle.commit_writes.proofs.BatchIds.{IsTold}
 use Rattle.commit_writes.proofs.BatchOrder.{told_entries, live_then, late_pieces, batch_told, gone_id, IsLiveAs, id_piece}
-use Rattle.commit_writes.proofs.BatchPieces.{new_piece, rewritten_was, rewritten_stays, inserted_falls, erased_was, erased_rises}
-use Rattle.commit_writes.proofs.BatchRow.{row_pieces}
+use Rattle.commit_writes.proofs.BatchPieces.{row_pieces, new_piece, rewritten_was, rewritten_stays, inserted_falls, erased_was, erased_rises}
 use Rattle.commit_writes.proofs.PieceChanges.{inserted_stays}
 use Rattle.commit_writes.proofs.BatchRules.{IsSoundChange, change_of, set_after-is}
 use Rattle.commit_writes.proofs.BatchStanding.{has_live, new_held, settled, goes_late, id_cases}
@@ -41,21 +41,21 @@ pub record IsShown (pieces changed : List RankedPiece) (all : List LivePiece) (h
   pub told : IsTold pieces changed all held rewrites one
   pub is : told.now ≡ ranked
 
-module _ (rules : List Rule) (batch : List Command) (live : List LivePiece) (slots : Slots) (entries : IdEntries) (planned : List Planned) (rewrites : List Rewrite) (erased : List ℕ) (plan : IsPlannedBatch rules batch live slots entries planned rewrites erased) where
+module _ (mode : Mode) (bits : FieldBits) (state : State) (rules : List Rule) (batch : List Command) (live : List LivePiece) (slots : Slots) (entries : IdEntries) (planned : List Planned) (rewrites : List Rewrite) (erased : List ℕ) (plan : IsPlannedBatch mode bits state rules batch live slots entries planned rewrites erased) where
   abbrev old : List RankedPiece
-  old = set_pieces Cover no_bits rules
+  old = set_pieces mode bits rules
 
   abbrev new : List RankedPiece
-  new = set_pieces Cover no_bits (set_after rules batch)
+  new = set_pieces mode bits (set_after rules batch)
 
   abbrev inserted : List RankedPiece
-  inserted = inserted_pieces Cover no_bits rules batch
+  inserted = inserted_pieces mode bits rules batch
 
   abbrev rewritten : List RankedPiece
-  rewritten = rewritten_pieces Cover no_bits rules batch
+  rewritten = rewritten_pieces mode bits rules batch
 
   abbrev goes : List RankedPiece
-  goes = erased_pieces Cover no_bits rules batch
+  goes = erased_pieces mode bits rules batch
 
   abbrev all : List LivePiece
   all = live_after live planned
@@ -64,7 +64,7 @@ module _ (rules : List Rule) (batch : List Command) (live : List LivePiece) (slo
   late told gone = late_pieces live entries planned rewrites erased told gone
 
   change : IsSoundChange rules batch
-  change = change_of rules batch live slots entries planned rewrites erased plan
+  change = change_of mode bits state rules batch live slots entries planned rewrites erased plan
 
   -- while pieces are inserted the old ones stand, and a new one leads those still to come
   pub early_on_the_way : (count : ℕ) → AreOnTheWay old new (old ++ take count inserted)
@@ -83,18 +83,18 @@ module _ (rules : List Rule) (batch : List Command) (live : List LivePiece) (slo
       stands ranked member = itself standing ranked (Contains-append_left old (take count inserted) ranked member)
 
       in_new : (ranked : RankedPiece) → Contains (take count inserted) ranked → Contains new ranked
-      in_new ranked put = let at = contains_take count inserted ranked put in (inserted_stays rules batch change ranked (at.0, at.2, at.3)).0
+      in_new ranked put = let at = contains_take count inserted ranked put in (inserted_stays mode bits rules batch change ranked (at.0, at.2, at.3)).0
 
       put_leads : (ranked : RankedPiece) → Contains (take count inserted) ranked → (Contains old ranked × Leads old standing ranked) ⊎ (Contains new ranked × Leads new standing ranked)
       put_leads ranked put =
-          elim ((adding (λ (r : RankedPiece). r.rank) (Contains old) inserted count (inserted_falls rules batch change)).above ranked (inr put)) [
+          elim ((adding (λ (r : RankedPiece). r.rank) (Contains old) inserted count (inserted_falls mode bits rules batch change)).above ranked (inr put)) [
             | inl stood ↦ inl (stood, λ other is. inl (stands other is))
             | inr least ↦ inr (
               in_new ranked put,
-              λ other is. elim (new_piece rules batch change other is) [
+              λ other is. elim (new_piece mode bits rules batch change other is) [
                 | inl stays ↦ inl (stands other stays.0)
                 | inr rest ↦ elim rest [
-                  | inl changed ↦ let w = rewritten_was rules batch change other changed in inl (w.0, Contains-append_left old (take count inserted) w.0 w.1, w.2, w.3)
+                  | inl changed ↦ let w = rewritten_was mode bits rules batch change other changed in inl (w.0, Contains-append_left old (take count inserted) w.0 w.1, w.2, w.3)
                   | inr fresh ↦ elim (least other (inr fresh)) [
                     | inl there ↦ inl (elim there [
                       | inl stood ↦ stands other stood
@@ -109,24 +109,24 @@ module _ (rules : List Rule) (batch : List Command) (live : List LivePiece) (slo
 
   -- all new pieces stand from the last insertion on
   pub new_stands : (told gone : ℕ) (ranked : RankedPiece) → Contains new ranked → HasPiece (late told gone) ranked
-  new_stands told gone ranked member = (new_held rules batch live slots entries planned rewrites erased plan told gone ranked member).4
+  new_stands told gone ranked member = (new_held mode bits state rules batch live slots entries planned rewrites erased plan told gone ranked member).4
 
   pub shown : (told gone : ℕ) (ranked : RankedPiece) → Contains (late told gone) ranked
-      → IsShown (row_pieces rules batch) rewritten all (told_entries entries rewrites told) (take told rewrites) (take gone erased) ranked
+      → IsShown (row_pieces mode bits rules batch) rewritten all (told_entries entries rewrites told) (take told rewrites) (take gone erased) ranked
   shown told gone ranked member =
       let w = in_map (λ one. piece_by all (told_entries entries rewrites told) one.id) (live_then live planned erased gone) ranked member in
       let k = in_erased all (take gone erased) w.0 w.1 in
-      let t = batch_told rules batch live slots entries planned rewrites erased plan told w.0 k.0 in
+      let t = batch_told mode bits state rules batch live slots entries planned rewrites erased plan told w.0 k.0 in
       record { one = w.0; member = k.0; stays = k.1; told = t; is = sym t.shows ∙ w.2 }
 
   -- while results change all old pieces stand, too
   results_on_the_way : (told : ℕ) → AreOnTheWay old new (late told 0)
   results_on_the_way told = record {
     each = λ ranked member. let s = shown told 0 ranked member in elim s.told.which [
-      | inr changed ↦ inr (subst (Contains new) s.is (rewritten_stays rules batch change s.told.now changed.1), λ other is. inl (new_stands told 0 other is))
+      | inr changed ↦ inr (subst (Contains new) s.is (rewritten_stays mode bits rules batch change s.told.now changed.1), λ other is. inl (new_stands told 0 other is))
       | inl own ↦ elim (Contains-append_cases old inserted s.told.was s.told.member) [
         | inl stood ↦ inl (subst (Contains old) (sym own.0 ∙ s.is) stood, λ other is. inl (old_stands other is))
-        | inr put ↦ inr (subst (Contains new) (sym own.0 ∙ s.is) (inserted_stays rules batch change s.told.was put).0, λ other is. inl (new_stands told 0 other is))
+        | inr put ↦ inr (subst (Contains new) (sym own.0 ∙ s.is) (inserted_stays mode bits rules batch change s.told.was put).0, λ other is. inl (new_stands told 0 other is))
       ]
     ];
     whole = inl old_stands;
@@ -134,16 +134,16 @@ module _ (rules : List Rule) (batch : List Command) (live : List LivePiece) (slo
     where
       old_stands : (ranked : RankedPiece) → Contains old ranked → HasPiece (late told 0) ranked
       old_stands ranked member =
-          let h = has_live rules batch live slots entries planned rewrites erased plan told 0 ranked (Contains-append_left old inserted ranked member) in
+          let h = has_live mode bits state rules batch live slots entries planned rewrites erased plan told 0 ranked (Contains-append_left old inserted ranked member) in
           h.stands (λ none. contains_none h.one.id none)
 
   -- and while pieces go, the lowest first, those that are still to go lead the old ones
   erases_on_the_way : (told gone : ℕ) → take told rewrites ≡ rewrites → AreOnTheWay old new (late told gone)
   erases_on_the_way told gone whole = record {
-    each = λ ranked member. let s = shown told gone ranked member in elim (settled rules batch live slots entries planned rewrites erased plan told s.one s.member whole s.told) [
+    each = λ ranked member. let s = shown told gone ranked member in elim (settled mode bits state rules batch live slots entries planned rewrites erased plan told s.one s.member whole s.told) [
       | inl stays ↦ inr (subst (Contains new) s.is stays, λ other is. inl (new_stands told gone other is))
       | inr left ↦ inl (
-        subst (Contains old) s.is (erased_was rules batch change s.told.now left).0,
+        subst (Contains old) s.is (erased_was mode bits rules batch change s.told.now left).0,
         subst (Leads old (late told gone)) s.is (leads s.one s.told.now s.member (sym s.told.now_piece, sym s.told.now_rank) left s.stays),
       )
     ];
@@ -153,16 +153,16 @@ module _ (rules : List Rule) (batch : List Command) (live : List LivePiece) (slo
       leads : (one : LivePiece) (ranked : RankedPiece) → Contains all one → IsLiveAs one ranked → Contains goes ranked → (Contains (take gone erased) one.id → ⊥)
           → Leads old (late told gone) ranked
       leads one ranked member like left stays other stood =
-          let h = has_live rules batch live slots entries planned rewrites erased plan told gone other (Contains-append_left old inserted other stood) in
+          let h = has_live mode bits state rules batch live slots entries planned rewrites erased plan told gone other (Contains-append_left old inserted other stood) in
           elim (id_cases (take gone erased) h.one.id) [
             | inr kept ↦ inl (h.stands kept)
             | inl went ↦ inr (
-                let early = gone_id rules batch live slots entries planned rewrites erased plan gone h.one.id ranked went in
-                let behind = goes_late rules batch live slots entries planned rewrites erased plan gone one ranked member like left stays in
+                let early = gone_id mode bits state rules batch live slots entries planned rewrites erased plan gone h.one.id ranked went in
+                let behind = goes_late mode bits state rules batch live slots entries planned rewrites erased plan gone one ranked member like left stays in
                 let size = AllZip-long (IsIdOf live) goes erased plan.erased_are in
                 let before = early.1 in let after = behind.1 in let inside = behind.2 in
-                let rises : (get_or goes early.0 ranked).rank ≤ (get_or goes behind.0 ranked).rank = erased_rises rules batch change early.0 behind.0 ranked (omega arith) (omega arith) in
-                let low : h.one.rank ≡ (get_or goes early.0 ranked).rank = (id_piece rules batch live slots entries planned rewrites erased plan h.one (get_or goes early.0 ranked) h.member early.3).1 in
+                let rises : (get_or goes early.0 ranked).rank ≤ (get_or goes behind.0 ranked).rank = erased_rises mode bits rules batch change early.0 behind.0 ranked (omega arith) (omega arith) in
+                let low : h.one.rank ≡ (get_or goes early.0 ranked).rank = (id_piece mode bits state rules batch live slots entries planned rewrites erased plan h.one (get_or goes early.0 ranked) h.member early.3).1 in
                 let high : (get_or goes behind.0 ranked).rank ≡ ranked.rank = ap (λ (r : RankedPiece). r.rank) behind.3 in
                 let own : h.one.rank ≡ other.rank = h.is.1 in
                 omega arith)
@@ -178,10 +178,10 @@ module _ (rules : List Rule) (batch : List Command) (live : List LivePiece) (slo
   arrived told gone whole every ranked = (to ranked, from)
     where
       to : (piece : RankedPiece) → Contains (late told gone) piece → Contains new piece
-      to piece member = let s = shown told gone piece member in elim (settled rules batch live slots entries planned rewrites erased plan told s.one s.member whole s.told) [
+      to piece member = let s = shown told gone piece member in elim (settled mode bits state rules batch live slots entries planned rewrites erased plan told s.one s.member whole s.told) [
         | inl stays ↦ subst (Contains new) s.is stays
         | inr left ↦ absurd (
-            let behind = goes_late rules batch live slots entries planned rewrites erased plan gone s.one s.told.now s.member (sym s.told.now_piece, sym s.told.now_rank) left s.stays in
+            let behind = goes_late mode bits state rules batch live slots entries planned rewrites erased plan gone s.one s.told.now s.member (sym s.told.now_piece, sym s.told.now_rank) left s.stays in
             let after = behind.1 in let inside = behind.2 in omega arith)
       ]
 
@@ -189,4 +189,4 @@ module _ (rules : List Rule) (batch : List Command) (live : List LivePiece) (slo
       from member =
           let t = new_stands told gone ranked member in
           subst (Contains (late told gone))
-          (once_one new t.0 ranked (pieces_once (set_after rules batch) (set_after-is rules batch change)) (to t.0 t.1) member t.3 t.2) t.1
+          (once_one new t.0 ranked (pieces_once mode bits (set_after rules batch) (set_after-is rules batch change)) (to t.0 t.1) member t.3 t.2) t.1

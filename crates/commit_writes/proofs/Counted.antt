@@ -1,19 +1,16 @@
 -- The insertions that a planned row makes: what they write, how many writes they take, and what they cross.
 use Rattle.std.proofs.Common.{◌≡◌, ℕ, ◌+◌, ◌*◌, ◌≤◌, max, List, [], ◌∷◌, ◌++◌, length, map, fold, Contains, arith, inl, refl, sym, ◌∙◌, subst, ap, ap₂, append_assoc, append-nil}
-use Rattle.std.specs.Prelude.{flat_map, count_by}
+use Rattle.std.specs.Prelude.{flat_map}
 use Rattle.std.specs.List.{AllZip}
 use Rattle.slot_order.specs.Moves.{BoundsMemberChains}
 use Rattle.slot_order.proofs.Count.{image_bound}
 use Rattle.rule_model.specs.Piece.{PiecesOverlap}
-use Rattle.rule_store.proofs.Counts.{count_by-cons, count_by-append}
 use Rattle.ternary_word.specs.Entry.{RankedPiece}
 use Rattle.overlap_index.specs.declared.LivePiece.{LivePiece}
-use Rattle.move_planner.specs.declared.Move.{Move}
-use Rattle.move_planner.specs.declared.Move.TheVariants.{Put, Erase}
 use Rattle.move_planner.specs.Insertion.{IsLive}
 use Rattle.tcam_device.specs.declared.Write.{Write}
 use Rattle.tcam_device.specs.State.{State, state_after}
-use Rattle.tcam_device.specs.Insertion.{Insertion, insertions, table_writes, is_table_write, IsCrossingSpan, IsGreatestSpan, IsWithinTightBound, IsUncrossed}
+use Rattle.tcam_device.specs.Insertion.{Insertion, insertions, IsCrossingSpan, IsGreatestSpan, IsWithinTightBound, IsUncrossed}
 use Rattle.tcam_device.proofs.Spans.{Makes, greatest_push}
 use Rattle.commit_writes.specs.Planned.{IdEntries, Planned, BoundsPieceChains, write_for, planned_writes, greatest_planned}
 use Rattle.commit_writes.proofs.Mirror.{entry_by, over, rank}
@@ -21,11 +18,11 @@ use Rattle.commit_writes.proofs.Ids.{AreOfPieces, piece_by, known_member}
 use Rattle.commit_writes.proofs.Row.{made_by, IsAsPlanned, AreNestedIds}
 
 -- chains of ids are chains of pieces
-pub chains_of_ids : (pieces : List RankedPiece) (all : List LivePiece) (held : IdEntries) (m : ℕ) → AreOfPieces pieces all held
+pub chains_of_ids : (state : State) (pieces : List RankedPiece) (all : List LivePiece) (held : IdEntries) (m : ℕ) → AreOfPieces state pieces all held
     → BoundsPieceChains pieces m → BoundsMemberChains (over (piece_by all held)) (rank (piece_by all held)) (IsLive all) m
-chains_of_ids pieces all held m of =
+chains_of_ids state pieces all held m of =
     image_bound (over (piece_by all held)) (rank (piece_by all held)) (IsLive all) (λ a b. PiecesOverlap a.piece b.piece) (λ ranked. ranked.rank) (Contains pieces) (piece_by all held) m
-    (λ id known. known_member pieces all held id of known) (λ id known. refl) (λ a b ka kb v. v)
+    (λ id known. known_member state pieces all held id of known) (λ id known. refl) (λ a b ka kb v. v)
 
 -- the insertions of some writes alone
 pub made_alone : (state : State) (writes : List Write) (made : List Insertion) → Makes state writes made → insertions state writes ≡ made
@@ -84,15 +81,3 @@ spans_on piece all front span (p ∷ planned) (n ∷ made) greatest are =
 pub spans_of_made : (piece : ℕ → RankedPiece) (all : List LivePiece) (planned : List Planned) (made : List Insertion) → AllZip (IsAsPlanned piece all) planned made
     → IsGreatestSpan made (greatest_planned planned)
 spans_of_made piece all planned made are = spans_on piece all [] 0 planned made record { no_less = tt; no_more = inl refl } are
-
--- moves write no table
-moves_no_words : (held : IdEntries) (moves : List Move) → count_by is_table_write (map (write_for held) moves) ≡ 0
-moves_no_words held [] = refl
-moves_no_words held (Put at id ∷ moves) = let rest = moves_no_words held moves in count_by-cons is_table_write (write_for held (Put at id)) (map (write_for held) moves) ∙ (omega arith)
-moves_no_words held (Erase at ∷ moves) = let rest = moves_no_words held moves in count_by-cons is_table_write (write_for held (Erase at)) (map (write_for held) moves) ∙ (omega arith)
-
-pub no_words : (held : IdEntries) (planned : List Planned) → table_writes (planned_writes held planned) ≡ 0
-no_words held [] = refl
-no_words held (one ∷ planned) =
-    let first = moves_no_words held one.moves in let rest = no_words held planned in
-    count_by-append is_table_write (map (write_for held) one.moves) (planned_writes held planned) ∙ (omega arith)

@@ -14,8 +14,8 @@ use Rattle.overlap_index.specs.Live.{without_id}
 use Rattle.overlap_index.proofs.Above.{live_is, is_live_from}
 use Rattle.overlap_index.proofs.Live.{all_apart}
 use Rattle.move_planner.specs.Insertion.{IsLive}
-use Rattle.tcam_device.specs.State.{state_after}
-use Rattle.commit_writes.specs.Planned.{IdEntries, held_entry, contents, plain_state}
+use Rattle.tcam_device.specs.State.{State, state_after}
+use Rattle.commit_writes.specs.Planned.{IdEntries, held_entry, contents, with_slots}
 use Rattle.commit_writes.specs.PlannedBatch.{home_slot, erase_write, erased_slots, erased_live}
 use Rattle.commit_writes.proofs.Rewrites.{home_is}
 
@@ -109,12 +109,12 @@ can_go_on slots id ids can =
     }
 
 -- the writes of some erases leave the arrangement without their ids
-erased_from : (entries : IdEntries) (was now : Slots) (ids : List ℕ) → CanErase now ids → ((id : ℕ) → Contains ids id → home_slot was id ≡ home_slot now id)
-    → state_after (plain_state (contents entries now)) (map (erase_write was) ids) ≡ plain_state (contents entries (erased_slots now ids))
-erased_from entries was now [] can same = refl
-erased_from entries was now (id ∷ ids) can same =
-    ap (λ slots. state_after (plain_state slots) (map (erase_write was) ids)) here
-    ∙ erased_from entries was (set now (home_slot now id) None) ids (can_go_on now id ids can) stays
+erased_from : (state : State) (entries : IdEntries) (was now : Slots) (ids : List ℕ) → CanErase now ids → ((id : ℕ) → Contains ids id → home_slot was id ≡ home_slot now id)
+    → state_after (with_slots state (contents entries now)) (map (erase_write was) ids) ≡ with_slots state (contents entries (erased_slots now ids))
+erased_from state entries was now [] can same = refl
+erased_from state entries was now (id ∷ ids) can same =
+    ap (λ slots. state_after (with_slots state slots) (map (erase_write was) ids)) here
+    ∙ erased_from state entries was (set now (home_slot now id) None) ids (can_go_on now id ids can) stays
   where
     gone : IsErased now id (set now (home_slot now id) None)
     gone = erase now id ids can
@@ -128,9 +128,9 @@ erased_from entries was now (id ∷ ids) can same =
         same other (contains_tail id other ids member) ∙ (home_is now other w.0 can.once w.1
         ∙ sym (home_is (set now (home_slot now id) None) other w.0 gone.once (gone.kept w.0 other (apart_from id other ids can.distinct member) w.1)))
 
-pub erased_state : (entries : IdEntries) (slots : Slots) (ids : List ℕ) → CanErase slots ids
-    → state_after (plain_state (contents entries slots)) (map (erase_write slots) ids) ≡ plain_state (contents entries (erased_slots slots ids))
-erased_state entries slots ids can = erased_from entries slots slots ids can (λ id member. refl)
+pub erased_state : (state : State) (entries : IdEntries) (slots : Slots) (ids : List ℕ) → CanErase slots ids
+    → state_after (with_slots state (contents entries slots)) (map (erase_write slots) ids) ≡ with_slots state (contents entries (erased_slots slots ids))
+erased_state state entries slots ids can = erased_from state entries slots slots ids can (λ id member. refl)
 
 -- and that is in order for the others, which stand once
 pub erased_ordered : (over : ℕ → ℕ → Type 0) (tag : ℕ → ℕ) (live : List LivePiece) (slots : Slots) (ids : List ℕ) → CanErase slots ids

@@ -10,10 +10,13 @@ pub mod Ids
 pub mod Members
 pub mod InUse
 pub mod Fits
+pub mod CodedRanges
 pub mod Counted
 pub mod Start
 pub mod Ordered
 pub mod Segment
+pub mod ModePieces
+pub mod ServedRules
 pub mod SetPieces
 pub mod BatchRules
 pub mod PieceChanges
@@ -26,6 +29,7 @@ pub mod Zips
 pub mod BatchIds
 pub mod BatchRow
 pub mod BatchOrder
+pub mod SlotWrites
 pub mod OnTheWay
 pub mod Turns
 pub mod Disjoint
@@ -40,3 +44,11 @@ pub mod KeepsOrder
 pub mod BatchState
 pub mod Wider
 pub mod WholeBatch
+pub mod WordWrites
+pub mod TableWords
+pub mod ServedRanges
+pub mod ServedTables
+pub mod KeptBits
+pub mod TableWrites
+pub mod Front
+pub mod WholeSegment

@@ -11,7 +11,8 @@ use Rattle.overlap_index.specs.declared.LivePiece.{LivePiece}
 use Rattle.overlap_index.specs.Live.{AreApart}
 use Rattle.overlap_index.proofs.Live.{apart_more}
 use Rattle.move_planner.specs.Placement.{after_moves}
-use Rattle.commit_writes.specs.Planned.{IdEntries, Planned, ArePlanned, IsPlain, IsPlannedRow, entry_at, ranked_of, live_after}
+use Rattle.tcam_device.specs.State.{State}
+use Rattle.commit_writes.specs.Planned.{IdEntries, Planned, ArePlanned, IsServedBy, IsPlannedRow, entry_at, ranked_of, live_after}
 use Rattle.commit_writes.proofs.Ids.{AreOfPieces}
 
 -- ids below a number are below a greater one
@@ -80,10 +81,10 @@ one_planned planned p q apart mp mq rank piece = elim (pairs_one Apart ranked_of
 ]
 
 -- the live ids are those of these pieces
-pub of_row : (standing inserted : List RankedPiece) (live : List LivePiece) (slots : Slots) (entries : IdEntries) (planned : List Planned) → IsPlannedRow standing inserted live slots entries planned
-    → AreOfPieces (standing ++ inserted) (live_after live planned) entries
-of_row standing inserted live slots entries planned row = record {
-  plain = λ ranked member. AllByRecursion-member IsPlain (standing ++ inserted) ranked row.plain member;
+pub of_row : (state : State) (standing inserted : List RankedPiece) (live : List LivePiece) (slots : Slots) (entries : IdEntries) (planned : List Planned) → IsPlannedRow state standing inserted live slots entries planned
+    → AreOfPieces state (standing ++ inserted) (live_after live planned) entries
+of_row state standing inserted live slots entries planned row = record {
+  served = λ ranked member. AllByRecursion-member (IsServedBy state) (standing ++ inserted) ranked row.served member;
   ids = (apart_after _ live slots planned row.arranged.apart row.are_planned).1.once;
   entries_are = record { of_piece = of_piece; has_id = has_id; once = once };
 }

@@ -1,6 +1,6 @@
 -- A device that mirrors an arrangement of ids: what the arrangement says is what the device says.
 use Rattle.std.proofs.Common.{◌≡◌, ℕ, ◌≤◌, true, Option, Some, option_map, List, [], ◌∷◌, map, refl, sym, ◌∙◌, subst, ap, set}
-use Rattle.std.specs.Prelude.{slice_index, ◌↔◌}
+use Rattle.std.specs.Prelude.{length, slice_index, ◌↔◌}
 use Rattle.std.proofs.lemmas.List.{map-set}
 use Rattle.slot_order.specs.Order.{slot, Ordered}
 use Rattle.slot_order.specs.Moves.{applied}
@@ -11,11 +11,14 @@ use Rattle.rule_model.specs.Piece.{PiecesOverlap, piece_matches}
 use Rattle.ternary_word.specs.declared.Entry.{Entry}
 use Rattle.ternary_word.specs.Entry.{RankedPiece, entry_for, same_match, hits}
 use Rattle.ternary_word.specs.Word.{word_of}
-use Rattle.tcam_device.specs.State.{State, apply, state_after}
+use Rattle.ternary_word.proofs.Exact.{hits-entry_of}
+use Rattle.tcam_device.specs.State.{State, IsState, apply, state_after}
 use Rattle.tcam_device.specs.Order.{IsOrdered, StandsAt, StandsOnce}
 use Rattle.tcam_device.proofs.Lookups.{HitAsPieces}
+use Rattle.tcam_device.proofs.Shown.{hit_as_pieces}
 use Rattle.tcam_device.proofs.One.{slot_write, same_match-same}
 use Rattle.move_planner.proofs.Chain.{AllKnown}
+use Rattle.commit_writes.specs.Planned.{IsServedBy}
 
 -- the pieces of some ids
 abbrev pub Pieces : (ℕ → RankedPiece) → (ℕ → Type 0) → RankedPiece → Type 0
@@ -114,8 +117,14 @@ state_applied piece d state (w ∷ ws) same =
     (ap (λ xs. set xs w.0 (option_map (entry_by piece) w.1)) same ∙ sym (map-set (option_map (entry_by piece)) d w.0 w.1)) in
     record { slots = h.slots; src = h.src; dst = h.dst }
 
--- slot writes leave which keys an entry hits
-pub hits_after : (piece : ℕ → RankedPiece) (Member : RankedPiece → Type 0) (d : Slots) (state after : State) → HitAsPieces state Member → After piece d state after → HitAsPieces after Member
-hits_after piece Member d state after h a ranked key m valid =
-    subst (λ t. hits (entry_for ranked) (word_of key (slice_index t key.sport) (slice_index after.dst key.dport)) ≡ piece_matches ranked.piece key) (sym a.src)
-    (subst (λ t. hits (entry_for ranked) (word_of key (slice_index state.src key.sport) (slice_index t key.dport)) ≡ piece_matches ranked.piece key) (sym a.dst) (h ranked key m valid))
+-- where the tables are left, entries hit what they did
+pub hits_after : (Member : RankedPiece → Type 0) (state after : State) → HitAsPieces state Member → after.src ≡ state.src → after.dst ≡ state.dst → HitAsPieces after Member
+hits_after Member state after h src dst ranked key m valid =
+    subst (λ t. hits (entry_for ranked) (word_of key (slice_index t key.sport) (slice_index after.dst key.dport)) ≡ piece_matches ranked.piece key) (sym src)
+    (subst (λ t. hits (entry_for ranked) (word_of key (slice_index state.src key.sport) (slice_index t key.dport)) ≡ piece_matches ranked.piece key) (sym dst) (h ranked key m valid))
+
+-- and under tables that serve them entries hit what their pieces match
+pub served_hits : (state : State) (Member : RankedPiece → Type 0) → IsState (length state.slots) state → ((ranked : RankedPiece) → Member ranked → IsServedBy state ranked) → HitAsPieces state Member
+served_hits state Member is served = hit_as_pieces (length state.slots) state Member is
+    (λ ranked m. let s = served ranked m in hits-entry_of ranked.piece ranked.rank ranked.result s.right s.encodable)
+    record { srcbits = λ ranked bit m. (served ranked m).srcbits bit; dstbits = λ ranked bit m. (served ranked m).dstbits bit }

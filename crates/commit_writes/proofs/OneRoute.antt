@@ -61,7 +61,7 @@ leak_refused keeps =
 
 -- nor is the erase of an entry that stays
 loss_refused : KeepsOrder Cover no_bits (ten ∷ []) [] (state_after (blank 8) made) (Slot 3 None ∷ []) → ⊥
-loss_refused keeps = let stands = keeps.after.complete piece (0, omega arith, refl) in empty_is stands.0 stands.1
+loss_refused keeps = let stands = keeps.after.ordered.complete piece (0, omega arith, refl) in empty_is stands.0 stands.1
   where
     empty_is : (at : ℕ) → slot {E = Entry} (replicate 8 None) at ≡ Some (entry_for piece) → ⊥
     empty_is at held = let none = empty_slot {E = Entry} 8 at in cc
@@ -112,7 +112,7 @@ early = Slot 0 (Some told) ∷ Slot 1 (Some (entry_of (whole_piece eight) eight.
 early_result_refused : KeepsOrder Cover no_bits (sixteen ∷ []) changes sixteen-stands early → ⊥
 early_result_refused keeps =
     let w = keeps.inserting 1 (omega arith) in
-    let held = w.1.known 0 told refl in
+    let held = w.1.ordered.known 0 told refl in
     let result : held.0.result ≡ 9 = ap (λ (entry : Entry). entry.result) held.2 in
     let other = known_result w.0 held.0 held.1 in
     omega arith

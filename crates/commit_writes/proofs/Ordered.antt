@@ -12,7 +12,7 @@ use Rattle.move_planner.specs.Insertion.{IsLive}
 use Rattle.tcam_device.specs.State.{State, state_after}
 use Rattle.tcam_device.specs.Order.{IsOrdered, StandsOnce}
 use Rattle.tcam_device.specs.Insertion.{Insertion, insertions}
-use Rattle.commit_writes.specs.Planned.{IdEntries, Planned, IsPlannedRow, entry_at, ranked_of, contents, plain_state, planned_writes, live_after, slots_after}
+use Rattle.commit_writes.specs.Planned.{IdEntries, Planned, IsPlannedRow, entry_at, ranked_of, contents, with_slots, planned_writes, live_after, slots_after}
 use Rattle.commit_writes.proofs.Mirror.{Pieces, IsOrdered_same, StandsOnce_same}
 use Rattle.commit_writes.proofs.Ids.{whole_is}
 use Rattle.commit_writes.proofs.Members.{of_row}
@@ -20,16 +20,16 @@ use Rattle.commit_writes.proofs.Row.{whole_insertions}
 use Rattle.commit_writes.proofs.Start.{contents_are, commit_piece, planned_piece, commit_readable, commit_first, commit_done, commit_makes}
 
 -- the pieces of the standing ids and of some new ones
-members : (standing inserted : List RankedPiece) (live : List LivePiece) (slots : Slots) (entries : IdEntries) (planned some : List Planned) → IsPlannedRow standing inserted live slots entries planned
+members : (state : State) (standing inserted : List RankedPiece) (live : List LivePiece) (slots : Slots) (entries : IdEntries) (planned some : List Planned) → IsPlannedRow state standing inserted live slots entries planned
     → ((p : Planned) → Contains some p → Contains planned p)
     → (ranked : RankedPiece) → Pieces (commit_piece live entries planned) (IsLive (live_after live some)) ranked ↔ Contains (standing ++ map ranked_of some) ranked
-members standing inserted live slots entries planned some row up ranked = (to, from)
+members state standing inserted live slots entries planned some row up ranked = (to, from)
   where
     old_is : (one : LivePiece) (held : RankedPiece) → Contains live one → held.piece ≡ one.piece → held.rank ≡ one.rank → entry_at entries one.id ≡ Some (entry_for held) → commit_piece live entries planned one.id ≡ held
-    old_is one held member = whole_is (live_after live planned) entries one held (of_row standing inserted live slots entries planned row).ids (Contains-append_left live (map (λ insertion. insertion.one) planned) one member)
+    old_is one held member = whole_is (live_after live planned) entries one held (of_row state standing inserted live slots entries planned row).ids (Contains-append_left live (map (λ insertion. insertion.one) planned) one member)
 
     new_is : (p : Planned) → Contains some p → commit_piece live entries planned p.one.id ≡ ranked_of p
-    new_is p member = planned_piece standing inserted live slots entries planned p row (up p member)
+    new_is p member = planned_piece state standing inserted live slots entries planned p row (up p member)
 
     piece_in_list : (one : LivePiece) → Contains (live_after live some) one → Contains (standing ++ map ranked_of some) (commit_piece live entries planned one.id)
     piece_in_list one member = elim (Contains-append_cases live (map (λ insertion. insertion.one) some) one member) [
@@ -56,57 +56,56 @@ members standing inserted live slots entries planned some row up ranked = (to, f
     ]
 
 -- and of the first of them
-first_members : (standing inserted : List RankedPiece) (live : List LivePiece) (slots : Slots) (entries : IdEntries) (planned : List Planned) (k : ℕ) → IsPlannedRow standing inserted live slots entries planned
+first_members : (state : State) (standing inserted : List RankedPiece) (live : List LivePiece) (slots : Slots) (entries : IdEntries) (planned : List Planned) (k : ℕ) → IsPlannedRow state standing inserted live slots entries planned
     → (ranked : RankedPiece) → Pieces (commit_piece live entries planned) (IsLive (live_after live (take k planned))) ranked
     ↔ Contains (standing ++ take k inserted) ranked
-first_members standing inserted live slots entries planned k row ranked =
+first_members state standing inserted live slots entries planned k row ranked =
     subst (λ (some : List RankedPiece). Pieces (commit_piece live entries planned) (IsLive (live_after live (take k planned))) ranked ↔ Contains (standing ++ some) ranked)
     (sym (take-map ranked_of k planned) ∙ ap (take k) row.inserted_are)
-    (members standing inserted live slots entries planned (take k planned) row (λ p member. let c = contains_take k planned p member in (c.0, c.2, c.3)) ranked)
+    (members state standing inserted live slots entries planned (take k planned) row (λ p member. let c = contains_take k planned p member in (c.0, c.2, c.3)) ranked)
 
 -- after each of a planned row's writes the device is in order for the standing pieces and the first of the new ones,
-pub planned_ordered : (standing inserted : List RankedPiece) (live : List LivePiece) (slots : Slots) (entries : IdEntries) (planned : List Planned) (n : ℕ)
-    → IsPlannedRow standing inserted live slots entries planned
-    → IsOrdered (state_after (plain_state (contents entries slots)) (take n (planned_writes entries planned)))
+pub planned_ordered : (state : State) (standing inserted : List RankedPiece) (live : List LivePiece) (slots : Slots) (entries : IdEntries) (planned : List Planned) (n : ℕ)
+    → IsPlannedRow state standing inserted live slots entries planned
+    → IsOrdered (state_after state (take n (planned_writes entries planned)))
     (Contains (standing ++ take (whole_insertions planned n) inserted))
-planned_ordered standing inserted live slots entries planned n row =
+planned_ordered state standing inserted live slots entries planned n row =
     let count = whole_insertions planned n in
-    IsOrdered_same (state_after (plain_state (contents entries slots)) (take n (planned_writes entries planned)))
+    IsOrdered_same (state_after state (take n (planned_writes entries planned)))
     (Pieces (commit_piece live entries planned) (IsLive (live_after live (take count planned)))) (Contains (standing ++ take count inserted))
-    (first_members standing inserted live slots entries planned count row) ((commit_done standing inserted live slots entries planned row).during n)
+    (first_members state standing inserted live slots entries planned count row) ((commit_done state standing inserted live slots entries planned row).during n)
 
 -- where one of its insertions begins each of those pieces stands in one slot,
-pub planned_between : (standing inserted : List RankedPiece) (live : List LivePiece) (slots : Slots) (entries : IdEntries) (planned : List Planned) (k : ℕ) (insertion : Insertion)
-    → IsPlannedRow standing inserted live slots entries planned
-    → slice_get (insertions (plain_state (contents entries slots)) (planned_writes entries planned)) k ≡ Some insertion
+pub planned_between : (state : State) (standing inserted : List RankedPiece) (live : List LivePiece) (slots : Slots) (entries : IdEntries) (planned : List Planned) (k : ℕ) (insertion : Insertion)
+    → IsPlannedRow state standing inserted live slots entries planned
+    → slice_get (insertions state (planned_writes entries planned)) k ≡ Some insertion
     → StandsOnce insertion.before (Contains (standing ++ take k inserted))
-planned_between standing inserted live slots entries planned k insertion row read =
+planned_between state standing inserted live slots entries planned k insertion row read =
     StandsOnce_same insertion.before (Pieces (commit_piece live entries planned) (IsLive (live_after live (take k planned)))) (Contains (standing ++ take k inserted))
-    (first_members standing inserted live slots entries planned k row)
-    ((commit_done standing inserted live slots entries planned row).between k insertion
-    (ap (λ (all : List Insertion). slice_get all k) (sym (commit_makes standing inserted live slots entries planned row)) ∙ read))
+    (first_members state standing inserted live slots entries planned k row)
+    ((commit_done state standing inserted live slots entries planned row).between k insertion
+    (ap (λ (all : List Insertion). slice_get all k) (sym (commit_makes state standing inserted live slots entries planned row)) ∙ read))
 
 -- and before the first for those that stood alone
-pub planned_first : (standing inserted : List RankedPiece) (live : List LivePiece) (slots : Slots) (entries : IdEntries) (planned : List Planned)
-    → IsPlannedRow standing inserted live slots entries planned
-    → IsOrdered (plain_state (contents entries slots)) (Contains standing)
-planned_first standing inserted live slots entries planned row =
-    let state = plain_state (contents entries slots) in
+pub planned_first : (state : State) (standing inserted : List RankedPiece) (live : List LivePiece) (slots : Slots) (entries : IdEntries) (planned : List Planned)
+    → IsPlannedRow state standing inserted live slots entries planned
+    → IsOrdered state (Contains standing)
+planned_first state standing inserted live slots entries planned row =
     subst (λ some. IsOrdered state (Contains some)) (append-nil standing)
     (IsOrdered_same state (Pieces (commit_piece live entries planned) (IsLive (live_after live []))) (Contains (standing ++ map ranked_of []))
-    (members standing inserted live slots entries planned [] row (λ p none. absurd (contains_none p none)))
-    (subst (λ some. IsOrdered state (Pieces (commit_piece live entries planned) (IsLive some))) (sym (append-nil live)) (commit_first standing inserted live slots entries planned row)))
+    (members state standing inserted live slots entries planned [] row (λ p none. absurd (contains_none p none)))
+    (subst (λ some. IsOrdered state (Pieces (commit_piece live entries planned) (IsLive some))) (sym (append-nil live)) (commit_first state standing inserted live slots entries planned row)))
 
 same_state : (a b : State) → a.slots ≡ b.slots → a.src ≡ b.src → a.dst ≡ b.dst → a ≡ b
 same_state a b slots src dst = ap (λ x. record a { slots = x }) slots ∙ (ap (λ x. record { slots = b.slots; src = x; dst = a.dst }) src ∙ ap (λ x. record { slots = b.slots; src = b.src; dst = x }) dst)
 
 -- its writes lead to the arrangement that was planned
-pub planned_state : (standing inserted : List RankedPiece) (live : List LivePiece) (slots : Slots) (entries : IdEntries) (planned : List Planned)
-    → IsPlannedRow standing inserted live slots entries planned
-    → state_after (plain_state (contents entries slots)) (planned_writes entries planned) ≡ plain_state (contents entries (slots_after slots planned))
-planned_state standing inserted live slots entries planned row =
+pub planned_state : (state : State) (standing inserted : List RankedPiece) (live : List LivePiece) (slots : Slots) (entries : IdEntries) (planned : List Planned)
+    → IsPlannedRow state standing inserted live slots entries planned
+    → state_after state (planned_writes entries planned) ≡ with_slots state (contents entries (slots_after slots planned))
+planned_state state standing inserted live slots entries planned row =
     let all = live_after live planned in
-    let done = commit_done standing inserted live slots entries planned row in
-    let ready = commit_readable standing inserted live slots entries planned row in
-    same_state (state_after (plain_state (contents entries slots)) (planned_writes entries planned)) (plain_state (contents entries (slots_after slots planned)))
+    let done = commit_done state standing inserted live slots entries planned row in
+    let ready = commit_readable state standing inserted live slots entries planned row in
+    same_state (state_after state (planned_writes entries planned)) (with_slots state (contents entries (slots_after slots planned)))
     (done.changed.slots ∙ sym (contents_are entries (commit_piece live entries planned) (IsLive all) (slots_after slots planned) ready.have done.within)) done.changed.src done.changed.dst

@@ -9,9 +9,9 @@ use Rattle.slot_order.proofs.Lists.{contains_head, contains_tail, contains_cases
 use Rattle.slot_pool.specs.Arrangement.{Slots}
 use Rattle.slot_pool.proofs.LeastSlots.{home_first}
 use Rattle.ternary_word.specs.declared.Entry.{Entry}
-use Rattle.tcam_device.specs.State.{state_after}
+use Rattle.tcam_device.specs.State.{State, state_after}
 use Rattle.commit_writes.specs.declared.Rewrite.{Rewrite}
-use Rattle.commit_writes.specs.Planned.{IdEntries, entry_at, held_entry, contents, plain_state}
+use Rattle.commit_writes.specs.Planned.{IdEntries, entry_at, held_entry, contents, with_slots}
 use Rattle.commit_writes.specs.PlannedBatch.{home_slot, rewrite_write, rewritten_entries}
 
 -- the home of an id that stands once is where it stands
@@ -70,13 +70,13 @@ changed_contents entries (held ∷ slots) (suc at) id entry here alone inside =
     (changed_contents entries slots at id entry here (λ other e. let k : suc other ≡ suc at = alone (suc other) e in omega arith) inside)
 
 -- the writes of some rewrites change the entries of their ids
-pub rewritten_state : (entries : IdEntries) (slots : Slots) (rewrites : List Rewrite) → AllOnce slots
+pub rewritten_state : (state : State) (entries : IdEntries) (slots : Slots) (rewrites : List Rewrite) → AllOnce slots
     → ((rewrite : Rewrite) → Contains rewrites rewrite → (rewrite.id < length entries) × ((at : ℕ) × (slot slots at ≡ Some rewrite.id)))
-    → state_after (plain_state (contents entries slots)) (map (rewrite_write slots) rewrites) ≡ plain_state (contents (rewritten_entries entries rewrites) slots)
-rewritten_state entries slots [] once stand = refl
-rewritten_state entries slots (first ∷ rewrites) once stand =
-    ap (λ now. state_after (plain_state now) (map (rewrite_write slots) rewrites)) here
-    ∙ rewritten_state (set entries first.id (Some first.entry)) slots rewrites once (λ rewrite member.
+    → state_after (with_slots state (contents entries slots)) (map (rewrite_write slots) rewrites) ≡ with_slots state (contents (rewritten_entries entries rewrites) slots)
+rewritten_state state entries slots [] once stand = refl
+rewritten_state state entries slots (first ∷ rewrites) once stand =
+    ap (λ now. state_after (with_slots state now) (map (rewrite_write slots) rewrites)) here
+    ∙ rewritten_state state (set entries first.id (Some first.entry)) slots rewrites once (λ rewrite member.
     let w = stand rewrite (contains_tail first rewrite rewrites member) in
     (let l = length-set entries first.id (Some first.entry) in let k = w.0 in omega arith, w.1))
   where

@@ -7,48 +7,55 @@ use Rattle.slot_order.specs.Moves.{IsChain}
 use Rattle.slot_order.proofs.Lists.{contains_head, contains_tail, contains_cases, contains_none, AllByRecursion-member}
 use Rattle.rule_model.specs.declared.Key.{Key}
 use Rattle.rule_model.specs.declared.Rule.{Rule}
-use Rattle.rule_model.specs.declared.Piece.{Piece}
 use Rattle.rule_model.specs.AddressBlock.{BlocksOverlap}
 use Rattle.rule_model.specs.PortRange.{RangesOverlap}
 use Rattle.rule_model.specs.Key.{IsKey}
 use Rattle.rule_model.specs.Rule.{HasConditions, Overlap, ProtosOverlap, rule_matches}
 use Rattle.rule_model.specs.RuleSet.{IsOverlapChain, BoundsChains}
-use Rattle.rule_model.specs.Piece.{PiecesOverlap, piece_matches, cover_pieces, whole_piece}
+use Rattle.rule_model.specs.Piece.{PiecesOverlap, piece_matches, whole_piece}
 use Rattle.rule_model.specs.Routes.{IsIpv4Route}
 use Rattle.rule_model.proofs.CommonKeys.{overlap_parts, overlap_from}
-use Rattle.rule_model.proofs.Parts.{piece_inside}
 use Rattle.rule_model.proofs.Routes.{ipv4_routes-nested, ipv4_chains-short}
-use Rattle.rule_store.specs.declared.Mode.TheVariants.{Cover}
+use Rattle.rule_store.specs.declared.Mode.{Mode}
 use Rattle.rule_store.specs.declared.Command.{Command}
 use Rattle.rule_store.specs.Batch.{additions}
 use Rattle.rule_store.specs.Verdict.{pieces_of, added_pieces}
 use Rattle.ternary_word.specs.Entry.{RankedPiece}
 use Rattle.rule_store.proofs.Additions.{new_rules, new_rules-member}
-use Rattle.commit_writes.specs.Bits.{no_bits}
+use Rattle.commit_writes.specs.Bits.{FieldBits, with_bits}
 use Rattle.commit_writes.specs.Shape.{set_pieces, inserted_pieces}
 use Rattle.commit_writes.specs.Planned.{AreNested, BoundsPieceChains}
-use Rattle.commit_writes.proofs.SetPieces.{IsChosen, in_chosen, all_chosen}
+use Rattle.commit_writes.proofs.ModePieces.{piece_within, route_whole}
+use Rattle.commit_writes.proofs.SetPieces.{IsChosen, in_chosen}
+use Rattle.commit_writes.proofs.BatchPieces.{row_pieces}
 use Rattle.commit_writes.proofs.BatchRules.{IsSoundChange, right_added}
 use Rattle.commit_writes.proofs.PieceChanges.{added_chosen}
 
--- the pieces of the old set and those that a batch inserts
-abbrev row_pieces : List Rule → List Command → List RankedPiece
-row_pieces rules batch = set_pieces Cover no_bits rules ++ inserted_pieces Cover no_bits rules batch
-
 -- each is of an old rule or of an added one
-row_of : (rules : List Rule) (batch : List Command) (ranked : RankedPiece) → Contains (row_pieces rules batch) ranked → IsChosen (pieces_of Cover) (rules ++ additions batch) ranked
-row_of rules batch ranked member = elim (Contains-append_cases (set_pieces Cover no_bits rules) (inserted_pieces Cover no_bits rules batch) ranked member) [
+row_of : (mode : Mode) (bits : FieldBits) (rules : List Rule) (batch : List Command) (ranked : RankedPiece) → Contains (row_pieces mode bits rules batch) ranked
+    → IsChosen bits (pieces_of mode) (rules ++ additions batch) ranked
+row_of mode bits rules batch ranked member = elim (Contains-append_cases (set_pieces mode bits rules) (inserted_pieces mode bits rules batch) ranked member) [
   | inl old ↦
-      let is = in_chosen (pieces_of Cover) rules ranked all_chosen old in
-      record { rule = is.rule; member = Contains-append_left rules (additions batch) is.rule is.member; rank_is = is.rank_is; result_is = is.result_is; has = is.has }
+      let is = in_chosen bits (pieces_of mode) rules ranked old in
+      record {
+        rule = is.rule;
+        member = Contains-append_left rules (additions batch) is.rule is.member;
+        rank_is = is.rank_is;
+        result_is = is.result_is;
+        piece = is.piece;
+        has = is.has;
+        piece_is = is.piece_is;
+      }
   | inr new ↦
-      let is = in_chosen (added_pieces Cover rules) (new_rules batch) ranked (added_chosen rules) new in
+      let is = in_chosen bits (added_pieces mode rules) (new_rules batch) ranked new in
       record {
         rule = is.rule;
         member = Contains-append_right rules (additions batch) is.rule (new_rules-member batch is.rule is.member);
         rank_is = is.rank_is;
         result_is = is.result_is;
-        has = added_chosen rules is.rule ranked.piece is.has;
+        piece = is.piece;
+        has = added_chosen mode rules is.rule is.piece is.has;
+        piece_is = is.piece_is;
       }
 ]
 
@@ -99,10 +106,10 @@ lifted all first (second ∷ rest) of chain =
     }
 
 -- so the pieces' chains are no longer than the rules'
-pub row_chains : (rules : List Rule) (batch : List Command) → IsSoundChange rules batch → (bound : ℕ) → BoundsChains (rules ++ additions batch) bound
-    → BoundsPieceChains (set_pieces Cover no_bits rules ++ inserted_pieces Cover no_bits rules batch) bound
-row_chains rules batch change bound bounds [] members chain = let some = bounds [] (λ rule none. absurd (contains_none rule none)) tt in some
-row_chains rules batch change bound bounds (first ∷ rest) members chain =
+pub row_chains : (mode : Mode) (bits : FieldBits) (rules : List Rule) (batch : List Command) → IsSoundChange rules batch → (bound : ℕ) → BoundsChains (rules ++ additions batch) bound
+    → BoundsPieceChains (set_pieces mode bits rules ++ inserted_pieces mode bits rules batch) bound
+row_chains mode bits rules batch change bound bounds [] members chain = let some = bounds [] (λ rule none. absurd (contains_none rule none)) tt in some
+row_chains mode bits rules batch change bound bounds (first ∷ rest) members chain =
     let up = lifted (rules ++ additions batch) first rest (λ ranked member. of ranked (members ranked member)) chain in
     let most = bounds (up.upper ∷ up.lower) up.members up.chain in
     let size = up.long in
@@ -114,10 +121,17 @@ row_chains rules batch change bound bounds (first ∷ rest) members chain =
       | inr new ↦ AllByRecursion-member HasConditions (additions batch) rule (right_added batch change.changes) new
     ]
 
-    of : (ranked : RankedPiece) → Contains (row_pieces rules batch) ranked → (rule : Rule) × Contains (rules ++ additions batch) rule × IsWithin ranked rule
+    of : (ranked : RankedPiece) → Contains (row_pieces mode bits rules batch) ranked → (rule : Rule) × Contains (rules ++ additions batch) rule × IsWithin ranked rule
     of ranked member =
-        let is = row_of rules batch ranked member in
-        (is.rule, is.member, record { rank_is = is.rank_is; inside = λ key valid matched. piece_inside is.rule ranked.piece key (right is.rule is.member) is.has valid matched })
+        let is = row_of mode bits rules batch ranked member in (
+          is.rule,
+          is.member,
+          record {
+            rank_is = is.rank_is;
+            inside = λ key valid matched.
+                piece_within mode is.rule is.piece key (right is.rule is.member) is.has valid (subst (λ p. IsTrue (piece_matches p key)) (sym is.piece_is) matched);
+          },
+        )
 
 -- the old rules and the added ones are routes
 routes_all : (rules : List Rule) (batch : List Command) → AllByRecursion IsIpv4Route rules → AllByRecursion IsIpv4Route (additions batch) → (rule : Rule) → Contains (rules ++ additions batch) rule → IsIpv4Route rule
@@ -127,10 +141,10 @@ routes_all rules batch routes added rule member = elim (Contains-append_cases ru
 ]
 
 -- chains of routes are short
-pub row_short : (rules : List Rule) (batch : List Command) → IsSoundChange rules batch → AllByRecursion IsIpv4Route rules → AllByRecursion IsIpv4Route (additions batch)
-    → BoundsPieceChains (set_pieces Cover no_bits rules ++ inserted_pieces Cover no_bits rules batch) 33
-row_short rules batch change routes added =
-    row_chains rules batch change 33 (λ chain members is. ipv4_chains-short chain (λ rule member. routes_all rules batch routes added rule (members rule member)) is)
+pub row_short : (mode : Mode) (bits : FieldBits) (rules : List Rule) (batch : List Command) → IsSoundChange rules batch → AllByRecursion IsIpv4Route rules → AllByRecursion IsIpv4Route (additions batch)
+    → BoundsPieceChains (set_pieces mode bits rules ++ inserted_pieces mode bits rules batch) 33
+row_short mode bits rules batch change routes added =
+    row_chains mode bits rules batch change 33 (λ chain members is. ipv4_chains-short chain (λ rule member. routes_all rules batch routes added rule (members rule member)) is)
 
 -- two routes that overlap a third, one higher and one lower, overlap one another
 routes_nested : (upper middle lower : Rule) → IsIpv4Route upper → IsIpv4Route middle → IsIpv4Route lower → Overlap middle upper → Overlap middle lower
@@ -145,26 +159,16 @@ routes_nested upper middle lower is_upper is_middle is_lower over_upper over_low
     (subst (λ range. RangesOverlap range upper.sport) (ap (λ r. r.sport) is_middle.route ∙ sym (ap (λ r. r.sport) is_lower.route)) parts.3)
     (subst (λ range. RangesOverlap range upper.dport) (ap (λ r. r.dport) is_middle.route ∙ sym (ap (λ r. r.dport) is_lower.route)) parts.4)
 
--- a route has one piece
-route_piece-is : (rule : Rule) (piece : Piece) → IsIpv4Route rule → Contains (cover_pieces rule) piece → piece ≡ whole_piece rule
-route_piece-is rule piece route has = elim (contains_cases (whole_piece rule) piece [] (subst (λ pieces. Contains pieces piece) one has)) [
-  | inl same ↦ sym same
-  | inr none ↦ absurd (contains_none piece none)
-]
-  where
-    one : cover_pieces rule ≡ whole_piece rule ∷ []
-    one = subst (λ r. cover_pieces r ≡ whole_piece r ∷ []) (sym route.route) refl
-
 -- so pieces of routes are nested
-pub row_nested : (rules : List Rule) (batch : List Command) → IsSoundChange rules batch → AllByRecursion IsIpv4Route rules → AllByRecursion IsIpv4Route (additions batch)
-    → AreNested (set_pieces Cover no_bits rules ++ inserted_pieces Cover no_bits rules batch)
-row_nested rules batch change routes added upper one lower in_upper in_one in_lower more less over_upper over_lower =
-    let u = row_of rules batch upper in_upper in
-    let i = row_of rules batch one in_one in
-    let l = row_of rules batch lower in_lower in
-    let piece_u = route_piece-is u.rule upper.piece (route u.rule u.member) u.has in
-    let piece_i = route_piece-is i.rule one.piece (route i.rule i.member) i.has in
-    let piece_l = route_piece-is l.rule lower.piece (route l.rule l.member) l.has in
+pub row_nested : (mode : Mode) (bits : FieldBits) (rules : List Rule) (batch : List Command) → IsSoundChange rules batch → AllByRecursion IsIpv4Route rules → AllByRecursion IsIpv4Route (additions batch)
+    → AreNested (set_pieces mode bits rules ++ inserted_pieces mode bits rules batch)
+row_nested mode bits rules batch change routes added upper one lower in_upper in_one in_lower more less over_upper over_lower =
+    let u = row_of mode bits rules batch upper in_upper in
+    let i = row_of mode bits rules batch one in_one in
+    let l = row_of mode bits rules batch lower in_lower in
+    let piece_u : upper.piece ≡ with_bits bits (whole_piece u.rule) = sym (ap (with_bits bits) (route_whole mode u.rule u.piece (route u.rule u.member) u.has) ∙ u.piece_is) in
+    let piece_i : one.piece ≡ with_bits bits (whole_piece i.rule) = sym (ap (with_bits bits) (route_whole mode i.rule i.piece (route i.rule i.member) i.has) ∙ i.piece_is) in
+    let piece_l : lower.piece ≡ with_bits bits (whole_piece l.rule) = sym (ap (with_bits bits) (route_whole mode l.rule l.piece (route l.rule l.member) l.has) ∙ l.piece_is) in
     let rank_u = u.rank_is in
     let rank_i = i.rank_is in
     let rank_l = l.rank_is in

@@ -262,7 +262,7 @@ done_all held piece all live slots state (planned ∷ rest) readable up ones sam
     done_more held piece all live slots state planned rest readable up' o single are.2 b
     (done_all held piece all more (after_moves slots planned.moves) (state_after state (map (write_for held) planned.moves)) rest readable up' (λ other member. ones other (contains_tail planned other rest member)) changed.slots
     (Ordered_same (over piece) (rank piece) (Plus (IsLive live) planned.one.id) (IsLive more) (after_moves slots planned.moves) (live_more live planned.one) b.ids) b.once_ids
-    (hits_after piece (Pieces piece (IsLive all)) (after_moves slots planned.moves) state (state_after state (map (write_for held) planned.moves)) hits changed) are.3)
+    (hits_after (Pieces piece (IsLive all)) state (state_after state (map (write_for held) planned.moves)) hits changed.src changed.dst) are.3)
   where
     more : List LivePiece
     more = live ++ planned.one ∷ []

@@ -9,8 +9,9 @@ use Rattle.slot_order.proofs.Lists.{contains_head, contains_tail}
 use Rattle.slot_pool.specs.Arrangement.{Slots}
 use Rattle.ternary_word.specs.Entry.{RankedPiece, entry_for}
 use Rattle.overlap_index.specs.declared.LivePiece.{LivePiece}
+use Rattle.tcam_device.specs.State.{State}
 use Rattle.tcam_device.specs.Insertion.{Insertion, insertions, longest_insertion, IsGreatestSpan, IsWithinTightBound, IsUncrossed}
-use Rattle.commit_writes.specs.Planned.{IdEntries, Planned, contents, plain_state, planned_writes, live_after, ranked_of, write_for, slots_after, longest_planned, greatest_planned, AreNested, BoundsPieceChains, IsPlannedRow}
+use Rattle.commit_writes.specs.Planned.{IdEntries, Planned, planned_writes, live_after, ranked_of, write_for, slots_after, longest_planned, greatest_planned, AreNested, BoundsPieceChains, IsPlannedRow}
 use Rattle.move_planner.specs.Insertion.{IsLive}
 use Rattle.commit_writes.proofs.Mirror.{entry_by, over, rank}
 use Rattle.commit_writes.proofs.Fits.{standing_bound}
@@ -22,66 +23,66 @@ use Rattle.commit_writes.proofs.Start.{commit_piece, commit_done, commit_makes, 
 use Rattle.commit_writes.proofs.Counted.{chains_of_ids, writes_of_made, entries_of_made, sizes_of_made, made_within, made_uncrossed, spans_of_made}
 
 -- planned insertions are nothing but insertions,
-pub planned_whole : (standing inserted : List RankedPiece) (live : List LivePiece) (slots : Slots) (entries : IdEntries) (planned : List Planned)
-    → IsPlannedRow standing inserted live slots entries planned
-    → flat_map (λ insertion. insertion.writes) (insertions (plain_state (contents entries slots)) (planned_writes entries planned)) ≡ planned_writes entries planned
-planned_whole standing inserted live slots entries planned row =
-    ap (λ some. flat_map (λ insertion. insertion.writes) some) (commit_makes standing inserted live slots entries planned row)
-    ∙ writes_of_made entries (commit_piece live entries planned) (plain_state (contents entries slots)) planned
+pub planned_whole : (state : State) (standing inserted : List RankedPiece) (live : List LivePiece) (slots : Slots) (entries : IdEntries) (planned : List Planned)
+    → IsPlannedRow state standing inserted live slots entries planned
+    → flat_map (λ insertion. insertion.writes) (insertions state (planned_writes entries planned)) ≡ planned_writes entries planned
+planned_whole state standing inserted live slots entries planned row =
+    ap (λ some. flat_map (λ insertion. insertion.writes) some) (commit_makes state standing inserted live slots entries planned row)
+    ∙ writes_of_made entries (commit_piece live entries planned) state planned
 
 -- one for each added piece,
-pub planned_pieces : (standing inserted : List RankedPiece) (live : List LivePiece) (slots : Slots) (entries : IdEntries) (planned : List Planned)
-    → IsPlannedRow standing inserted live slots entries planned
-    → map (λ insertion. insertion.entry) (insertions (plain_state (contents entries slots)) (planned_writes entries planned)) ≡ map entry_for inserted
-planned_pieces standing inserted live slots entries planned row =
-    ap (λ some. map (λ insertion. insertion.entry) some) (commit_makes standing inserted live slots entries planned row)
-    ∙ (entries_of_made entries piece (plain_state (contents entries slots)) planned ∙ (each planned (λ one member. member) ∙ ap (map entry_for) row.inserted_are))
+pub planned_pieces : (state : State) (standing inserted : List RankedPiece) (live : List LivePiece) (slots : Slots) (entries : IdEntries) (planned : List Planned)
+    → IsPlannedRow state standing inserted live slots entries planned
+    → map (λ insertion. insertion.entry) (insertions state (planned_writes entries planned)) ≡ map entry_for inserted
+planned_pieces state standing inserted live slots entries planned row =
+    ap (λ some. map (λ insertion. insertion.entry) some) (commit_makes state standing inserted live slots entries planned row)
+    ∙ (entries_of_made entries piece state planned ∙ (each planned (λ one member. member) ∙ ap (map entry_for) row.inserted_are))
   where
     piece : ℕ → RankedPiece
     piece = commit_piece live entries planned
 
     each : (some : List Planned) → ((one : Planned) → Contains some one → Contains planned one) → map (λ insertion. entry_by piece insertion.one.id) some ≡ map entry_for (map ranked_of some)
     each [] up = refl
-    each (one ∷ some) up = ap₂ (λ first rest. first ∷ rest) (ap entry_for (planned_piece standing inserted live slots entries planned one row (up one (contains_head one some)))) (each some (λ other member. up other (contains_tail one other some member)))
+    each (one ∷ some) up = ap₂ (λ first rest. first ∷ rest) (ap entry_for (planned_piece state standing inserted live slots entries planned one row (up one (contains_head one some)))) (each some (λ other member. up other (contains_tail one other some member)))
 
 -- within the tight bound,
-pub planned_tight : (standing inserted : List RankedPiece) (live : List LivePiece) (slots : Slots) (entries : IdEntries) (planned : List Planned) (chain : ℕ)
-    → IsPlannedRow standing inserted live slots entries planned → BoundsPieceChains (standing ++ inserted) chain
-    → IsWithinTightBound chain (insertions (plain_state (contents entries slots)) (planned_writes entries planned))
-planned_tight standing inserted live slots entries planned chain row bound =
-    subst (IsWithinTightBound chain) (sym (commit_makes standing inserted live slots entries planned row))
-    (made_within (commit_piece live entries planned) (live_after live planned) planned (made_by entries (commit_piece live entries planned) (plain_state (contents entries slots)) planned) chain
-    (commit_done standing inserted live slots entries planned row).as_planned
-    (chains_of_ids (standing ++ inserted) (live_after live planned) entries chain (of_row standing inserted live slots entries planned row) bound))
+pub planned_tight : (state : State) (standing inserted : List RankedPiece) (live : List LivePiece) (slots : Slots) (entries : IdEntries) (planned : List Planned) (chain : ℕ)
+    → IsPlannedRow state standing inserted live slots entries planned → BoundsPieceChains (standing ++ inserted) chain
+    → IsWithinTightBound chain (insertions state (planned_writes entries planned))
+planned_tight state standing inserted live slots entries planned chain row bound =
+    subst (IsWithinTightBound chain) (sym (commit_makes state standing inserted live slots entries planned row))
+    (made_within (commit_piece live entries planned) (live_after live planned) planned (made_by entries (commit_piece live entries planned) state planned) chain
+    (commit_done state standing inserted live slots entries planned row).as_planned
+    (chains_of_ids state (standing ++ inserted) (live_after live planned) entries chain (of_row state standing inserted live slots entries planned row) bound))
 
 -- crossing nothing where they are nested,
-pub planned_uncrossed : (standing inserted : List RankedPiece) (live : List LivePiece) (slots : Slots) (entries : IdEntries) (planned : List Planned)
-    → IsPlannedRow standing inserted live slots entries planned → AreNested (standing ++ inserted) → BoundsPieceChains (standing ++ inserted) 33
-    → IsUncrossed 33 (insertions (plain_state (contents entries slots)) (planned_writes entries planned))
-planned_uncrossed standing inserted live slots entries planned row nested short =
-    let pieces = of_row standing inserted live slots entries planned row in
-    subst (IsUncrossed 33) (sym (commit_makes standing inserted live slots entries planned row))
-    (made_uncrossed (commit_piece live entries planned) (live_after live planned) planned (made_by entries (commit_piece live entries planned) (plain_state (contents entries slots)) planned) 33
-    (commit_done standing inserted live slots entries planned row).as_planned
-    (nested_ids (standing ++ inserted) (live_after live planned) entries pieces nested)
-    (chains_of_ids (standing ++ inserted) (live_after live planned) entries 33 pieces short))
+pub planned_uncrossed : (state : State) (standing inserted : List RankedPiece) (live : List LivePiece) (slots : Slots) (entries : IdEntries) (planned : List Planned)
+    → IsPlannedRow state standing inserted live slots entries planned → AreNested (standing ++ inserted) → BoundsPieceChains (standing ++ inserted) 33
+    → IsUncrossed 33 (insertions state (planned_writes entries planned))
+planned_uncrossed state standing inserted live slots entries planned row nested short =
+    let pieces = of_row state standing inserted live slots entries planned row in
+    subst (IsUncrossed 33) (sym (commit_makes state standing inserted live slots entries planned row))
+    (made_uncrossed (commit_piece live entries planned) (live_after live planned) planned (made_by entries (commit_piece live entries planned) state planned) 33
+    (commit_done state standing inserted live slots entries planned row).as_planned
+    (nested_ids state (standing ++ inserted) (live_after live planned) entries pieces nested)
+    (chains_of_ids state (standing ++ inserted) (live_after live planned) entries 33 pieces short))
 
 -- and as long as they were planned
-pub planned_longest : (standing inserted : List RankedPiece) (live : List LivePiece) (slots : Slots) (entries : IdEntries) (planned : List Planned)
-    → IsPlannedRow standing inserted live slots entries planned
-    → longest_insertion (plain_state (contents entries slots)) (planned_writes entries planned) ≡ longest_planned planned
-planned_longest standing inserted live slots entries planned row =
-    ap (fold max 0) (ap (map (λ insertion. length insertion.writes)) (commit_makes standing inserted live slots entries planned row)
-    ∙ sizes_of_made (commit_piece live entries planned) (live_after live planned) planned (made_by entries (commit_piece live entries planned) (plain_state (contents entries slots)) planned)
-    (commit_done standing inserted live slots entries planned row).as_planned)
+pub planned_longest : (state : State) (standing inserted : List RankedPiece) (live : List LivePiece) (slots : Slots) (entries : IdEntries) (planned : List Planned)
+    → IsPlannedRow state standing inserted live slots entries planned
+    → longest_insertion state (planned_writes entries planned) ≡ longest_planned planned
+planned_longest state standing inserted live slots entries planned row =
+    ap (fold max 0) (ap (map (λ insertion. length insertion.writes)) (commit_makes state standing inserted live slots entries planned row)
+    ∙ sizes_of_made (commit_piece live entries planned) (live_after live planned) planned (made_by entries (commit_piece live entries planned) state planned)
+    (commit_done state standing inserted live slots entries planned row).as_planned)
 
-pub planned_span : (standing inserted : List RankedPiece) (live : List LivePiece) (slots : Slots) (entries : IdEntries) (planned : List Planned)
-    → IsPlannedRow standing inserted live slots entries planned
-    → IsGreatestSpan (insertions (plain_state (contents entries slots)) (planned_writes entries planned)) (greatest_planned planned)
-planned_span standing inserted live slots entries planned row =
-    subst (λ made. IsGreatestSpan made (greatest_planned planned)) (sym (commit_makes standing inserted live slots entries planned row))
-    (spans_of_made (commit_piece live entries planned) (live_after live planned) planned (made_by entries (commit_piece live entries planned) (plain_state (contents entries slots)) planned)
-    (commit_done standing inserted live slots entries planned row).as_planned)
+pub planned_span : (state : State) (standing inserted : List RankedPiece) (live : List LivePiece) (slots : Slots) (entries : IdEntries) (planned : List Planned)
+    → IsPlannedRow state standing inserted live slots entries planned
+    → IsGreatestSpan (insertions state (planned_writes entries planned)) (greatest_planned planned)
+planned_span state standing inserted live slots entries planned row =
+    subst (λ made. IsGreatestSpan made (greatest_planned planned)) (sym (commit_makes state standing inserted live slots entries planned row))
+    (spans_of_made (commit_piece live entries planned) (live_after live planned) planned (made_by entries (commit_piece live entries planned) state planned)
+    (commit_done state standing inserted live slots entries planned row).as_planned)
 
 -- their writes are as few as their bound allows
 few_made : (piece : ℕ → RankedPiece) (all : List LivePiece) (entries : IdEntries) (size : ℕ) (planned : List Planned) (made : List Insertion) → AllZip (IsAsPlanned piece all) planned made
@@ -103,12 +104,12 @@ few_made piece all entries size (p ∷ planned) (n ∷ made) are spans bound =
     grind arith
 
 -- which is one of the slots alone, as all ids that were live stand in the end
-pub planned_few : (standing inserted : List RankedPiece) (live : List LivePiece) (slots : Slots) (entries : IdEntries) (planned : List Planned)
-    → IsPlannedRow standing inserted live slots entries planned → length (planned_writes entries planned) ≤ 4096 * 4097 * length planned
-planned_few standing inserted live slots entries planned row =
+pub planned_few : (state : State) (standing inserted : List RankedPiece) (live : List LivePiece) (slots : Slots) (entries : IdEntries) (planned : List Planned)
+    → IsPlannedRow state standing inserted live slots entries planned → length (planned_writes entries planned) ≤ 4096 * 4097 * length planned
+planned_few state standing inserted live slots entries planned row =
     let few : length slots ≤ 4096 = row.arranged.few in
     let most : length (planned_writes entries planned) ≤ length slots * (1 + length slots) * length planned =
-    few_made piece all entries (length slots) planned (made_by entries piece (plain_state (contents entries slots)) planned) done.as_planned (planned_spans live slots planned row.are_planned) bound in
+    few_made piece all entries (length slots) planned (made_by entries piece state planned) done.as_planned (planned_spans live slots planned row.are_planned) bound in
     let wide : length slots * (1 + length slots) ≤ 4096 * 4097 = wider (length slots) few in
     let all_of_them : length slots * (1 + length slots) * length planned ≤ 4096 * 4097 * length planned = mul-le-mul_right (length planned) wide in
     omega arith
@@ -119,8 +120,8 @@ planned_few standing inserted live slots entries planned row =
     all : List LivePiece
     all = live_after live planned
 
-    done : AreDone entries piece all live slots (plain_state (contents entries slots)) planned
-    done = commit_done standing inserted live slots entries planned row
+    done : AreDone entries piece all live slots state planned
+    done = commit_done state standing inserted live slots entries planned row
 
     wider : (size : ℕ) → size ≤ 4096 → size * (1 + size) ≤ 4096 * 4097
     wider size few = mul-le-mul few (let more : 1 + size ≤ 4097 = omega arith in more)

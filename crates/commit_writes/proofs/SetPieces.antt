@@ -1,29 +1,30 @@
--- The pieces of rules by covers: each stands once, is plain, and a set's match what its rules match.
+-- The pieces of rules with their bits: each stands once and is served by tables that serve its rule, and a set's match what its rules match.
 use Rattle.std.proofs.Common.{◌≡◌, ℕ, ◌<◌, Bool, true, ◌&&◌, List, length, get_or, IsTrue, Contains, ◌⊎◌, inl, inr, refl, sym, ap, subst, ◌∙◌, arith, eqb-true, eq-eqb}
-use Rattle.std.specs.Prelude.{AllPairs, flat_map, nat_eq, IfNone, IfSome}
+use Rattle.std.specs.Prelude.{AllPairs, flat_map, nat_eq}
 use Rattle.std.specs.List.{AllByRecursion, list_any}
 use Rattle.std.proofs.lemmas.Bool.{cases_Bool, and_parts, and_from, both_ways}
 use Rattle.std.proofs.lemmas.List.{get_or_default}
-use Rattle.std.proofs.lemmas.List.Elements.{All-contains}
 use Rattle.slot_order.proofs.Lists.{AllByRecursion-member, any_is, any_from, in_map, map_in}
 use Rattle.rule_model.specs.declared.Rule.{Rule}
 use Rattle.rule_model.specs.declared.Piece.{Piece}
-use Rattle.rule_model.specs.PortRange.{is_block}
-use Rattle.rule_model.specs.Rule.{AreConditions, HasConditions}
+use Rattle.rule_model.specs.Rule.{HasConditions}
 use Rattle.rule_model.specs.RuleSet.{IsRuleSet}
-use Rattle.rule_model.specs.Piece.{same_piece, piece_matches, cover_pieces}
+use Rattle.rule_model.specs.Piece.{same_piece, piece_matches}
 use Rattle.rule_model.proofs.Pairs.{pairs_map}
-use Rattle.rule_model.proofs.CoverPieces.{piece_matches-cover, cover_pieces-right, cover_pieces-blocks}
-use Rattle.rule_model.proofs.Parts.{IsBitless, part_of, part_bitless, piece_inside, cover_pieces-apart, same_piece-self, same_piece-is}
-use Rattle.rule_store.specs.declared.Mode.TheVariants.{Cover}
+use Rattle.rule_model.proofs.Parts.{IsBitless, same_piece-self, same_piece-is}
+use Rattle.rule_store.specs.declared.Mode.{Mode}
 use Rattle.rule_store.specs.Verdict.{pieces_of}
 use Rattle.rule_store.proofs.Sets.{falls-at}
-use Rattle.ternary_word.specs.Entry.{RankedPiece, IsEncodable}
+use Rattle.ternary_word.specs.Entry.{RankedPiece}
+use Rattle.tcam_device.specs.State.{State}
 use Rattle.tcam_device.proofs.Shown.{ArePiecesOf}
-use Rattle.commit_writes.specs.Bits.{no_bits, with_bits}
+use Rattle.commit_writes.specs.Bits.{FieldBits, with_bits}
 use Rattle.commit_writes.specs.Shape.{ranked_piece, ranked_pieces, set_pieces}
-use Rattle.commit_writes.specs.Planned.{IsPlain}
+use Rattle.commit_writes.specs.Planned.{IsServedBy}
+use Rattle.commit_writes.specs.Serving.{AreServing}
 use Rattle.commit_writes.proofs.Filters.{all_members, in_images, images_in, pairs_images}
+use Rattle.commit_writes.proofs.ModePieces.{pieces_bitless, piece_within, piece_for, pieces_apart, with_bits-one}
+use Rattle.commit_writes.proofs.ServedRules.{IsServedRule, rule_served, piece_served}
 
 -- a piece and rank stand among some pieces, or don't
 abbrev pub HasPiece : List RankedPiece → RankedPiece → Type 0
@@ -36,148 +37,156 @@ LacksPiece pieces ranked = (other : RankedPiece) → Contains pieces other → o
 abbrev pub AreOnce : List RankedPiece → Type 0
 AreOnce pieces = AllPairs (λ a b. a.rank ≡ b.rank → a.piece ≡ b.piece → ⊥) pieces
 
-part_same : (rule : Rule) (piece : Piece) → Contains (cover_pieces rule) piece → with_bits no_bits piece ≡ piece
-part_same rule piece member = let w = part_of rule piece member in subst (λ p. with_bits no_bits p ≡ p) w.2 refl
-
 -- some pieces of each rule of a list, as they may be chosen
-abbrev pub chosen_pieces : (Rule → List Piece) → List Rule → List RankedPiece
-chosen_pieces choose rules = flat_map (λ rule. ranked_pieces no_bits rule (choose rule)) rules
+abbrev pub chosen_pieces : FieldBits → (Rule → List Piece) → List Rule → List RankedPiece
+chosen_pieces bits choose rules = flat_map (λ rule. ranked_pieces bits rule (choose rule)) rules
 
-abbrev pub IsChoice : (Rule → List Piece) → Type 0
-IsChoice choose = (rule : Rule) (piece : Piece) → Contains (choose rule) piece → Contains (cover_pieces rule) piece
+abbrev pub IsChoice : Mode → (Rule → List Piece) → Type 0
+IsChoice mode choose = (rule : Rule) (piece : Piece) → Contains (choose rule) piece → Contains (pieces_of mode rule) piece
 
-pub record IsChosen (choose : Rule → List Piece) (rules : List Rule) (ranked : RankedPiece) : Type 0 where
+-- one of them: a piece of a rule that was chosen, with its bits
+pub record IsChosen (bits : FieldBits) (choose : Rule → List Piece) (rules : List Rule) (ranked : RankedPiece) : Type 0 where
   pub rule : Rule
   pub member : Contains rules rule
   pub rank_is : ranked.rank ≡ rule.priority
   pub result_is : ranked.result ≡ rule.result
-  pub has : Contains (choose rule) ranked.piece
+  pub piece : Piece
+  pub has : Contains (choose rule) piece
+  pub piece_is : with_bits bits piece ≡ ranked.piece
 
-pub in_chosen : (choose : Rule → List Piece) (rules : List Rule) (ranked : RankedPiece) → IsChoice choose → Contains (chosen_pieces choose rules) ranked → IsChosen choose rules ranked
-in_chosen choose rules ranked choice member =
-    let w = in_images (λ rule. ranked_pieces no_bits rule (choose rule)) rules ranked member in
-    let m = in_map (ranked_piece no_bits w.0) (choose w.0) ranked w.2 in
-    let piece_is : m.0 ≡ ranked.piece = sym (part_same w.0 m.0 (choice w.0 m.0 m.1)) ∙ ap (λ (r : RankedPiece). r.piece) m.2 in
+pub in_chosen : (bits : FieldBits) (choose : Rule → List Piece) (rules : List Rule) (ranked : RankedPiece) → Contains (chosen_pieces bits choose rules) ranked
+    → IsChosen bits choose rules ranked
+in_chosen bits choose rules ranked member =
+    let w = in_images (λ rule. ranked_pieces bits rule (choose rule)) rules ranked member in
+    let m = in_map (ranked_piece bits w.0) (choose w.0) ranked w.2 in
     record {
       rule = w.0;
       member = w.1;
       rank_is = ap (λ (r : RankedPiece). r.rank) (sym m.2);
       result_is = ap (λ (r : RankedPiece). r.result) (sym m.2);
-      has = subst (Contains (choose w.0)) piece_is m.1;
+      piece = m.0;
+      has = m.1;
+      piece_is = ap (λ (r : RankedPiece). r.piece) m.2;
     }
 
-pub chosen_in : (choose : Rule → List Piece) (rules : List Rule) (ranked : RankedPiece) → IsChoice choose → IsChosen choose rules ranked → Contains (chosen_pieces choose rules) ranked
-chosen_in choose rules ranked choice is =
-    images_in (λ rule. ranked_pieces no_bits rule (choose rule)) rules is.rule ranked is.member
-    (subst (Contains (ranked_pieces no_bits is.rule (choose is.rule))) made (map_in (ranked_piece no_bits is.rule) (choose is.rule) ranked.piece is.has))
+pub chosen_in : (bits : FieldBits) (choose : Rule → List Piece) (rules : List Rule) (ranked : RankedPiece) → IsChosen bits choose rules ranked
+    → Contains (chosen_pieces bits choose rules) ranked
+chosen_in bits choose rules ranked is =
+    images_in (λ rule. ranked_pieces bits rule (choose rule)) rules is.rule ranked is.member
+    (subst (Contains (ranked_pieces bits is.rule (choose is.rule))) made (map_in (ranked_piece bits is.rule) (choose is.rule) is.piece is.has))
   where
-    made : ranked_piece no_bits is.rule ranked.piece ≡ ranked
+    made : ranked_piece bits is.rule is.piece ≡ ranked
     made =
-        ap (λ p. record { piece = p; rank = is.rule.priority; result = is.rule.result }) (part_same is.rule ranked.piece (choice is.rule ranked.piece is.has))
+        ap (λ p. record { piece = p; rank = is.rule.priority; result = is.rule.result }) is.piece_is
         ∙ (ap (λ n. record { piece = ranked.piece; rank = n; result = is.rule.result }) (sym is.rank_is) ∙ ap (λ n. record ranked { result = n }) (sym is.result_is))
 
-rank_of : (rule : Rule) (pieces : List Piece) (ranked : RankedPiece) → Contains (ranked_pieces no_bits rule pieces) ranked → rule.priority ≡ ranked.rank
-rank_of rule pieces ranked member = let w = in_map (ranked_piece no_bits rule) pieces ranked member in ap (λ (r : RankedPiece). r.rank) w.2
+-- two that have one piece with bits have one without
+pub chosen_same : (mode : Mode) (bits : FieldBits) (choose others : Rule → List Piece) (rules some : List Rule) (a b : RankedPiece) → IsChoice mode choose → IsChoice mode others
+    → (x : IsChosen bits choose rules a) → (y : IsChosen bits others some b) → a.piece ≡ b.piece → x.piece ≡ y.piece
+chosen_same mode bits choose others rules some a b choice choice_too x y same =
+    with_bits-one bits x.piece y.piece (pieces_bitless mode x.rule x.piece (choice x.rule x.piece x.has)) (pieces_bitless mode y.rule y.piece (choice_too y.rule y.piece y.has))
+    (x.piece_is ∙ (same ∙ sym y.piece_is))
+
+rank_of : (bits : FieldBits) (rule : Rule) (pieces : List Piece) (ranked : RankedPiece) → Contains (ranked_pieces bits rule pieces) ranked → rule.priority ≡ ranked.rank
+rank_of bits rule pieces ranked member = let w = in_map (ranked_piece bits rule) pieces ranked member in ap (λ (r : RankedPiece). r.rank) w.2
 
 earlier : (i j n : ℕ) → i < j → j < n → i < n
 earlier i j n less inside = omega arith
 
 -- where no two rules have one priority, each stands once
-pub chosen_once : (choose : Rule → List Piece) (rules : List Rule) → IsChoice choose → AllPairs (λ a b. a.priority ≡ b.priority → ⊥) rules
-    → ((rule : Rule) → AllPairs (λ a b. a ≡ b → ⊥) (choose rule)) → AreOnce (chosen_pieces choose rules)
-chosen_once choose rules choice differ apart =
-    pairs_images once (λ rule. ranked_pieces no_bits rule (choose rule)) rules
+pub chosen_once : (mode : Mode) (bits : FieldBits) (choose : Rule → List Piece) (rules : List Rule) → IsChoice mode choose → AllPairs (λ a b. a.priority ≡ b.priority → ⊥) rules
+    → ((rule : Rule) → AllPairs (λ a b. a ≡ b → ⊥) (choose rule)) → AreOnce (chosen_pieces bits choose rules)
+chosen_once mode bits choose rules choice differ apart =
+    pairs_images once (λ rule. ranked_pieces bits rule (choose rule)) rules
     (λ i j d less inside p q is_p is_q same_rank piece_is.
-    differ i j d less inside (rank_of (get_or rules i d) (choose (get_or rules i d)) p is_p ∙ (same_rank ∙ sym (rank_of (get_or rules j d) (choose (get_or rules j d)) q is_q))))
+    differ i j d less inside (rank_of bits (get_or rules i d) (choose (get_or rules i d)) p is_p ∙ (same_rank ∙ sym (rank_of bits (get_or rules j d) (choose (get_or rules j d)) q is_q))))
     within
   where
     once : RankedPiece → RankedPiece → Type 0
     once a b = a.rank ≡ b.rank → a.piece ≡ b.piece → ⊥
 
-    same_at : (rule : Rule) (k : ℕ) (d : Piece) → k < length (choose rule) → with_bits no_bits (get_or (choose rule) k d) ≡ get_or (choose rule) k d
-    same_at rule k d less = part_same rule (get_or (choose rule) k d) (choice rule (get_or (choose rule) k d) (k, less, get_or_default (choose rule) k (get_or (choose rule) k d) d less))
+    bitless_at : (rule : Rule) (k : ℕ) (d : Piece) → k < length (choose rule) → IsBitless (get_or (choose rule) k d)
+    bitless_at rule k d less =
+        pieces_bitless mode rule (get_or (choose rule) k d) (choice rule (get_or (choose rule) k d) (k, less, get_or_default (choose rule) k (get_or (choose rule) k d) d less))
 
-    within : (rule : Rule) → AllPairs once (ranked_pieces no_bits rule (choose rule))
-    within rule = pairs_map once (ranked_piece no_bits rule) (choose rule) (λ i j d less inside same_rank piece_is.
-        apart rule i j d less inside (sym (same_at rule i d (earlier i j (length (choose rule)) less inside)) ∙ (piece_is ∙ same_at rule j d inside)))
+    within : (rule : Rule) → AllPairs once (ranked_pieces bits rule (choose rule))
+    within rule = pairs_map once (ranked_piece bits rule) (choose rule) (λ i j d less inside same_rank piece_is.
+        apart rule i j d less inside (with_bits-one bits (get_or (choose rule) i d) (get_or (choose rule) j d)
+        (bitless_at rule i d (earlier i j (length (choose rule)) less inside)) (bitless_at rule j d inside) piece_is))
 
 -- they are ordered as the rules are
-pub chosen_ordered : (Before : ℕ → ℕ → Type 0) (choose : Rule → List Piece) (rules : List Rule) → ((n : ℕ) → Before n n)
-    → AllPairs (λ a b. Before a.priority b.priority) rules → AllPairs (λ a b. Before a.rank b.rank) (chosen_pieces choose rules)
-chosen_ordered Before choose rules self ordered =
-    pairs_images (λ a b. Before a.rank b.rank) (λ rule. ranked_pieces no_bits rule (choose rule)) rules
+pub chosen_ordered : (bits : FieldBits) (Before : ℕ → ℕ → Type 0) (choose : Rule → List Piece) (rules : List Rule) → ((n : ℕ) → Before n n)
+    → AllPairs (λ a b. Before a.priority b.priority) rules → AllPairs (λ a b. Before a.rank b.rank) (chosen_pieces bits choose rules)
+chosen_ordered bits Before choose rules self ordered =
+    pairs_images (λ a b. Before a.rank b.rank) (λ rule. ranked_pieces bits rule (choose rule)) rules
     (λ i j d less inside p q is_p is_q.
-    subst (λ n. Before n q.rank) (rank_of (get_or rules i d) (choose (get_or rules i d)) p is_p) (subst (Before (get_or rules i d).priority) (rank_of (get_or rules j d) (choose (get_or rules j d)) q is_q) (ordered i j d less inside)))
-    (λ rule. pairs_map (λ (a b : RankedPiece). Before a.rank b.rank) (ranked_piece no_bits rule) (choose rule) (λ i j d less inside. self rule.priority))
+    subst (λ n. Before n q.rank) (rank_of bits (get_or rules i d) (choose (get_or rules i d)) p is_p) (subst (Before (get_or rules i d).priority) (rank_of bits (get_or rules j d) (choose (get_or rules j d)) q is_q) (ordered i j d less inside)))
+    (λ rule. pairs_map (λ (a b : RankedPiece). Before a.rank b.rank) (ranked_piece bits rule) (choose rule) (λ i j d less inside. self rule.priority))
 
 -- priorities fall
 pub rules_fall : (rules : List Rule) → IsRuleSet rules → AllPairs (λ a b. b.priority < a.priority) rules
 rules_fall rules set i j d less inside = falls-at rules set i j d less inside
 
 -- all pieces are a choice
-pub all_chosen : IsChoice (pieces_of Cover)
-all_chosen rule piece member = member
+pub all_chosen : (mode : Mode) → IsChoice mode (pieces_of mode)
+all_chosen mode rule piece member = member
 
-pub pieces_once : (rules : List Rule) → IsRuleSet rules → AreOnce (set_pieces Cover no_bits rules)
-pieces_once rules set =
-    chosen_once (pieces_of Cover) rules all_chosen
-    (λ i j d less inside same. let falls = rules_fall rules set i j d less inside in omega arith) cover_pieces-apart
+pub pieces_once : (mode : Mode) (bits : FieldBits) (rules : List Rule) → IsRuleSet rules → AreOnce (set_pieces mode bits rules)
+pieces_once mode bits rules set =
+    chosen_once mode bits (pieces_of mode) rules (all_chosen mode)
+    (λ i j d less inside same. let falls = rules_fall rules set i j d less inside in omega arith) (pieces_apart mode)
 
--- pieces of rules with right conditions are plain
-pub chosen_plain : (choose : Rule → List Piece) (rules : List Rule) → IsChoice choose → ((rule : Rule) → Contains rules rule → HasConditions rule)
-    → (ranked : RankedPiece) → Contains (chosen_pieces choose rules) ranked → IsPlain ranked
-chosen_plain choose rules choice right ranked member =
-    let is = in_chosen choose rules ranked choice member in
-    let has = choice is.rule ranked.piece is.has in
+-- pieces of rules with right conditions are served where the rules are
+pub chosen_served : (mode : Mode) (bits : FieldBits) (state : State) (choose : Rule → List Piece) (rules : List Rule) → IsChoice mode choose
+    → ((rule : Rule) → Contains rules rule → HasConditions rule × IsServedRule mode bits state rule)
+    → (ranked : RankedPiece) → Contains (chosen_pieces bits choose rules) ranked → IsServedBy state ranked
+chosen_served mode bits state choose rules choice right ranked member =
+    let is = in_chosen bits choose rules ranked member in
     let good = right is.rule is.member in
-    let bitless = part_bitless is.rule ranked.piece has in
-    let blocks = All-contains (λ p. IsTrue (is_block p.sport) × IsTrue (is_block p.dport)) (cover_pieces is.rule) ranked.piece (cover_pieces-blocks is.rule good) has in
-    record {
-      right = All-contains (λ p. AreConditions p.src p.dst p.proto p.sport p.dport) (cover_pieces is.rule) ranked.piece (cover_pieces-right is.rule good) has;
-      encodable = encodable ranked.piece bitless blocks;
-      srcbit = bitless.0;
-      dstbit = bitless.1;
-    }
-  where
-    encodable : (piece : Piece) → IsBitless piece → IsTrue (is_block piece.sport) × IsTrue (is_block piece.dport) → IsEncodable piece
-    encodable piece bitless blocks = record {
-      sport = subst (λ bit. IfNone bit (IsTrue (is_block piece.sport))) (sym bitless.0) blocks.0;
-      dport = subst (λ bit. IfNone bit (IsTrue (is_block piece.dport))) (sym bitless.1) blocks.1;
-      srcbit = subst (λ bit. IfSome bit (λ b. b < 16)) (sym bitless.0) tt;
-      dstbit = subst (λ bit. IfSome bit (λ b. b < 16)) (sym bitless.1) tt;
-    }
+    subst (λ p. IsServedBy state (record ranked { piece = p })) is.piece_is
+    (piece_served mode bits state is.rule is.piece ranked.rank ranked.result good.0 good.1 (choice is.rule is.piece is.has))
 
-pub set_plain : (rules : List Rule) → AllByRecursion HasConditions rules → AllByRecursion IsPlain (set_pieces Cover no_bits rules)
-set_plain rules right = all_members IsPlain (set_pieces Cover no_bits rules) (chosen_plain (pieces_of Cover) rules all_chosen (λ rule member. AllByRecursion-member HasConditions rules rule right member))
+pub set_served : (mode : Mode) (bits : FieldBits) (state : State) (rules : List Rule) → AreServing mode bits rules state → AllByRecursion HasConditions rules
+    → AllByRecursion (IsServedBy state) (set_pieces mode bits rules)
+set_served mode bits state rules serving right =
+    all_members (IsServedBy state) (set_pieces mode bits rules)
+    (chosen_served mode bits state (pieces_of mode) rules (all_chosen mode)
+    (λ rule member. (AllByRecursion-member HasConditions rules rule right member, rule_served mode bits state rules rule serving member)))
 
 -- a set's pieces match what its rules do
-pub set_pieces-of : (rules : List Rule) → AllByRecursion HasConditions rules → ArePiecesOf rules (Contains (set_pieces Cover no_bits rules))
-set_pieces-of rules right = record {
-  of = λ ranked member. let is = in_chosen (pieces_of Cover) rules ranked all_chosen member in (
+pub set_pieces-of : (mode : Mode) (bits : FieldBits) (rules : List Rule) → AllByRecursion HasConditions rules → ArePiecesOf rules (Contains (set_pieces mode bits rules))
+set_pieces-of mode bits rules right = record {
+  of = λ ranked member. let is = in_chosen bits (pieces_of mode) rules ranked member in (
     is.rule,
     is.member,
     is.rank_is,
     is.result_is,
-    λ key valid matched. piece_inside is.rule ranked.piece key (good is.rule is.member) is.has valid matched,
+    λ key valid matched. piece_within mode is.rule is.piece key (good is.rule is.member) is.has valid (subst (λ p. IsTrue (piece_matches p key)) (sym is.piece_is) matched),
   );
   cover = λ rule key member valid matched.
-      let w = any_is (λ p. piece_matches p key) (cover_pieces rule) (piece_matches-cover rule key valid (good rule member) ∙ matched) in
-      let ranked : RankedPiece = record { piece = w.0; rank = rule.priority; result = rule.result } in
-      (ranked, chosen_in (pieces_of Cover) rules ranked all_chosen (record { rule = rule; member = member; rank_is = refl; result_is = refl; has = w.1 }), refl, w.2);
+      let w = piece_for mode rule key (good rule member) valid matched in
+      let ranked : RankedPiece = record { piece = with_bits bits w.0; rank = rule.priority; result = rule.result } in (
+        ranked,
+        chosen_in bits (pieces_of mode) rules ranked
+            (record { rule = rule; member = member; rank_is = refl; result_is = refl; piece = w.0; has = w.1; piece_is = refl }),
+        refl,
+        w.2,
+      );
 }
   where
     good : (rule : Rule) → Contains rules rule → HasConditions rule
     good rule member = AllByRecursion-member HasConditions rules rule right member
 
 -- whether a set has a piece at a rank
-pub set_has : (rules : List Rule) (ranked : RankedPiece) → IsBitless ranked.piece → HasPiece (set_pieces Cover no_bits rules) ranked ⊎ LacksPiece (set_pieces Cover no_bits rules) ranked
-set_has rules ranked bitless = elim (cases_Bool (list_any same pieces)) [
+pub set_has : (mode : Mode) (bits : FieldBits) (rules : List Rule) (ranked : RankedPiece) (piece : Piece) → IsBitless piece → with_bits bits piece ≡ ranked.piece
+    → HasPiece (set_pieces mode bits rules) ranked ⊎ LacksPiece (set_pieces mode bits rules) ranked
+set_has mode bits rules ranked piece bitless piece_is = elim (cases_Bool (list_any same pieces)) [
   | inl found ↦ inl (let w = any_is same pieces found in has w.0 w.1 w.2)
-  | inr none ↦ inr (λ other member piece_is rank_is. both_ways (list_any same pieces) none (any_from same pieces other member (and_from _ _ (eq-eqb _ _ rank_is) (subst (λ p. same_piece other.piece p ≡ true) piece_is (same_piece-self other.piece)))))
+  | inr none ↦ inr (λ other member is_piece is_rank. both_ways (list_any same pieces) none (any_from same pieces other member (and_from _ _ (eq-eqb _ _ is_rank) (subst (λ p. same_piece other.piece p ≡ true) is_piece (same_piece-self other.piece)))))
 ]
   where
     pieces : List RankedPiece
-    pieces = set_pieces Cover no_bits rules
+    pieces = set_pieces mode bits rules
 
     same : RankedPiece → Bool
     same other = nat_eq other.rank ranked.rank && same_piece other.piece ranked.piece
@@ -185,6 +194,9 @@ set_has rules ranked bitless = elim (cases_Bool (list_any same pieces)) [
     has : (other : RankedPiece) → Contains pieces other → same other ≡ true → HasPiece pieces ranked
     has other member is =
         let parts = and_parts (nat_eq other.rank ranked.rank) (same_piece other.piece ranked.piece) is in
-        let w = in_chosen (pieces_of Cover) rules other all_chosen member in
-        let clear = part_bitless w.rule other.piece w.has in
-        (other, member, same_piece-is other.piece ranked.piece (clear.0 ∙ sym bitless.0) (clear.1 ∙ sym bitless.1) parts.1, eqb-true _ _ parts.0)
+        let w = in_chosen bits (pieces_of mode) rules other member in
+        let clear = pieces_bitless mode w.rule w.piece w.has in
+        let met : same_piece w.piece piece ≡ true =
+        subst (λ p. same_piece p piece ≡ true) (sym w.piece_is) (subst (λ p. same_piece other.piece p ≡ true) (sym piece_is) parts.1) in
+        let one : w.piece ≡ piece = same_piece-is w.piece piece (clear.0 ∙ sym bitless.0) (clear.1 ∙ sym bitless.1) met in
+        (other, member, sym w.piece_is ∙ (ap (with_bits bits) one ∙ piece_is), eqb-true _ _ parts.0)

@@ -10,14 +10,14 @@ use Rattle.rule_store.specs.Batch.{set_after}
 use Rattle.ternary_word.specs.Entry.{RankedPiece}
 use Rattle.tcam_device.specs.declared.Write.{Write}
 use Rattle.tcam_device.specs.State.{State, IsInUse, state_after}
-use Rattle.tcam_device.specs.Order.{StandsOnce, IsOrdered}
+use Rattle.tcam_device.specs.Order.{StandsOnce}
 use Rattle.tcam_device.specs.Insertion.{Insertion, insertions, table_writes, IsGreatestSpan, AreBoundedBy, IsUncrossed}
 use Rattle.tcam_device.proofs.Wider.{padded, all_take, slot-padded, state_after-padded, slots-after, IsHitless-padded, TurnsOnce-padded, IsOrdered-padded, StandsOnce-padded}
 use Rattle.tcam_device.proofs.WiderInsertions.{widened, insertions-padded, longest-padded, writes-widened, entries-widened, IsGreatestSpan-widened, AreBoundedBy-widened, IsUncrossed-widened}
 use Rattle.commit_writes.specs.declared.Done.{Done}
 use Rattle.commit_writes.specs.Bits.{FieldBits, bits_with}
 use Rattle.commit_writes.specs.Shape.{Stands, Rewrites, Erases, inserted_pieces, rewritten_pieces, erased_pieces, HasCommitShape}
-use Rattle.commit_writes.specs.Commit.{old_pieces, new_pieces, insertion_writes, KeepsOrder, IsSegment, AreCounts}
+use Rattle.commit_writes.specs.Commit.{old_pieces, new_pieces, insertion_writes, HoldsInOrder, KeepsOrder, IsSegment, AreCounts}
 use Rattle.commit_writes.specs.PlannedBatch.{IsPlannedSegment}
 
 -- writes within the first slots
@@ -101,12 +101,18 @@ map_read f [] k y none = absurd (none-some y none)
 map_read f (x ∷ xs) zero y read = (x, refl, same_Some (f x) y read)
 map_read f (x ∷ xs) (suc k) y read = map_read f xs k y read
 
+HoldsInOrder-padded : (more : ℕ) (state : State) (Member : RankedPiece → Type 0) → HoldsInOrder state Member → HoldsInOrder (padded more state) Member
+HoldsInOrder-padded more state Member holds = record {
+  ordered = IsOrdered-padded more state Member holds.ordered;
+  serves = record { srcbits = holds.serves.srcbits; dstbits = holds.serves.dstbits };
+}
+
 pub KeepsOrder-padded : (more : ℕ) (mode : Mode) (bits : FieldBits) (rules : List Rule) (batch : List Command) (state : State) (made : List Write)
     → AreInUse state made → KeepsOrder mode bits rules batch state made → KeepsOrder mode bits rules batch (padded more state) made
 KeepsOrder-padded more mode bits rules batch state made inside keeps = record {
   inserting = λ n within. let w = keeps.inserting n (subst (λ count. n ≤ count) as_many within) in (
     w.0,
-    subst (λ (now : State). IsOrdered now (first w.0)) (sym (reached n)) (IsOrdered-padded more (state_after state (take n made)) (first w.0) w.1),
+    subst (λ (now : State). HoldsInOrder now (first w.0)) (sym (reached n)) (HoldsInOrder-padded more (state_after state (take n made)) (first w.0) w.1),
   );
   between = λ k insertion read.
       let w = map_read (widened more) (insertions state made) k insertion (ap (λ (all : List Insertion). slice_get all k) (sym (insertions-padded more state made inside)) ∙ read) in
@@ -114,10 +120,10 @@ KeepsOrder-padded more mode bits rules batch state made inside keeps = record {
   finishing = λ n past. let w = keeps.finishing n (subst (λ count. count ≤ n) as_many past) in (
     w.0,
     w.1,
-    subst (λ (now : State). IsOrdered now (Contains w.0)) (sym (reached n)) (IsOrdered-padded more (state_after state (take n made)) (Contains w.0) w.2),
+    subst (λ (now : State). HoldsInOrder now (Contains w.0)) (sym (reached n)) (HoldsInOrder-padded more (state_after state (take n made)) (Contains w.0) w.2),
     subst (λ (now : State). StandsOnce now (Contains w.0)) (sym (reached n)) (StandsOnce-padded more (state_after state (take n made)) (Contains w.0) w.3),
   );
-  after = subst (λ (now : State). IsOrdered now new) (sym (state_after-padded more state made inside)) (IsOrdered-padded more (state_after state made) new keeps.after);
+  after = subst (λ (now : State). HoldsInOrder now new) (sym (state_after-padded more state made inside)) (HoldsInOrder-padded more (state_after state made) new keeps.after);
   once = subst (λ (now : State). StandsOnce now new) (sym (state_after-padded more state made inside)) (StandsOnce-padded more (state_after state made) new keeps.once);
 }
   where
@@ -155,9 +161,9 @@ AreCounts-padded more state made counts inside are = record {
   span = subst (λ (all : List Insertion). IsGreatestSpan all counts.span) (sym (insertions-padded more state made inside)) (IsGreatestSpan-widened more (insertions state made) counts.span are.span);
 }
 
-pub IsPlannedSegment-padded : (more : ℕ) (rules : List Rule) (batch : List Command) (state : State) (made : List Write) (counts : Done)
-    → AreInUse state made → IsPlannedSegment rules batch state made counts → IsPlannedSegment rules batch (padded more state) made counts
-IsPlannedSegment-padded more rules batch state made counts inside is = record {
+pub IsPlannedSegment-padded : (more : ℕ) (mode : Mode) (bits : FieldBits) (rules : List Rule) (batch : List Command) (state : State) (made : List Write) (counts : Done)
+    → AreInUse state made → IsPlannedSegment mode bits rules batch state made counts → IsPlannedSegment mode bits rules batch (padded more state) made counts
+IsPlannedSegment-padded more mode bits rules batch state made counts inside is = record {
   segment = IsSegment-padded more _ _ rules batch state made inside is.segment;
   numbers = AreCounts-padded more state made counts inside is.numbers;
   uncrossed = λ routes added. subst (IsUncrossed 33) (sym (insertions-padded more state made inside)) (IsUncrossed-widened more 33 (insertions state made) (is.uncrossed routes added));

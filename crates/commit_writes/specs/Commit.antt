@@ -8,7 +8,7 @@ use Rattle.rule_store.specs.Batch.{removes, additions, set_after}
 use Rattle.ternary_word.specs.Entry.{RankedPiece}
 use Rattle.tcam_device.specs.declared.Write.{Write}
 use Rattle.tcam_device.specs.State.{State, state_after}
-use Rattle.tcam_device.specs.Order.{IsOrdered, StandsOnce}
+use Rattle.tcam_device.specs.Order.{IsOrdered, ServesBits, StandsOnce}
 use Rattle.tcam_device.specs.Hitless.{IsHitless, TurnsOnce}
 use Rattle.tcam_device.specs.Insertion.{Insertion, insertions, longest_insertion, table_writes, IsGreatestSpan, IsWithinBound, IsWithinTightBound}
 use Rattle.commit_writes.specs.declared.Done.{Done}
@@ -40,23 +40,34 @@ pub record AreBetween (old new standing : List RankedPiece) : Type 0 where
 abbrev pub insertion_writes : State → List Write → ℕ
 insertion_writes state made = table_writes made + length (flat_map (λ insertion. insertion.writes) (insertions state made))
 
--- The device holds what it must, in order. So an entry that others shadow is neither lost nor left twice, not even from one
--- insertion to a later one, and no entry has its new result before the insertions are made.
-pub record KeepsOrder (mode : Mode) (bits : FieldBits) (rules : List Rule) (batch : List Command) (state : State) (made : List Write) : Type 0 where
-  -- while table words and insertions are written: the pieces of the old set and the first of the inserted ones,
-  pub inserting : (n : ℕ) → n ≤ insertion_writes state made → (k : ℕ) × IsOrdered (state_after state (take n made))
-      (Contains (old_pieces mode bits rules batch ++ take k (inserted_pieces mode (bits_with mode rules batch bits) rules batch)))
+-- the device is in order for some pieces, and each bit that one of them tests is set exactly at the ports of its range
+pub record HoldsInOrder (state : State) (Member : RankedPiece → Type 0) : Type 0 where
+  pub ordered : IsOrdered state Member
+  pub serves : ServesBits state Member
+
+-- The device holds what it must, in order, on its way from the old pieces by some inserted ones to the new pieces. So an
+-- entry that others shadow is neither lost nor left twice, not even from one insertion to a later one, no entry has its
+-- new result before the insertions are made, and no word of a table changes in a bit that a slot tests.
+pub record KeepsPieces (old inserted new : List RankedPiece) (state : State) (made : List Write) : Type 0 where
+  -- while table words and insertions are written: the old pieces and the first of the inserted ones,
+  pub inserting : (n : ℕ) → n ≤ insertion_writes state made → (k : ℕ) × HoldsInOrder (state_after state (take n made)) (Contains (old ++ take k inserted))
   -- each of them in one slot where an insertion begins;
   pub between : (k : ℕ) (insertion : Insertion) → slice_get (insertions state made) k ≡ Some insertion
-      → StandsOnce insertion.before (Contains (old_pieces mode bits rules batch ++ take k (inserted_pieces mode (bits_with mode rules batch bits) rules batch)))
-  -- from then on pieces on the way from the old set's to the new set's, each in one slot;
+      → StandsOnce insertion.before (Contains (old ++ take k inserted))
+  -- from then on pieces on the way from the old ones to the new ones, each in one slot;
   pub finishing : (n : ℕ) → insertion_writes state made ≤ n → (standing : List RankedPiece)
-      × AreBetween (old_pieces mode bits rules batch) (new_pieces mode bits rules batch) standing
-      × IsOrdered (state_after state (take n made)) (Contains standing)
+      × AreBetween old new standing
+      × HoldsInOrder (state_after state (take n made)) (Contains standing)
       × StandsOnce (state_after state (take n made)) (Contains standing)
-  -- and in the end those of the new set
-  pub after : IsOrdered (state_after state made) (Contains (new_pieces mode bits rules batch))
-  pub once : StandsOnce (state_after state made) (Contains (new_pieces mode bits rules batch))
+  -- and in the end the new ones
+  pub after : HoldsInOrder (state_after state made) (Contains new)
+  pub once : StandsOnce (state_after state made) (Contains new)
+
+-- so it goes from the pieces of the old set to those of the new one
+abbrev pub KeepsOrder : Mode → FieldBits → List Rule → List Command → State → List Write → Type 0
+KeepsOrder mode bits rules batch state made =
+    KeepsPieces (old_pieces mode bits rules batch) (inserted_pieces mode (bits_with mode rules batch bits) rules batch)
+    (new_pieces mode bits rules batch) state made
 
 -- no priority is both removed and given to a new rule
 abbrev pub ReplacesNone : List Command → Type 0

@@ -16,7 +16,8 @@ use Rattle.move_planner.specs.Placement.{IsPlacement, IsInOrder, after_moves, sp
 use Rattle.move_planner.specs.Insertion.{IsLive, StandOnce}
 use Rattle.tcam_device.specs.declared.Write.{Write}
 use Rattle.tcam_device.specs.declared.Write.TheVariants.{Slot}
-use Rattle.tcam_device.specs.State.{State, blank_table}
+use Rattle.tcam_device.specs.State.{State, IsState, blank_table}
+use Rattle.tcam_device.specs.Order.{IsTranslated}
 
 -- the entry of each id, if it has one
 abbrev pub IdEntries : Type 0
@@ -34,6 +35,10 @@ held_entry entries (Some id) = entry_at entries id
 -- what the slots hold where an arrangement of ids stands in them
 abbrev pub contents : IdEntries → Slots → List (Option Entry)
 contents entries slots = map (held_entry entries) slots
+
+-- a state whose slots hold this, with its tables as they are
+abbrev pub with_slots : State → List (Option Entry) → State
+with_slots state slots = record state { slots = slots }
 
 -- the state of a device with these slots, whose tables were never written
 abbrev pub plain_state : List (Option Entry) → State
@@ -101,12 +106,13 @@ pub record AreArranged (live : List LivePiece) (slots : Slots) : Type 0 where
   pub standing : StandOnce (IsLive live) slots
   pub order : IsInOrder (is_above live) slots
 
--- a piece as it may stand in an entry: its conditions are right, it has an entry, and no bit of a translation table
-pub record IsPlain (ranked : RankedPiece) : Type 0 where
+-- a piece as it may stand in an entry under the tables of a state: its conditions are right, it has an entry, and each bit
+-- that it tests is set exactly at the ports of its range
+pub record IsServedBy (state : State) (ranked : RankedPiece) : Type 0 where
   pub right : AreConditions ranked.piece.src ranked.piece.dst ranked.piece.proto ranked.piece.sport ranked.piece.dport
   pub encodable : IsEncodable ranked.piece
-  pub srcbit : ranked.piece.srcbit ≡ None
-  pub dstbit : ranked.piece.dstbit ≡ None
+  pub srcbits : (bit : ℕ) → ranked.piece.srcbit ≡ Some bit → IsTranslated state.src bit ranked.piece.sport
+  pub dstbits : (bit : ℕ) → ranked.piece.dstbit ≡ Some bit → IsTranslated state.dst bit ranked.piece.dport
 
 -- no chain of these pieces, of falling rank and each overlapping the next, is longer
 abbrev pub BoundsPieceChains : List RankedPiece → ℕ → Type 0
@@ -119,10 +125,13 @@ AreNested pieces =
     → one.rank < upper.rank → lower.rank < one.rank → PiecesOverlap one.piece upper.piece → PiecesOverlap one.piece lower.piece
     → PiecesOverlap lower.piece upper.piece
 
--- Insertions of some pieces beside others that stand, as they were planned: before them those that stand have their
--- entries in order, each new piece is one insertion, in their order, and each new id has its piece's entry.
-pub record IsPlannedRow (standing inserted : List RankedPiece) (live : List LivePiece) (slots : Slots) (entries : IdEntries) (planned : List Planned) : Type 0 where
-  pub plain : AllByRecursion IsPlain (standing ++ inserted)
+-- Insertions of some pieces beside others that stand, as they were planned from a state on: before them those that stand
+-- have their entries in order, the state shows these, and its tables serve all of the pieces; each new piece is one
+-- insertion, in their order, and each new id has its piece's entry.
+pub record IsPlannedRow (state : State) (standing inserted : List RankedPiece) (live : List LivePiece) (slots : Slots) (entries : IdEntries) (planned : List Planned) : Type 0 where
+  pub is_state : IsState (length state.slots) state
+  pub mirrors : state.slots ≡ contents entries slots
+  pub served : AllByRecursion (IsServedBy state) (standing ++ inserted)
   -- of one rank no two are the same piece
   pub once : AllPairs (λ a b. a.rank ≡ b.rank → a.piece ≡ b.piece → ⊥) (standing ++ inserted)
   pub arranged : AreArranged live slots

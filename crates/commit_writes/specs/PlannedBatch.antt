@@ -1,27 +1,29 @@
 -- Commits of changes to a set of rules, as they are planned: insertions first, then new results, then erases.
-use Rattle.std.specs.Prelude.{◌≡◌, ℕ, Some, None, List, ◌++◌, Contains, fold, length, map, slice_set, unwrap_or}
+use Rattle.std.specs.Prelude.{◌≡◌, ℕ, Some, None, List, ◌++◌, Contains, flat_map, fold, length, map, slice_set, unwrap_or}
 use Rattle.std.specs.List.{AllByRecursion, AllZip}
 use Rattle.slot_pool.specs.Arrangement.{Slots, home_of}
 use Rattle.rule_model.specs.declared.Rule.{Rule}
 use Rattle.rule_model.specs.Rule.{HasConditions}
-use Rattle.rule_model.specs.RuleSet.{IsRuleSet}
+use Rattle.rule_model.specs.RuleSet.{IsRuleSet, BoundsChains}
 use Rattle.rule_model.specs.Routes.{IsIpv4Route}
-use Rattle.rule_store.specs.declared.Mode.TheVariants.{Cover}
+use Rattle.rule_store.specs.declared.Mode.{Mode}
 use Rattle.rule_store.specs.declared.Command.{Command}
-use Rattle.rule_store.specs.Batch.{ChangesRules, additions, batch_fault}
+use Rattle.rule_store.specs.Batch.{ChangesRules, additions, batch_fault, set_after}
 use Rattle.ternary_word.specs.Entry.{RankedPiece, entry_for}
 use Rattle.overlap_index.specs.declared.LivePiece.{LivePiece}
 use Rattle.overlap_index.specs.Live.{without_id}
 use Rattle.tcam_device.specs.declared.Write.{Write}
 use Rattle.tcam_device.specs.declared.Write.TheVariants.{Slot}
-use Rattle.tcam_device.specs.State.{State}
-use Rattle.tcam_device.specs.Insertion.{insertions, IsUncrossed}
+use Rattle.tcam_device.specs.State.{State, IsState, state_after}
+use Rattle.tcam_device.specs.Hitless.{IsHitless, TurnsOnce}
+use Rattle.tcam_device.specs.Insertion.{insertions, table_writes, IsUncrossed, IsWithinTightBound}
 use Rattle.commit_writes.specs.declared.Done.{Done}
 use Rattle.commit_writes.specs.declared.Rewrite.{Rewrite}
-use Rattle.commit_writes.specs.Bits.{no_bits}
-use Rattle.commit_writes.specs.Shape.{set_pieces, inserted_pieces, rewritten_pieces, erased_pieces}
-use Rattle.commit_writes.specs.Commit.{IsSegment, AreCounts}
-use Rattle.commit_writes.specs.Planned.{IdEntries, Planned, ArePlanned, AreArranged, AreEntriesOf, entry_at, ranked_of, slots_after, planned_writes, longest_planned, greatest_planned}
+use Rattle.commit_writes.specs.Bits.{FieldBits}
+use Rattle.commit_writes.specs.Serving.{AreServing}
+use Rattle.commit_writes.specs.Shape.{Rewrites, Erases, set_pieces, inserted_pieces, rewritten_pieces, erased_pieces}
+use Rattle.commit_writes.specs.Commit.{KeepsPieces, ReplacesNone, IsSegment, AreCounts}
+use Rattle.commit_writes.specs.Planned.{IdEntries, Planned, ArePlanned, AreArranged, AreEntriesOf, contents, entry_at, ranked_of, slots_after, planned_writes, longest_planned, greatest_planned}
 
 -- the id is that of this live piece
 abbrev pub IsIdOf : List LivePiece → RankedPiece → ℕ → Type 0
@@ -61,31 +63,58 @@ batch_writes entries slots planned rewrites erased =
     planned_writes entries planned
     ++ (map (rewrite_write (slots_after slots planned)) rewrites ++ map (erase_write (slots_after slots planned)) erased)
 
--- A commit of changes to a set of rules, as it was planned: before it the set's entries stand in order; each piece that is
--- new is one insertion; each that stays and gets a result has its id with its new entry; and each that goes has its id.
-pub record IsPlannedBatch (rules : List Rule) (batch : List Command) (live : List LivePiece) (slots : Slots) (entries : IdEntries) (planned : List Planned) (rewrites : List Rewrite) (erased : List ℕ) : Type 0 where
+-- A commit of changes to a set of rules, as it was planned behind the words of the tables: before it the set's entries
+-- stand in order, the state shows these, and its tables serve the rules; each piece that is new is one insertion; each that
+-- stays and gets a result has its id with its new entry; and each that goes has its id.
+pub record IsPlannedBatch (mode : Mode) (bits : FieldBits) (state : State) (rules : List Rule) (batch : List Command) (live : List LivePiece) (slots : Slots) (entries : IdEntries) (planned : List Planned) (rewrites : List Rewrite) (erased : List ℕ) : Type 0 where
   pub is_set : IsRuleSet rules
   pub right : AllByRecursion HasConditions rules
   pub changes : AllByRecursion ChangesRules batch
   pub sound : batch_fault rules batch ≡ None
+  pub is_state : IsState (length state.slots) state
+  pub mirrors : state.slots ≡ contents entries slots
+  pub serving : AreServing mode bits (rules ++ additions batch) state
   pub arranged : AreArranged live slots
-  pub entries_are : AreEntriesOf (set_pieces Cover no_bits rules) live entries
-  pub inserted : map ranked_of planned ≡ inserted_pieces Cover no_bits rules batch
+  pub entries_are : AreEntriesOf (set_pieces mode bits rules) live entries
+  pub inserted : map ranked_of planned ≡ inserted_pieces mode bits rules batch
   pub have_entries : AllByRecursion (λ insertion. entry_at entries insertion.one.id ≡ Some (entry_for (ranked_of insertion))) planned
   pub are_planned : ArePlanned live slots planned
-  pub rewrites_are : AllZip (IsRewriteOf live) (rewritten_pieces Cover no_bits rules batch) rewrites
-  pub erased_are : AllZip (IsIdOf live) (erased_pieces Cover no_bits rules batch) erased
+  pub rewrites_are : AllZip (IsRewriteOf live) (rewritten_pieces mode bits rules batch) rewrites
+  pub erased_are : AllZip (IsIdOf live) (erased_pieces mode bits rules batch) erased
+
+-- what the writes behind the tables' words are: insertions, new results, erases, as `HasCommitShape` has them
+pub record HasSlotShape (mode : Mode) (bits : FieldBits) (rules : List Rule) (batch : List Command) (state : State) (writes : List Write) : Type 0 where
+  pub inserted : List Write
+  pub rewritten : List Write
+  pub erased : List Write
+  pub parts : writes ≡ inserted ++ (rewritten ++ erased)
+  pub whole : flat_map (λ insertion. insertion.writes) (insertions state inserted) ≡ inserted
+  pub entries : map (λ insertion. insertion.entry) (insertions state inserted) ≡ map entry_for (inserted_pieces mode bits rules batch)
+  pub results : AllZip (Rewrites (state_after state inserted)) (rewritten_pieces mode bits rules batch) rewritten
+  pub erases : AllZip (Erases (state_after state (inserted ++ rewritten))) (erased_pieces mode bits rules batch) erased
+
+-- The writes of a commit behind those of the tables, with the bits that are live while it is made: hitless, in order, of
+-- their shape, and within the bounds, from a state whose tables serve the rules; none of them is to a table. Of routes no
+-- insertion crosses others, and none takes more than 33 writes.
+pub record AreSlotWrites (mode : Mode) (bits : FieldBits) (rules : List Rule) (batch : List Command) (state : State) (made : List Write) : Type 0 where
+  pub hitless : IsHitless rules (set_after rules batch) state made
+  pub turns : ReplacesNone batch → TurnsOnce rules (set_after rules batch) state made
+  pub order : KeepsPieces (set_pieces mode bits rules) (inserted_pieces mode bits rules batch) (set_pieces mode bits (set_after rules batch)) state made
+  pub shape : HasSlotShape mode bits rules batch state made
+  pub tight : (chain : ℕ) → BoundsChains (rules ++ additions batch) chain → IsWithinTightBound chain (insertions state made)
+  pub slots_only : table_writes made ≡ 0
+  pub uncrossed : AllByRecursion IsIpv4Route rules → AllByRecursion IsIpv4Route (additions batch) → IsUncrossed 33 (insertions state made)
 
 -- From a state on some writes are the segment of a batch, with these numbers; of routes no insertion crosses others, and
 -- none takes more than 33 writes.
-pub record IsPlannedSegment (rules : List Rule) (batch : List Command) (state : State) (made : List Write) (counts : Done) : Type 0 where
-  pub segment : IsSegment Cover no_bits rules batch state made
+pub record IsPlannedSegment (mode : Mode) (bits : FieldBits) (rules : List Rule) (batch : List Command) (state : State) (made : List Write) (counts : Done) : Type 0 where
+  pub segment : IsSegment mode bits rules batch state made
   pub numbers : AreCounts state made counts
   pub uncrossed : AllByRecursion IsIpv4Route rules → AllByRecursion IsIpv4Route (additions batch) → IsUncrossed 33 (insertions state made)
 
 -- the numbers of a commit whose insertions are planned, and that makes so many writes
 pub record AreNumbersOf (writes : List Write) (planned : List Planned) (counts : Done) : Type 0 where
   pub writes_are : counts.writes ≡ length writes
-  pub words : counts.words ≡ 0
+  pub words : counts.words ≡ table_writes writes
   pub most : counts.most ≡ longest_planned planned
   pub span : counts.span ≡ greatest_planned planned

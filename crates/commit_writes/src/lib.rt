@@ -4,7 +4,8 @@
 //! parts: words of the translation tables, insertions, new results, erases. `specs/Shape` says which writes these are,
 //! `specs/Commit` that a segment is hitless, turns a key's answer at most once where no rule is replaced, keeps the device
 //! in order, with the new set's entries in the end, each once, and is within the bounds on insertions, `specs/Bits` which
-//! range of ports has which bit meanwhile. None of them knows how a segment is planned.
+//! range of ports has which bit meanwhile, `specs/Serving` when the tables serve the ranges of some rules. None of them
+//! knows how a segment is planned.
 //!
 //! `specs/Planned` speaks of a plan: insertions one after the other, each with the moves of its placement. The lemma
 //! that the manager rests on is in `proofs/`: from an arrangement in order, the device writes of such insertions are a
