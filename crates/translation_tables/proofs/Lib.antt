@@ -1,0 +1,6 @@
+pub mod Apart
+pub mod Coded
+pub mod Kept
+pub mod NewRanges
+pub mod NoWords
+pub mod RulesBits

@@ -1,0 +1,23 @@
+//! The translation tables of a manager: which port ranges have bits, and the words that the device has for them.
+//!
+//! A port range that isn't one block is tested by a bit of its field, which the field's table has set at exactly the
+//! range's ports. So the manager keeps, for each field, the live ranges by their bits ([`FieldBits`]), and both tables as
+//! they stand in the device ([`Tables`]), by which it knows which words a new bit changes. A commit
+//!
+//! 1. is refused where its additions need more bits than are free (`needed`, `free`),
+//! 2. gives each new range the least free bit (`with_new`), and first writes each word that differs, once for all new bits
+//!    (`Tables::plan_words`),
+//! 3. and when it has finished, gives up the bits of ranges that no rule has any more (`released`). Their words stay as
+//!    they are: no entry tests a free bit.
+//!
+//! Contracts see the live ranges as `commit_writes/specs/Bits` has them, and the tables as a state without slots. Memory
+//! is taken for the tables once, and for the plan of words.
+#![tactic(auto)]
+
+mod ranges;
+mod tables;
+#[cfg(test)]
+mod tests;
+
+pub use ranges::FieldBits;
+pub use tables::Tables;
