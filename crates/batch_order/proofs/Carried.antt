@@ -13,6 +13,7 @@ use Rattle.rule_model.specs.Rule.{HasConditions}
 use Rattle.rule_model.specs.declared.Field.TheVariants.{Src, Dst}
 use Rattle.ternary_word.specs.declared.Entry.{Entry}
 use Rattle.rule_store.specs.declared.Mode.{Mode}
+use Rattle.commit_writes.specs.Serving.{AreBitsOf}
 use Rattle.rule_store.specs.Store.{StoredRules}
 use Rattle.rule_store.specs.Batch.{set_after}
 use Rattle.rule_store.proofs.After.{set_after-set}
@@ -20,28 +21,31 @@ use Rattle.rule_store.proofs.Sums.{take-read}
 use Rattle.overlap_index.specs.declared.LivePiece.{LivePiece}
 use Rattle.tcam_device.specs.declared.Write.{Write}
 use Rattle.tcam_device.specs.declared.Write.TheVariants.{Slot, Table}
-use Rattle.tcam_device.specs.State.{State, IsInUse, apply, blank, state_after, on_device}
-use Rattle.commit_writes.specs.Bits.{no_bits}
-use Rattle.commit_writes.specs.Planned.{contents, plain_state, held_entry}
+use Rattle.tcam_device.specs.State.{State, IsState, IsInUse, apply, blank, state_after, on_device}
+use Rattle.tcam_device.proofs.Wider.{slots-after}
+use Rattle.commit_writes.specs.Bits.{FieldBits, no_bits}
+use Rattle.commit_writes.specs.Planned.{contents, with_slots, held_entry}
 use Rattle.commit_writes.specs.PlannedBatch.{erased_live, rewritten_entries}
 use Rattle.batch_order.specs.declared.Step.TheVariants.{Wrote, Finished}
 use Rattle.batch_order.specs.declared.manager.Held.{Held}
+use Rattle.batch_order.specs.declared.translation.Translation.{Translation}
 use Rattle.batch_order.specs.declared.Placement.{Placement}
 use Rattle.batch_order.specs.Entries.{Entries, KeepEntries}
-use Rattle.batch_order.specs.Kept.{IsManaged, IsArranged, changed_by, held_of, state_of}
+use Rattle.batch_order.specs.Kept.{IsManaged, IsArranged, bits_after, bits_of, changed_by, held_of, mode_of, settled_state, state_of, tables_of, translation_after}
 use Rattle.batch_order.specs.Managed.{Managed, HeldCommit, StepsOn, IsOn, fresh, next_of}
 use Rattle.batch_order.proofs.Entered.{contents_kept}
+use Rattle.batch_order.proofs.Translated.{bits_kept, mode_kept}
 use Rattle.batch_order.proofs.Unchanged.{arranged_same, settled_live}
 
 -- the view of a manager
-abbrev pub view_of : Placement → Mode → StoredRules → Entries → Slots → Option Held → Managed
-view_of placement mode rules kept slots held = record {
+abbrev pub view_of : Placement → Option Translation → StoredRules → Entries → Slots → Option Held → Managed
+view_of placement translation rules kept slots held = record {
   slots = length slots;
-  mode = mode;
+  mode = mode_of translation;
   placement = placement;
   rules = rules.rules;
-  bits = no_bits;
-  state = state_of kept.entries slots held;
+  bits = bits_of translation;
+  state = state_of translation kept.entries slots held;
   held = elim held [ None ↦ None | Some one ↦ Some (held_of rules.rules one) ];
 }
 
@@ -51,11 +55,18 @@ contents_none entries zero = refl
 contents_none entries (suc count) = ap (λ (rest : List (Option Entry)). None ∷ rest) (contents_none entries count)
 
 -- a new manager
-pub fresh_view : (slots : ℕ) (mode : Mode) (placement : Placement) (rules : StoredRules) (kept : Entries) (arrangement : Slots) → rules.rules ≡ [] → arrangement ≡ replicate slots None
-    → view_of placement mode rules kept arrangement None ≡ fresh slots mode placement
-fresh_view slots mode placement rules kept arrangement none blank =
-    ap₂ (λ (r : List Rule) (s : Slots). record { slots = length s; mode = mode; placement = placement; rules = r; bits = no_bits; state = plain_state (contents kept.entries s); held = None }) none blank
-    ∙ ap₂ (λ (n : ℕ) (e : List (Option Entry)). record { slots = n; mode = mode; placement = placement; rules = []; bits = no_bits; state = plain_state e; held = None }) (length-replicate slots None) (contents_none kept.entries slots)
+pub fresh_view : (slots : ℕ) (mode : Mode) (placement : Placement) (translation : Option Translation) (rules : StoredRules) (kept : Entries) (arrangement : Slots) → mode_of translation ≡ mode
+    → bits_of translation ≡ no_bits → tables_of translation ≡ blank 0 → rules.rules ≡ [] → arrangement ≡ replicate slots None
+    → view_of placement translation rules kept arrangement None ≡ fresh slots mode placement
+fresh_view slots mode placement translation rules kept arrangement coded bits tables none blank_slots =
+    ap₂ (λ (m : Mode) (b : FieldBits). made m b (tables_of translation) rules.rules arrangement) coded bits
+    ∙ (ap₂ (λ (t : State) (r : List Rule). made mode no_bits t r arrangement) tables none
+    ∙ (ap (made mode no_bits (blank 0) []) blank_slots
+    ∙ ap₂ (λ (n : ℕ) (e : List (Option Entry)). record { slots = n; mode = mode; placement = placement; rules = []; bits = no_bits; state = with_slots (blank 0) e; held = None })
+    (length-replicate slots None) (contents_none kept.entries slots)))
+  where
+    made : Mode → FieldBits → State → List Rule → Slots → Managed
+    made m b t r s = record { slots = length s; mode = m; placement = placement; rules = r; bits = b; state = with_slots t (contents kept.entries s); held = None }
 
 -- with no write left, none is left to make
 pub none_left : (held : Option HeldCommit) → next_of held ≡ None → IfSome held (λ held. held.writes ≡ [])
@@ -72,39 +83,60 @@ pub record IsFinished (kept kept' : Entries) (held : Held) : Type 0 where
   pub entries : KeepEntries kept'.live (rewritten_entries kept.entries held.rewrites.items) kept'.entries
   pub slots : kept'.slots ≡ kept.slots
 
-finished_arranged : (rules : List Rule) (kept kept' : Entries) (held : Held) → IsFinished kept kept' held
-    → IsArranged rules (changed_by kept held.rewrites.items held.erased.items) held.arrangement → IsArranged rules kept' held.arrangement
-finished_arranged rules kept kept' held finished after =
-    arranged_same rules (changed_by kept held.rewrites.items held.erased.items) kept' held.arrangement after finished.live finished.slots
-    (subst (λ (l : List LivePiece). KeepEntries l (rewritten_entries kept.entries held.rewrites.items) kept'.entries) finished.live finished.entries)
-
--- with the batch applied, no commit is under way
-pub managed_after : (mode : Mode) (rules rules' : StoredRules) (kept kept' : Entries) (slots : Slots) (held : Held) → IsManaged mode rules kept slots (Some held)
-    → rules'.rules ≡ set_after rules.rules held.batch → IsFinished kept kept' held → IsManaged mode rules' kept' held.arrangement None
-managed_after mode rules rules' kept kept' slots held managed is finished = record {
-  cover = managed.cover;
-  right = subst (AllByRecursion HasConditions) (sym is) managed.carried.right;
-  is_set = subst IsRuleSet (sym is) (set_after-set rules.rules held.batch managed.is_set managed.carried.sound);
-  carried = subst (λ (set : List Rule). IsArranged set kept' held.arrangement) (sym is) (finished_arranged (set_after rules.rules held.batch) kept kept' held finished managed.carried.after);
-}
-
 -- nothing is left to drop where all was made
 all_made : (writes : List Write) (made : ℕ) → drop made writes ≡ [] → take made writes ≡ writes
 all_made writes made none = take_all made writes (let left : length (drop made writes) ≡ 0 = ap length none in let size : length (drop made writes) ≡ length writes - made = length-drop made writes in omega arith)
 
--- the state stays where the last write was made, and is that of the entries as they are arranged then
-pub finish_steps : (placement : Placement) (mode : Mode) (rules rules' : StoredRules) (kept kept' : Entries) (slots : Slots) (held : Held) → IsManaged mode rules kept slots (Some held)
-    → drop held.made held.writes.items ≡ [] → rules'.rules ≡ set_after rules.rules held.batch → IsFinished kept kept' held
-    → StepsOn (view_of placement mode rules kept slots (Some held)) (held_of rules.rules held) (drop held.made held.writes.items) (Finished held.counts) (view_of placement mode rules' kept' held.arrangement None)
-finish_steps placement mode rules rules' kept kept' slots held managed none is finished =
-    let carried = managed.carried in
-    let size : length held.arrangement ≡ length slots = carried.after.settled.size ∙ sym carried.old.settled.size in
-    let state : plain_state (contents kept'.entries held.arrangement) ≡ state_of kept.entries slots (Some held) =
-    ap plain_state (contents_kept kept'.live (rewritten_entries kept.entries held.rewrites.items) kept'.entries held.arrangement finished.entries
-    (settled_live kept' held.arrangement (finished_arranged (set_after rules.rules held.batch) kept kept' held finished carried.after).settled))
-    ∙ (sym carried.leads ∙ ap (state_after (plain_state (contents kept.entries slots))) (sym (all_made held.writes.items held.made none))) in
-    subst (λ (left : List Write). StepsOn (view_of placement mode rules kept slots (Some held)) (held_of rules.rules held) left (Finished held.counts) (view_of placement mode rules' kept' held.arrangement None)) (sym none)
-    (refl, ap₂ (λ (n : ℕ) (rest : List Rule × State). record { slots = n; mode = mode; placement = placement; rules = rest.0; bits = no_bits; state = rest.1; held = None }) size (ap₂ (λ (r : List Rule) (s : State). (r, s)) is state))
+finished_arranged : (mode : Mode) (bits : FieldBits) (rules : List Rule) (kept kept' : Entries) (held : Held) → IsFinished kept kept' held
+    → IsArranged mode bits rules (changed_by kept held.rewrites.items held.erased.items) held.arrangement → IsArranged mode bits rules kept' held.arrangement
+finished_arranged mode bits rules kept kept' held finished after =
+    arranged_same mode bits rules (changed_by kept held.rewrites.items held.erased.items) kept' held.arrangement after finished.live finished.slots
+    (subst (λ (l : List LivePiece). KeepEntries l (rewritten_entries kept.entries held.rewrites.items) kept'.entries) finished.live finished.entries)
+
+-- with the batch applied, no commit is under way
+module _ (translation translation' : Option Translation) (rules rules' : StoredRules) (kept kept' : Entries) (slots : Slots) (held : Held) (managed : IsManaged translation rules kept slots (Some held))
+    (turned : translation' ≡ translation_after translation rules.rules held) (is : rules'.rules ≡ set_after rules.rules held.batch) (finished : IsFinished kept kept' held) where
+  mode_is : mode_of translation' ≡ mode_of translation
+  mode_is = ap mode_of turned ∙ mode_kept translation held.bits (set_after rules.rules held.batch) held.writes.items
+
+  bits_is : bits_of translation' ≡ bits_after rules.rules held
+  bits_is = ap bits_of turned ∙ bits_kept translation held.bits (set_after rules.rules held.batch) held.writes.items managed.carried.coded
+
+  pub managed_after : IsManaged translation' rules' kept' held.arrangement None
+  managed_after = record {
+    right = subst (AllByRecursion HasConditions) (sym is) managed.carried.right;
+    is_set = subst IsRuleSet (sym is) (set_after-set rules.rules held.batch managed.is_set managed.carried.sound);
+    tables = subst (λ (t : Option Translation). IsState 0 (tables_of t)) (sym turned) managed.carried.tables;
+    translated = subst (λ (set : List Rule). AreBitsOf (mode_of translation') (bits_of translation') set (tables_of translation')) (sym is)
+        (subst (λ (m : Mode). AreBitsOf m (bits_of translation') (set_after rules.rules held.batch) (tables_of translation')) (sym mode_is)
+        (subst (λ (b : FieldBits). AreBitsOf (mode_of translation) b (set_after rules.rules held.batch) (tables_of translation')) (sym bits_is)
+        (subst (λ (t : Option Translation). AreBitsOf (mode_of translation) (bits_after rules.rules held) (set_after rules.rules held.batch) (tables_of t)) (sym turned) managed.carried.translated)));
+    carried = subst (λ (set : List Rule). IsArranged (mode_of translation') (bits_of translation') set kept' held.arrangement) (sym is)
+        (subst (λ (m : Mode). IsArranged m (bits_of translation') (set_after rules.rules held.batch) kept' held.arrangement) (sym mode_is)
+        (subst (λ (b : FieldBits). IsArranged (mode_of translation) b (set_after rules.rules held.batch) kept' held.arrangement) (sym bits_is)
+        (finished_arranged (mode_of translation) (bits_after rules.rules held) (set_after rules.rules held.batch) kept kept' held finished managed.carried.after)));
+  }
+
+  -- the state stays where the last write was made, and is that of the entries as they are arranged then
+  pub finish_steps : (placement : Placement) → drop held.made held.writes.items ≡ []
+      → StepsOn (view_of placement translation rules kept slots (Some held)) (held_of rules.rules held) (drop held.made held.writes.items) (Finished held.counts) (view_of placement translation' rules' kept' held.arrangement None)
+  finish_steps placement none =
+      let carried = managed.carried in
+      let size : length held.arrangement ≡ length slots = carried.after.settled.size ∙ sym carried.old.settled.size in
+      let state : settled_state translation' kept'.entries held.arrangement ≡ state_of translation kept.entries slots (Some held) =
+      ap₂ (λ (t : Option Translation) (e : List (Option Entry)). with_slots (tables_of t) e) turned
+      (contents_kept kept'.live (rewritten_entries kept.entries held.rewrites.items) kept'.entries held.arrangement finished.entries
+      (settled_live kept' held.arrangement (finished_arranged (mode_of translation) (bits_after rules.rules held) (set_after rules.rules held.batch) kept kept' held finished carried.after).settled))
+      ∙ (sym carried.leads ∙ ap (state_after (settled_state translation kept.entries slots)) (sym (all_made held.writes.items held.made none))) in
+      subst (λ (left : List Write). StepsOn (view_of placement translation rules kept slots (Some held)) (held_of rules.rules held) left (Finished held.counts) (view_of placement translation' rules' kept' held.arrangement None)) (sym none) (
+        refl,
+        ap₂ (λ (n : ℕ) (m : Mode). now n m (bits_of translation') rules'.rules (settled_state translation' kept'.entries held.arrangement)) size mode_is
+            ∙ (ap₂ (λ (b : FieldBits) (r : List Rule). now (length slots) (mode_of translation) b r (settled_state translation' kept'.entries held.arrangement)) bits_is is
+            ∙ ap (now (length slots) (mode_of translation) (bits_after rules.rules held) (set_after rules.rules held.batch)) state),
+      )
+    where
+      now : ℕ → Mode → FieldBits → List Rule → State → Managed
+      now n m b r s = record { slots = n; mode = m; placement = placement; rules = r; bits = b; state = s; held = None }
 
 -- a write of a plan that is read
 read_at : (writes : List Write) (place : ℕ) (write : Write) → place < length writes → write ≡ get_or writes place write → slice_get writes place ≡ Some write
@@ -115,19 +147,24 @@ drop-read writes place write inside read =
     drop-cons writes place write inside ∙ ap₂ (λ (w : Write) (n : ℕ). w ∷ drop n writes) (sym read) (sym (add-one place))
 
 -- with one write more made, the commit can be carried out still
-pub managed_made : (mode : Mode) (rules : StoredRules) (kept : Entries) (slots : Slots) (held : Held) → IsManaged mode rules kept slots (Some held) → held.made < length held.writes.items
-    → IsManaged mode rules kept slots (Some (record held { made = held.made + 1 }))
-managed_made mode rules kept slots held managed less =
+pub managed_made : (translation : Option Translation) (rules : StoredRules) (kept : Entries) (slots : Slots) (held : Held) → IsManaged translation rules kept slots (Some held) → held.made < length held.writes.items
+    → IsManaged translation rules kept slots (Some (record held { made = held.made + 1 }))
+managed_made translation rules kept slots held managed less =
     let carried = managed.carried in
     record {
-      cover = managed.cover;
       right = managed.right;
       is_set = managed.is_set;
+      tables = managed.tables;
+      translated = managed.translated;
       carried = record {
         before = carried.before;
+        coded = carried.coded;
+        during = carried.during;
         old = carried.old;
         after = carried.after;
         leads = carried.leads;
+        tables = carried.tables;
+        translated = carried.translated;
         hitless = carried.hitless;
         made = omega arith;
         in_use = carried.in_use;
@@ -145,29 +182,32 @@ pub some_left : (writes : List Write) (made : ℕ) → 0 < length (drop made wri
 some_left writes made left = (let size : length (drop made writes) ≡ length writes - made = length-drop made writes in omega arith)
 
 -- the first of the writes that are left was made
-pub advance_steps : (placement : Placement) (mode : Mode) (rules : StoredRules) (kept : Entries) (slots : Slots) (held : Held) (write : Write)
+pub advance_steps : (placement : Placement) (translation : Option Translation) (rules : StoredRules) (kept : Entries) (slots : Slots) (held : Held) (write : Write)
     → held.made < length held.writes.items → write ≡ get_or held.writes.items held.made write
-    → StepsOn (view_of placement mode rules kept slots (Some held)) (held_of rules.rules held) (drop held.made held.writes.items) (Wrote write) (view_of placement mode rules kept slots (Some (record held { made = held.made + 1 })))
-advance_steps placement mode rules kept slots held write inside read =
-    let state : state_of kept.entries slots (Some (record held { made = held.made + 1 })) ≡ apply (state_of kept.entries slots (Some held)) write =
-    ap (state_after (plain_state (contents kept.entries slots))) (take-read held.writes.items held.made write (read_at held.writes.items held.made write inside read))
-    ∙ fold-append apply (plain_state (contents kept.entries slots)) (take held.made held.writes.items) (write ∷ []) in
-    subst (λ (w : List Write). StepsOn (view_of placement mode rules kept slots (Some held)) (held_of rules.rules held) w (Wrote write) (view_of placement mode rules kept slots (Some (record held { made = held.made + 1 })))) (sym (drop-read held.writes.items held.made write inside read))
-    (refl, ap (λ (s : State). record { slots = length slots; mode = mode; placement = placement; rules = rules.rules; bits = no_bits; state = s; held = Some (held_of rules.rules (record held { made = held.made + 1 })) }) state)
+    → StepsOn (view_of placement translation rules kept slots (Some held)) (held_of rules.rules held) (drop held.made held.writes.items) (Wrote write)
+    (view_of placement translation rules kept slots (Some (record held { made = held.made + 1 })))
+advance_steps placement translation rules kept slots held write inside read =
+    let state : state_of translation kept.entries slots (Some (record held { made = held.made + 1 })) ≡ apply (state_of translation kept.entries slots (Some held)) write =
+    ap (state_after (settled_state translation kept.entries slots)) (take-read held.writes.items held.made write (read_at held.writes.items held.made write inside read))
+    ∙ fold-append apply (settled_state translation kept.entries slots) (take held.made held.writes.items) (write ∷ []) in
+    subst (λ (w : List Write). StepsOn (view_of placement translation rules kept slots (Some held)) (held_of rules.rules held) w (Wrote write)
+    (view_of placement translation rules kept slots (Some (record held { made = held.made + 1 })))) (sym (drop-read held.writes.items held.made write inside read)) (
+      refl,
+      ap (λ (s : State). record {
+        slots = length slots;
+        mode = mode_of translation;
+        placement = placement;
+        rules = rules.rules;
+        bits = bits_of translation;
+        state = s;
+        held = Some (held_of rules.rules (record held { made = held.made + 1 }));
+      }) state,
+    )
 
 -- as many slots as are in use
-pub state_size : (kept : Entries) (slots : Slots) (held : Option Held) → length (state_of kept.entries slots held).slots ≡ length slots
-state_size kept slots None = length-map slots (held_entry kept.entries)
-state_size kept slots (Some held) = go (plain_state (contents kept.entries slots)) (take held.made held.writes.items) ∙ length-map slots (held_entry kept.entries)
-  where
-    one : (state : State) (write : Write) → length (apply state write).slots ≡ length state.slots
-    one state (Slot at entry) = length-set state.slots at entry
-    one state (Table Src port word) = refl
-    one state (Table Dst port word) = refl
-
-    go : (state : State) (writes : List Write) → length (state_after state writes).slots ≡ length state.slots
-    go state [] = refl
-    go state (write ∷ writes) = go (apply state write) writes ∙ one state write
+pub state_size : (translation : Option Translation) (kept : Entries) (slots : Slots) (held : Option Held) → length (state_of translation kept.entries slots held).slots ≡ length slots
+state_size translation kept slots None = length-map slots (held_entry kept.entries)
+state_size translation kept slots (Some held) = slots-after (settled_state translation kept.entries slots) (take held.made held.writes.items) ∙ length-map slots (held_entry kept.entries)
 
 -- a write to a slot in use is the same on a device with more slots
 pub on_device-apply : (device_slots : ℕ) (state : State) (write : Write) → IsInUse (length state.slots) write → on_device device_slots (apply state write) ≡ apply (on_device device_slots state) write

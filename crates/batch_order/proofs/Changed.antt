@@ -11,10 +11,10 @@ use Rattle.slot_order.proofs.Lists.{AllByRecursion-member, contains_head, contai
 use Rattle.rule_model.specs.declared.Rule.{Rule}
 use Rattle.rule_model.specs.declared.Piece.{Piece}
 use Rattle.rule_model.specs.RuleSet.{IsRuleSet, rule_at}
-use Rattle.rule_model.specs.Piece.{same_piece, cover_pieces}
+use Rattle.rule_model.specs.Piece.{same_piece}
 use Rattle.rule_model.proofs.Pairs.{pairs_head, pairs_tail}
 use Rattle.rule_model.proofs.Parts.{same_piece-self}
-use Rattle.rule_store.specs.declared.Mode.TheVariants.{Cover}
+use Rattle.rule_store.specs.declared.Mode.{Mode}
 use Rattle.rule_store.specs.declared.Command.{Command}
 use Rattle.rule_store.specs.Batch.{removes, IsSound, additions, with_result_after, set_after}
 use Rattle.rule_store.specs.Verdict.{pieces_of, has_piece, replaced_rule, added_pieces, added_pieces_over}
@@ -25,9 +25,10 @@ use Rattle.rule_store.proofs.Members.{sound-gone}
 use Rattle.rule_store.proofs.RulesAt.{cases_rule_at}
 use Rattle.rule_store.proofs.Sets.{has_priority-found}
 use Rattle.ternary_word.specs.Entry.{RankedPiece}
-use Rattle.commit_writes.specs.Bits.{no_bits}
+use Rattle.commit_writes.specs.Bits.{FieldBits}
 use Rattle.commit_writes.specs.Shape.{names, common_pieces, dropped_pieces, ranked_piece, ranked_pieces, inserted_pieces, rewritten_pieces, erased_pieces}
 use Rattle.commit_writes.proofs.BatchRules.{added_named, unnamed_stays}
+use Rattle.commit_writes.proofs.ModePieces.{pieces_after}
 use Rattle.batch_order.specs.declared.pieces.Choice.TheVariants.{Common, Fresh}
 use Rattle.batch_order.specs.Changes.{RuleChange, AreChanges, names_at, change_at, pieces_at, is_among, chosen_pieces, inserted_by, rewritten_by, erased_by}
 use Rattle.batch_order.proofs.Named.{own_priority, rule_at-filter, after_at, map_reverse}
@@ -110,18 +111,18 @@ found_all (rule ∷ rules) (first ∷ rest) set falls all = elim (cases_eq rule.
     ]
 
 -- whether a piece is among others doesn't rest on priorities, results and bits
-among_has : (other rule : Rule) (others : List Piece) (piece : Piece) → is_among (ranked_pieces no_bits other others) (ranked_piece no_bits rule piece) ≡ has_piece others piece
-among_has other rule [] piece = refl
-among_has other rule (first ∷ others) piece = ap (λ later. same_piece piece first || later) (among_has other rule others piece)
+among_has : (bits : FieldBits) (other rule : Rule) (others : List Piece) (piece : Piece) → is_among (ranked_pieces bits other others) (ranked_piece bits rule piece) ≡ has_piece others piece
+among_has bits other rule [] piece = refl
+among_has bits other rule (first ∷ others) piece = ap (λ later. same_piece piece first || later) (among_has bits other rule others piece)
 
-ranked_kept : (keeps : RankedPiece → Bool) (test : Piece → Bool) (rule : Rule) (pieces : List Piece) → ((piece : Piece) → keeps (ranked_piece no_bits rule piece) ≡ test piece)
-    → filter keeps (ranked_pieces no_bits rule pieces) ≡ ranked_pieces no_bits rule (filter test pieces)
-ranked_kept keeps test rule [] same = refl
-ranked_kept keeps test rule (piece ∷ pieces) same =
-    ap₂ (λ passes rest. cond passes (ranked_piece no_bits rule piece ∷ rest) rest) (same piece) (ranked_kept keeps test rule pieces same) ∙ either (test piece)
+ranked_kept : (bits : FieldBits) (keeps : RankedPiece → Bool) (test : Piece → Bool) (rule : Rule) (pieces : List Piece) → ((piece : Piece) → keeps (ranked_piece bits rule piece) ≡ test piece)
+    → filter keeps (ranked_pieces bits rule pieces) ≡ ranked_pieces bits rule (filter test pieces)
+ranked_kept bits keeps test rule [] same = refl
+ranked_kept bits keeps test rule (piece ∷ pieces) same =
+    ap₂ (λ passes rest. cond passes (ranked_piece bits rule piece ∷ rest) rest) (same piece) (ranked_kept bits keeps test rule pieces same) ∙ either (test piece)
   where
-    either : (passes : Bool) → cond passes (ranked_piece no_bits rule piece ∷ ranked_pieces no_bits rule (filter test pieces)) (ranked_pieces no_bits rule (filter test pieces))
-        ≡ ranked_pieces no_bits rule (cond passes (piece ∷ filter test pieces) (filter test pieces))
+    either : (passes : Bool) → cond passes (ranked_piece bits rule piece ∷ ranked_pieces bits rule (filter test pieces)) (ranked_pieces bits rule (filter test pieces))
+        ≡ ranked_pieces bits rule (cond passes (piece ∷ filter test pieces) (filter test pieces))
     either true = refl
     either false = refl
 
@@ -130,25 +131,30 @@ all_kept [] = refl
 all_kept (x ∷ xs) = ap (λ rest. x ∷ rest) (all_kept xs)
 
 -- the fresh pieces of a rule are those that it adds over another one, and those that go where the other comes in its place
-fresh_added : (other : Option Rule) (rule : Rule) → chosen_pieces Fresh (pieces_at other) (pieces_at (Some rule)) ≡ ranked_pieces no_bits rule (added_pieces_over Cover other rule)
-fresh_added None rule = all_kept (ranked_pieces no_bits rule (pieces_of Cover rule))
-fresh_added (Some old) rule = ranked_kept _ (λ piece. not (has_piece (cover_pieces old) piece)) rule (cover_pieces rule) (λ piece. ap not (among_has old rule (cover_pieces old) piece))
+fresh_added : (mode : Mode) (bits : FieldBits) (other : Option Rule) (rule : Rule)
+    → chosen_pieces Fresh (pieces_at mode bits other) (pieces_at mode bits (Some rule)) ≡ ranked_pieces bits rule (added_pieces_over mode other rule)
+fresh_added mode bits None rule = all_kept (ranked_pieces bits rule (pieces_of mode rule))
+fresh_added mode bits (Some old) rule =
+    ranked_kept bits _ (λ piece. not (has_piece (pieces_of mode old) piece)) rule (pieces_of mode rule) (λ piece. ap not (among_has bits old rule (pieces_of mode old) piece))
 
-fresh_dropped : (other : Option Rule) (rule : Rule) → chosen_pieces Fresh (pieces_at other) (pieces_at (Some rule)) ≡ ranked_pieces no_bits rule (dropped_pieces Cover other rule)
-fresh_dropped None rule = fresh_added None rule
-fresh_dropped (Some new) rule = fresh_added (Some new) rule
+fresh_dropped : (mode : Mode) (bits : FieldBits) (other : Option Rule) (rule : Rule)
+    → chosen_pieces Fresh (pieces_at mode bits other) (pieces_at mode bits (Some rule)) ≡ ranked_pieces bits rule (dropped_pieces mode other rule)
+fresh_dropped mode bits None rule = fresh_added mode bits None rule
+fresh_dropped mode bits (Some new) rule = fresh_added mode bits (Some new) rule
 
 -- and the common ones stay
-common_stay : (other : Option Rule) (rule : Rule) → chosen_pieces Common (pieces_at other) (pieces_at (Some rule)) ≡ ranked_pieces no_bits rule (common_pieces Cover other rule)
-common_stay None rule = filter_nothing (λ x. false) (ranked_pieces no_bits rule (pieces_of Cover rule)) (λ x member. refl)
-common_stay (Some old) rule = ranked_kept _ (has_piece (cover_pieces old)) rule (cover_pieces rule) (λ piece. among_has old rule (cover_pieces old) piece)
+common_stay : (mode : Mode) (bits : FieldBits) (other : Option Rule) (rule : Rule)
+    → chosen_pieces Common (pieces_at mode bits other) (pieces_at mode bits (Some rule)) ≡ ranked_pieces bits rule (common_pieces mode other rule)
+common_stay mode bits None rule = filter_nothing (λ x. false) (ranked_pieces bits rule (pieces_of mode rule)) (λ x member. refl)
+common_stay mode bits (Some old) rule =
+    ranked_kept bits _ (has_piece (pieces_of mode old)) rule (pieces_of mode rule) (λ piece. among_has bits old rule (pieces_of mode old) piece)
 
--- of a rule whose result alone changes no piece is fresh
-none_fresh : (rule : Rule) → filter (λ piece. not (has_piece (cover_pieces rule) piece)) (cover_pieces rule) ≡ []
-none_fresh rule = filter_nothing (λ piece. not (has_piece (cover_pieces rule) piece)) (cover_pieces rule)
-    (λ piece member. ap not (any_from (same_piece piece) (cover_pieces rule) piece member (same_piece-self piece)))
+-- of a rule whose result alone changes no piece is fresh, be it the old one or the new one
+none_fresh : (pieces others : List Piece) → others ≡ pieces → filter (λ piece. not (has_piece others piece)) pieces ≡ []
+none_fresh pieces others same = filter_nothing (λ piece. not (has_piece others piece)) pieces
+    (λ piece member. ap not (any_from (same_piece piece) others piece (subst (λ some. Contains some piece) (sym same) member) (same_piece-self piece)))
 
-module _ (rules : List Rule) (batch : List Command) (is_set : IsRuleSet rules) (sound : IsSound rules batch) where
+module _ (mode : Mode) (bits : FieldBits) (rules : List Rule) (batch : List Command) (is_set : IsRuleSet rules) (sound : IsSound rules batch) where
   stands_after : (priority : ℕ) (new old : Option Rule) (gone : Bool) → rule_at (additions batch) priority ≡ new → rule_at rules priority ≡ old → removes priority batch ≡ gone
       → change_at rules batch priority ≡ record { old = old; new = option_or new (option_map (with_result_after batch) (cond (not gone) old None)) }
   stands_after priority new old gone is_new is_old is_gone =
@@ -157,10 +163,10 @@ module _ (rules : List Rule) (batch : List Command) (is_set : IsRuleSet rules) (
       ∙ ap (λ old. record { old = old; new = option_or new (option_map (with_result_after batch) (cond (not gone) old None)) }) is_old)
 
   abbrev pub inserts : Rule → List RankedPiece
-  inserts new = ranked_pieces no_bits new (added_pieces Cover rules new)
+  inserts new = ranked_pieces bits new (added_pieces mode rules new)
 
   -- what the change at a priority inserts
-  inserted_at : (priority : ℕ) → inserted_by (change_at rules batch priority) ≡ images_at inserts (rule_at (new_rules batch) priority)
+  inserted_at : (priority : ℕ) → inserted_by mode bits (change_at rules batch priority) ≡ images_at inserts (rule_at (new_rules batch) priority)
   inserted_at priority = go (rule_at (additions batch) priority) (rule_at rules priority) (removes priority batch) refl refl refl
     where
       nothing_kept : (keeps : Bool) → option_map (with_result_after batch) (cond keeps None None) ≡ None
@@ -171,57 +177,58 @@ module _ (rules : List Rule) (batch : List Command) (is_set : IsRuleSet rules) (
       new_at = after_at [] batch priority (additions_set rules batch sound) ∙ ap (option_or (rule_at (additions batch) priority)) (nothing_kept (not (removes priority batch)))
 
       go : (new old : Option Rule) (gone : Bool) → rule_at (additions batch) priority ≡ new → rule_at rules priority ≡ old → removes priority batch ≡ gone
-          → inserted_by (change_at rules batch priority) ≡ images_at inserts (rule_at (new_rules batch) priority)
+          → inserted_by mode bits (change_at rules batch priority) ≡ images_at inserts (rule_at (new_rules batch) priority)
       go (Some new) old gone is_new is_old is_gone =
-          ap inserted_by (stands_after priority (Some new) old gone is_new is_old is_gone) ∙ fresh_added old new
-          ∙ ap (λ found. ranked_pieces no_bits new (added_pieces_over Cover found new)) (sym (ap (rule_at rules) (own_priority (additions batch) priority new is_new) ∙ is_old))
+          ap (inserted_by mode bits) (stands_after priority (Some new) old gone is_new is_old is_gone) ∙ fresh_added mode bits old new
+          ∙ ap (λ found. ranked_pieces bits new (added_pieces_over mode found new)) (sym (ap (rule_at rules) (own_priority (additions batch) priority new is_new) ∙ is_old))
           ∙ sym (ap (images_at inserts) (new_at ∙ ap (λ found. option_or found None) is_new))
-      go None None gone is_new is_old is_gone = ap inserted_by (stands_after priority None None gone is_new is_old is_gone) ∙ nothing gone ∙ sym (ap (images_at inserts) (new_at ∙ ap (λ found. option_or found None) is_new))
+      go None None gone is_new is_old is_gone = ap (inserted_by mode bits) (stands_after priority None None gone is_new is_old is_gone) ∙ nothing gone ∙ sym (ap (images_at inserts) (new_at ∙ ap (λ found. option_or found None) is_new))
         where
-          nothing : (gone : Bool) → inserted_by (record { old = None; new = option_map (with_result_after batch) (cond (not gone) None None) }) ≡ []
+          nothing : (gone : Bool) → inserted_by mode bits (record { old = None; new = option_map (with_result_after batch) (cond (not gone) None None) }) ≡ []
           nothing true = refl
           nothing false = refl
       go None (Some old) gone is_new is_old is_gone =
-          ap inserted_by (stands_after priority None (Some old) gone is_new is_old is_gone) ∙ nothing gone ∙ sym (ap (images_at inserts) (new_at ∙ ap (λ found. option_or found None) is_new))
+          ap (inserted_by mode bits) (stands_after priority None (Some old) gone is_new is_old is_gone) ∙ nothing gone ∙ sym (ap (images_at inserts) (new_at ∙ ap (λ found. option_or found None) is_new))
         where
-          nothing : (gone : Bool) → inserted_by (record { old = Some old; new = option_map (with_result_after batch) (cond (not gone) (Some old) None) }) ≡ []
+          nothing : (gone : Bool) → inserted_by mode bits (record { old = Some old; new = option_map (with_result_after batch) (cond (not gone) (Some old) None) }) ≡ []
           nothing true = refl
-          nothing false = fresh_added (Some old) (with_result_after batch old) ∙ ap (ranked_pieces no_bits (with_result_after batch old)) (none_fresh old)
+          nothing false = fresh_added mode bits (Some old) (with_result_after batch old)
+              ∙ ap (ranked_pieces bits (with_result_after batch old)) (none_fresh (pieces_of mode (with_result_after batch old)) (pieces_of mode old) (sym (pieces_after mode batch old)))
 
   abbrev pub rewrites : Rule → List RankedPiece
-  rewrites new = ranked_pieces no_bits new (common_pieces Cover (replaced_rule rules new) new)
+  rewrites new = ranked_pieces bits new (common_pieces mode (replaced_rule rules new) new)
 
-  rewritten_at : (priority : ℕ) → IsTrue (names_at batch priority) → rewritten_by (change_at rules batch priority) ≡ images_at rewrites (rule_at (filter (names batch) (set_after rules batch)) priority)
+  rewritten_at : (priority : ℕ) → IsTrue (names_at batch priority) → rewritten_by mode bits (change_at rules batch priority) ≡ images_at rewrites (rule_at (filter (names batch) (set_after rules batch)) priority)
   rewritten_at priority named =
       go (rule_at (set_after rules batch) priority) refl ∙ sym (ap (images_at rewrites) (rule_at-filter (names_at batch) (set_after rules batch) priority ∙ cond-true _ _ _ named))
     where
-      go : (new : Option Rule) → rule_at (set_after rules batch) priority ≡ new → rewritten_by (record { old = rule_at rules priority; new = new }) ≡ images_at rewrites new
+      go : (new : Option Rule) → rule_at (set_after rules batch) priority ≡ new → rewritten_by mode bits (record { old = rule_at rules priority; new = new }) ≡ images_at rewrites new
       go None is = refl
-      go (Some new) is = common_stay (rule_at rules priority) new
-          ∙ ap (λ n. ranked_pieces no_bits new (common_pieces Cover (rule_at rules n) new)) (sym (own_priority (set_after rules batch) priority new is))
+      go (Some new) is = common_stay mode bits (rule_at rules priority) new
+          ∙ ap (λ n. ranked_pieces bits new (common_pieces mode (rule_at rules n) new)) (sym (own_priority (set_after rules batch) priority new is))
 
   abbrev pub erases : Rule → List RankedPiece
-  erases old = ranked_pieces no_bits old (dropped_pieces Cover (rule_at (additions batch) old.priority) old)
+  erases old = ranked_pieces bits old (dropped_pieces mode (rule_at (additions batch) old.priority) old)
 
   abbrev pub removed : List Rule
   removed = filter (λ rule. removes rule.priority batch) rules
 
-  erased_at : (priority : ℕ) → erased_by (change_at rules batch priority) ≡ images_at erases (rule_at removed priority)
+  erased_at : (priority : ℕ) → erased_by mode bits (change_at rules batch priority) ≡ images_at erases (rule_at removed priority)
   erased_at priority = go (rule_at (additions batch) priority) (rule_at rules priority) (removes priority batch) refl refl refl
     where
       gone_at : (old : Option Rule) (gone : Bool) → rule_at rules priority ≡ old → removes priority batch ≡ gone → rule_at removed priority ≡ cond gone old None
       gone_at old gone is_old is_gone = rule_at-filter (λ n. removes n batch) rules priority ∙ ap₂ (λ (test : Bool) (found : Option Rule). cond test found None) is_gone is_old
 
       go : (new old : Option Rule) (gone : Bool) → rule_at (additions batch) priority ≡ new → rule_at rules priority ≡ old → removes priority batch ≡ gone
-          → erased_by (change_at rules batch priority) ≡ images_at erases (rule_at removed priority)
-      go new None gone is_new is_old is_gone = ap erased_by (stands_after priority new None gone is_new is_old is_gone) ∙ sym (ap (images_at erases) (gone_at None gone is_old is_gone) ∙ nothing gone)
+          → erased_by mode bits (change_at rules batch priority) ≡ images_at erases (rule_at removed priority)
+      go new None gone is_new is_old is_gone = ap (erased_by mode bits) (stands_after priority new None gone is_new is_old is_gone) ∙ sym (ap (images_at erases) (gone_at None gone is_old is_gone) ∙ nothing gone)
         where
           nothing : (gone : Bool) → images_at erases (cond gone None None) ≡ []
           nothing true = refl
           nothing false = refl
       go new (Some old) true is_new is_old is_gone =
-          ap erased_by (stands_after priority new (Some old) true is_new is_old is_gone) ∙ ap (λ found. erased_by (record { old = Some old; new = found })) (or_none new)
-          ∙ fresh_dropped new old ∙ ap (λ found. ranked_pieces no_bits old (dropped_pieces Cover found old)) (sym (ap (rule_at (additions batch)) (own_priority rules priority old is_old) ∙ is_new))
+          ap (erased_by mode bits) (stands_after priority new (Some old) true is_new is_old is_gone) ∙ ap (λ found. erased_by mode bits (record { old = Some old; new = found })) (or_none new)
+          ∙ fresh_dropped mode bits new old ∙ ap (λ found. ranked_pieces bits old (dropped_pieces mode found old)) (sym (ap (rule_at (additions batch)) (own_priority rules priority old is_old) ∙ is_new))
           ∙ sym (ap (images_at erases) (gone_at (Some old) true is_old is_gone))
         where
           or_none : (found : Option Rule) → option_or found None ≡ found
@@ -232,33 +239,33 @@ module _ (rules : List Rule) (batch : List Command) (is_set : IsRuleSet rules) (
         | inr goes ↦ both_ways _ is_gone goes
       ])
       go None (Some old) false is_new is_old is_gone =
-          ap erased_by (stands_after priority None (Some old) false is_new is_old is_gone) ∙ fresh_added (Some (with_result_after batch old)) old
-          ∙ ap (ranked_pieces no_bits old) (none_fresh old) ∙ sym (ap (images_at erases) (gone_at (Some old) false is_old is_gone))
+          ap (erased_by mode bits) (stands_after priority None (Some old) false is_new is_old is_gone) ∙ fresh_added mode bits (Some (with_result_after batch old)) old
+          ∙ ap (ranked_pieces bits old) (none_fresh (pieces_of mode old) (pieces_of mode (with_result_after batch old)) (pieces_after mode batch old)) ∙ sym (ap (images_at erases) (gone_at (Some old) false is_old is_gone))
 
   module _ (changes : List RuleChange) (are : AreChanges rules batch changes) where
     -- the rules of a set whose priorities the batch names are found there
     found : (set : List Rule) → IsRuleSet set → ((rule : Rule) → Contains set rule → IsTrue (names batch rule)) → filter_map (rule_at set) are.priorities ≡ set
     found set is_one named = found_all set are.priorities is_one are.falling (λ rule member. (are.named rule.priority).1 (named rule member))
 
-    inserted_are : flat_map inserted_by changes ≡ inserted_pieces Cover no_bits rules batch
+    inserted_are : flat_map (inserted_by mode bits) changes ≡ inserted_pieces mode bits rules batch
     inserted_are =
-        ap (flat_map inserted_by) are.are ∙ flat_map-map inserted_by (change_at rules batch) are.priorities
-        ∙ images_found (λ priority. inserted_by (change_at rules batch priority)) inserts (rule_at (new_rules batch)) are.priorities (λ priority member. inserted_at priority)
+        ap (flat_map (inserted_by mode bits)) are.are ∙ flat_map-map (inserted_by mode bits) (change_at rules batch) are.priorities
+        ∙ images_found (λ priority. inserted_by mode bits (change_at rules batch priority)) inserts (rule_at (new_rules batch)) are.priorities (λ priority member. inserted_at priority)
         ∙ ap (flat_map inserts) (found (new_rules batch) (additions_set rules batch sound) (λ rule member. added_named batch rule (new_rules-member batch rule member)))
 
-    rewritten_are : flat_map rewritten_by changes ≡ rewritten_pieces Cover no_bits rules batch
+    rewritten_are : flat_map (rewritten_by mode bits) changes ≡ rewritten_pieces mode bits rules batch
     rewritten_are =
-        ap (flat_map rewritten_by) are.are ∙ flat_map-map rewritten_by (change_at rules batch) are.priorities
-        ∙ images_found (λ priority. rewritten_by (change_at rules batch priority)) rewrites (rule_at changed) are.priorities (λ priority member. rewritten_at priority ((are.named priority).0 member))
+        ap (flat_map (rewritten_by mode bits)) are.are ∙ flat_map-map (rewritten_by mode bits) (change_at rules batch) are.priorities
+        ∙ images_found (λ priority. rewritten_by mode bits (change_at rules batch priority)) rewrites (rule_at changed) are.priorities (λ priority member. rewritten_at priority ((are.named priority).0 member))
         ∙ ap (flat_map rewrites) (found changed (IsRuleSet-filter (names batch) (set_after rules batch) (set_after-set rules batch is_set sound)) (λ rule member. (in_filter (names batch) (set_after rules batch) rule member).1))
       where
         changed : List Rule
         changed = filter (names batch) (set_after rules batch)
 
-    erased_are : flat_map erased_by (reverse changes) ≡ erased_pieces Cover no_bits rules batch
+    erased_are : flat_map (erased_by mode bits) (reverse changes) ≡ erased_pieces mode bits rules batch
     erased_are =
-        ap (λ some. flat_map erased_by (reverse some)) are.are ∙ ap (flat_map erased_by) (sym (map_reverse (change_at rules batch) are.priorities)) ∙ flat_map-map erased_by (change_at rules batch) (reverse are.priorities)
-        ∙ images_found (λ priority. erased_by (change_at rules batch priority)) erases (rule_at removed) (reverse are.priorities) (λ priority member. erased_at priority)
+        ap (λ some. flat_map (erased_by mode bits) (reverse some)) are.are ∙ ap (flat_map (erased_by mode bits)) (sym (map_reverse (change_at rules batch) are.priorities)) ∙ flat_map-map (erased_by mode bits) (change_at rules batch) (reverse are.priorities)
+        ∙ images_found (λ priority. erased_by mode bits (change_at rules batch priority)) erases (rule_at removed) (reverse are.priorities) (λ priority member. erased_at priority)
         ∙ ap (flat_map erases) (found_reverse (rule_at removed) are.priorities ∙ ap reverse (found removed (IsRuleSet-filter (λ rule. removes rule.priority batch) rules is_set) named))
       where
         named : (rule : Rule) → Contains removed rule → IsTrue (names batch rule)
@@ -268,14 +275,15 @@ module _ (rules : List Rule) (batch : List Command) (is_set : IsRuleSet rules) (
         ]
 
 -- so their pieces are those of the commit
-pub record ArePieces (rules : List Rule) (batch : List Command) (changes : List RuleChange) : Type 0 where
-  pub inserted : flat_map inserted_by changes ≡ inserted_pieces Cover no_bits rules batch
-  pub rewritten : flat_map rewritten_by changes ≡ rewritten_pieces Cover no_bits rules batch
-  pub erased : flat_map erased_by (reverse changes) ≡ erased_pieces Cover no_bits rules batch
+pub record ArePieces (mode : Mode) (bits : FieldBits) (rules : List Rule) (batch : List Command) (changes : List RuleChange) : Type 0 where
+  pub inserted : flat_map (inserted_by mode bits) changes ≡ inserted_pieces mode bits rules batch
+  pub rewritten : flat_map (rewritten_by mode bits) changes ≡ rewritten_pieces mode bits rules batch
+  pub erased : flat_map (erased_by mode bits) (reverse changes) ≡ erased_pieces mode bits rules batch
 
-pub pieces_are : (rules : List Rule) (batch : List Command) → IsRuleSet rules → IsSound rules batch → (changes : List RuleChange) → AreChanges rules batch changes → (listed : List RuleChange) → listed ≡ changes → ArePieces rules batch listed
-pieces_are rules batch set sound changes are listed same = subst (ArePieces rules batch) (sym same) (record {
-  inserted = inserted_are rules batch set sound changes are;
-  rewritten = rewritten_are rules batch set sound changes are;
-  erased = erased_are rules batch set sound changes are;
+pub pieces_are : (mode : Mode) (bits : FieldBits) (rules : List Rule) (batch : List Command) → IsRuleSet rules → IsSound rules batch → (changes : List RuleChange) → AreChanges rules batch changes
+    → (listed : List RuleChange) → listed ≡ changes → ArePieces mode bits rules batch listed
+pieces_are mode bits rules batch set sound changes are listed same = subst (ArePieces mode bits rules batch) (sym same) (record {
+  inserted = inserted_are mode bits rules batch set sound changes are;
+  rewritten = rewritten_are mode bits rules batch set sound changes are;
+  erased = erased_are mode bits rules batch set sound changes are;
 })

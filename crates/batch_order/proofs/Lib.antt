@@ -12,12 +12,15 @@ pub mod Changed
 pub mod Parted
 pub mod Cleared
 pub mod Needed
+pub mod Translated
 pub mod Numbered
 pub mod Unchanged
 pub mod Carried
+pub mod Begun
 pub mod Refused
 pub mod Judged
 pub mod Taken
+pub mod Leading
 pub mod Holding
 pub mod Answered
 pub mod Aimed

@@ -7,7 +7,8 @@ use Rattle.rule_model.specs.declared.Rule.{Rule}
 use Rattle.rule_model.specs.PortRange.{PortRange, IsPortRange, cover, cover_size, range_holds}
 use Rattle.rule_model.specs.Rule.{HasConditions}
 use Rattle.rule_model.proofs.Covers.{cover-holds, held_from}
-use Rattle.rule_store.specs.declared.Mode.TheVariants.{Cover}
+use Rattle.rule_store.specs.declared.Mode.{Mode}
+use Rattle.rule_store.specs.declared.Mode.TheVariants.{Cover, Bits}
 use Rattle.rule_store.specs.Verdict.{entries_needed, entries_of}
 
 -- a cover has a block
@@ -22,13 +23,14 @@ cover_some range right = go (cover range) (cover-holds range range.lo right (ome
 product_some : (a b : ℕ) → 1 ≤ a → 1 ≤ b → 1 ≤ a * b
 product_some a b first second = let grown = mul-le-mul_left a second in omega arith
 
-rule_entry : (rule : Rule) → HasConditions rule → 1 ≤ entries_needed Cover rule
-rule_entry rule right = product_some (cover_size rule.sport) (cover_size rule.dport) (cover_some rule.sport right.sport_right) (cover_some rule.dport right.dport_right)
+rule_entry : (mode : Mode) (rule : Rule) → HasConditions rule → 1 ≤ entries_needed mode rule
+rule_entry Bits rule right = omega arith
+rule_entry Cover rule right = product_some (cover_size rule.sport) (cover_size rule.dport) (cover_some rule.sport right.sport_right) (cover_some rule.dport right.dport_right)
 
-pub rules_entries : (rules : List Rule) → AllByRecursion HasConditions rules → length rules ≤ entries_of Cover rules
-rules_entries [] right = omega arith
-rules_entries (rule ∷ rules) right =
-    one_more _ _ _ _ (rule_entry rule right.0) (rules_entries rules right.1) (sum_by-cons (entries_needed Cover) rule rules)
+pub rules_entries : (mode : Mode) (rules : List Rule) → AllByRecursion HasConditions rules → length rules ≤ entries_of mode rules
+rules_entries mode [] right = omega arith
+rules_entries mode (rule ∷ rules) right =
+    one_more _ _ _ _ (rule_entry mode rule right.0) (rules_entries mode rules right.1) (sum_by-cons (entries_needed mode) rule rules)
   where
     one_more : (first rest all number : ℕ) → 1 ≤ first → number ≤ rest → all ≡ first + rest → suc number ≤ all
     one_more first rest all number least fewer sum = omega arith

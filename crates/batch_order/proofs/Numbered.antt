@@ -19,10 +19,10 @@ use Rattle.rule_model.specs.declared.Piece.{Piece}
 use Rattle.rule_model.specs.declared.Rule.{Rule}
 use Rattle.rule_model.proofs.Pairs.{pairs_head, pairs_tail}
 use Rattle.rule_model.specs.RuleSet.{IsRuleSet}
-use Rattle.rule_store.specs.declared.Mode.TheVariants.{Cover}
+use Rattle.rule_store.specs.declared.Mode.{Mode}
 use Rattle.rule_store.specs.Verdict.{entries_of}
 use Rattle.ternary_word.specs.Entry.{RankedPiece}
-use Rattle.commit_writes.specs.Bits.{no_bits}
+use Rattle.commit_writes.specs.Bits.{FieldBits}
 use Rattle.commit_writes.specs.Shape.{set_pieces}
 use Rattle.commit_writes.specs.Planned.{IdEntries, AreEntriesOf}
 use Rattle.commit_writes.specs.PlannedBatch.{IsIdOf}
@@ -125,14 +125,14 @@ as_many pieces slots live entries once apart are =
         map_in (λ (one : LivePiece). one.id) live (record { id = n; piece = found.0.piece; rank = found.0.rank }) found.2
 
 -- so a set whose entries are arranged has as many live ids as it takes entries
-pub arranged_number : (rules : List Rule) (kept : Kept) (slots : Slots) → IsRuleSet rules → IsArranged rules kept slots → length kept.live ≡ entries_of Cover rules
-arranged_number rules kept slots set arranged =
-    as_many (set_pieces Cover no_bits rules) kept.slots kept.live kept.entries (pieces_once rules set) arranged.settled.apart arranged.entries_are ∙ sym (entries_pieces rules)
+pub arranged_number : (mode : Mode) (bits : FieldBits) (rules : List Rule) (kept : Kept) (slots : Slots) → IsRuleSet rules → IsArranged mode bits rules kept slots → length kept.live ≡ entries_of mode rules
+arranged_number mode bits rules kept slots set arranged =
+    as_many (set_pieces mode bits rules) kept.slots kept.live kept.entries (pieces_once mode bits rules set) arranged.settled.apart arranged.entries_are ∙ sym (entries_pieces mode bits rules)
 
 -- which are few
-pub arranged_few : (rules : List Rule) (kept : Kept) (slots : Slots) → IsRuleSet rules → IsArranged rules kept slots → entries_of Cover rules ≤ 4096
-arranged_few rules kept slots set arranged =
-    let number : length kept.live ≡ entries_of Cover rules = arranged_number rules kept slots set arranged in
+pub arranged_few : (mode : Mode) (bits : FieldBits) (rules : List Rule) (kept : Kept) (slots : Slots) → IsRuleSet rules → IsArranged mode bits rules kept slots → entries_of mode rules ≤ 4096
+arranged_few mode bits rules kept slots set arranged =
+    let number : length kept.live ≡ entries_of mode rules = arranged_number mode bits rules kept slots set arranged in
     let count = arranged.settled.count in
     let most = arranged.settled.few in
     omega arith

@@ -1,17 +1,22 @@
 -- What the placement refuses: an insertion with a write more. The first rule of a set takes one write for its one piece.
-use Rattle.std.proofs.Common.{◌≡◌, ℕ, Bool, true, Option, Some, None, List, [], ◌∷◌, length, map, refl, sym, ap, ◌∙◌, arith}
+use Rattle.std.proofs.Common.{◌≡◌, ℕ, Bool, true, Option, Some, None, ◌+◌, List, [], ◌∷◌, fold, length, map, refl, sym, ap, ◌∙◌, arith}
 use Rattle.std.proofs.lemmas.List.{append-nil, length-map}
-use Rattle.std.specs.List.{AllZip}
+use Rattle.std.specs.List.{AllByRecursion, AllZip, enumerate_from, filter_map}
+use Rattle.std.proofs.lemmas.Bool.{eq-eqb}
 use Rattle.slot_order.specs.Order.{slot}
 use Rattle.slot_order.proofs.Lists.{contains_none}
 use Rattle.slot_pool.specs.Arrangement.{Slots, passes}
 use Rattle.slot_pool.proofs.Places.{first_slot_is}
 use Rattle.slot_pool.proofs.Scan.{last_slot_is}
+use Rattle.rule_model.specs.declared.Field.{Field}
+use Rattle.rule_model.specs.declared.Field.TheVariants.{Src, Dst}
 use Rattle.rule_model.specs.AddressBlock.{any_address}
 use Rattle.rule_model.specs.Rule.{route_rule}
-use Rattle.rule_store.specs.declared.Mode.TheVariants.{Cover}
+use Rattle.rule_store.specs.declared.Mode.{Mode}
+use Rattle.rule_store.specs.declared.Mode.TheVariants.{Cover, Bits}
 use Rattle.rule_store.specs.declared.Command.{Command}
 use Rattle.rule_store.specs.declared.Command.TheVariants.{Add}
+use Rattle.range_bits.specs.LiveRanges.{LiveRanges, bit_for, word_for, newly_live}
 use Rattle.ternary_word.specs.declared.Entry.{Entry}
 use Rattle.overlap_index.specs.declared.LivePiece.{LivePiece}
 use Rattle.overlap_index.proofs.Above.{live_is}
@@ -21,12 +26,12 @@ use Rattle.move_planner.specs.Placement.{Above, first_lower, last_upper, next_sl
 use Rattle.tcam_device.specs.declared.Write.{Write}
 use Rattle.tcam_device.specs.declared.Write.TheVariants.{Slot}
 use Rattle.tcam_device.specs.State.{State}
-use Rattle.commit_writes.specs.Bits.{no_bits}
-use Rattle.commit_writes.specs.Shape.{inserted_pieces, rewritten_pieces}
+use Rattle.commit_writes.specs.Bits.{FieldBits, bits_with, new_bits}
+use Rattle.commit_writes.specs.Shape.{word_write, bit_writes, inserted_pieces, rewritten_pieces}
 use Rattle.commit_writes.specs.Planned.{IdEntries, Planned, ArePlanned, ranked_of, planned_writes, write_for}
 use Rattle.commit_writes.specs.PlannedBatch.{IsIdOf, IsRewriteOf}
 use Rattle.batch_order.specs.declared.Placement.{Placement}
-use Rattle.batch_order.specs.Placing.{IsPlacedBy}
+use Rattle.batch_order.specs.Placing.{IsPlacedBy, words_of}
 
 -- the addition of a rule that every packet matches
 abbrev addition : List Command
@@ -73,11 +78,30 @@ none-zipped : {X Y : Type 0} (R : X → Y → Type 0) (ys : List Y) → AllZip R
 none-zipped R [] all = refl
 none-zipped R (y ∷ ys) all = absurd all
 
--- a batch that inserts one piece into an empty set makes one write
-pub one-write : (placement : Placement) (batch : List Command) (state : State) (made : List Write)
-    → length (inserted_pieces Cover no_bits [] batch) ≡ 1 → rewritten_pieces Cover no_bits [] batch ≡ []
-    → IsPlacedBy placement [] batch state made → length made ≡ 1
-one-write placement batch state made one none placed =
+none-new : (live : LiveRanges) → AllByRecursion (λ held. held ≡ None) (newly_live live live)
+none-new [] = tt
+none-new (None ∷ live) = (refl, none-new live)
+none-new (Some range ∷ live) = (refl, none-new live)
+
+word-kept : (live : LiveRanges) (port first word : ℕ) → AllByRecursion (λ held. held ≡ None) live → fold (bit_for port) word (enumerate_from first live) ≡ word
+word-kept [] port first word none = refl
+word-kept (None ∷ live) port first word none = word-kept live port (first + 1) word none.1
+word-kept (Some range ∷ live) port first word none = absurd (let here = none.0 in cc)
+
+no-words : (field : Field) (live : LiveRanges) (first : ℕ) (table : List ℕ) → AllByRecursion (λ held. held ≡ None) live → filter_map (word_write field live) (enumerate_from first table) ≡ []
+no-words field live first [] none = refl
+no-words field live first (word ∷ table) none = rw (eq-eqb (word_for live first word) word (word-kept live first 0 word none)) (no-words field live (first + 1) table none)
+
+-- where no range is new no word of a table is written
+unwritten : (bits : FieldBits) (state : State) → bit_writes state (new_bits bits bits) ≡ []
+unwritten bits state =
+    rw (no-words Src (newly_live bits.src bits.src) 0 state.src (none-new bits.src), no-words Dst (newly_live bits.dst bits.dst) 0 state.dst (none-new bits.dst)) refl
+
+-- a batch that inserts one piece into an empty set, with no new range, makes one write
+pub one-write : (placement : Placement) (mode : Mode) (bits : FieldBits) (batch : List Command) (state : State) (made : List Write) → bits_with mode [] batch bits ≡ bits
+    → length (inserted_pieces mode (bits_with mode [] batch bits) [] batch) ≡ 1 → rewritten_pieces mode (bits_with mode [] batch bits) [] batch ≡ []
+    → IsPlacedBy placement mode bits [] batch state made → length made ≡ 1
+one-write placement mode bits batch state made old one none placed =
     let commit = placed.commit in
     let empty : IsEmpty placed.arrangement = λ at id is.
     let live = live_is placed.live id (commit.arranged.standing.within at id is) in
@@ -87,9 +111,12 @@ one-write placement batch state made one none placed =
     let inserted : length (planned_writes placed.entries placed.planned) ≡ 1 = one-insertion placed.entries placed.live placed.arrangement placed.planned count commit.are_planned empty in
     let rewritten : placed.rewrites ≡ [] = none-zipped (IsRewriteOf placed.live) placed.rewrites (rw none at commit.rewrites_are) in
     let erased : placed.erased ≡ [] = none-zipped (IsIdOf placed.live) placed.erased commit.erased_are in
+    let words : words_of mode bits [] batch state ≡ [] = ap (λ during. bit_writes state (new_bits bits during)) old ∙ unwritten bits state in
     let whole = ap length placed.writes_are in
-    rw (rewritten, erased, append-nil) at whole ∙ inserted
+    rw (words, rewritten, erased, append-nil) at whole ∙ inserted
 
 -- the entry is put into one slot, and moved once more
-padded : (placement : Placement) (state : State) (entry : Entry) → IsPlacedBy placement [] addition state (Slot 2 (Some entry) ∷ Slot 3 (Some entry) ∷ Slot 2 None ∷ []) → ⊥
-padded placement state entry placed = let one = one-write placement addition state _ refl refl placed in omega (arith, one)
+padded : (placement : Placement) (mode : Mode) (bits : FieldBits) (state : State) (entry : Entry)
+    → IsPlacedBy placement mode bits [] addition state (Slot 2 (Some entry) ∷ Slot 3 (Some entry) ∷ Slot 2 None ∷ []) → ⊥
+padded placement Cover bits state entry placed = let one = one-write placement Cover bits addition state _ refl refl refl placed in omega (arith, one)
+padded placement Bits bits state entry placed = let one = one-write placement Bits bits addition state _ refl refl refl placed in omega (arith, one)

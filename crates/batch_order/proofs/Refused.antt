@@ -1,20 +1,20 @@
 -- A batch that isn't taken after all: the manager is as it was.
-use Rattle.std.proofs.Common.{◌≡◌, ℕ, ◌+◌, ◌-◌, List, length, take, None, sym, ap, ap₂, subst, ◌∙◌, arith}
+use Rattle.std.proofs.Common.{◌≡◌, ℕ, ◌+◌, ◌-◌, Option, List, length, take, None, sym, ap, ap₂, subst, ◌∙◌, arith}
 use Rattle.std.specs.List.{AllByRecursion}
 use Rattle.std.proofs.lemmas.List.{length-append, length-map, take_at}
 use Rattle.slot_pool.specs.Arrangement.{Slots}
 use Rattle.rule_model.specs.declared.Rule.{Rule}
 use Rattle.rule_model.specs.RuleSet.{IsRuleSet}
 use Rattle.rule_model.specs.Rule.{HasConditions}
-use Rattle.rule_store.specs.declared.Mode.{Mode}
 use Rattle.rule_store.specs.Store.{StoredRules}
 use Rattle.overlap_index.specs.declared.LivePiece.{LivePiece}
-use Rattle.tcam_device.specs.State.{State}
-use Rattle.commit_writes.specs.Bits.{no_bits}
-use Rattle.commit_writes.specs.Planned.{plain_state}
+use Rattle.ternary_word.specs.declared.Entry.{Entry}
+use Rattle.commit_writes.specs.Serving.{AreBitsOf}
+use Rattle.commit_writes.specs.Planned.{with_slots}
 use Rattle.batch_order.specs.declared.Placement.{Placement}
+use Rattle.batch_order.specs.declared.translation.Translation.{Translation}
 use Rattle.batch_order.specs.Entries.{Entries, AddsIds, KeepEntries}
-use Rattle.batch_order.specs.Kept.{IsManaged, IsArranged}
+use Rattle.batch_order.specs.Kept.{IsManaged, IsArranged, bits_of, mode_of, tables_of}
 use Rattle.batch_order.proofs.Entered.{contents_kept}
 use Rattle.batch_order.proofs.Carried.{view_of}
 use Rattle.batch_order.proofs.Unchanged.{arranged_same, settled_live}
@@ -28,18 +28,21 @@ adds_first old new ids adds =
     ap (take (length new.live - length ids)) adds.live ∙ take_at old.live adds.made (length new.live - length ids) (sym before)
 
 -- a manager whose batch wasn't taken after all
-pub managed_same : (mode : Mode) (rules rules' : StoredRules) (old new : Entries) (slots : Slots) → IsManaged mode rules old slots None → rules'.rules ≡ rules.rules
-    → new.live ≡ old.live → new.slots ≡ old.slots → KeepEntries old.live old.entries new.entries → IsManaged mode rules' new slots None
-managed_same mode rules rules' old new slots managed same live size kept = record {
-  cover = managed.cover;
+pub managed_same : (translation : Option Translation) (rules rules' : StoredRules) (old new : Entries) (slots : Slots) → IsManaged translation rules old slots None → rules'.rules ≡ rules.rules
+    → new.live ≡ old.live → new.slots ≡ old.slots → KeepEntries old.live old.entries new.entries → IsManaged translation rules' new slots None
+managed_same translation rules rules' old new slots managed same live size kept = record {
   right = subst (AllByRecursion HasConditions) (sym same) managed.right;
   is_set = subst IsRuleSet (sym same) managed.is_set;
-  carried = subst (λ (set : List Rule). IsArranged set new slots) (sym same) (arranged_same rules.rules old new slots managed.carried live size kept);
+  tables = managed.tables;
+  translated = subst (λ (set : List Rule). AreBitsOf (mode_of translation) (bits_of translation) set (tables_of translation)) (sym same) managed.translated;
+  carried = subst (λ (set : List Rule). IsArranged (mode_of translation) (bits_of translation) set new slots) (sym same)
+      (arranged_same (mode_of translation) (bits_of translation) rules.rules old new slots managed.carried live size kept);
 }
 
 -- and it looks the same
-pub view_same : (placement : Placement) (mode : Mode) (rules rules' : StoredRules) (old new : Entries) (slots : Slots) → IsManaged mode rules old slots None → rules'.rules ≡ rules.rules
-    → KeepEntries old.live old.entries new.entries → view_of placement mode rules' new slots None ≡ view_of placement mode rules old slots None
-view_same placement mode rules rules' old new slots managed same kept =
-    ap₂ (λ (r : List Rule) (e : State). record { slots = length slots; mode = mode; placement = placement; rules = r; bits = no_bits; state = e; held = None }) same
-    (ap plain_state (contents_kept old.live old.entries new.entries slots kept (settled_live old slots managed.carried.settled)))
+pub view_same : (placement : Placement) (translation : Option Translation) (rules rules' : StoredRules) (old new : Entries) (slots : Slots) → IsManaged translation rules old slots None → rules'.rules ≡ rules.rules
+    → KeepEntries old.live old.entries new.entries → view_of placement translation rules' new slots None ≡ view_of placement translation rules old slots None
+view_same placement translation rules rules' old new slots managed same kept =
+    ap₂ (λ (r : List Rule) (e : List (Option Entry)).
+    record { slots = length slots; mode = mode_of translation; placement = placement; rules = r; bits = bits_of translation; state = with_slots (tables_of translation) e; held = None }) same
+    (contents_kept old.live old.entries new.entries slots kept (settled_live old slots managed.carried.settled))

@@ -47,6 +47,7 @@ planned_one old new slots slots' one answer aim plan plan' absent live_is entry 
   kept = kept;
   puts = (placement_puts new.live (is_above new.live) one.id slots inserted.moves now (record { at = λ place id is. subst (λ (l : List LivePiece). IsTrue (is_live l id)) (sym live_is) (live_still old.live one id (standing.within place id is)) }) inserted.placement, tt);
   writes = inserted.writes ∙ ap (λ (w : List Write). plan.writes.items ++ w) (sym (append-nil (map (write_for new.entries) inserted.moves)));
+  words = inserted.words;
   most = inserted.most;
   span = subst (λ (l : List LivePiece). plan'.span ≡ max plan.span (span_of (is_above l) slots one.id)) live_is inserted.span;
 }
@@ -136,6 +137,7 @@ planned_then old mid new slots slots' slots'' plan plan' plan'' first second fir
       ∙ ap (λ (w : List Write). plan.writes.items ++ w)
       (ap (λ (w : List Write). w ++ planned_writes new.entries two.planned) (sym (writes_same mid.live mid.entries new.entries one.planned two.kept one.puts))
       ∙ sym (flat_map-append (λ (insertion : Planned). map (write_for new.entries) insertion.moves) one.planned two.planned))));
+  words = two.words ∙ one.words;
   most = two.most ∙ (ap (λ (m : ℕ). fold max m (map (λ (insertion : Planned). length insertion.moves) two.planned)) one.most
       ∙ (sym (fold-append max plan.most (map (λ (insertion : Planned). length insertion.moves) one.planned) (map (λ (insertion : Planned). length insertion.moves) two.planned))
       ∙ ap (fold max plan.most) (sym (map-append (λ (insertion : Planned). length insertion.moves) one.planned two.planned))));

@@ -2,12 +2,12 @@
 use Rattle.std.proofs.Common.{◌≡◌, ℕ, ◌+◌, ◌≤◌, List, length, sym, ap, subst, ◌∙◌, arith}
 use Rattle.slot_pool.specs.Arrangement.{Slots}
 use Rattle.rule_model.specs.declared.Rule.{Rule}
-use Rattle.rule_store.specs.declared.Mode.TheVariants.{Cover}
+use Rattle.rule_store.specs.declared.Mode.{Mode}
 use Rattle.overlap_index.specs.declared.LivePiece.{LivePiece}
 use Rattle.overlap_index.specs.Live.{AreApart, is_above}
 use Rattle.move_planner.specs.Placement.{IsInOrder}
 use Rattle.move_planner.specs.Insertion.{IsLive, StandOnce, free_slots}
-use Rattle.commit_writes.specs.Bits.{no_bits}
+use Rattle.commit_writes.specs.Bits.{FieldBits}
 use Rattle.commit_writes.specs.Shape.{set_pieces}
 use Rattle.commit_writes.specs.Planned.{AreEntriesOf}
 use Rattle.batch_order.specs.Entries.{Entries, KeepEntries}
@@ -28,10 +28,11 @@ settled_same old new slots settled live size = record {
 }
 
 -- and with the same entries too they are those of the same rules
-pub arranged_same : (rules : List Rule) (old new : Entries) (slots : Slots) → IsArranged rules old slots → new.live ≡ old.live → new.slots ≡ old.slots → KeepEntries old.live old.entries new.entries → IsArranged rules new slots
-arranged_same rules old new slots arranged live size kept = record {
+pub arranged_same : (mode : Mode) (bits : FieldBits) (rules : List Rule) (old new : Entries) (slots : Slots) → IsArranged mode bits rules old slots → new.live ≡ old.live → new.slots ≡ old.slots
+    → KeepEntries old.live old.entries new.entries → IsArranged mode bits rules new slots
+arranged_same mode bits rules old new slots arranged live size kept = record {
   settled = settled_same old new slots arranged.settled live size;
-  entries_are = subst (λ (l : List LivePiece). AreEntriesOf (set_pieces Cover no_bits rules) l new.entries) (sym live) (entries_of_kept (set_pieces Cover no_bits rules) old.live old.entries new.entries kept arranged.entries_are);
+  entries_are = subst (λ (l : List LivePiece). AreEntriesOf (set_pieces mode bits rules) l new.entries) (sym live) (entries_of_kept (set_pieces mode bits rules) old.live old.entries new.entries kept arranged.entries_are);
 }
 
 -- what stands is live

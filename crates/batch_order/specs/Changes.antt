@@ -6,13 +6,13 @@ use Rattle.std.specs.BTreeMap.{BTreeMap, IsOrdered, get}
 use Rattle.rule_model.specs.declared.Rule.{Rule}
 use Rattle.rule_model.specs.RuleSet.{rule_at}
 use Rattle.rule_model.specs.Piece.{same_piece}
-use Rattle.rule_store.specs.declared.Mode.TheVariants.{Cover}
+use Rattle.rule_store.specs.declared.Mode.{Mode}
 use Rattle.rule_store.specs.declared.Command.{Command}
 use Rattle.rule_store.specs.declared.Command.TheVariants.{Add, Set, Del}
 use Rattle.rule_store.specs.Batch.{named_priority, commands_naming, set_after}
 use Rattle.rule_store.specs.Verdict.{pieces_of}
 use Rattle.ternary_word.specs.Entry.{RankedPiece}
-use Rattle.commit_writes.specs.Bits.{no_bits}
+use Rattle.commit_writes.specs.Bits.{FieldBits}
 use Rattle.commit_writes.specs.Shape.{ranked_pieces}
 use Rattle.batch_order.specs.declared.pieces.Choice.{Choice}
 use Rattle.batch_order.specs.declared.pieces.Choice.TheVariants.{Common, Fresh}
@@ -68,10 +68,10 @@ abbrev pub change_by : List Rule → Command → RuleChange
 change_by rules command =
     let old = rule_at rules (named_priority command) in record { old = old; new = rule_behind old command }
 
--- the pieces of a rule, with its priority and result, and none where there is no rule
-abbrev pub pieces_at : Option Rule → List RankedPiece
-pieces_at None = []
-pieces_at (Some rule) = ranked_pieces no_bits rule (pieces_of Cover rule)
+-- the pieces of a rule, with their bits, its priority and its result, and none where there is no rule
+abbrev pub pieces_at : Mode → FieldBits → Option Rule → List RankedPiece
+pieces_at mode bits None = []
+pieces_at mode bits (Some rule) = ranked_pieces bits rule (pieces_of mode rule)
 
 -- whether a piece is meant, which others have or haven't
 abbrev pub wants : Choice → Bool → Bool
@@ -87,13 +87,13 @@ abbrev pub chosen_pieces : Choice → List RankedPiece → List RankedPiece → 
 chosen_pieces choice others pieces = filter (λ ranked. wants choice (is_among others ranked)) pieces
 
 -- a change inserts the pieces of the new rule that the old one hasn't,
-abbrev pub inserted_by : RuleChange → List RankedPiece
-inserted_by change = chosen_pieces Fresh (pieces_at change.old) (pieces_at change.new)
+abbrev pub inserted_by : Mode → FieldBits → RuleChange → List RankedPiece
+inserted_by mode bits change = chosen_pieces Fresh (pieces_at mode bits change.old) (pieces_at mode bits change.new)
 
 -- rewrites those that it has,
-abbrev pub rewritten_by : RuleChange → List RankedPiece
-rewritten_by change = chosen_pieces Common (pieces_at change.old) (pieces_at change.new)
+abbrev pub rewritten_by : Mode → FieldBits → RuleChange → List RankedPiece
+rewritten_by mode bits change = chosen_pieces Common (pieces_at mode bits change.old) (pieces_at mode bits change.new)
 
 -- and erases the pieces of the old rule that the new one hasn't
-abbrev pub erased_by : RuleChange → List RankedPiece
-erased_by change = chosen_pieces Fresh (pieces_at change.new) (pieces_at change.old)
+abbrev pub erased_by : Mode → FieldBits → RuleChange → List RankedPiece
+erased_by mode bits change = chosen_pieces Fresh (pieces_at mode bits change.new) (pieces_at mode bits change.old)

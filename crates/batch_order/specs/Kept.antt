@@ -7,22 +7,65 @@ use Rattle.rule_model.specs.Rule.{HasConditions}
 use Rattle.rule_model.specs.RuleSet.{IsRuleSet}
 use Rattle.ternary_word.specs.declared.Entry.{Entry}
 use Rattle.rule_store.specs.declared.Mode.{Mode}
-use Rattle.rule_store.specs.declared.Mode.TheVariants.{Cover}
+use Rattle.rule_store.specs.declared.Mode.TheVariants.{Cover, Bits}
 use Rattle.rule_store.specs.Batch.{IsSound, set_after}
 use Rattle.rule_store.specs.Store.{StoredRules}
 use Rattle.overlap_index.specs.declared.LivePiece.{LivePiece}
 use Rattle.overlap_index.specs.Live.{is_live}
-use Rattle.tcam_device.specs.State.{State, IsInUse, state_after, on_device}
+use Rattle.tcam_device.specs.State.{State, IsState, IsInUse, blank, state_after, on_device}
+use Rattle.tcam_device.specs.declared.Write.{Write}
 use Rattle.tcam_device.specs.Hitless.{KeepsOldOrNew}
 use Rattle.commit_writes.specs.declared.Rewrite.{Rewrite}
-use Rattle.commit_writes.specs.Bits.{no_bits}
+use Rattle.commit_writes.specs.Bits.{FieldBits, no_bits, bits_with, bits_left}
+use Rattle.commit_writes.specs.Serving.{AreBitsOf}
 use Rattle.commit_writes.specs.Shape.{set_pieces}
-use Rattle.commit_writes.specs.Planned.{AreEntriesOf, contents, plain_state}
+use Rattle.commit_writes.specs.Planned.{AreEntriesOf, contents, with_slots}
 use Rattle.commit_writes.specs.PlannedBatch.{rewritten_entries, erased_live}
 use Rattle.batch_order.specs.declared.manager.Held.{Held}
+use Rattle.batch_order.specs.declared.translation.Translation.{Translation}
 use Rattle.batch_order.specs.Entries.{Entries}
 use Rattle.batch_order.specs.Planning.{IsSettled}
 use Rattle.batch_order.specs.Managed.{HeldCommit}
+
+-- What a manager keeps of its device's translation: by covers nothing, and by bits the live ranges and both tables.
+abbrev pub mode_of : Option Translation → Mode
+mode_of None = Cover
+mode_of (Some kept) = Bits
+
+abbrev pub bits_of : Option Translation → FieldBits
+bits_of None = no_bits
+bits_of (Some kept) = kept.bits
+
+-- as a state without slots
+abbrev pub tables_of : Option Translation → State
+tables_of None = blank 0
+tables_of (Some kept) = kept.tables
+
+-- the live ranges while a commit is made
+abbrev pub during_of : Option FieldBits → FieldBits
+during_of None = no_bits
+during_of (Some bits) = bits
+
+-- the mode that they are of
+abbrev pub coded_by : Option FieldBits → Mode
+coded_by None = Cover
+coded_by (Some bits) = Bits
+
+-- what is kept once the writes of a commit are made and its rules are the set's
+abbrev pub translated_by : Option Translation → Option FieldBits → List Rule → List Write → Option Translation
+translated_by None bits rules writes = None
+translated_by (Some kept) None rules writes = Some kept
+translated_by (Some kept) (Some bits) rules writes =
+    Some (record { bits = bits_left rules bits; tables = state_after kept.tables writes })
+
+-- so is it after a commit under way
+abbrev pub translation_after : Option Translation → List Rule → Held → Option Translation
+translation_after translation rules held =
+    translated_by translation held.bits (set_after rules held.batch) held.writes.items
+
+-- the live ranges once a commit has finished
+abbrev pub bits_after : List Rule → Held → FieldBits
+bits_after rules held = bits_left (set_after rules held.batch) (during_of held.bits)
 
 -- the commit under way, as callers see it
 abbrev pub held_of : List Rule → Held → HeldCommit
@@ -31,19 +74,23 @@ held_of rules held =
       writes = drop held.made held.writes.items;
       counts = held.counts;
       rules = set_after rules held.batch;
-      bits = no_bits;
+      bits = bits_after rules held;
     }
 
--- what the slots in use hold: the entries as they are arranged, after the writes of a commit under way that were made
-abbrev pub state_of : List (Option Entry) → Slots → Option Held → State
-state_of entries slots None = plain_state (contents entries slots)
-state_of entries slots (Some held) =
-    state_after (plain_state (contents entries slots)) (take held.made held.writes.items)
+-- what tables and slots in use hold before a commit under way: the entries as they are arranged
+abbrev pub settled_state : Option Translation → List (Option Entry) → Slots → State
+settled_state translation entries slots = with_slots (tables_of translation) (contents entries slots)
+
+-- and after those of its writes that were made
+abbrev pub state_of : Option Translation → List (Option Entry) → Slots → Option Held → State
+state_of translation entries slots None = settled_state translation entries slots
+state_of translation entries slots (Some held) =
+    state_after (settled_state translation entries slots) (take held.made held.writes.items)
 
 -- the pieces of a set have an entry each, and these stand in order
-pub record IsArranged (rules : List Rule) (kept : Entries) (slots : Slots) : Type 0 where
+pub record IsArranged (mode : Mode) (bits : FieldBits) (rules : List Rule) (kept : Entries) (slots : Slots) : Type 0 where
   pub settled : IsSettled kept slots
-  pub entries_are : AreEntriesOf (set_pieces Cover no_bits rules) kept.live kept.entries
+  pub entries_are : AreEntriesOf (set_pieces mode bits rules) kept.live kept.entries
 
 -- the live ids and their entries once some of them are rewritten and some erased
 abbrev pub changed_by : Entries → List Rewrite → List ℕ → Entries
@@ -51,17 +98,21 @@ changed_by kept rewrites erased =
     record kept { live = erased_live kept.live erased; entries = rewritten_entries kept.entries rewrites }
 
 -- A commit under way can be carried out: the set's entries stand in order before its writes, and the new set's after them.
--- Meanwhile the ids of both sets are live, with the old entries where a piece gets a result.
-pub record IsHeld (rules : StoredRules) (kept : Entries) (slots : Slots) (held : Held) : Type 0 where
+-- Meanwhile the ids of both sets are live, with the old entries where a piece gets a result, and so are the bits of both.
+pub record IsHeld (translation : Option Translation) (rules : StoredRules) (kept : Entries) (slots : Slots) (held : Held) : Type 0 where
   -- the ids that are live without the commit
   pub before : List LivePiece
-  pub old : IsArranged rules.rules (record kept { live = before }) slots
-  pub after : IsArranged (set_after rules.rules held.batch) (changed_by kept held.rewrites.items held.erased.items) held.arrangement
-  pub leads : state_after (plain_state (contents kept.entries slots)) held.writes.items
-      ≡ plain_state (contents (rewritten_entries kept.entries held.rewrites.items) held.arrangement)
+  pub coded : coded_by held.bits ≡ mode_of translation
+  pub during : during_of held.bits ≡ bits_with (mode_of translation) rules.rules held.batch (bits_of translation)
+  pub old : IsArranged (mode_of translation) (bits_of translation) rules.rules (record kept { live = before }) slots
+  pub after : IsArranged (mode_of translation) (bits_after rules.rules held) (set_after rules.rules held.batch) (changed_by kept held.rewrites.items held.erased.items) held.arrangement
+  pub leads : state_after (settled_state translation kept.entries slots) held.writes.items
+      ≡ settled_state (translation_after translation rules.rules held) (rewritten_entries kept.entries held.rewrites.items) held.arrangement
+  pub tables : IsState 0 (tables_of (translation_after translation rules.rules held))
+  pub translated : AreBitsOf (mode_of translation) (bits_after rules.rules held) (set_after rules.rules held.batch) (tables_of (translation_after translation rules.rules held))
   -- and on the way each key has the old or the new answer, on a device with so many slots or more
   pub hitless : (device_slots : ℕ) → length slots ≤ device_slots
-      → KeepsOldOrNew rules.rules (set_after rules.rules held.batch) (on_device device_slots (plain_state (contents kept.entries slots))) held.writes.items
+      → KeepsOldOrNew rules.rules (set_after rules.rules held.batch) (on_device device_slots (settled_state translation kept.entries slots)) held.writes.items
   pub made : held.made ≤ length held.writes.items
   pub in_use : AllByRecursion (IsInUse (length slots)) held.writes.items
   -- the batch can be applied to the set, without memory
@@ -74,13 +125,14 @@ pub record IsHeld (rules : StoredRules) (kept : Entries) (slots : Slots) (held :
   pub once : IsDistinct nat_eq held.erased.items
 
 -- the set's entries stand in order, and with a commit under way it can be carried out
-abbrev pub IsCarried : StoredRules → Entries → Slots → Option Held → Type 0
-IsCarried rules kept slots None = IsArranged rules.rules kept slots
-IsCarried rules kept slots (Some held) = IsHeld rules kept slots held
+abbrev pub IsCarried : Option Translation → StoredRules → Entries → Slots → Option Held → Type 0
+IsCarried translation rules kept slots None = IsArranged (mode_of translation) (bits_of translation) rules.rules kept slots
+IsCarried translation rules kept slots (Some held) = IsHeld translation rules kept slots held
 
--- a set of rules with right conditions, whose entries stand in order
-pub record IsManaged (mode : Mode) (rules : StoredRules) (kept : Entries) (slots : Slots) (held : Option Held) : Type 0 where
-  pub cover : mode ≡ Cover
+-- a set of rules with right conditions, whose entries stand in order, and whose port ranges have their bits
+pub record IsManaged (translation : Option Translation) (rules : StoredRules) (kept : Entries) (slots : Slots) (held : Option Held) : Type 0 where
   pub right : AllByRecursion HasConditions rules.rules
   pub is_set : IsRuleSet rules.rules
-  pub carried : IsCarried rules kept slots held
+  pub tables : IsState 0 (tables_of translation)
+  pub translated : AreBitsOf (mode_of translation) (bits_of translation) rules.rules (tables_of translation)
+  pub carried : IsCarried translation rules kept slots held

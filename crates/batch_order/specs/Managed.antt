@@ -96,7 +96,7 @@ pub record Holds (old : Managed) (batch : List Command) (ready : Ready) (new : M
   pub segment : (device_slots : ℕ) → old.slots ≤ device_slots
       → IsSegment old.mode old.bits old.rules batch (on_device device_slots old.state) held.writes
   -- its insertions are those of the placement, each with its aim
-  pub placed : IsPlacedBy old.placement old.rules batch old.state held.writes
+  pub placed : IsPlacedBy old.placement old.mode old.bits old.rules batch old.state held.writes
   pub numbers : (device_slots : ℕ) → old.slots ≤ device_slots → AreCounts (on_device device_slots old.state) held.writes held.counts
   -- of routes no insertion crosses others, and none takes more than 33 writes
   pub uncrossed : (device_slots : ℕ) → old.slots ≤ device_slots → AllByRecursion IsIpv4Route old.rules → OnlyChangesRoutes batch

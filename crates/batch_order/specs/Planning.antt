@@ -62,6 +62,7 @@ pub record IsInserted (kept : Entries) (slots slots' : Slots) (aim : Aim) (id : 
   pub placement : IsPlacement (is_above kept.live) aim id slots moves
   pub slots_are : slots' ≡ after_moves slots moves
   pub writes : plan'.writes.items ≡ plan.writes.items ++ map (write_for kept.entries) moves
+  pub words : plan'.words ≡ plan.words
   pub most : plan'.most ≡ max plan.most (length moves)
   pub span : plan'.span ≡ max plan.span (span_of (is_above kept.live) slots id)
 
@@ -78,5 +79,6 @@ pub record ArePlannedSince (old new : Entries) (slots slots' : Slots) (plan plan
   -- their writes mean the same under any later entries, since they put live ids alone
   pub puts : AllByRecursion (λ insertion. AllByRecursion (PutsLive new.live) insertion.moves) planned
   pub writes : plan'.writes.items ≡ plan.writes.items ++ planned_writes new.entries planned
+  pub words : plan'.words ≡ plan.words
   pub most : plan'.most ≡ fold max plan.most (map (λ insertion. length insertion.moves) planned)
   pub span : plan'.span ≡ fold max plan.span (map (λ insertion. insertion.span) planned)

@@ -13,6 +13,7 @@ use rule_store::{Mode, Store};
 /// the set and all that the commit inserts.
 pub(crate) fn aim_of(
     placement: Placement,
+    mode: Mode,
     slots: u32,
     rules: &Store,
     all: u32,
@@ -21,13 +22,13 @@ pub(crate) fn aim_of(
 ) -> Aim
     requires few { slots ≤ 4096 }
     requires most { all ≤ slots }
-    requires place { entries_of Mode.Cover rules.now.rules + place < all }
-    ensures { result ≡ placing.aim_of placement slots rules.now.rules all place ranked.now }
+    requires place { entries_of mode rules.now.rules + place < all }
+    ensures { result ≡ placing.aim_of placement mode slots rules.now.rules all place ranked.now }
 {
     match placement {
         Placement::Middle => Aim::Middle,
         Placement::Rank => {
-            let above = rules.entries_above(Mode::Cover, ranked.rank) as u32;
+            let above = rules.entries_above(mode, ranked.rank) as u32;
             Aim::At(rank_slot(slots, above + place, all))
         }
     }

@@ -27,19 +27,20 @@ use tcam_device::Write;
 pub(crate) fn plan_additions(
     alloc: Global,
     placement: Placement,
+    mode: Mode,
     rules: &Store,
     pieces: &[Ranked],
     live: &mut LiveEntries,
     arrangement: &mut Arrangement,
     plan: &mut Plan,
 ) -> Result<Vec<u32>, AllocError>
-    requires standing { length live.old.live ≡ entries_of Mode.Cover rules.now.rules }
+    requires standing { length live.old.live ≡ entries_of mode rules.now.rules }
     requires room { length live.old.live + length pieces.now ≤ live.old.slots }
     requires encodable { AllByRecursion (λ ranked. IsEncodable ranked.piece) pieces.now }
     requires plannable { IsPlannable live.old arrangement.old plan.old.writes.items }
     ensures plannable { OnOk result (IsPlannable live.new arrangement.new plan.new.writes.items) }
     ensures planned { OnOk result (ArePlannedSince live.old live.new arrangement.old arrangement.new plan.old plan.new pieces.now
-        (aims_of placement (length arrangement.old) rules.now.rules pieces.now)) }
+        (aims_of placement mode (length arrangement.old) rules.now.rules pieces.now)) }
     ensures adds { IfOk result (λ ids. AddsIds live.old live.new ids.items) }
     ensures number { IfOk result (λ ids. length ids.items ≡ length pieces.now) }
     ensures refused { OnErr result (live.new.live ≡ live.old.live) }
@@ -50,7 +51,7 @@ pub(crate) fn plan_additions(
     let all = slots - arrangement.free_count() + pieces.len() as u32;
     let mut ids = Vec::with_capacity(alloc, pieces.len())?;
     for ranked in pieces {
-        let aim = aim_of(placement, slots, rules, all, ids.len() as u32, ranked);
+        let aim = aim_of(placement, mode, slots, rules, all, ids.len() as u32, ranked);
         match plan_piece(alloc, ranked, aim, live, arrangement, plan) {
             Ok(id) => ids.push_reserved(id),
             Err(fault) => {

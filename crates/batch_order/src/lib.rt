@@ -2,8 +2,8 @@
 //! and then makes the writes one at a time.
 //!
 //! **What it keeps.** The rules of the set, the arrangement of their entries in the slots, the index of which
-//! entries overlap, and each entry under its id. While a commit is under way it also holds the plan: the writes
-//! still to make, and the arrangement that they lead to.
+//! entries overlap, and each entry under its id; by bits also the live port ranges and both tables (`translation`). While
+//! a commit is under way it also holds the plan: the writes still to make, and the arrangement that they lead to.
 //!
 //! **The one hard idea.** Packets are looked up between any two writes, so a commit can't pass through a state
 //! that answers neither as the old set nor as the new one. So it first puts the new entries in, then gives those
@@ -23,8 +23,11 @@
 //! the new rule alone go in, those of both get the new result, those of the old rule alone go; `parts` has the ids of the
 //! latter two. `insertions` plans the first, each where `aims` says, and `plan` the writes of the others.
 //!
-//! **Port ranges.** A rule takes an entry for each pair of blocks of its ranges' covers. A rule that replaces another
-//! keeps the entries that both have, and only the others are put in and erased.
+//! **Port ranges.** By covers a rule takes an entry for each pair of blocks of its ranges' covers. A rule that replaces
+//! another keeps the entries that both have, and only the others are put in and erased. By bits a rule takes one entry: a
+//! range that isn't one block is tested by a bit of its field's translation table. A commit that brings new ranges first
+//! writes the words of the tables in which their bits differ. No slot tests such a bit yet, since a bit is given up only when
+//! a commit that leaves no rule with its range has finished; so these writes change no answer.
 //!
 //! **Memory.** `prepare` takes all of it, the device's too; `step` and `carry_out` take none. So want of memory can't
 //! come between two writes of a commit, and a batch that is refused changes nothing.
@@ -41,6 +44,7 @@ mod manager;
 mod parts;
 mod pieces;
 mod plan;
+mod translation;
 
 pub use commit_writes::Done;
 pub use manager::Manager;

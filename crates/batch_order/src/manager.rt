@@ -1,27 +1,33 @@
 //! The manager of one device.
 
-ghost use Rattle.std.specs.Prelude.{◌≡◌, ◌+◌, ◌-◌, ◌++◌, ◌∷◌, [], ◌≤◌, ◌<◌, ◌↔◌, ℕ, List, Option, Some, None, Err, IfSome, IsSome, IfOk, IfErr, OnOk, OnErr, length, option_map, fold};
+ghost use Rattle.std.specs.Prelude.{◌≡◌, ◌+◌, ◌-◌, ◌*◌, ◌^◌, ◌++◌, ◌∷◌, [], ◌≤◌, ◌<◌, ◌↔◌, ℕ, List, Option, Some, None, Err, IfSome, IsSome, IfOk, IfErr, OnOk, OnErr, length, option_map, fold};
 ghost use Rattle.std.specs.List.{AllByRecursion};
 ghost use Rattle.call_history.specs.Cause.{HasCause};
 ghost use Rattle.tcam_device.specs.declared.Write.{Write};
 ghost use Rattle.tcam_device.specs.State.{IsInUse, Shows, apply, on_device, replay};
 ghost use Rattle.tcam_device.specs.Hitless.{ShowsOldOrNew};
-ghost use Rattle.rule_store.specs.Verdict.{entries_of, verdict, Accepted};
+ghost use Rattle.rule_store.specs.Verdict.{entries_of, slots_verdict, verdict, Accepted};
 ghost use Rattle.rule_store.specs.Batch.{ChangesRules, batch_fault, set_after};
 ghost use Rattle.batch_order.specs.Managed.{Managed, Judges, Answers, Holds, Steps, next_of, IsOn, Serves, fresh, writes_of};
+ghost use Rattle.commit_writes.specs.Bits.{bits_with};
+ghost use Rattle.commit_writes.specs.Serving.{HaveFreeBits};
+ghost use Rattle.batch_order.specs.Kept.{coded_by, during_of};
+ghost use Rattle.batch_order.specs.Placing.{words_of};
 ghost use Rattle.batch_order.specs.CarriedOut.{HasRoomLeft, IsServed, IsTried, StopsAt, ahead, done_of, finished, writes_left};
 
 use crate::entries::LiveEntries;
 use crate::insertions::{forget_all, plan_additions};
 use crate::parts::parts_of;
 use crate::plan::{Plan, erase_all, plan_changes, ready};
-use crate::{Done, Placement, Ready, Refusal, Step, Stuck, refusal_of};
+use crate::translation::{Translation, blank_translation, check_field, encoding, translate};
+use crate::{Done, Field, Placement, Ready, Refusal, Step, Stuck, refusal_of};
 use commit_writes::Rewrite;
 use rule_store::{Batch, Command, Mode, Store};
 use slot_pool::Arrangement;
 use std::alloc::{AllocError, Global};
 use std::marker::Model;
 use tcam_device::{DeviceFault, Writable, Write};
+use translation_tables::FieldBits;
 
 /// The numbers where no commit is under way.
 const NOTHING_DONE: Done = Done {
@@ -39,6 +45,8 @@ pub(crate) struct Held {
     pub(crate) writes: Vec<Write>,
     pub(crate) made: usize,
     pub(crate) counts: Done,
+    /// The live ranges meanwhile, those of the old set and of the new one: none by covers.
+    pub(crate) bits: Option<FieldBits>,
     pub(crate) batch: Batch,
     pub(crate) rewrites: Vec<Rewrite>,
     pub(crate) erased: Vec<u32>,
@@ -49,8 +57,9 @@ pub(crate) struct Held {
 #[derive(Drop)]
 pub struct Manager {
     alloc: Global,
-    mode: Mode,
     placement: Placement,
+    /// What is live and stands before the writes of a commit under way: none by covers.
+    translation: Option<Translation>,
     rules: Store,
     live: LiveEntries,
     /// Where the entries of the set stand, before the writes of a commit under way.
@@ -61,27 +70,27 @@ pub struct Manager {
 impl Model for Manager {
     ghost use Rattle.std.specs.Prelude.{length, option_map};
     ghost use Rattle.batch_order.specs.Managed.{Managed};
-    ghost use Rattle.commit_writes.specs.Bits.{no_bits};
-    ghost use Rattle.batch_order.specs.Kept.{IsManaged, held_of, state_of};
+    ghost use Rattle.batch_order.specs.Kept.{IsManaged, bits_of, held_of, mode_of, state_of};
 
     ghost Value = { Managed };
 
     ghost view = { λ m. record {
       slots = length m.arrangement;
-      mode = m.mode;
+      mode = mode_of m.translation;
       placement = m.placement;
       rules = m.rules.rules;
-      bits = no_bits;
-      state = state_of m.live.entries m.arrangement m.held;
+      bits = bits_of m.translation;
+      state = state_of m.translation m.live.entries m.arrangement m.held;
       held = option_map (held_of m.rules.rules) m.held;
     } };
 
-    ghost invariant = { λ m. IsManaged m.mode m.rules m.live m.arrangement m.held };
+    ghost invariant = { λ m. IsManaged m.translation m.rules m.live m.arrangement m.held };
 }
 
 impl Manager {
-    /// A manager of a blank device with so many slots in use, 1 to 4,096, and no rules. The mode is `Cover` until range
-    /// bits come. Each insertion aims where the placement says. It fails only for want of memory.
+    /// A manager of a blank device with so many slots in use, 1 to 4,096, and no rules. By `Cover` a rule takes an entry
+    /// for each pair of blocks of its port ranges; by `Bits` it takes one, and each range that isn't one block takes a bit
+    /// of its field's translation table. Each insertion aims where the placement says. It fails only for want of memory.
     ///
     /// From here on nobody else may write the device: what is promised of it holds of one that the manager's writes
     /// alone have changed.
@@ -93,14 +102,13 @@ impl Manager {
     ) -> Result<Manager, AllocError>
         requires least { 1 ≤ slots }
         requires most { slots ≤ 4096 }
-        requires cover { mode ≡ Mode.Cover }
         ensures fresh { IfOk result (λ manager. manager ≡ fresh slots mode placement) }
         ensures on_blank { IfOk result (λ manager. (device_slots : ℕ) → slots ≤ device_slots → IsOn device_slots [] manager) }
     {
         Ok(Manager {
             alloc,
-            mode,
             placement,
+            translation: blank_translation(alloc, mode)?,
             rules: Store::new(alloc),
             live: LiveEntries::new(alloc, slots)?,
             arrangement: Arrangement::new(alloc, slots)?,
@@ -125,7 +133,7 @@ impl Manager {
     pub fn entries(&self) -> u32
         ensures { result ≡ entries_of self.now.mode self.now.rules }
     {
-        self.rules.entries_of(self.mode) as u32
+        self.rules.entries_of(encoding(&self.translation)) as u32
     }
 
     /// How many writes of the commit under way are still to make. None comes exactly where no commit is under way.
@@ -145,8 +153,9 @@ impl Manager {
     ///
     /// Refusals are tried in this order. `Busy` comes exactly while a commit is under way, with the writes that are
     /// left. Else the rule lists alone decide: `Twice`, `Taken` and `Absent` by the first command that the set doesn't
-    /// take, `Slots` where the additions need more entries than slots are free. `Memory` comes last. A refusal writes
-    /// nothing, and leaves rules, manager, and the device's journal as they were.
+    /// take; by bits `Bits`, of the source field before the destination's, where the additions have more new ranges that
+    /// aren't one block than bits are free; `Slots` where they need more entries than slots are free. `Memory` comes
+    /// last. A refusal writes nothing, and leaves rules, manager, and the device's journal as they were.
     ///
     /// Whatever it answers, each key is answered, by the device's journal, as before: as the rules of the set do, and with
     /// a commit under way already as its old ones or its new ones do.
@@ -172,7 +181,7 @@ impl Manager {
             Ok(()) => {}
             Err(fault) => return Err(refusal_of(fault)),
         }
-        match self.check_slots(batch) {
+        match self.check_room(batch) {
             Ok(()) => {}
             Err(refusal) => return Err(refusal),
         }
@@ -183,16 +192,38 @@ impl Manager {
         }
     }
 
-    /// Whether the entries that the batch adds fit the free slots.
-    fn check_slots(&self, batch: &Batch) -> Result<(), Refusal>
+    /// Whether the batch's new port ranges fit the free bits, and its entries the free slots.
+    fn check_room(&self, batch: &Batch) -> Result<(), Refusal>
         requires idle { self.now.held ≡ None }
         requires sound { batch_fault self.now.rules batch.now ≡ None }
         ensures fits { OnOk result (verdict self.now.slots self.now.mode self.now.rules batch.now ≡ Accepted) }
         ensures short { IfErr result (λ refusal. Answers (verdict self.now.slots self.now.mode self.now.rules batch.now) (Err refusal)) }
     {
+        match &self.translation {
+            None => self.check_slots(batch),
+            Some(translation) => {
+                match check_field(&translation.bits, Field::Src, batch) {
+                    Ok(()) => {}
+                    Err(short) => return Err(short),
+                }
+                match check_field(&translation.bits, Field::Dst, batch) {
+                    Ok(()) => self.check_slots(batch),
+                    Err(short) => Err(short),
+                }
+            }
+        }
+    }
+
+    /// Whether the entries that the batch adds fit the free slots.
+    fn check_slots(&self, batch: &Batch) -> Result<(), Refusal>
+        requires idle { self.now.held ≡ None }
+        requires sound { batch_fault self.now.rules batch.now ≡ None }
+        ensures fits { OnOk result (slots_verdict self.now.slots self.now.mode self.now.rules batch.now ≡ Accepted) }
+        ensures short { IfErr result (λ refusal. Answers (slots_verdict self.now.slots self.now.mode self.now.rules batch.now) (Err refusal)) }
+    {
         // A batch has 4,096 commands at most, so the number fits.
         let _commands = batch.len();
-        let need = self.rules.entries_added(self.mode, batch) as u32;
+        let need = self.rules.entries_added(encoding(&self.translation), batch) as u32;
         let free = self.arrangement.free_count();
         if need > free {
             return Err(Refusal::Slots { need, free });
@@ -215,14 +246,16 @@ impl Manager {
         ensures slot_count { D.slot_count device.new ≡ D.slot_count device.old }
         ensures faults { D.faults device.new ≡ D.faults device.old }
     {
-        let parts = parts_of(self.alloc, &self.rules, &self.live, batch)?;
+        let mut plan = Plan::new(self.alloc);
+        let bits = self.plan_words(batch, &mut plan)?;
+        let parts = parts_of(self.alloc, &self.rules, &self.live, &bits, batch)?;
         let copy = batch.try_copy(self.alloc)?;
         self.rules.reserve(batch.len())?;
         let mut arrangement = self.arrangement.try_copy(self.alloc)?;
-        let mut plan = Plan::new(self.alloc);
         let ids = plan_additions(
             self.alloc,
             self.placement,
+            encoding(&self.translation),
             &self.rules,
             &parts.inserted,
             &mut self.live,
@@ -242,12 +275,37 @@ impl Manager {
             writes: plan.writes,
             made: 0,
             counts,
+            bits,
             batch: copy,
             rewrites: parts.rewrites,
             erased: parts.erased,
             arrangement,
         });
         Ok(ready(&counts))
+    }
+
+    /// Gives the batch's new port ranges their bits, and plans the words of the tables that differ by them. Answers the
+    /// live ranges while the commit is made, none by covers.
+    fn plan_words(&self, batch: &Batch, plan: &mut Plan) -> Result<Option<FieldBits>, AllocError>
+        requires idle { self.now.held ≡ None }
+        requires free { HaveFreeBits self.now.mode self.now.rules batch.now }
+        requires empty { plan.old.writes.items ≡ [] }
+        requires none { plan.old.words ≡ 0 }
+        ensures bits { IfOk result (λ bits. (coded_by bits ≡ self.now.mode) × (during_of bits ≡ bits_with self.now.mode self.now.rules batch.now self.now.bits)) }
+        ensures writes { OnOk result (plan.new.writes.items ≡ words_of self.now.mode self.now.bits self.now.rules batch.now self.now.state) }
+        ensures words { OnOk result (plan.new.words ≡ length plan.new.writes.items) }
+        ensures few { OnOk result (length plan.new.writes.items ≤ 2 * 2 ^ 16) }
+        ensures most { plan.new.most ≡ plan.old.most }
+        ensures span { plan.new.span ≡ plan.old.span }
+    {
+        let Some(translation) = &self.translation else {
+            return Ok(None);
+        };
+        let bits = translation.bits.with_new(batch);
+        let new = bits.new_since(&translation.bits);
+        translation.tables.plan_words(&new, &mut plan.writes)?;
+        plan.words = plan.writes.len() as u32;
+        Ok(Some(bits))
     }
 
     /// Makes the next write of the commit under way, over the device that `prepare` reserved, with room for the writes
@@ -385,15 +443,17 @@ impl Manager {
             None => Step::Idle,
             Some(held) => {
                 let Held {
-                    writes: _,
+                    writes,
                     made: _,
                     counts,
+                    bits,
                     batch,
                     rewrites,
                     erased,
                     arrangement,
                 } = held;
                 self.rules.apply(&batch);
+                translate(&mut self.translation, &bits, &self.rules, &writes);
                 self.live.rewrite_all(&rewrites);
                 self.live.forget_each(&erased);
                 self.arrangement = arrangement;

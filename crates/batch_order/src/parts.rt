@@ -6,18 +6,19 @@ ghost use Rattle.rule_model.specs.Rule.{HasConditions};
 ghost use Rattle.rule_model.specs.RuleSet.{IsRuleSet};
 ghost use Rattle.rule_store.specs.Batch.{ChangesRules, batch_fault};
 ghost use Rattle.ternary_word.specs.Entry.{IsEncodable};
-ghost use Rattle.commit_writes.specs.Bits.{no_bits};
 ghost use Rattle.commit_writes.specs.Shape.{erased_pieces, inserted_pieces, rewritten_pieces, set_pieces};
 ghost use Rattle.commit_writes.specs.PlannedBatch.{IsIdOf, IsRewriteOf};
 ghost use Rattle.batch_order.specs.Entries.{HasId, HaveIds};
+ghost use Rattle.batch_order.specs.Kept.{coded_by, during_of};
 
 use crate::changes::changes_of;
 use crate::entries::LiveEntries;
 use crate::pieces::{Ranked, pieces_of};
 use commit_writes::Rewrite;
-use rule_store::{Batch, Mode, Store};
+use rule_store::{Batch, Store};
 use std::alloc::{AllocError, Global};
 use ternary_word::entry_of;
+use translation_tables::FieldBits;
 
 /// What a commit does: the pieces that it inserts, the new entry of each id whose piece gets a result, both by falling
 /// priority, and the ids of the pieces that go, by rising priority.
@@ -33,19 +34,21 @@ pub(crate) fn parts_of(
     alloc: Global,
     rules: &Store,
     live: &LiveEntries,
+    bits: &Option<FieldBits>,
     batch: &Batch,
 ) -> Result<Parts, AllocError>
     requires is_set { IsRuleSet rules.now.rules }
     requires right { AllByRecursion HasConditions rules.now.rules }
     requires changes { AllByRecursion ChangesRules batch.now }
     requires sound { batch_fault rules.now.rules batch.now ≡ None }
-    requires live { HaveIds live.now.live (set_pieces Mode.Cover no_bits rules.now.rules) }
-    ensures inserted { IfOk result (λ parts. parts.inserted.items ≡ inserted_pieces Mode.Cover no_bits rules.now.rules batch.now) }
-    ensures rewrites { IfOk result (λ parts. AllZip (IsRewriteOf live.now.live) (rewritten_pieces Mode.Cover no_bits rules.now.rules batch.now) parts.rewrites.items) }
-    ensures erased { IfOk result (λ parts. AllZip (IsIdOf live.now.live) (erased_pieces Mode.Cover no_bits rules.now.rules batch.now) parts.erased.items) }
+    requires encodable { AllByRecursion (λ ranked. IsEncodable ranked.piece) (rewritten_pieces (coded_by bits.now) (during_of bits.now) rules.now.rules batch.now) }
+    requires live { HaveIds live.now.live (set_pieces (coded_by bits.now) (during_of bits.now) rules.now.rules) }
+    ensures inserted { IfOk result (λ parts. parts.inserted.items ≡ inserted_pieces (coded_by bits.now) (during_of bits.now) rules.now.rules batch.now) }
+    ensures rewrites { IfOk result (λ parts. AllZip (IsRewriteOf live.now.live) (rewritten_pieces (coded_by bits.now) (during_of bits.now) rules.now.rules batch.now) parts.rewrites.items) }
+    ensures erased { IfOk result (λ parts. AllZip (IsIdOf live.now.live) (erased_pieces (coded_by bits.now) (during_of bits.now) rules.now.rules batch.now) parts.erased.items) }
 {
     let changes = changes_of(alloc, rules, batch)?;
-    let pieces = pieces_of(alloc, &changes)?;
+    let pieces = pieces_of(alloc, bits, &changes)?;
     let rewrites = rewrites(alloc, live, &pieces.rewritten)?;
     let erased = ids_of(alloc, live, &pieces.erased)?;
     Ok(Parts {

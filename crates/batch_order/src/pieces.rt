@@ -1,13 +1,14 @@
 //! The pieces of rules, each with its rule's priority and result: those that the changes of a batch insert, rewrite and
 //! erase.
 
-ghost use Rattle.std.specs.Prelude.{◌≡◌, ◌++◌, IfOk, OnOk, flat_map, map, option_copied, reverse};
+ghost use Rattle.std.specs.Prelude.{◌≡◌, ◌++◌, IfOk, OnOk, flat_map, map, reverse};
 ghost use Rattle.rule_model.specs.Piece as model;
 ghost use Rattle.rule_store.specs.Verdict as verdict;
 ghost use Rattle.commit_writes.specs.Bits.{no_bits};
 ghost use Rattle.commit_writes.specs.Shape.{ranked_piece, ranked_pieces};
 ghost use Rattle.batch_order.specs.Changes as changes;
 ghost use Rattle.batch_order.specs.Changes.{chosen_pieces, pieces_at, inserted_by, rewritten_by, erased_by, is_among, wants};
+ghost use Rattle.batch_order.specs.Kept.{coded_by, during_of};
 
 use crate::changes::Change;
 use range_cover::{Cover, cover};
@@ -15,6 +16,7 @@ use rule_model::{Piece, Ports, Rank, Rule};
 use rule_store::Mode;
 use std::alloc::{AllocError, Global};
 use std::marker::Model;
+use translation_tables::FieldBits;
 
 /// A piece of a rule, with the rule's priority and its result.
 #[derive(Clone, Copy)]
@@ -52,11 +54,16 @@ pub(crate) struct Pieces {
     pub(crate) erased: Vec<Ranked>,
 }
 
-/// The pieces of some changes: inserted and rewritten ones in their order, erased ones from the last change to the first.
-pub(crate) fn pieces_of(alloc: Global, changes: &[Change]) -> Result<Pieces, AllocError>
-    ensures inserted { IfOk result (λ pieces. pieces.inserted.items ≡ flat_map inserted_by changes.now) }
-    ensures rewritten { IfOk result (λ pieces. pieces.rewritten.items ≡ flat_map rewritten_by changes.now) }
-    ensures erased { IfOk result (λ pieces. pieces.erased.items ≡ flat_map erased_by (reverse changes.now)) }
+/// The pieces of some changes, by covers or with the bits of their port ranges: inserted and rewritten ones in their order,
+/// erased ones from the last change to the first.
+pub(crate) fn pieces_of(
+    alloc: Global,
+    bits: &Option<FieldBits>,
+    changes: &[Change],
+) -> Result<Pieces, AllocError>
+    ensures inserted { IfOk result (λ pieces. pieces.inserted.items ≡ flat_map (inserted_by (coded_by bits.now) (during_of bits.now)) changes.now) }
+    ensures rewritten { IfOk result (λ pieces. pieces.rewritten.items ≡ flat_map (rewritten_by (coded_by bits.now) (during_of bits.now)) changes.now) }
+    ensures erased { IfOk result (λ pieces. pieces.erased.items ≡ flat_map (erased_by (coded_by bits.now) (during_of bits.now)) (reverse changes.now)) }
 {
     let mut pieces = Pieces {
         inserted: Vec::new(alloc),
@@ -64,20 +71,25 @@ pub(crate) fn pieces_of(alloc: Global, changes: &[Change]) -> Result<Pieces, All
         erased: Vec::new(alloc),
     };
     for change in changes {
-        push_change(alloc, change, &mut pieces)?;
+        push_change(alloc, bits, change, &mut pieces)?;
     }
     pieces.erased.reverse();
     Ok(pieces)
 }
 
 /// Puts the pieces of a change behind others, the erased ones from the last to the first.
-fn push_change(alloc: Global, change: &Change, pieces: &mut Pieces) -> Result<(), AllocError>
-    ensures inserted { OnOk result (pieces.new.inserted.items ≡ pieces.old.inserted.items ++ inserted_by change.now) }
-    ensures rewritten { OnOk result (pieces.new.rewritten.items ≡ pieces.old.rewritten.items ++ rewritten_by change.now) }
-    ensures erased { OnOk result (pieces.new.erased.items ≡ pieces.old.erased.items ++ reverse (erased_by change.now)) }
+fn push_change(
+    alloc: Global,
+    bits: &Option<FieldBits>,
+    change: &Change,
+    pieces: &mut Pieces,
+) -> Result<(), AllocError>
+    ensures inserted { OnOk result (pieces.new.inserted.items ≡ pieces.old.inserted.items ++ inserted_by (coded_by bits.now) (during_of bits.now) change.now) }
+    ensures rewritten { OnOk result (pieces.new.rewritten.items ≡ pieces.old.rewritten.items ++ rewritten_by (coded_by bits.now) (during_of bits.now) change.now) }
+    ensures erased { OnOk result (pieces.new.erased.items ≡ pieces.old.erased.items ++ reverse (erased_by (coded_by bits.now) (during_of bits.now) change.now)) }
 {
-    let mut old = cut(alloc, &change.old)?;
-    let new = cut(alloc, &change.new)?;
+    let mut old = cut(alloc, bits, &change.old)?;
+    let new = cut(alloc, bits, &change.new)?;
     push_pieces(&new, &old, Choice::Fresh, &mut pieces.inserted)?;
     push_pieces(&new, &old, Choice::Common, &mut pieces.rewritten)?;
     old.reverse();
@@ -134,20 +146,37 @@ fn same_piece(a: &Piece, b: &Piece) -> bool
         && a.dport == b.dport
 }
 
-/// The pieces of a rule by covers, and none where there is no rule: one for each block of its source range and each of its
-/// destination range.
-fn cut(alloc: Global, rule: &Option<Rule>) -> Result<Vec<Ranked>, AllocError>
-    ensures { IfOk result (λ pieces. pieces.items ≡ pieces_at rule.now) }
+/// The pieces of a rule, and none where there is no rule: by covers one for each block of its source range and each of its
+/// destination range, and by bits one.
+fn cut(
+    alloc: Global,
+    bits: &Option<FieldBits>,
+    rule: &Option<Rule>,
+) -> Result<Vec<Ranked>, AllocError>
+    ensures { IfOk result (λ pieces. pieces.items ≡ pieces_at (coded_by bits.now) (during_of bits.now) rule.now) }
 {
     let mut pieces = Vec::new(alloc);
-    if let Some(rule) = rule {
-        push_rule(rule, &mut pieces)?;
+    match (bits, rule) {
+        (_, None) => {}
+        (None, Some(rule)) => push_blocks(rule, &mut pieces)?,
+        (Some(bits), Some(rule)) => pieces.push(whole(bits, rule))?,
     }
     Ok(pieces)
 }
 
-/// Puts the pieces of a rule behind others.
-fn push_rule(rule: &Rule, pieces: &mut Vec<Ranked>) -> Result<(), AllocError>
+/// The one piece of a rule with the bits of its port ranges.
+fn whole(bits: &FieldBits, rule: &Rule) -> Ranked
+    ensures { result ≡ ranked_piece bits.now rule.now (model.whole_piece rule.now) }
+{
+    Ranked {
+        piece: bits.coded(&Piece::whole(rule)),
+        rank: rule.priority,
+        result: rule.result,
+    }
+}
+
+/// Puts the pieces of a rule by covers behind others.
+fn push_blocks(rule: &Rule, pieces: &mut Vec<Ranked>) -> Result<(), AllocError>
     ensures { OnOk result (pieces.new.items ≡ pieces.old.items ++ ranked_pieces no_bits rule.now (verdict.pieces_of Mode.Cover rule.now)) }
 {
     let sources = cover(rule.sport);

@@ -15,10 +15,12 @@ use slot_pool::Arrangement;
 use std::alloc::{AllocError, Global};
 use tcam_device::{Writable, Write};
 
-/// The writes of a commit still to make, the writes of its longest insertion, and the greatest span of one.
+/// The writes of a commit still to make, how many of them are words of the tables, the writes of its longest insertion, and
+/// the greatest span of one.
 #[derive(Drop)]
 pub(crate) struct Plan {
     pub(crate) writes: Vec<Write>,
+    pub(crate) words: u32,
     pub(crate) most: u32,
     pub(crate) span: u32,
 }
@@ -27,11 +29,13 @@ impl Plan {
     /// A plan of no writes.
     pub(crate) fn new(alloc: Global) -> Plan
         ensures writes { result.writes.items ≡ [] }
+        ensures words { result.words ≡ 0 }
         ensures most { result.most ≡ 0 }
         ensures span { result.span ≡ 0 }
     {
         Plan {
             writes: Vec::new(alloc),
+            words: 0,
             most: 0,
             span: 0,
         }
@@ -40,6 +44,7 @@ impl Plan {
     /// Counts an insertion whose writes were pushed.
     pub(crate) fn count(&mut self, insert: Insert)
         ensures writes { self.new.writes.items ≡ self.old.writes.items }
+        ensures words { self.new.words ≡ self.old.words }
         ensures most { self.new.most ≡ max self.old.most insert.writes }
         ensures span { self.new.span ≡ max self.old.span insert.span }
     {
@@ -50,13 +55,13 @@ impl Plan {
     /// The numbers of a commit of which no write was made yet.
     pub(crate) fn counts(&self) -> Done
         ensures writes { result.writes ≡ length self.now.writes.items }
-        ensures words { result.words ≡ 0 }
+        ensures words { result.words ≡ self.now.words }
         ensures most { result.most ≡ self.now.most }
         ensures span { result.span ≡ self.now.span }
     {
         Done {
             writes: self.writes.len() as u64,
-            words: 0,
+            words: self.words,
             most: self.most,
             span: self.span,
         }
@@ -87,6 +92,7 @@ pub(crate) fn plan_changes<D: Writable>(
     requires in_use { AllByRecursion (IsInUse (length arrangement.now)) plan.old.writes.items }
     ensures in_use { OnOk result (AllByRecursion (IsInUse (length arrangement.now)) plan.new.writes.items) }
     ensures writes { OnOk result (plan.new.writes.items ≡ plan.old.writes.items ++ (map (rewrite_write arrangement.now) parts.now.rewrites.items ++ map (erase_write arrangement.now) parts.now.erased.items)) }
+    ensures words { OnOk result (plan.new.words ≡ plan.old.words) }
     ensures most { OnOk result (plan.new.most ≡ plan.old.most) }
     ensures span { OnOk result (plan.new.span ≡ plan.old.span) }
     ensures enough { OnOk result (length plan.new.writes.items ≤ D.spare device.new) }

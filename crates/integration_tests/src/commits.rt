@@ -63,7 +63,7 @@ pub(crate) fn prepare<D: Writable>(
 }
 
 /// Makes one step.
-fn step<D: Writable>(manager: &mut Manager, device: &mut D) -> Result<Step, DeviceFault>
+pub(crate) fn step<D: Writable>(manager: &mut Manager, device: &mut D) -> Result<Step, DeviceFault>
     requires slots { manager.old.slots ≤ D.slot_count device.old }
     requires room { IfSome manager.old.held (λ held. length held.writes ≤ D.spare device.old) }
     ensures slots { manager.new.slots ≡ manager.old.slots }

@@ -3,6 +3,8 @@
 #![tactic(auto)]
 
 #[cfg(test)]
+mod by_bits;
+#[cfg(test)]
 mod by_rank;
 #[cfg(test)]
 mod carried;

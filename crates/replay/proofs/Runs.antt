@@ -142,7 +142,7 @@ module _ (run : Running) (ready : Ready) (is : IsRun run) (holds : Holds (record
     made = holds.held.writes;
     counts = holds.held.counts;
     segment = holds.segment slots within;
-    placed = subst (λ (state : State). IsPlacedBy run.manager.placement run.manager.rules run.pending state holds.held.writes)
+    placed = subst (λ (state : State). IsPlacedBy run.manager.placement run.manager.mode run.manager.bits run.manager.rules run.pending state holds.held.writes)
         (sym (in-use (setting_of run) slots run.manager.state is.size)) holds.placed;
     of_family = of-family slots within;
     in_use = holds.in_use;

@@ -126,7 +126,7 @@ pub record Commits (setting : Setting) (old : Progress) (effects : List Effect) 
   pub made : List Write
   pub counts : Done
   pub segment : IsSegment setting.mode old.bits old.rules old.batch old.state made
-  pub placed : IsPlacedBy setting.placement old.rules old.batch (slots_in_use setting old.state) made
+  pub placed : IsPlacedBy setting.placement setting.mode old.bits old.rules old.batch (slots_in_use setting old.state) made
   pub of_family : OfFamily setting.family old.state made
   pub in_use : AllByRecursion (IsInUse setting.slots) made
   pub numbers : AreCounts old.state made counts

@@ -45,8 +45,8 @@ impl Model for Run {
 
 impl Run {
     /// A run before its first act, over a blank device with so many slots in use, 1 to 4,096: no rules, no probe, and
-    /// no change pending. Each insertion aims where the placement says. With a trace each write of a commit has its
-    /// line. The mode is `Cover` until range bits come. It fails only for want of memory.
+    /// no change pending. The mode says how port ranges are tested, and each insertion aims where the placement says. With a
+    /// trace each write of a commit has its line. It fails only for want of memory.
     pub fn new(
         alloc: Global,
         slots: u32,
@@ -57,7 +57,6 @@ impl Run {
     ) -> Result<Run, AllocError>
         requires least { 1 ≤ slots }
         requires most { slots ≤ 4096 }
-        requires cover { mode ≡ Mode.Cover }
         ensures { IfOk result (λ run. run ≡ begun slots mode placement family trace) }
     {
         Ok(Run {

@@ -34,11 +34,11 @@ loop-ranked-preserved c =
     let all = slots - c.free_count.result + length pieces in
     let size : c.len.result ≡ length c.loop-ranked.ids.items = first_of (search rules, grind (arith, common_steps)) in
     let place : c.len.result ≡ 0 + length some = (let made : length some ≡ c.loop-ranked.ranked-index = length-take-le c.loop-ranked.ranked-index pieces (omega arith) in let number = was.2 in omega arith) in
-    let aims : aims_from c.args.placement slots set all 0 some ++ c.aim_of-aim.result ∷ [] ≡ aims_from c.args.placement slots set all 0 (take (c.loop-ranked.ranked-index + 1) pieces) =
-    ap (λ (aim : Aim). aims_from c.args.placement slots set all 0 some ++ aim ∷ []) (c.aim_of-aim.ensures ∙ ap (λ (n : ℕ). aim_of c.args.placement slots set all n one) place)
-    ∙ (sym (aims_more c.args.placement slots set all 0 some one) ∙ ap (aims_from c.args.placement slots set all 0) (sym more)) in
+    let aims : aims_from c.args.placement c.args.mode slots set all 0 some ++ c.aim_of-aim.result ∷ [] ≡ aims_from c.args.placement c.args.mode slots set all 0 (take (c.loop-ranked.ranked-index + 1) pieces) =
+    ap (λ (aim : Aim). aims_from c.args.placement c.args.mode slots set all 0 some ++ aim ∷ []) (c.aim_of-aim.ensures ∙ ap (λ (n : ℕ). aim_of c.args.placement c.args.mode slots set all n one) place)
+    ∙ (sym (aims_more c.args.placement c.args.mode slots set all 0 some one) ∙ ap (aims_from c.args.placement c.args.mode slots set all 0) (sym more)) in
     let planned = planned_then c.args.live.now c.loop-ranked.live c.plan_piece.new.live c.args.arrangement.now c.loop-ranked.arrangement c.plan_piece.new.arrangement
-    c.args.plan.now c.loop-ranked.plan c.plan_piece.new.plan some (one ∷ []) (aims_from c.args.placement slots set all 0 some) (c.aim_of-aim.result ∷ []) was.4 c.in-Ok.ensures.planned in
+    c.args.plan.now c.loop-ranked.plan c.plan_piece.new.plan some (one ∷ []) (aims_from c.args.placement c.args.mode slots set all 0 some) (c.aim_of-aim.result ∷ []) was.4 c.in-Ok.ensures.planned in
     let plannable : IsPlannable c.plan_piece.new.live c.plan_piece.new.arrangement c.plan_piece.new.plan.writes.items = c.in-Ok.ensures.plannable in
     let items : c.push_reserved.new.self.items ≡ c.loop-ranked.ids.items ++ c.in-Ok.id ∷ [] = search rules in
     let adds : AddsIds c.args.live.now c.plan_piece.new.live c.push_reserved.new.self.items =
@@ -49,6 +49,6 @@ loop-ranked-preserved c =
       adds,
       number,
       room,
-      subst (λ (pieces : List RankedPiece). ArePlannedSince c.args.live.now c.plan_piece.new.live c.args.arrangement.now c.plan_piece.new.arrangement c.args.plan.now c.plan_piece.new.plan pieces (aims_from c.args.placement slots set all 0 (take (c.loop-ranked.ranked-index + 1) c.args.pieces.now))) (sym more)
+      subst (λ (pieces : List RankedPiece). ArePlannedSince c.args.live.now c.plan_piece.new.live c.args.arrangement.now c.plan_piece.new.arrangement c.args.plan.now c.plan_piece.new.plan pieces (aims_from c.args.placement c.args.mode slots set all 0 (take (c.loop-ranked.ranked-index + 1) c.args.pieces.now))) (sym more)
           (subst (ArePlannedSince c.args.live.now c.plan_piece.new.live c.args.arrangement.now c.plan_piece.new.arrangement c.args.plan.now c.plan_piece.new.plan (some ++ one ∷ [])) aims planned),
     )

@@ -64,6 +64,7 @@ returns c =
         placement = subst (λ l. IsPlacement (is_above l) c.args.aim c.args.id slots m) live c.in_ok-insert.ensures.placement;
         slots_are = after;
         writes = c.count.ensures.writes ∙ (c.in_ok-push_all.ensures.writes ∙ ap (λ (p : List Move). c.args.plan.now.writes.items ++ map (write_for kept.entries) p) all);
+        words = c.count.ensures.words;
         most = c.count.ensures.most ∙ ap (max c.args.plan.now.most) c.in_ok-insert.ensures.writes;
         span = c.count.ensures.span ∙ ap (max c.args.plan.now.span) (subst (λ l. c.in_ok-insert.insert.span ≡ span_of (is_above l) slots c.args.id) live c.in_ok-insert.ensures.span);
       };

@@ -1,7 +1,9 @@
-use Rattle.std.proofs.Common.{◌≡◌, ◌∙◌, ◌++◌, List, Ok, Err, OnOk, Result, reverse, ap, ap₂}
+use Rattle.std.proofs.Common.{◌≡◌, ◌∙◌, ◌++◌, List, Ok, Err, OnOk, Option, Result, reverse, ap, ap₂}
+use Rattle.rule_model.specs.declared.Rule.{Rule}
 use Rattle.ternary_word.specs.Entry.{RankedPiece}
 use Rattle.batch_order.specs.declared.pieces.Choice.TheVariants.{Fresh}
 use Rattle.batch_order.specs.Changes.{RuleChange, chosen_pieces, pieces_at, is_among, wants}
+use Rattle.batch_order.specs.Kept.{coded_by, during_of}
 use Rattle.batch_order.proofs.Walked.{kept_reverse}
 use Rattle.batch_order.proofs.pieces.push_change.Goals as goal
 
@@ -15,5 +17,8 @@ reversed (Ok value) now before olds others old new some chosen backwards is_old 
 
 pub returns-clause-erased : goal.returns-clause-erased
 returns-clause-erased c =
-    reversed c.push_pieces-3.result _ _ _ _ (pieces_at c.args.change.now.old) (pieces_at c.args.change.now.new) _ c.push_pieces-3.ensures (c.deref-5.ensures.value ∙ c.reverse.ensures.items)
-    (c.in_ok-old.ensures ∙ ap (λ (v : RuleChange). pieces_at v.old) c.change.view_is) (c.deref-6.ensures.value ∙ c.in_ok-new.ensures ∙ ap (λ (v : RuleChange). pieces_at v.new) c.change.view_is)
+    reversed c.push_pieces-3.result _ _ _ _ (cut c.args.change.now.old) (cut c.args.change.now.new) _ c.push_pieces-3.ensures (c.deref-5.ensures.value ∙ c.reverse.ensures.items)
+    (c.in_ok-old.ensures ∙ ap (λ (v : RuleChange). cut v.old) c.change.view_is) (c.deref-6.ensures.value ∙ c.in_ok-new.ensures ∙ ap (λ (v : RuleChange). cut v.new) c.change.view_is)
+  where
+    cut : Option Rule → List RankedPiece
+    cut rule = pieces_at (coded_by c.args.bits.now) (during_of c.args.bits.now) rule

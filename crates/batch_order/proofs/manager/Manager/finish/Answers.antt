@@ -1,7 +1,9 @@
-use Rattle.std.proofs.Common.{◌≡◌, [], Option, Some, None, IfSome, drop, sym, subst, ◌∙◌}
+use Rattle.std.proofs.Common.{◌≡◌, [], List, Option, Some, None, IfSome, drop, sym, ap₂, subst, ◌∙◌}
+use Rattle.rule_model.specs.declared.Rule.{Rule}
+use Rattle.tcam_device.specs.declared.Write.{Write}
 use Rattle.batch_order.specs.declared.Step.TheVariants.{Finished}
 use Rattle.batch_order.specs.declared.manager.Held.{Held}
-use Rattle.batch_order.specs.Kept.{IsManaged}
+use Rattle.batch_order.specs.Kept.{IsManaged, translated_by, translation_after}
 use Rattle.batch_order.specs.Managed.{Managed, Steps}
 use Rattle.batch_order.proofs.Carried.{view_of, managed_after, finish_steps, IsFinished}
 use Rattle.batch_order.proofs.manager.Manager.finish.Goals as goal
@@ -9,61 +11,66 @@ use Rattle.batch_order.proofs.manager.Manager.finish.Goals as goal
 pub apply-requires-clause-sound : goal.apply-requires-clause-sound
 apply-requires-clause-sound c =
     let was : c.self.inside.held ≡ Some c.in-Some.held = cc in
-    let before = subst (IsManaged c.self.inside.mode c.self.inside.rules c.self.inside.live c.self.inside.arrangement) was c.self.invariant in
+    let before = subst (IsManaged c.self.inside.translation c.self.inside.rules c.self.inside.live c.self.inside.arrangement) was c.self.invariant in
     before.carried.sound
 
 pub apply-requires-clause-room : goal.apply-requires-clause-room
 apply-requires-clause-room c =
     let was : c.self.inside.held ≡ Some c.in-Some.held = cc in
-    let before = subst (IsManaged c.self.inside.mode c.self.inside.rules c.self.inside.live c.self.inside.arrangement) was c.self.invariant in
+    let before = subst (IsManaged c.self.inside.translation c.self.inside.rules c.self.inside.live c.self.inside.arrangement) was c.self.invariant in
     before.carried.room
 
 pub rewrite_all-requires : goal.rewrite_all-requires
 rewrite_all-requires c =
     let was : c.self.inside.held ≡ Some c.in-Some.held = cc in
-    let before = subst (IsManaged c.self.inside.mode c.self.inside.rules c.self.inside.live c.self.inside.arrangement) was c.self.invariant in
-    rw c.deref.ensures.value before.carried.changed
+    let before = subst (IsManaged c.self.inside.translation c.self.inside.rules c.self.inside.live c.self.inside.arrangement) was c.self.invariant in
+    rw c.deref-in-Some.ensures.value before.carried.changed
 
 pub forget_each-requires-clause-distinct : goal.forget_each-requires-clause-distinct
 forget_each-requires-clause-distinct c =
     let was : c.self.inside.held ≡ Some c.in-Some.held = cc in
-    let before = subst (IsManaged c.self.inside.mode c.self.inside.rules c.self.inside.live c.self.inside.arrangement) was c.self.invariant in
-    rw c.deref-in-Some.ensures.value before.carried.once
+    let before = subst (IsManaged c.self.inside.translation c.self.inside.rules c.self.inside.live c.self.inside.arrangement) was c.self.invariant in
+    rw c.deref-in-Some-2.ensures.value before.carried.once
 
 pub forget_each-requires-clause-live : goal.forget_each-requires-clause-live
 forget_each-requires-clause-live c =
     let was : c.self.inside.held ≡ Some c.in-Some.held = cc in
-    let before = subst (IsManaged c.self.inside.mode c.self.inside.rules c.self.inside.live c.self.inside.arrangement) was c.self.invariant in
-    rw (c.deref-in-Some.ensures.value, c.rewrite_all.ensures.live) before.carried.gone
+    let before = subst (IsManaged c.self.inside.translation c.self.inside.rules c.self.inside.live c.self.inside.arrangement) was c.self.invariant in
+    rw (c.deref-in-Some-2.ensures.value, c.rewrite_all.ensures.live) before.carried.gone
 
 pub invariant_of-self-in-Some : goal.invariant_of-self-in-Some
 invariant_of-self-in-Some c =
     let i = c.self.inside in
-    let was : i.held ≡ Some c.in-Some.held = cc in
-    let before = subst (IsManaged i.mode i.rules i.live i.arrangement) was c.self.invariant in
-    let finished : IsFinished i.live c.forget_each.new.self c.in-Some.held = record {
-      live = rw (← c.deref-in-Some.ensures.value, ← c.rewrite_all.ensures.live) c.forget_each.ensures.live;
-      entries = rw (← c.deref.ensures.value, ← c.rewrite_all.ensures.entries) c.forget_each.ensures.kept;
+    let held = c.in-Some.held in
+    let was : i.held ≡ Some held = cc in
+    let before = subst (IsManaged i.translation i.rules i.live i.arrangement) was c.self.invariant in
+    let finished : IsFinished i.live c.forget_each.new.self held = record {
+      live = rw (← c.deref-in-Some-2.ensures.value, ← c.rewrite_all.ensures.live) c.forget_each.ensures.live;
+      entries = rw (← c.deref-in-Some.ensures.value, ← c.rewrite_all.ensures.entries) c.forget_each.ensures.kept;
       slots = c.forget_each.ensures.slots ∙ c.rewrite_all.ensures.slots;
     } in
-    rw c.take.ensures.after (managed_after i.mode i.rules c.apply.new.self i.live c.forget_each.new.self i.arrangement c.in-Some.held before c.apply.ensures.rules finished)
+    let turned : c.translate.new.translation ≡ translation_after i.translation i.rules.rules held =
+    c.translate.ensures ∙ ap₂ (λ (rules : List Rule) (writes : List Write). translated_by i.translation held.bits rules writes) c.apply.ensures.rules c.deref.ensures.value in
+    rw c.take.ensures.after (managed_after i.translation c.translate.new.translation i.rules c.apply.new.self i.live c.forget_each.new.self i.arrangement held before turned c.apply.ensures.rules finished)
 
 pub returns-in-Some : goal.returns-in-Some
 returns-in-Some c =
     let i = c.self.inside in
     let held = c.in-Some.held in
     let was : i.held ≡ Some held = cc in
-    let before = subst (IsManaged i.mode i.rules i.live i.arrangement) was c.self.invariant in
+    let before = subst (IsManaged i.translation i.rules i.live i.arrangement) was c.self.invariant in
     let finished : IsFinished i.live c.forget_each.new.self held = record {
-      live = rw (← c.deref-in-Some.ensures.value, ← c.rewrite_all.ensures.live) c.forget_each.ensures.live;
-      entries = rw (← c.deref.ensures.value, ← c.rewrite_all.ensures.entries) c.forget_each.ensures.kept;
+      live = rw (← c.deref-in-Some-2.ensures.value, ← c.rewrite_all.ensures.live) c.forget_each.ensures.live;
+      entries = rw (← c.deref-in-Some.ensures.value, ← c.rewrite_all.ensures.entries) c.forget_each.ensures.kept;
       slots = c.forget_each.ensures.slots ∙ c.rewrite_all.ensures.slots;
     } in
-    let view : view_of i.placement i.mode i.rules i.live i.arrangement i.held ≡ c.args.self.now = c.self.view_is in
-    let requires : IfSome (view_of i.placement i.mode i.rules i.live i.arrangement i.held).held (λ one. one.writes ≡ []) = rw (← c.self.view_is) at c.requires in
-    let none : drop held.made held.writes.items ≡ [] = subst (λ (h : Option Held). IfSome (view_of i.placement i.mode i.rules i.live i.arrangement h).held (λ one. one.writes ≡ [])) was requires in
-    let new = view_of i.placement i.mode c.apply.new.self c.forget_each.new.self held.arrangement None in
-    let steps : Steps (view_of i.placement i.mode i.rules i.live i.arrangement i.held) (view_of i.placement i.mode i.rules i.live i.arrangement i.held).held (Finished held.counts) new =
-    subst (λ (h : Option Held). Steps (view_of i.placement i.mode i.rules i.live i.arrangement h) (view_of i.placement i.mode i.rules i.live i.arrangement h).held (Finished held.counts) new) (sym was)
-    (finish_steps i.placement i.mode i.rules c.apply.new.self i.live c.forget_each.new.self i.arrangement held before none c.apply.ensures.rules finished) in
+    let turned : c.translate.new.translation ≡ translation_after i.translation i.rules.rules held =
+    c.translate.ensures ∙ ap₂ (λ (rules : List Rule) (writes : List Write). translated_by i.translation held.bits rules writes) c.apply.ensures.rules c.deref.ensures.value in
+    let view : view_of i.placement i.translation i.rules i.live i.arrangement i.held ≡ c.args.self.now = c.self.view_is in
+    let requires : IfSome (view_of i.placement i.translation i.rules i.live i.arrangement i.held).held (λ one. one.writes ≡ []) = rw (← c.self.view_is) at c.requires in
+    let none : drop held.made held.writes.items ≡ [] = subst (λ (h : Option Held). IfSome (view_of i.placement i.translation i.rules i.live i.arrangement h).held (λ one. one.writes ≡ [])) was requires in
+    let new = view_of i.placement c.translate.new.translation c.apply.new.self c.forget_each.new.self held.arrangement None in
+    let steps : Steps (view_of i.placement i.translation i.rules i.live i.arrangement i.held) (view_of i.placement i.translation i.rules i.live i.arrangement i.held).held (Finished held.counts) new =
+    subst (λ (h : Option Held). Steps (view_of i.placement i.translation i.rules i.live i.arrangement h) (view_of i.placement i.translation i.rules i.live i.arrangement h).held (Finished held.counts) new) (sym was)
+    (finish_steps i.translation c.translate.new.translation i.rules c.apply.new.self i.live c.forget_each.new.self i.arrangement held before turned c.apply.ensures.rules finished i.placement none) in
     rw c.take.ensures.after (subst (λ (old : Managed). Steps old old.held (Finished held.counts) new) view steps)

@@ -1,116 +1,142 @@
-use Rattle.std.proofs.Common.{◌≡◌, ℕ, ◌≤◌, ◌+◌, ◌∙◌, List, length, IsTrue, Option, Some, None, Ok, Err, OnErr, Result, refl, sym, ap, subst, arith}
-use Rattle.std.specs.Prelude.{option_map}
+use Rattle.std.proofs.Common.{◌≡◌, ℕ, ◌≤◌, ◌+◌, ◌*◌, ◌^◌, ◌∙◌, List, length, IsTrue, Option, Some, None, Ok, Err, OnErr, Result, refl, sym, ap, subst, arith}
 use Rattle.std.specs.List.{AllByRecursion, AllZip}
 use Rattle.slot_pool.specs.Arrangement.{Slots}
 use Rattle.rule_model.specs.declared.Rule.{Rule}
 use Rattle.overlap_index.specs.declared.LivePiece.{LivePiece}
 use Rattle.overlap_index.specs.Live.{is_live}
 use Rattle.rule_store.specs.declared.Mode.{Mode}
-use Rattle.rule_store.specs.declared.Mode.TheVariants.{Cover}
 use Rattle.rule_store.specs.declared.Command.{Command}
 use Rattle.rule_store.specs.Store.{StoredRules}
 use Rattle.rule_store.specs.Batch.{ChangesRules, batch_fault}
 use Rattle.rule_store.specs.Verdict.{verdict, Accepted, entries_of}
-use Rattle.ternary_word.specs.Entry.{RankedPiece}
+use Rattle.ternary_word.specs.Entry.{RankedPiece, IsEncodable}
+use Rattle.tcam_device.specs.declared.Write.{Write}
 use Rattle.tcam_device.specs.State.{IsInUse}
 use Rattle.commit_writes.specs.declared.Rewrite.{Rewrite}
-use Rattle.commit_writes.specs.Bits.{no_bits}
+use Rattle.commit_writes.specs.Bits.{FieldBits, bits_with, new_bits}
 use Rattle.commit_writes.specs.Shape.{set_pieces, inserted_pieces, rewritten_pieces, erased_pieces}
 use Rattle.commit_writes.specs.PlannedBatch.{IsIdOf, IsRewriteOf, erased_slots}
-use Rattle.commit_writes.proofs.BatchRules.{IsSoundChange}
+use Rattle.commit_writes.proofs.TableWrites.{bit_writes-tables, tables_in_use}
 use Rattle.batch_order.specs.declared.Placement.{Placement}
 use Rattle.batch_order.specs.declared.manager.Held.{Held}
 use Rattle.batch_order.specs.declared.plan.Plan.{Plan}
+use Rattle.batch_order.specs.declared.translation.Translation.{Translation}
 use Rattle.batch_order.specs.Entries.{AddsIds, Entries, HaveIds, KeepEntries}
-use Rattle.batch_order.specs.Kept.{IsManaged, held_of}
-use Rattle.batch_order.specs.Placing.{aims_of}
+use Rattle.batch_order.specs.Kept.{IsManaged, bits_of, coded_by, during_of, held_of, mode_of, settled_state}
+use Rattle.batch_order.specs.Placing.{aims_of, words_of}
 use Rattle.batch_order.specs.Planning.{ArePlannedSince}
 use Rattle.batch_order.specs.Managed.{Managed, Holds}
-use Rattle.batch_order.proofs.Parted.{inserted_encodable}
+use Rattle.batch_order.proofs.Parted.{inserted_encodable, rewritten_encodable}
 use Rattle.batch_order.proofs.Numbered.{arranged_number}
 use Rattle.batch_order.proofs.Needed.{rules_entries}
-use Rattle.batch_order.proofs.Judged.{entries_few}
+use Rattle.batch_order.proofs.Judged.{accepted_room, entries_few, idle_held}
 use Rattle.batch_order.proofs.Cleared.{all_stand}
 use Rattle.batch_order.proofs.Carried.{view_of}
 use Rattle.batch_order.proofs.Refused.{adds_first, managed_same, view_same}
-use Rattle.batch_order.proofs.Taken.{inserted_room, pieces_have_ids, plan_made, plan_none}
-use Rattle.batch_order.proofs.Holding.{AreLiveParts, changed_stand, holds_plan, live_parts, managed_held}
+use Rattle.batch_order.proofs.Taken.{ArePartsOf, IsCoded, IsTaken, behind_by, behind_serves, during_by, inserted_room, kept_so, pieces_have_ids, plan_made, plan_words, said_so, words_by}
+use Rattle.batch_order.proofs.Leading.{AreLiveParts, changed_stand, live_parts}
+use Rattle.batch_order.proofs.Holding.{IsHeldPlan, holds_plan, managed_held}
+use Rattle.batch_order.proofs.manager.Manager.plan.Given.{Over}
 use Rattle.batch_order.proofs.manager.Manager.plan.Goals as goal
 
-no_held : (rules : List Rule) (held : Option Held) → option_map (held_of rules) held ≡ None → held ≡ None
-no_held rules None none = refl
-no_held rules (Some held) none = absurd (cc)
-
--- what a manager that is to plan a batch knows
-record Taking (mode : Mode) (rules : StoredRules) (kept : Entries) (slots : Slots) (batch : List Command) : Type 0 where
-  managed : IsManaged mode rules kept slots None
-  change : IsSoundChange rules.rules batch
-  room : length kept.live + length (inserted_pieces Cover no_bits rules.rules batch) ≤ kept.slots
-  set : length rules.rules ≤ 4096
-  ids : HaveIds kept.live (set_pieces Cover no_bits rules.rules)
-
-taking : (mode : Mode) (rules : StoredRules) (kept : Entries) (slots : Slots) (held : Option Held) (batch : List Command) → IsManaged mode rules kept slots held → held ≡ None
-    → AllByRecursion ChangesRules batch → batch_fault rules.rules batch ≡ None → verdict (length slots) mode rules.rules batch ≡ Accepted → Taking mode rules kept slots batch
-taking mode rules kept slots held batch is none changes sound fits =
-    let managed : IsManaged mode rules kept slots None = subst (IsManaged mode rules kept slots) none is in
-    let few = entries_few mode rules kept slots held is in
-    let fewer = rules_entries rules.rules is.right in
+-- what is known where a batch is to be planned, as the call tells it
+taken_as : (placement : Placement) (translation : Option Translation) (rules : StoredRules) (kept : Entries) (slots : Slots) (held : Option Held) (now : Managed) (batch : List Command) → IsManaged translation rules kept slots held
+    → view_of placement translation rules kept slots held ≡ now → now.held ≡ None → AllByRecursion ChangesRules batch → batch_fault now.rules batch ≡ None → verdict now.slots now.mode now.rules batch ≡ Accepted
+    → IsTaken translation rules kept slots batch
+taken_as placement translation rules kept slots held now batch is view idle changes sound fits =
+    let none : held ≡ None = idle_held (held_of rules.rules) held (rw (← view) at idle) in
+    let sound_so : batch_fault rules.rules batch ≡ None = rw (← view) at sound in
+    let fits_so : verdict (length slots) (mode_of translation) rules.rules batch ≡ Accepted = rw (← view) at fits in
     record {
-      managed = managed;
-      change = record { is_set = is.is_set; right = is.right; changes = changes; sound = sound };
-      room = inserted_room mode rules kept slots batch managed sound fits;
-      set = omega arith;
-      ids = pieces_have_ids (set_pieces Cover no_bits rules.rules) kept.live kept.entries managed.carried.entries_are;
+      managed = subst (IsManaged translation rules kept slots) none is;
+      change = record { is_set = is.is_set; right = is.right; changes = changes; sound = sound_so };
+      room = accepted_room (length slots) (mode_of translation) rules.rules batch sound_so fits_so;
     }
 
--- as the call tells it
-taking_as : (placement : Placement) (mode : Mode) (rules : StoredRules) (kept : Entries) (slots : Slots) (held : Option Held) (now : Managed) (batch : List Command) → IsManaged mode rules kept slots held
-    → view_of placement mode rules kept slots held ≡ now → now.held ≡ None → AllByRecursion ChangesRules batch → batch_fault now.rules batch ≡ None → verdict now.slots now.mode now.rules batch ≡ Accepted
-    → Taking mode rules kept slots batch
-taking_as placement mode rules kept slots held now batch is view idle changes sound fits =
-    taking mode rules kept slots held batch is (no_held rules.rules held (rw (← view) at idle)) changes (rw (← view) at sound) (rw (← view) at fits)
+-- the live ranges that the words are planned for,
+coded_as : (placement : Placement) (translation : Option Translation) (rules : StoredRules) (kept : Entries) (slots : Slots) (held : Option Held) (now : Managed) (batch : List Command) (bits : Option FieldBits)
+    → view_of placement translation rules kept slots held ≡ now → (coded_by bits ≡ now.mode) × (during_of bits ≡ bits_with now.mode now.rules batch now.bits) → IsCoded translation rules batch bits
+coded_as placement translation rules kept slots held now batch bits view are =
+    let said : (coded_by bits ≡ mode_of translation) × (during_of bits ≡ during_by translation rules batch) = rw (← view) at are in record { coded = said.0; during = said.1 }
+
+-- and the words
+words_as : (placement : Placement) (translation : Option Translation) (rules : StoredRules) (kept : Entries) (slots : Slots) (held : Option Held) (now : Managed) (batch : List Command) (writes : List Write)
+    → view_of placement translation rules kept slots held ≡ now → now.held ≡ None → writes ≡ words_of now.mode now.bits now.rules batch now.state → writes ≡ words_by translation rules kept slots batch
+words_as placement translation rules kept slots held now batch writes view idle are =
+    let none : held ≡ None = idle_held (held_of rules.rules) held (rw (← view) at idle) in
+    let said : writes ≡ words_of (mode_of translation) (bits_of translation) rules.rules batch (view_of placement translation rules kept slots held).state = rw (← view) at are in
+    subst (λ (h : Option Held). writes ≡ words_of (mode_of translation) (bits_of translation) rules.rules batch (view_of placement translation rules kept slots h).state) none said
 
 pub parts_of-requires : goal.parts_of-requires
 parts_of-requires g c =
     let i = c.self.inside in
-    let t = taking_as i.placement i.mode i.rules i.live i.arrangement i.held c.args.self.now c.args.batch.now c.self.invariant c.self.view_is c.requires.idle c.requires.changes c.requires.sound c.requires.fits in
-    record { is_set = t.change.is_set; right = t.change.right; changes = t.change.changes; sound = t.change.sound; live = t.ids }
+    let t = taken_as i.placement i.translation i.rules i.live i.arrangement i.held c.args.self.now c.args.batch.now c.self.invariant c.self.view_is c.requires.idle c.requires.changes c.requires.sound c.requires.fits in
+    let coded = coded_as i.placement i.translation i.rules i.live i.arrangement i.held c.args.self.now c.args.batch.now c.in_ok-bits.bits c.self.view_is c.in_ok-bits.ensures.bits in
+    record {
+      is_set = t.change.is_set;
+      right = t.change.right;
+      changes = t.change.changes;
+      sound = t.change.sound;
+      encodable = kept_so i.translation i.rules c.args.batch.now c.in_ok-bits.bits coded (λ m b. AllByRecursion (λ ranked. IsEncodable ranked.piece) (rewritten_pieces m b i.rules.rules c.args.batch.now))
+          (rewritten_encodable (mode_of i.translation) (during_by i.translation i.rules c.args.batch.now) i.rules.rules c.args.batch.now t.change (behind_by i.translation i.rules i.live i.arrangement c.args.batch.now)
+          (behind_serves i.translation i.rules i.live i.arrangement c.args.batch.now t));
+      live = kept_so i.translation i.rules c.args.batch.now c.in_ok-bits.bits coded (λ m b. HaveIds i.live.live (set_pieces m b i.rules.rules)) (pieces_have_ids i.translation i.rules i.live i.arrangement c.args.batch.now t);
+    }
 
 pub reserve-requires : goal.reserve-requires
 reserve-requires g c =
     let i = c.self.inside in
-    let t = taking_as i.placement i.mode i.rules i.live i.arrangement i.held c.args.self.now c.args.batch.now c.self.invariant c.self.view_is c.requires.idle c.requires.changes c.requires.sound c.requires.fits in
-    let set : length c.self.inside.rules.rules ≤ 4096 = t.set in
+    let few = entries_few i.translation i.rules i.live i.arrangement i.held c.self.invariant in
+    let fewer = rules_entries (mode_of i.translation) i.rules.rules c.self.invariant.right in
     let most : c.len.result ≤ 4096 = c.len.ensures.most in
     omega arith
 
 pub plan_additions-requires : goal.plan_additions-requires
 plan_additions-requires g c =
     let i = c.self.inside in
-    let t = taking_as i.placement i.mode i.rules i.live i.arrangement i.held c.args.self.now c.args.batch.now c.self.invariant c.self.view_is c.requires.idle c.requires.changes c.requires.sound c.requires.fits in
+    let batch = c.args.batch.now in
+    let t = taken_as i.placement i.translation i.rules i.live i.arrangement i.held c.args.self.now batch c.self.invariant c.self.view_is c.requires.idle c.requires.changes c.requires.sound c.requires.fits in
+    let coded = coded_as i.placement i.translation i.rules i.live i.arrangement i.held c.args.self.now batch c.in_ok-bits.bits c.self.view_is c.in_ok-bits.ensures.bits in
+    let words = words_as i.placement i.translation i.rules i.live i.arrangement i.held c.args.self.now batch c.plan_words.new.plan.writes.items c.self.view_is c.requires.idle c.in_ok-bits.ensures.writes in
+    let during = during_by i.translation i.rules batch in
+    let room = kept_so i.translation i.rules batch c.in_ok-bits.bits coded (λ m b. length i.live.live + length (inserted_pieces m b i.rules.rules batch) ≤ i.live.slots) (inserted_room i.translation i.rules i.live i.arrangement batch t) in
+    let encodable = kept_so i.translation i.rules batch c.in_ok-bits.bits coded (λ m b. AllByRecursion (λ ranked. IsEncodable ranked.piece) (inserted_pieces m b i.rules.rules batch))
+    (inserted_encodable (mode_of i.translation) during i.rules.rules batch t.change (behind_by i.translation i.rules i.live i.arrangement batch) (behind_serves i.translation i.rules i.live i.arrangement batch t)) in
     record {
-      standing = arranged_number i.rules.rules i.live i.arrangement t.managed.is_set t.managed.carried ∙ ap (entries_of Cover) (sym c.reserve.ensures.rules);
-      room = rw (c.deref.ensures.value, c.in_ok-parts.ensures.inserted) t.room;
-      encodable = rw (c.deref.ensures.value, c.in_ok-parts.ensures.inserted) (inserted_encodable i.rules.rules c.args.batch.now t.change);
-      plannable = rw (c.in_ok-arrangement.ensures, c.new-plan.ensures.writes) (plan_none i.live i.arrangement t.managed.carried.settled);
+      standing = arranged_number (mode_of i.translation) (bits_of i.translation) i.rules.rules i.live i.arrangement t.managed.is_set t.managed.carried
+          ∙ (ap (entries_of (mode_of i.translation)) (sym c.reserve.ensures.rules) ∙ ap (λ (m : Mode). entries_of m c.reserve.new.self.rules) (sym c.encoding.ensures));
+      room = rw (c.deref.ensures.value, c.in_ok-parts.ensures.inserted) room;
+      encodable = rw (c.deref.ensures.value, c.in_ok-parts.ensures.inserted) encodable;
+      plannable = rw (c.in_ok-arrangement.ensures, words) (plan_words i.live i.arrangement (words_by i.translation i.rules i.live i.arrangement batch) t.managed.carried.settled
+          (tables_in_use i.live.slots (words_by i.translation i.rules i.live i.arrangement batch) (bit_writes-tables (settled_state i.translation i.live.entries i.arrangement) (new_bits (bits_of i.translation) during))));
     }
 
+-- the parts of the commit, with the live ranges of the plan
+parts_as : (translation : Option Translation) (rules : StoredRules) (batch : List Command) (bits : Option FieldBits) (live : List LivePiece) (rewrites : List Rewrite) (erased : List ℕ) → IsCoded translation rules batch bits
+    → AllZip (IsRewriteOf live) (rewritten_pieces (coded_by bits) (during_of bits) rules.rules batch) rewrites → AllZip (IsIdOf live) (erased_pieces (coded_by bits) (during_of bits) rules.rules batch) erased
+    → ArePartsOf (mode_of translation) (during_by translation rules batch) rules.rules batch live rewrites erased
+parts_as translation rules batch bits live rewrites erased coded rewrites_are erased_are = record {
+  rewrites_are = said_so translation rules batch bits coded (λ m b. AllZip (IsRewriteOf live) (rewritten_pieces m b rules.rules batch) rewrites) rewrites_are;
+  erased_are = said_so translation rules batch bits coded (λ m b. AllZip (IsIdOf live) (erased_pieces m b rules.rules batch) erased) erased_are;
+}
+
 -- with the new ids live, the ids that are rewritten and those that are erased are live
-parts_live : (mode : Mode) (rules : StoredRules) (old new : Entries) (slots : Slots) (batch : List Command) (ids : List ℕ) (rewrites : List Rewrite) (erased : List ℕ) → Taking mode rules old slots batch
-    → AddsIds old new ids → AllZip (IsRewriteOf old.live) (rewritten_pieces Cover no_bits rules.rules batch) rewrites → AllZip (IsIdOf old.live) (erased_pieces Cover no_bits rules.rules batch) erased
-    → AreLiveParts new.live rewrites erased
-parts_live mode rules old new slots batch ids rewrites erased t adds rewrites_are erased_are =
+parts_live : (translation : Option Translation) (rules : StoredRules) (old new : Entries) (slots : Slots) (batch : List Command) (ids : List ℕ) (rewrites : List Rewrite) (erased : List ℕ) → IsTaken translation rules old slots batch
+    → AddsIds old new ids → ArePartsOf (mode_of translation) (during_by translation rules batch) rules.rules batch old.live rewrites erased → AreLiveParts new.live rewrites erased
+parts_live translation rules old new slots batch ids rewrites erased t adds parts =
     subst (λ (l : List LivePiece). AreLiveParts l rewrites erased) (sym adds.live)
-    (live_parts rules.rules batch old.slots old.live adds.made rewrites erased t.managed.carried.settled.apart
-    record { change = t.change; rewrites_are = rewrites_are; erased_are = erased_are })
+    (live_parts (mode_of translation) (during_by translation rules batch) rules.rules batch old.slots old.live adds.made rewrites erased t.managed.carried.settled.apart t.change parts)
 
 pub plan_changes-requires : goal.plan_changes-requires
 plan_changes-requires g c =
     let i = c.self.inside in
-    let t = taking_as i.placement i.mode i.rules i.live i.arrangement i.held c.args.self.now c.args.batch.now c.self.invariant c.self.view_is c.requires.idle c.requires.changes c.requires.sound c.requires.fits in
+    let batch = c.args.batch.now in
+    let t = taken_as i.placement i.translation i.rules i.live i.arrangement i.held c.args.self.now batch c.self.invariant c.self.view_is c.requires.idle c.requires.changes c.requires.sound c.requires.fits in
+    let coded = coded_as i.placement i.translation i.rules i.live i.arrangement i.held c.args.self.now batch c.in_ok-bits.bits c.self.view_is c.in_ok-bits.ensures.bits in
     let rewrites = c.in_ok-parts.parts.rewrites.items in
     let erased = c.in_ok-parts.parts.erased.items in
-    let parts = parts_live i.mode i.rules i.live c.plan_additions.new.live i.arrangement c.args.batch.now c.in_ok-ids.ids.items rewrites erased t c.in_ok-ids.ensures.adds c.in_ok-parts.ensures.rewrites c.in_ok-parts.ensures.erased in
+    let parts = parts_live i.translation i.rules i.live c.plan_additions.new.live i.arrangement batch c.in_ok-ids.ids.items rewrites erased t c.in_ok-ids.ensures.adds
+    (parts_as i.translation i.rules batch c.in_ok-bits.bits i.live.live rewrites erased coded c.in_ok-parts.ensures.rewrites c.in_ok-parts.ensures.erased) in
     let plannable = c.in_ok-ids.ensures.plannable in
     record {
       rewritten = changed_stand c.plan_additions.new.live c.plan_additions.new.arrangement rewrites plannable.settled parts.changed;
@@ -121,9 +147,13 @@ plan_changes-requires g c =
 pub erase_all-requires : goal.erase_all-requires
 erase_all-requires g c =
     let i = c.self.inside in
-    let t = taking_as i.placement i.mode i.rules i.live i.arrangement i.held c.args.self.now c.args.batch.now c.self.invariant c.self.view_is c.requires.idle c.requires.changes c.requires.sound c.requires.fits in
+    let batch = c.args.batch.now in
+    let t = taken_as i.placement i.translation i.rules i.live i.arrangement i.held c.args.self.now batch c.self.invariant c.self.view_is c.requires.idle c.requires.changes c.requires.sound c.requires.fits in
+    let coded = coded_as i.placement i.translation i.rules i.live i.arrangement i.held c.args.self.now batch c.in_ok-bits.bits c.self.view_is c.in_ok-bits.ensures.bits in
+    let rewrites = c.in_ok-parts.parts.rewrites.items in
     let erased = c.in_ok-parts.parts.erased.items in
-    let parts = parts_live i.mode i.rules i.live c.plan_additions.new.live i.arrangement c.args.batch.now c.in_ok-ids.ids.items c.in_ok-parts.parts.rewrites.items erased t c.in_ok-ids.ensures.adds c.in_ok-parts.ensures.rewrites c.in_ok-parts.ensures.erased in
+    let parts = parts_live i.translation i.rules i.live c.plan_additions.new.live i.arrangement batch c.in_ok-ids.ids.items rewrites erased t c.in_ok-ids.ensures.adds
+    (parts_as i.translation i.rules batch c.in_ok-bits.bits i.live.live rewrites erased coded c.in_ok-parts.ensures.rewrites c.in_ok-parts.ensures.erased) in
     record {
       distinct = rw c.deref-2.ensures.value parts.once;
       standing = rw c.deref-2.ensures.value (all_stand c.plan_additions.new.live c.plan_additions.new.arrangement erased c.in_ok-ids.ensures.plannable.settled parts.gone);
@@ -135,13 +165,14 @@ kept_back old mid new one two back id now = two id (subst (λ (l : List LivePiec
 
 pub invariant_of-self-in-Err : goal.invariant_of-self-in-Err
 invariant_of-self-in-Err g c =
-    let none = no_held c.self.inside.rules.rules c.self.inside.held (rw (← c.self.view_is) at c.requires.idle) in
-    let managed : IsManaged c.self.inside.mode c.self.inside.rules c.self.inside.live c.self.inside.arrangement None = subst (IsManaged c.self.inside.mode c.self.inside.rules c.self.inside.live c.self.inside.arrangement) none c.self.invariant in
-    let back = c.forget_all.ensures.live ∙ adds_first c.self.inside.live c.plan_additions.new.live c.in_ok-ids.ids.items c.in_ok-ids.ensures.adds in
+    let i = c.self.inside in
+    let none = idle_held (held_of i.rules.rules) i.held (rw (← c.self.view_is) at c.requires.idle) in
+    let managed : IsManaged i.translation i.rules i.live i.arrangement None = subst (IsManaged i.translation i.rules i.live i.arrangement) none c.self.invariant in
+    let back = c.forget_all.ensures.live ∙ adds_first i.live c.plan_additions.new.live c.in_ok-ids.ids.items c.in_ok-ids.ensures.adds in
     let size = c.forget_all.ensures.slots ∙ c.plan_additions.ensures.slots in
-    let kept = kept_back c.self.inside.live c.plan_additions.new.live c.forget_all.new.live c.plan_additions.ensures.kept c.forget_all.ensures.kept back in
-    subst (IsManaged c.self.inside.mode c.reserve.new.self c.forget_all.new.live c.self.inside.arrangement) (sym none)
-    (managed_same c.self.inside.mode c.self.inside.rules c.reserve.new.self c.self.inside.live c.forget_all.new.live c.self.inside.arrangement managed c.reserve.ensures.rules back size kept)
+    let kept = kept_back i.live c.plan_additions.new.live c.forget_all.new.live c.plan_additions.ensures.kept c.forget_all.ensures.kept back in
+    subst (IsManaged i.translation c.reserve.new.self c.forget_all.new.live i.arrangement) (sym none)
+    (managed_same i.translation i.rules c.reserve.new.self i.live c.forget_all.new.live i.arrangement managed c.reserve.ensures.rules back size kept)
 
 -- what holds of a refusal wherever it comes
 at_err : {A B : Type 0} (result : Result A B) (P : Type 0) → P → OnErr result P
@@ -151,76 +182,112 @@ at_err (Err fault) P holds = holds
 pub invariant_of-self-in_err-ids : goal.invariant_of-self-in_err-ids
 invariant_of-self-in_err-ids g c =
     let i = c.self.inside in
-    let none = no_held i.rules.rules i.held (rw (← c.self.view_is) at c.requires.idle) in
-    let managed : IsManaged i.mode i.rules i.live i.arrangement None = subst (IsManaged i.mode i.rules i.live i.arrangement) none c.self.invariant in
-    subst (IsManaged i.mode c.reserve.new.self c.plan_additions.new.live i.arrangement) (sym none)
-    (managed_same i.mode i.rules c.reserve.new.self i.live c.plan_additions.new.live i.arrangement managed c.reserve.ensures.rules c.in_err-ids.ensures.refused c.plan_additions.ensures.slots c.plan_additions.ensures.kept)
+    let none = idle_held (held_of i.rules.rules) i.held (rw (← c.self.view_is) at c.requires.idle) in
+    let managed : IsManaged i.translation i.rules i.live i.arrangement None = subst (IsManaged i.translation i.rules i.live i.arrangement) none c.self.invariant in
+    subst (IsManaged i.translation c.reserve.new.self c.plan_additions.new.live i.arrangement) (sym none)
+    (managed_same i.translation i.rules c.reserve.new.self i.live c.plan_additions.new.live i.arrangement managed c.reserve.ensures.rules c.in_err-ids.ensures.refused c.plan_additions.ensures.slots c.plan_additions.ensures.kept)
 
 pub returns-in_err-ids-clause-refused : goal.returns-in_err-ids-clause-refused
 returns-in_err-ids-clause-refused g c =
     let i = c.self.inside in
-    let none = no_held i.rules.rules i.held (rw (← c.self.view_is) at c.requires.idle) in
-    let managed : IsManaged i.mode i.rules i.live i.arrangement None = subst (IsManaged i.mode i.rules i.live i.arrangement) none c.self.invariant in
-    let view : view_of i.placement i.mode i.rules i.live i.arrangement i.held ≡ c.args.self.now = c.self.view_is in
-    let same : view_of i.placement i.mode c.reserve.new.self c.plan_additions.new.live i.arrangement i.held ≡ view_of i.placement i.mode i.rules i.live i.arrangement i.held =
-    subst (λ (h : Option Held). view_of i.placement i.mode c.reserve.new.self c.plan_additions.new.live i.arrangement h ≡ view_of i.placement i.mode i.rules i.live i.arrangement h) (sym none)
-    (view_same i.placement i.mode i.rules c.reserve.new.self i.live c.plan_additions.new.live i.arrangement managed c.reserve.ensures.rules c.plan_additions.ensures.kept) in
+    let none = idle_held (held_of i.rules.rules) i.held (rw (← c.self.view_is) at c.requires.idle) in
+    let managed : IsManaged i.translation i.rules i.live i.arrangement None = subst (IsManaged i.translation i.rules i.live i.arrangement) none c.self.invariant in
+    let view : view_of i.placement i.translation i.rules i.live i.arrangement i.held ≡ c.args.self.now = c.self.view_is in
+    let same : view_of i.placement i.translation c.reserve.new.self c.plan_additions.new.live i.arrangement i.held ≡ view_of i.placement i.translation i.rules i.live i.arrangement i.held =
+    subst (λ (h : Option Held). view_of i.placement i.translation c.reserve.new.self c.plan_additions.new.live i.arrangement h ≡ view_of i.placement i.translation i.rules i.live i.arrangement h) (sym none)
+    (view_same i.placement i.translation i.rules c.reserve.new.self i.live c.plan_additions.new.live i.arrangement managed c.reserve.ensures.rules c.plan_additions.ensures.kept) in
     at_err c.from_residual-in_err-ids.result _ (same ∙ view)
 
 pub returns-in-Err-clause-refused : goal.returns-in-Err-clause-refused
 returns-in-Err-clause-refused g c =
     let i = c.self.inside in
-    let none = no_held i.rules.rules i.held (rw (← c.self.view_is) at c.requires.idle) in
-    let managed : IsManaged i.mode i.rules i.live i.arrangement None = subst (IsManaged i.mode i.rules i.live i.arrangement) none c.self.invariant in
-    let view : view_of i.placement i.mode i.rules i.live i.arrangement i.held ≡ c.args.self.now = c.self.view_is in
+    let none = idle_held (held_of i.rules.rules) i.held (rw (← c.self.view_is) at c.requires.idle) in
+    let managed : IsManaged i.translation i.rules i.live i.arrangement None = subst (IsManaged i.translation i.rules i.live i.arrangement) none c.self.invariant in
+    let view : view_of i.placement i.translation i.rules i.live i.arrangement i.held ≡ c.args.self.now = c.self.view_is in
     let back = c.forget_all.ensures.live ∙ adds_first i.live c.plan_additions.new.live c.in_ok-ids.ids.items c.in_ok-ids.ensures.adds in
     let kept = kept_back i.live c.plan_additions.new.live c.forget_all.new.live c.plan_additions.ensures.kept c.forget_all.ensures.kept back in
-    let same : view_of i.placement i.mode c.reserve.new.self c.forget_all.new.live i.arrangement i.held ≡ view_of i.placement i.mode i.rules i.live i.arrangement i.held =
-    subst (λ (h : Option Held). view_of i.placement i.mode c.reserve.new.self c.forget_all.new.live i.arrangement h ≡ view_of i.placement i.mode i.rules i.live i.arrangement h) (sym none)
-    (view_same i.placement i.mode i.rules c.reserve.new.self i.live c.forget_all.new.live i.arrangement managed c.reserve.ensures.rules kept) in
+    let same : view_of i.placement i.translation c.reserve.new.self c.forget_all.new.live i.arrangement i.held ≡ view_of i.placement i.translation i.rules i.live i.arrangement i.held =
+    subst (λ (h : Option Held). view_of i.placement i.translation c.reserve.new.self c.forget_all.new.live i.arrangement h ≡ view_of i.placement i.translation i.rules i.live i.arrangement h) (sym none)
+    (view_same i.placement i.translation i.rules c.reserve.new.self i.live c.forget_all.new.live i.arrangement managed c.reserve.ensures.rules kept) in
     same ∙ view
 
--- insertions that were planned over a copy, for the same rules and pieces
-planned_from : (old new : Entries) (slots copy middle : Slots) (plan plan' : Plan) (placement : Placement) (rules set : List Rule) (pieces listed : List RankedPiece) → copy ≡ slots → set ≡ rules → listed ≡ pieces
-    → ArePlannedSince old new copy middle plan plan' listed (aims_of placement (length copy) set listed) → ArePlannedSince old new slots middle plan plan' pieces (aims_of placement (length slots) rules pieces)
-planned_from old new slots copy middle plan plan' placement rules set pieces listed same_slots same_rules same_pieces planned =
-    subst (λ (some : List RankedPiece). ArePlannedSince old new slots middle plan plan' some (aims_of placement (length slots) rules some)) same_pieces
-    (subst (λ (at : Slots). ArePlannedSince old new at middle plan plan' listed (aims_of placement (length at) rules listed)) same_slots
-    (subst (λ (some : List Rule). ArePlannedSince old new copy middle plan plan' listed (aims_of placement (length copy) some listed)) same_rules planned))
+-- insertions that were planned over a copy, for the same rules, mode and pieces
+planned_from : (old new : Entries) (slots copy middle : Slots) (plan plan' : Plan) (placement : Placement) (mode coded : Mode) (rules set : List Rule) (pieces listed : List RankedPiece) → copy ≡ slots → coded ≡ mode → set ≡ rules → listed ≡ pieces
+    → ArePlannedSince old new copy middle plan plan' listed (aims_of placement coded (length copy) set listed) → ArePlannedSince old new slots middle plan plan' pieces (aims_of placement mode (length slots) rules pieces)
+planned_from old new slots copy middle plan plan' placement mode coded rules set pieces listed same_slots same_mode same_rules same_pieces planned =
+    subst (λ (some : List RankedPiece). ArePlannedSince old new slots middle plan plan' some (aims_of placement mode (length slots) rules some)) same_pieces
+    (subst (λ (at : Slots). ArePlannedSince old new at middle plan plan' listed (aims_of placement mode (length at) rules listed)) same_slots
+    (subst (λ (some : List Rule). ArePlannedSince old new copy middle plan plan' listed (aims_of placement mode (length copy) some listed)) same_rules
+    (subst (λ (m : Mode). ArePlannedSince old new copy middle plan plan' listed (aims_of placement m (length copy) set listed)) same_mode planned)))
+
+-- the commit that is held in the end, and that it is the plan of the batch
+abbrev held_now : (g : Over) (c : goal.After-drop-parts-2 g) → Held
+held_now g c = record {
+  writes = c.plan_changes.new.plan.writes;
+  made = 0;
+  counts = c.counts-counts.result;
+  bits = c.in_ok-bits.bits;
+  batch = c.in_ok-copy.copy;
+  rewrites = c.in_ok-parts.parts.rewrites;
+  erased = c.in_ok-parts.parts.erased;
+  arrangement = c.erase_all.new.arrangement;
+}
+
+plan_now : (g : Over) (c : goal.After-drop-parts-2 g)
+    → IsHeldPlan c.self.inside.placement c.self.inside.translation c.self.inside.rules c.reserve.new.self c.self.inside.live c.plan_additions.new.live c.self.inside.arrangement c.plan_additions.new.arrangement
+    c.args.batch.now (held_now g c)
+plan_now g c =
+    let i = c.self.inside in
+    let batch = c.args.batch.now in
+    let bits = c.in_ok-bits.bits in
+    let parts = c.in_ok-parts.parts in
+    let t = taken_as i.placement i.translation i.rules i.live i.arrangement i.held c.args.self.now batch c.self.invariant c.self.view_is c.requires.idle c.requires.changes c.requires.sound c.requires.fits in
+    let coded = coded_as i.placement i.translation i.rules i.live i.arrangement i.held c.args.self.now batch bits c.self.view_is c.in_ok-bits.ensures.bits in
+    let words = words_as i.placement i.translation i.rules i.live i.arrangement i.held c.args.self.now batch c.plan_words.new.plan.writes.items c.self.view_is c.requires.idle c.in_ok-bits.ensures.writes in
+    let pieces = said_so i.translation i.rules batch bits coded (λ m b. c.deref.result.now ≡ inserted_pieces m b i.rules.rules batch) (c.deref.ensures.value ∙ c.in_ok-parts.ensures.inserted) in
+    let since = planned_from i.live c.plan_additions.new.live i.arrangement c.in_ok-arrangement.arrangement c.plan_additions.new.arrangement c.plan_words.new.plan c.plan_additions.new.plan i.placement (mode_of i.translation) c.encoding.result
+    i.rules.rules c.reserve.new.self.rules (inserted_pieces (mode_of i.translation) (during_by i.translation i.rules batch) i.rules.rules batch) c.deref.result.now c.in_ok-arrangement.ensures c.encoding.ensures c.reserve.ensures.rules pieces c.in_ok-ids.ensures.planned in
+    record {
+      plan = plan_made i.placement i.translation i.rules i.live c.plan_additions.new.live i.arrangement c.plan_additions.new.arrangement batch parts.rewrites.items parts.erased.items c.plan_words.new.plan c.plan_additions.new.plan
+          c.plan_changes.new.plan.writes.items c.counts-counts.result t
+          (parts_as i.translation i.rules batch bits i.live.live parts.rewrites.items parts.erased.items coded c.in_ok-parts.ensures.rewrites c.in_ok-parts.ensures.erased)
+          c.plan_additions.ensures.slots c.in_ok-ids.ensures.plannable.settled since
+          record {
+            writes = words;
+            number = c.in_ok-bits.ensures.words ∙ ap length words;
+            few = subst (λ (w : List Write). length w ≤ 2 * 2 ^ 16) words c.in_ok-bits.ensures.few;
+            most = c.plan_words.ensures.most ∙ c.new-plan.ensures.most;
+            span = c.plan_words.ensures.span ∙ c.new-plan.ensures.span;
+          }
+          record {
+            in_use = c.in-Ok.ensures.in_use;
+            made = c.in-Ok.ensures.writes;
+            number = c.counts-counts.ensures.writes;
+            words = c.counts-counts.ensures.words ∙ c.in-Ok.ensures.words;
+            most = c.counts-counts.ensures.most ∙ c.in-Ok.ensures.most;
+            span = c.counts-counts.ensures.span ∙ c.in-Ok.ensures.span;
+          };
+      same = c.reserve.ensures.rules;
+      made = refl;
+      batch_is = c.in_ok-copy.ensures;
+      coded = coded;
+    }
 
 pub invariant_of-self-2 : goal.invariant_of-self-2
 invariant_of-self-2 g c =
     let i = c.self.inside in
-    let parts = c.in_ok-parts.parts in
-    let t = taking_as i.placement i.mode i.rules i.live i.arrangement i.held c.args.self.now c.args.batch.now c.self.invariant c.self.view_is c.requires.idle c.requires.changes c.requires.sound c.requires.fits in
-    let held : Held = record { writes = c.plan_changes.new.plan.writes; made = 0; counts = c.counts-counts.result; batch = c.in_ok-copy.copy; rewrites = parts.rewrites; erased = parts.erased; arrangement = c.erase_all.new.arrangement } in
-    let since = planned_from i.live c.plan_additions.new.live i.arrangement c.in_ok-arrangement.arrangement c.plan_additions.new.arrangement c.new-plan.result c.plan_additions.new.plan i.placement i.rules.rules c.reserve.new.self.rules
-    (inserted_pieces Cover no_bits i.rules.rules c.args.batch.now) c.deref.result.now c.in_ok-arrangement.ensures c.reserve.ensures.rules (c.deref.ensures.value ∙ c.in_ok-parts.ensures.inserted) c.in_ok-ids.ensures.planned in
     let spare : length c.args.batch.now ≤ c.reserve.new.self.spare = (let n : c.len.result ≡ length c.args.batch.now = c.len.ensures.count in let e : c.len.result ≤ c.reserve.new.self.spare = c.in_ok-reserve.ensures.enough in omega arith) in
-    managed_held i.placement i.mode i.rules c.reserve.new.self i.live c.plan_additions.new.live i.arrangement c.plan_additions.new.arrangement c.args.batch.now held
-    (plan_made i.placement i.mode i.rules i.live c.plan_additions.new.live i.arrangement c.plan_additions.new.arrangement c.args.batch.now parts.rewrites.items parts.erased.items c.new-plan.result c.plan_additions.new.plan c.plan_changes.new.plan.writes.items c.counts-counts.result
-    t.managed record { change = t.change; rewrites_are = c.in_ok-parts.ensures.rewrites; erased_are = c.in_ok-parts.ensures.erased }
-    c.plan_additions.ensures.slots c.in_ok-ids.ensures.plannable.settled since c.new-plan.ensures.writes c.new-plan.ensures.most c.new-plan.ensures.span c.in-Ok.ensures.in_use c.in-Ok.ensures.writes
-    c.counts-counts.ensures.writes c.counts-counts.ensures.words (c.counts-counts.ensures.most ∙ c.in-Ok.ensures.most) (c.counts-counts.ensures.span ∙ c.in-Ok.ensures.span))
-    c.reserve.ensures.rules spare refl c.in_ok-copy.ensures (c.erase_all.ensures ∙ ap (erased_slots c.plan_additions.new.arrangement) c.deref-2.ensures.value)
+    managed_held i.placement i.translation i.rules c.reserve.new.self i.live c.plan_additions.new.live i.arrangement c.plan_additions.new.arrangement c.args.batch.now (held_now g c) (plan_now g c) spare
+    (c.erase_all.ensures ∙ ap (erased_slots c.plan_additions.new.arrangement) c.deref-2.ensures.value)
 
 pub returns-clause-ready : goal.returns-clause-ready
 returns-clause-ready g c =
     let i = c.self.inside in
-    let parts = c.in_ok-parts.parts in
-    let none = no_held i.rules.rules i.held (rw (← c.self.view_is) at c.requires.idle) in
-    let t = taking_as i.placement i.mode i.rules i.live i.arrangement i.held c.args.self.now c.args.batch.now c.self.invariant c.self.view_is c.requires.idle c.requires.changes c.requires.sound c.requires.fits in
-    let held : Held = record { writes = c.plan_changes.new.plan.writes; made = 0; counts = c.counts-counts.result; batch = c.in_ok-copy.copy; rewrites = parts.rewrites; erased = parts.erased; arrangement = c.erase_all.new.arrangement } in
-    let since = planned_from i.live c.plan_additions.new.live i.arrangement c.in_ok-arrangement.arrangement c.plan_additions.new.arrangement c.new-plan.result c.plan_additions.new.plan i.placement i.rules.rules c.reserve.new.self.rules
-    (inserted_pieces Cover no_bits i.rules.rules c.args.batch.now) c.deref.result.now c.in_ok-arrangement.ensures c.reserve.ensures.rules (c.deref.ensures.value ∙ c.in_ok-parts.ensures.inserted) c.in_ok-ids.ensures.planned in
-    let view : view_of i.placement i.mode i.rules i.live i.arrangement i.held ≡ c.args.self.now = c.self.view_is in
-    let new = view_of i.placement i.mode c.reserve.new.self c.plan_additions.new.live i.arrangement (Some held) in
-    let holds : Holds (view_of i.placement i.mode i.rules i.live i.arrangement None) c.args.batch.now c.ready.result new =
-    holds_plan i.placement i.mode i.rules c.reserve.new.self i.live c.plan_additions.new.live i.arrangement c.plan_additions.new.arrangement c.args.batch.now held c.ready.result
-    (plan_made i.placement i.mode i.rules i.live c.plan_additions.new.live i.arrangement c.plan_additions.new.arrangement c.args.batch.now parts.rewrites.items parts.erased.items c.new-plan.result c.plan_additions.new.plan c.plan_changes.new.plan.writes.items c.counts-counts.result
-    t.managed record { change = t.change; rewrites_are = c.in_ok-parts.ensures.rewrites; erased_are = c.in_ok-parts.ensures.erased }
-    c.plan_additions.ensures.slots c.in_ok-ids.ensures.plannable.settled since c.new-plan.ensures.writes c.new-plan.ensures.most c.new-plan.ensures.span c.in-Ok.ensures.in_use c.in-Ok.ensures.writes
-    c.counts-counts.ensures.writes c.counts-counts.ensures.words (c.counts-counts.ensures.most ∙ c.in-Ok.ensures.most) (c.counts-counts.ensures.span ∙ c.in-Ok.ensures.span))
-    c.reserve.ensures.rules refl c.in_ok-copy.ensures c.ready.ensures in
-    subst (λ (old : Managed). Holds old c.args.batch.now c.ready.result new) view
-    (subst (λ (h : Option Held). Holds (view_of i.placement i.mode i.rules i.live i.arrangement h) c.args.batch.now c.ready.result new) (sym none) holds)
+    let batch = c.args.batch.now in
+    let none = idle_held (held_of i.rules.rules) i.held (rw (← c.self.view_is) at c.requires.idle) in
+    let view : view_of i.placement i.translation i.rules i.live i.arrangement i.held ≡ c.args.self.now = c.self.view_is in
+    let new = view_of i.placement i.translation c.reserve.new.self c.plan_additions.new.live i.arrangement (Some (held_now g c)) in
+    let holds : Holds (view_of i.placement i.translation i.rules i.live i.arrangement None) batch c.ready.result new =
+    holds_plan i.placement i.translation i.rules c.reserve.new.self i.live c.plan_additions.new.live i.arrangement c.plan_additions.new.arrangement batch (held_now g c) (plan_now g c) c.ready.result c.ready.ensures in
+    subst (λ (old : Managed). Holds old batch c.ready.result new) view
+    (subst (λ (h : Option Held). Holds (view_of i.placement i.translation i.rules i.live i.arrangement h) batch c.ready.result new) (sym none) holds)

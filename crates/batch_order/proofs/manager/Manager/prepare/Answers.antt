@@ -34,8 +34,8 @@ pub returns-in-Err-clause-serves : goal.returns-in-Err-clause-serves
 returns-in-Err-clause-serves g c =
     by_journal (g.D.Writable.slot_count c.args.device.now) (g.D.Writable.journal c.args.device.now) c.args.self.now c.requires.slots c.serving.ensures.serves
 
-pub returns-in-Err-check_slots-clause-serves : goal.returns-in-Err-check_slots-clause-serves
-returns-in-Err-check_slots-clause-serves g c =
+pub returns-in-Err-check_room-clause-serves : goal.returns-in-Err-check_room-clause-serves
+returns-in-Err-check_room-clause-serves g c =
     by_journal (g.D.Writable.slot_count c.args.device.now) (g.D.Writable.journal c.args.device.now) c.args.self.now c.requires.slots c.serving.ensures.serves
 
 pub returns-in-Err-plan-clause-serves : goal.returns-in-Err-plan-clause-serves

@@ -12,23 +12,23 @@ use Rattle.batch_order.proofs.manager.Manager.rules.Goals as goal
 pub returns-clause-answers : goal.returns-clause-answers
 returns-clause-answers c =
     let i = c.self.inside in
-    let view : view_of i.placement i.mode i.rules i.live i.arrangement i.held ≡ c.args.self.now = c.self.view_is in
+    let view : view_of i.placement i.translation i.rules i.live i.arrangement i.held ≡ c.args.self.now = c.self.view_is in
     subst (λ (m : Managed). m.held ≡ None → (device_slots : ℕ) → m.slots ≤ device_slots → Shows (on_device device_slots m.state) m.rules) view (go i.held c.self.invariant)
   where
-    go : (h : Option Held) → IsManaged c.self.inside.mode c.self.inside.rules c.self.inside.live c.self.inside.arrangement h
-        → (view_of c.self.inside.placement c.self.inside.mode c.self.inside.rules c.self.inside.live c.self.inside.arrangement h).held ≡ None → (device_slots : ℕ) → length c.self.inside.arrangement ≤ device_slots
-        → Shows (on_device device_slots (view_of c.self.inside.placement c.self.inside.mode c.self.inside.rules c.self.inside.live c.self.inside.arrangement h).state) c.self.inside.rules.rules
-    go None managed none device_slots wide = idle_answers c.self.inside.mode c.self.inside.rules c.self.inside.live c.self.inside.arrangement managed device_slots wide
+    go : (h : Option Held) → IsManaged c.self.inside.translation c.self.inside.rules c.self.inside.live c.self.inside.arrangement h
+        → (view_of c.self.inside.placement c.self.inside.translation c.self.inside.rules c.self.inside.live c.self.inside.arrangement h).held ≡ None → (device_slots : ℕ) → length c.self.inside.arrangement ≤ device_slots
+        → Shows (on_device device_slots (view_of c.self.inside.placement c.self.inside.translation c.self.inside.rules c.self.inside.live c.self.inside.arrangement h).state) c.self.inside.rules.rules
+    go None managed none device_slots wide = idle_answers c.self.inside.translation c.self.inside.rules c.self.inside.live c.self.inside.arrangement managed device_slots wide
     go (Some held) managed none device_slots wide = absurd (cc)
 
 pub returns-clause-on_the_way : goal.returns-clause-on_the_way
 returns-clause-on_the_way c =
     let i = c.self.inside in
-    let view : view_of i.placement i.mode i.rules i.live i.arrangement i.held ≡ c.args.self.now = c.self.view_is in
+    let view : view_of i.placement i.translation i.rules i.live i.arrangement i.held ≡ c.args.self.now = c.self.view_is in
     subst (λ (m : Managed). IfSome m.held (λ held. (device_slots : ℕ) → m.slots ≤ device_slots → ShowsOldOrNew (on_device device_slots m.state) m.rules held.rules)) view (go i.held c.self.invariant)
   where
-    go : (h : Option Held) → IsManaged c.self.inside.mode c.self.inside.rules c.self.inside.live c.self.inside.arrangement h
-        → IfSome (view_of c.self.inside.placement c.self.inside.mode c.self.inside.rules c.self.inside.live c.self.inside.arrangement h).held (λ held. (device_slots : ℕ) → length c.self.inside.arrangement ≤ device_slots
-        → ShowsOldOrNew (on_device device_slots (view_of c.self.inside.placement c.self.inside.mode c.self.inside.rules c.self.inside.live c.self.inside.arrangement h).state) c.self.inside.rules.rules held.rules)
+    go : (h : Option Held) → IsManaged c.self.inside.translation c.self.inside.rules c.self.inside.live c.self.inside.arrangement h
+        → IfSome (view_of c.self.inside.placement c.self.inside.translation c.self.inside.rules c.self.inside.live c.self.inside.arrangement h).held (λ held. (device_slots : ℕ) → length c.self.inside.arrangement ≤ device_slots
+        → ShowsOldOrNew (on_device device_slots (view_of c.self.inside.placement c.self.inside.translation c.self.inside.rules c.self.inside.live c.self.inside.arrangement h).state) c.self.inside.rules.rules held.rules)
     go None managed = tt
-    go (Some held) managed = held_answers c.self.inside.mode c.self.inside.rules c.self.inside.live c.self.inside.arrangement held managed
+    go (Some held) managed = held_answers c.self.inside.translation c.self.inside.rules c.self.inside.live c.self.inside.arrangement held managed

@@ -9,13 +9,13 @@ use Rattle.batch_order.proofs.manager.Manager.serving.Goals as goal
 pub returns-clause-serves : goal.returns-clause-serves
 returns-clause-serves c =
     let i = c.self.inside in
-    let view : view_of i.placement i.mode i.rules i.live i.arrangement i.held ≡ c.args.self.now = c.self.view_is in
+    let view : view_of i.placement i.translation i.rules i.live i.arrangement i.held ≡ c.args.self.now = c.self.view_is in
     subst (λ (m : Managed). (device_slots : ℕ) → m.slots ≤ device_slots → Serves (on_device device_slots m.state) m.rules m.held) view
-    (serves i.placement i.mode i.rules i.live i.arrangement i.held c.self.invariant)
+    (serves i.placement i.translation i.rules i.live i.arrangement i.held c.self.invariant)
 
 pub returns-clause-ahead : goal.returns-clause-ahead
 returns-clause-ahead c =
     let i = c.self.inside in
-    let view : view_of i.placement i.mode i.rules i.live i.arrangement i.held ≡ c.args.self.now = c.self.view_is in
+    let view : view_of i.placement i.translation i.rules i.live i.arrangement i.held ≡ c.args.self.now = c.self.view_is in
     subst (λ (m : Managed). (write : Write) → next_of m.held ≡ Some write → (device_slots : ℕ) → m.slots ≤ device_slots → Serves (on_device device_slots (apply m.state write)) m.rules m.held) view
-    (λ write. serves_ahead i.placement i.mode i.rules i.live i.arrangement i.held write c.self.invariant)
+    (λ write. serves_ahead i.placement i.translation i.rules i.live i.arrangement i.held write c.self.invariant)

@@ -3,7 +3,7 @@ use Rattle.rule_model.specs.Piece.{piece_of}
 use Rattle.rule_model.specs.PortRange.{cover}
 use Rattle.commit_writes.specs.Bits.{no_bits}
 use Rattle.commit_writes.specs.Shape.{ranked_piece}
-use Rattle.batch_order.proofs.pieces.push_rule.Given as goal
+use Rattle.batch_order.proofs.pieces.push_blocks.Given as goal
 
 -- the pieces with the first source ranges
 abbrev pub invariant-loop-place : goal.invariant-loop-place

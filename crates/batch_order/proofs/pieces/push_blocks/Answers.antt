@@ -7,7 +7,7 @@ use Rattle.ternary_word.specs.Entry.{RankedPiece}
 use Rattle.commit_writes.specs.Bits.{no_bits}
 use Rattle.commit_writes.specs.Shape.{ranked_piece, ranked_pieces}
 use Rattle.batch_order.proofs.Walked.{images_next}
-use Rattle.batch_order.proofs.pieces.push_rule.Goals as goal
+use Rattle.batch_order.proofs.pieces.push_blocks.Goals as goal
 
 abbrev parts : Rule → List PortRange → PortRange → List RankedPiece
 parts rule dports sport = map (λ dport. ranked_piece no_bits rule (piece_of rule sport dport)) dports

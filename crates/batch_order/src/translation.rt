@@ -1,0 +1,83 @@
+//! What a manager keeps of the translation of port ranges: by covers nothing.
+
+ghost use Rattle.std.specs.Prelude.{◌≡◌, ◌+◌, ◌-◌, ◌<◌, ◌≤◌, IfOk, IfErr, OnOk, length};
+ghost use Rattle.rule_store.specs.Verdict.{field_bits};
+ghost use Rattle.range_bits.specs.FieldMap.{live_count};
+ghost use Rattle.tcam_device.specs.State.{blank};
+ghost use Rattle.commit_writes.specs.Bits.{no_bits};
+ghost use Rattle.translation_tables.specs.Needed.{ranges_in, ranges_needed};
+ghost use Rattle.batch_order.specs.Kept.{bits_of, mode_of, tables_of, translated_by};
+
+use crate::{Field, Refusal};
+use rule_store::{Batch, Mode, Store};
+use std::alloc::{AllocError, Global};
+use tcam_device::Write;
+use translation_tables::{FieldBits, Tables};
+
+/// The live port ranges by their bits, and both translation tables as they stand in the device.
+#[derive(Drop)]
+pub(crate) struct Translation {
+    pub(crate) bits: FieldBits,
+    pub(crate) tables: Tables,
+}
+
+/// What is kept for a blank device.
+pub(crate) fn blank_translation(
+    alloc: Global,
+    mode: Mode,
+) -> Result<Option<Translation>, AllocError>
+    ensures mode { IfOk result (λ kept. mode_of kept ≡ mode) }
+    ensures bits { IfOk result (λ kept. bits_of kept ≡ no_bits) }
+    ensures tables { IfOk result (λ kept. tables_of kept ≡ blank 0) }
+{
+    match mode {
+        Mode::Cover => Ok(None),
+        Mode::Bits => Ok(Some(Translation {
+            bits: FieldBits::new(),
+            tables: Tables::new(alloc)?,
+        })),
+    }
+}
+
+/// How port ranges are encoded.
+pub(crate) fn encoding(translation: &Option<Translation>) -> Mode
+    ensures { result ≡ mode_of translation.now }
+{
+    match translation {
+        None => Mode::Cover,
+        Some(_) => Mode::Bits,
+    }
+}
+
+/// Whether the new ranges that a batch adds in a field fit its free bits.
+pub(crate) fn check_field(bits: &FieldBits, field: Field, batch: &Batch) -> Result<(), Refusal>
+    ensures fits { OnOk result (live_count (ranges_in field bits.now) + length (ranges_needed field bits.now batch.now) ≤ field_bits) }
+    ensures short { IfErr result (λ refusal. (field_bits < live_count (ranges_in field bits.now) + length (ranges_needed field bits.now batch.now))
+        × (refusal ≡ Refusal.Bits field (length (ranges_needed field bits.now batch.now)) (field_bits - live_count (ranges_in field bits.now)))) }
+{
+    let need = bits.needed(field, batch);
+    let free = bits.free(field);
+    if need > free {
+        return Err(Refusal::Bits { field, need, free });
+    }
+    Ok(())
+}
+
+/// The writes of a commit are made, and its rules are the set's: the tables are those after the writes, and bits that no
+/// rule needs are given up.
+pub(crate) fn translate(
+    translation: &mut Option<Translation>,
+    bits: &Option<FieldBits>,
+    rules: &Store,
+    writes: &[Write],
+)
+    ensures { translation.new ≡ translated_by translation.old bits.now rules.now.rules writes.now }
+{
+    match (translation, bits) {
+        (Some(kept), Some(bits)) => {
+            kept.tables.make(writes);
+            kept.bits = bits.released(rules);
+        }
+        _ => {}
+    }
+}
