@@ -1,6 +1,6 @@
 //! The commands, one after the other.
 
-ghost use Rattle.std.specs.Prelude.{◌≡◌, ◌+◌, ◌*◌, ◌%◌, ◌<◌, ◌≤◌, ◌∷◌, [], ◌↔◌, IfNone, IfSome, IsNone, All};
+ghost use Rattle.std.specs.Prelude.{◌≡◌, ◌+◌, ◌*◌, ◌%◌, ◌<◌, ◌≤◌, ◌∷◌, [], ◌↔◌, IfNone, IfSome, IsNone, All, length};
 ghost use Rattle.rule_gen.specs.Batches.{AreBatches};
 ghost use Rattle.rule_gen.specs.Line.{IsListCommand};
 ghost use Rattle.rule_gen.specs.Made.{made_commands, made_sequence};
@@ -51,6 +51,9 @@ impl Maker {
 
         // Each batch has at most two changes for a rule, and is ended by its commit.
         ensures batches { AreBatches (2 * rules) 0 result }
+
+        // There are at most 513 commands for each batch.
+        ensures few { length result ≤ 513 * batches }
     {
         // The first batch has none before it, so that no removal is left in it.
         Maker {

@@ -2,7 +2,7 @@
 use Rattle.std.proofs.Common.{◌≡◌, Bool, ℕ, ◌+◌, ◌-◌, ◌≤◌, ◌++◌, None, Option, List, length, replicate, ap, ◌∙◌, arith}
 use Rattle.std.proofs.lemmas.List.{length-replicate, replicate-append-replicate}
 use Rattle.ternary_word.specs.declared.Entry.{Entry}
-use Rattle.rule_store.specs.declared.Mode.TheVariants.{Cover}
+use Rattle.rule_store.specs.declared.Mode.{Mode}
 use Rattle.tcam_device.specs.State.{blank}
 use Rattle.batch_order.specs.declared.Placement.{Placement}
 use Rattle.replay.specs.declared.Family.{Family}
@@ -17,7 +17,7 @@ blank-more slots device_slots within =
     ap (λ n. blanks ++ replicate (device_slots - n) None) (length-replicate slots None)
     ∙ replicate-append-replicate slots (device_slots - slots) None ∙ ap (λ n. replicate n None) all
 
-pub begins : (placement : Placement) (family : Family) (slots device_slots : ℕ) (trace : Bool) → slots ≤ device_slots → progress_of device_slots (begun slots Cover placement family trace) ≡ start device_slots
-begins placement family slots device_slots trace within =
+pub begins : (mode : Mode) (placement : Placement) (family : Family) (slots device_slots : ℕ) (trace : Bool) → slots ≤ device_slots → progress_of device_slots (begun slots mode placement family trace) ≡ start device_slots
+begins mode placement family slots device_slots trace within =
     let f : List (Option Entry) → Progress = λ s. record (start device_slots) { state = record (blank device_slots) { slots = s } } in
     ap f (blank-more slots device_slots within)

@@ -13,7 +13,7 @@ use Rattle.clap.specs.Simple.{App, Shape, label_of, names_of}
 use Rattle.clap.specs.Values.{refused_kind}
 use Rattle.clap.specs.Kinds.{Kinds, IsAmong, check_kinds, or_else, range_kinds, request_kinds, values_kinds}
 use Rattle.clap.specs.Faults.{count_fault, set_fault, action_fault, use_fault, settle_fault, react_fault, option_fault, long_fault, short_fault, bundle_step_fault, flags_fault, bundle_fault, flag_word_fault, other_fault, positional_fault, stray_fault, step_fault, turn_fault, walk_fault, given_default_fault, defaults_fault, level_fault, entered_fault, built_fault}
-use Rattle.replay.specs.declared.Family.{Family}
+use Rattle.tcam_cli.specs.declared.own_texts.Topic.{Topic}
 use Rattle.tcam_cli.specs.CommandLine.{job_by_faults, job_of_fault}
 use Rattle.clap.specs.declared.builder.value_parser.ValueParser.{ValueParser}
 use Rattle.clap.specs.declared.builder.action.ArgAction.{ArgAction}
@@ -28,7 +28,7 @@ Clear (k ∷ []) = ⊤
 Clear (k ∷ l ∷ ks) = (k ≡ kind.UnknownArgument) × (l ≡ kind.InvalidSubcommand) × (ks ≡ [])
 
 -- the job by such kinds is that of the kind that came
-pub fault_job : (topic : Option Family) (ks : Kinds) (sub : Option (Text × List Row)) (k : ErrorKind) → Clear ks → IsAmong k ks
+pub fault_job : (topic : Option Topic) (ks : Kinds) (sub : Option (Text × List Row)) (k : ErrorKind) → Clear ks → IsAmong k ks
     → job_by_faults topic ks sub ≡ job_of_fault topic k
 fault_job topic [] sub k clear among = absurd among
 fault_job topic (a ∷ []) sub k clear (inl e) = ap (job_of_fault topic) (sym e)

@@ -1,145 +1,259 @@
 -- What some command lines ask for, by computation.
 use Rattle.std.proofs.Common.{◌≡◌, true, false, [], ◌∷◌, refl}
-use Rattle.std.specs.Prelude.{codes}
+use Rattle.std.specs.Prelude.{⊤, codes}
 use Rattle.clap.proofs.OnLiterals.{clap_on_literals}
+use Rattle.rule_store.specs.declared.Mode.TheVariants.{Cover, Bits}
 use Rattle.batch_order.specs.declared.Placement.TheVariants.{Middle, Rank}
 use Rattle.replay.specs.declared.Family.TheVariants.{Route, Acl}
-use Rattle.tcam_cli.specs.CommandLine.{acl_command, job_of, placement_option, route_command, script_setting, slots_option, tcam_command, trace_flag}
-use Rattle.tcam_cli.specs.Headline.{NoJob, Tells, Reads}
-use Rattle.tcam_cli.specs.OwnTexts.{acl_help, help_text, route_help, version_text}
+use Rattle.tcam_cli.specs.CommandLine.{acl_command, gen_command, job_of, number_position, placement_option, ranges_option, route_command, script_setting, slots_option, tcam_command, trace_flag}
+use Rattle.tcam_cli.specs.Headline.{NoJob, Tells, Reads, Makes}
+use Rattle.tcam_cli.specs.OwnTexts.{acl_help, gen_help, help_text, route_help, version_text}
+
+-- what a proof unfolds to compute what words ask for
+unfoldable the_declaration : ⊤
+unfolding clap_on_literals tcam_command route_command acl_command gen_command slots_option ranges_option placement_option trace_flag number_position
+the_declaration = tt
 
 unknown : job_of (codes "tcam" ∷ codes "frob" ∷ []) ≡ NoJob
-unfolding clap_on_literals tcam_command route_command acl_command slots_option placement_option trace_flag
+unfolding the_declaration
 unknown = refl
 
 nothing-asked : job_of (codes "tcam" ∷ []) ≡ NoJob
-unfolding clap_on_literals tcam_command route_command acl_command slots_option placement_option trace_flag
+unfolding the_declaration
 nothing-asked = refl
 
 no-slots : job_of (codes "tcam" ∷ codes "route" ∷ codes "--slots" ∷ codes "0" ∷ []) ≡ NoJob
-unfolding clap_on_literals tcam_command route_command acl_command slots_option placement_option trace_flag
+unfolding the_declaration
 no-slots = refl
 
 too-many-slots : job_of (codes "tcam" ∷ codes "route" ∷ codes "--slots" ∷ codes "4097" ∷ []) ≡ NoJob
-unfolding clap_on_literals tcam_command route_command acl_command slots_option placement_option trace_flag
+unfolding the_declaration
 too-many-slots = refl
 
-routes : job_of (codes "tcam" ∷ codes "route" ∷ []) ≡ Reads (script_setting Route 4096 Middle false)
-unfolding clap_on_literals tcam_command route_command acl_command slots_option placement_option trace_flag
+routes : job_of (codes "tcam" ∷ codes "route" ∷ []) ≡ Reads (script_setting Route 4096 Cover Middle false)
+unfolding the_declaration
 routes = refl
 
-some-slots : job_of (codes "tcam" ∷ codes "route" ∷ codes "--slots" ∷ codes "8" ∷ []) ≡ Reads (script_setting Route 8 Middle false)
-unfolding clap_on_literals tcam_command route_command acl_command slots_option placement_option trace_flag
+some-slots : job_of (codes "tcam" ∷ codes "route" ∷ codes "--slots" ∷ codes "8" ∷ []) ≡ Reads (script_setting Route 8 Cover Middle false)
+unfolding the_declaration
 some-slots = refl
 
 version : job_of (codes "tcam" ∷ codes "--version" ∷ []) ≡ Tells version_text
-unfolding clap_on_literals tcam_command route_command acl_command slots_option placement_option trace_flag
+unfolding the_declaration
 version = refl
 
 help-of-routes : job_of (codes "tcam" ∷ codes "route" ∷ codes "--slots" ∷ codes "8" ∷ codes "-h" ∷ []) ≡ Tells route_help
-unfolding clap_on_literals tcam_command route_command acl_command slots_option placement_option trace_flag
+unfolding the_declaration
 help-of-routes = refl
 
 no-help-command : job_of (codes "tcam" ∷ codes "help" ∷ []) ≡ NoJob
-unfolding clap_on_literals tcam_command route_command acl_command slots_option placement_option trace_flag
+unfolding the_declaration
 no-help-command = refl
 
 help : job_of (codes "tcam" ∷ codes "--help" ∷ []) ≡ Tells help_text
-unfolding clap_on_literals tcam_command route_command acl_command slots_option placement_option trace_flag
+unfolding the_declaration
 help = refl
 
 help-before-a-subcommand : job_of (codes "tcam" ∷ codes "-h" ∷ codes "acl" ∷ []) ≡ Tells help_text
-unfolding clap_on_literals tcam_command route_command acl_command slots_option placement_option trace_flag
+unfolding the_declaration
 help-before-a-subcommand = refl
 
 help-behind-a-fault : job_of (codes "tcam" ∷ codes "route" ∷ codes "--slots" ∷ codes "0" ∷ codes "--help" ∷ []) ≡ NoJob
-unfolding clap_on_literals tcam_command route_command acl_command slots_option placement_option trace_flag
+unfolding the_declaration
 help-behind-a-fault = refl
 
 help-of-a-fault : job_of (codes "tcam" ∷ codes "frob" ∷ codes "--help" ∷ []) ≡ NoJob
-unfolding clap_on_literals tcam_command route_command acl_command slots_option placement_option trace_flag
+unfolding the_declaration
 help-of-a-fault = refl
 
 version-of-routes : job_of (codes "tcam" ∷ codes "route" ∷ codes "--version" ∷ []) ≡ NoJob
-unfolding clap_on_literals tcam_command route_command acl_command slots_option placement_option trace_flag
+unfolding the_declaration
 version-of-routes = refl
 
-plus : job_of (codes "tcam" ∷ codes "route" ∷ codes "--slots" ∷ codes "+008" ∷ []) ≡ Reads (script_setting Route 8 Middle false)
-unfolding clap_on_literals tcam_command route_command acl_command slots_option placement_option trace_flag
+plus : job_of (codes "tcam" ∷ codes "route" ∷ codes "--slots" ∷ codes "+008" ∷ []) ≡ Reads (script_setting Route 8 Cover Middle false)
+unfolding the_declaration
 plus = refl
 
-lists : job_of (codes "tcam" ∷ codes "acl" ∷ []) ≡ Reads (script_setting Acl 4096 Middle false)
-unfolding clap_on_literals tcam_command route_command acl_command slots_option placement_option trace_flag
+lists : job_of (codes "tcam" ∷ codes "acl" ∷ []) ≡ Reads (script_setting Acl 4096 Cover Middle false)
+unfolding the_declaration
 lists = refl
 
-slots-of-lists : job_of (codes "tcam" ∷ codes "acl" ∷ codes "--slots=8" ∷ []) ≡ Reads (script_setting Acl 8 Middle false)
-unfolding clap_on_literals tcam_command route_command acl_command slots_option placement_option trace_flag
+slots-of-lists : job_of (codes "tcam" ∷ codes "acl" ∷ codes "--slots=8" ∷ []) ≡ Reads (script_setting Acl 8 Cover Middle false)
+unfolding the_declaration
 slots-of-lists = refl
 
 no-slots-of-lists : job_of (codes "tcam" ∷ codes "acl" ∷ codes "--slots" ∷ codes "0" ∷ []) ≡ NoJob
-unfolding clap_on_literals tcam_command route_command acl_command slots_option placement_option trace_flag
+unfolding the_declaration
 no-slots-of-lists = refl
 
 both : job_of (codes "tcam" ∷ codes "acl" ∷ codes "route" ∷ []) ≡ NoJob
-unfolding clap_on_literals tcam_command route_command acl_command slots_option placement_option trace_flag
+unfolding the_declaration
 both = refl
 
 help-of-lists : job_of (codes "tcam" ∷ codes "acl" ∷ codes "--help" ∷ []) ≡ Tells acl_help
-unfolding clap_on_literals tcam_command route_command acl_command slots_option placement_option trace_flag
+unfolding the_declaration
 help-of-lists = refl
 
-traced : job_of (codes "tcam" ∷ codes "route" ∷ codes "--trace" ∷ codes "--slots" ∷ codes "8" ∷ []) ≡ Reads (script_setting Route 8 Middle true)
-unfolding clap_on_literals tcam_command route_command acl_command slots_option placement_option trace_flag
+traced : job_of (codes "tcam" ∷ codes "route" ∷ codes "--trace" ∷ codes "--slots" ∷ codes "8" ∷ []) ≡ Reads (script_setting Route 8 Cover Middle true)
+unfolding the_declaration
 traced = refl
 
 traced-twice : job_of (codes "tcam" ∷ codes "route" ∷ codes "--trace" ∷ codes "--trace" ∷ []) ≡ NoJob
-unfolding clap_on_literals tcam_command route_command acl_command slots_option placement_option trace_flag
+unfolding the_declaration
 traced-twice = refl
 
 traced-by-a-value : job_of (codes "tcam" ∷ codes "route" ∷ codes "--trace=true" ∷ []) ≡ NoJob
-unfolding clap_on_literals tcam_command route_command acl_command slots_option placement_option trace_flag
+unfolding the_declaration
 traced-by-a-value = refl
 
-traced-lists : job_of (codes "tcam" ∷ codes "acl" ∷ codes "--trace" ∷ []) ≡ Reads (script_setting Acl 4096 Middle true)
-unfolding clap_on_literals tcam_command route_command acl_command slots_option placement_option trace_flag
+traced-lists : job_of (codes "tcam" ∷ codes "acl" ∷ codes "--trace" ∷ []) ≡ Reads (script_setting Acl 4096 Cover Middle true)
+unfolding the_declaration
 traced-lists = refl
 
-by-rank : job_of (codes "tcam" ∷ codes "route" ∷ codes "--placement" ∷ codes "rank" ∷ []) ≡ Reads (script_setting Route 4096 Rank false)
-unfolding clap_on_literals tcam_command route_command acl_command slots_option placement_option trace_flag
+by-rank : job_of (codes "tcam" ∷ codes "route" ∷ codes "--placement" ∷ codes "rank" ∷ []) ≡ Reads (script_setting Route 4096 Cover Rank false)
+unfolding the_declaration
 by-rank = refl
 
-by-the-middle : job_of (codes "tcam" ∷ codes "route" ∷ codes "--placement" ∷ codes "middle" ∷ []) ≡ Reads (script_setting Route 4096 Middle false)
-unfolding clap_on_literals tcam_command route_command acl_command slots_option placement_option trace_flag
+by-the-middle : job_of (codes "tcam" ∷ codes "route" ∷ codes "--placement" ∷ codes "middle" ∷ []) ≡ Reads (script_setting Route 4096 Cover Middle false)
+unfolding the_declaration
 by-the-middle = refl
 
-lists-by-rank : job_of (codes "tcam" ∷ codes "acl" ∷ codes "--trace" ∷ codes "--placement=rank" ∷ codes "--slots" ∷ codes "8" ∷ []) ≡ Reads (script_setting Acl 8 Rank true)
-unfolding clap_on_literals tcam_command route_command acl_command slots_option placement_option trace_flag
+lists-by-rank : job_of (codes "tcam" ∷ codes "acl" ∷ codes "--trace" ∷ codes "--placement=rank" ∷ codes "--slots" ∷ codes "8" ∷ []) ≡ Reads (script_setting Acl 8 Cover Rank true)
+unfolding the_declaration
 lists-by-rank = refl
 
 by-no-such-word : job_of (codes "tcam" ∷ codes "route" ∷ codes "--placement" ∷ codes "Rank" ∷ []) ≡ NoJob
-unfolding clap_on_literals tcam_command route_command acl_command slots_option placement_option trace_flag
+unfolding the_declaration
 by-no-such-word = refl
 
 lists-by-no-such-word : job_of (codes "tcam" ∷ codes "acl" ∷ codes "--placement=end" ∷ []) ≡ NoJob
-unfolding clap_on_literals tcam_command route_command acl_command slots_option placement_option trace_flag
+unfolding the_declaration
 lists-by-no-such-word = refl
 
 by-an-empty-word : job_of (codes "tcam" ∷ codes "acl" ∷ codes "--placement=" ∷ []) ≡ NoJob
-unfolding clap_on_literals tcam_command route_command acl_command slots_option placement_option trace_flag
+unfolding the_declaration
 by-an-empty-word = refl
 
 by-a-missing-word : job_of (codes "tcam" ∷ codes "route" ∷ codes "--placement" ∷ []) ≡ NoJob
-unfolding clap_on_literals tcam_command route_command acl_command slots_option placement_option trace_flag
+unfolding the_declaration
 by-a-missing-word = refl
 
 by-a-flag : job_of (codes "tcam" ∷ codes "acl" ∷ codes "--placement" ∷ codes "--trace" ∷ []) ≡ NoJob
-unfolding clap_on_literals tcam_command route_command acl_command slots_option placement_option trace_flag
+unfolding the_declaration
 by-a-flag = refl
 
 by-two-words : job_of (codes "tcam" ∷ codes "route" ∷ codes "--placement" ∷ codes "rank" ∷ codes "--placement" ∷ codes "rank" ∷ []) ≡ NoJob
-unfolding clap_on_literals tcam_command route_command acl_command slots_option placement_option trace_flag
+unfolding the_declaration
 by-two-words = refl
 
 by-two-words-at-once : job_of (codes "tcam" ∷ codes "acl" ∷ codes "--placement" ∷ codes "middle" ∷ codes "rank" ∷ []) ≡ NoJob
-unfolding clap_on_literals tcam_command route_command acl_command slots_option placement_option trace_flag
+unfolding the_declaration
 by-two-words-at-once = refl
+
+made : job_of (codes "tcam" ∷ codes "gen" ∷ codes "1" ∷ codes "1" ∷ codes "2" ∷ []) ≡ Makes (script_setting Acl 4096 Cover Middle false) 1 1 2
+unfolding the_declaration
+made = refl
+
+made-in-few-slots : job_of (codes "tcam" ∷ codes "gen" ∷ codes "1" ∷ codes "--slots" ∷ codes "8" ∷ codes "--placement=rank" ∷ codes "256" ∷ codes "64" ∷ []) ≡ Makes (script_setting Acl 8 Cover Rank false) 1 256 64
+unfolding the_declaration
+made-in-few-slots = refl
+
+made-of-the-greatest-seed : job_of (codes "tcam" ∷ codes "gen" ∷ codes "2147483647" ∷ codes "1" ∷ codes "1" ∷ []) ≡ Makes (script_setting Acl 4096 Cover Middle false) 2147483647 1 1
+unfolding the_declaration
+made-of-the-greatest-seed = refl
+
+made-of-too-great-a-seed : job_of (codes "tcam" ∷ codes "gen" ∷ codes "2147483648" ∷ codes "1" ∷ codes "1" ∷ []) ≡ NoJob
+unfolding the_declaration
+made-of-too-great-a-seed = refl
+
+made-of-no-rules : job_of (codes "tcam" ∷ codes "gen" ∷ codes "0" ∷ codes "0" ∷ codes "1" ∷ []) ≡ NoJob
+unfolding the_declaration
+made-of-no-rules = refl
+
+made-of-too-many-rules : job_of (codes "tcam" ∷ codes "gen" ∷ codes "0" ∷ codes "257" ∷ codes "1" ∷ []) ≡ NoJob
+unfolding the_declaration
+made-of-too-many-rules = refl
+
+made-in-no-batches : job_of (codes "tcam" ∷ codes "gen" ∷ codes "0" ∷ codes "1" ∷ codes "0" ∷ []) ≡ NoJob
+unfolding the_declaration
+made-in-no-batches = refl
+
+made-in-too-many-batches : job_of (codes "tcam" ∷ codes "gen" ∷ codes "0" ∷ codes "1" ∷ codes "65" ∷ []) ≡ NoJob
+unfolding the_declaration
+made-in-too-many-batches = refl
+
+made-of-two-numbers : job_of (codes "tcam" ∷ codes "gen" ∷ codes "1" ∷ codes "1" ∷ []) ≡ NoJob
+unfolding the_declaration
+made-of-two-numbers = refl
+
+made-of-four-numbers : job_of (codes "tcam" ∷ codes "gen" ∷ codes "1" ∷ codes "1" ∷ codes "1" ∷ codes "1" ∷ []) ≡ NoJob
+unfolding the_declaration
+made-of-four-numbers = refl
+
+made-of-a-word : job_of (codes "tcam" ∷ codes "gen" ∷ codes "1" ∷ codes "1" ∷ codes "one" ∷ []) ≡ NoJob
+unfolding the_declaration
+made-of-a-word = refl
+
+made-of-less-than-nothing : job_of (codes "tcam" ∷ codes "gen" ∷ codes "-1" ∷ codes "1" ∷ codes "1" ∷ []) ≡ NoJob
+unfolding the_declaration
+made-of-less-than-nothing = refl
+
+made-in-no-slots : job_of (codes "tcam" ∷ codes "gen" ∷ codes "1" ∷ codes "1" ∷ codes "1" ∷ codes "--slots" ∷ codes "0" ∷ []) ≡ NoJob
+unfolding the_declaration
+made-in-no-slots = refl
+
+made-by-no-such-word : job_of (codes "tcam" ∷ codes "gen" ∷ codes "1" ∷ codes "1" ∷ codes "1" ∷ codes "--placement" ∷ codes "end" ∷ []) ≡ NoJob
+unfolding the_declaration
+made-by-no-such-word = refl
+
+made-with-a-trace : job_of (codes "tcam" ∷ codes "gen" ∷ codes "1" ∷ codes "1" ∷ codes "1" ∷ codes "--trace" ∷ []) ≡ NoJob
+unfolding the_declaration
+made-with-a-trace = refl
+
+made-in-bits : job_of (codes "tcam" ∷ codes "gen" ∷ codes "1" ∷ codes "1" ∷ codes "1" ∷ codes "--ranges" ∷ codes "bits" ∷ []) ≡ Makes (script_setting Acl 4096 Bits Middle false) 1 1 1
+unfolding the_declaration
+made-in-bits = refl
+
+lists-in-bits : job_of (codes "tcam" ∷ codes "acl" ∷ codes "--ranges" ∷ codes "bits" ∷ []) ≡ Reads (script_setting Acl 4096 Bits Middle false)
+unfolding the_declaration
+lists-in-bits = refl
+
+lists-in-bits-by-rank : job_of (codes "tcam" ∷ codes "acl" ∷ codes "--placement" ∷ codes "rank" ∷ codes "--ranges=bits" ∷ codes "--trace" ∷ codes "--slots" ∷ codes "8" ∷ []) ≡ Reads (script_setting Acl 8 Bits Rank true)
+unfolding the_declaration
+lists-in-bits-by-rank = refl
+
+lists-in-covers : job_of (codes "tcam" ∷ codes "acl" ∷ codes "--ranges" ∷ codes "cover" ∷ []) ≡ Reads (script_setting Acl 4096 Cover Middle false)
+unfolding the_declaration
+lists-in-covers = refl
+
+lists-in-no-such-word : job_of (codes "tcam" ∷ codes "acl" ∷ codes "--ranges" ∷ codes "Bits" ∷ []) ≡ NoJob
+unfolding the_declaration
+lists-in-no-such-word = refl
+
+lists-in-an-empty-word : job_of (codes "tcam" ∷ codes "acl" ∷ codes "--ranges=" ∷ []) ≡ NoJob
+unfolding the_declaration
+lists-in-an-empty-word = refl
+
+lists-in-a-missing-word : job_of (codes "tcam" ∷ codes "acl" ∷ codes "--ranges" ∷ []) ≡ NoJob
+unfolding the_declaration
+lists-in-a-missing-word = refl
+
+lists-in-two-words : job_of (codes "tcam" ∷ codes "acl" ∷ codes "--ranges" ∷ codes "bits" ∷ codes "--ranges" ∷ codes "bits" ∷ []) ≡ NoJob
+unfolding the_declaration
+lists-in-two-words = refl
+
+routes-in-bits : job_of (codes "tcam" ∷ codes "route" ∷ codes "--ranges" ∷ codes "bits" ∷ []) ≡ NoJob
+unfolding the_declaration
+routes-in-bits = refl
+
+routes-in-covers : job_of (codes "tcam" ∷ codes "route" ∷ codes "--ranges" ∷ codes "cover" ∷ []) ≡ NoJob
+unfolding the_declaration
+routes-in-covers = refl
+
+made-in-no-such-word : job_of (codes "tcam" ∷ codes "gen" ∷ codes "1" ∷ codes "1" ∷ codes "1" ∷ codes "--ranges" ∷ codes "cover,bits" ∷ []) ≡ NoJob
+unfolding the_declaration
+made-in-no-such-word = refl
+
+help-of-made-commands : job_of (codes "tcam" ∷ codes "gen" ∷ codes "--help" ∷ []) ≡ Tells gen_help
+unfolding the_declaration
+help-of-made-commands = refl

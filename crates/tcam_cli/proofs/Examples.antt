@@ -1,5 +1,5 @@
 -- The promise of the top call at some small scripts, each with its whole report.
-use Rattle.std.proofs.Common.{◌≡◌, false, ℕ, ◌∙◌, Contains, List, [], ◌∷◌, ◌++◌, Some, None, replicate, refl, sym, inl, inr, lit≤, arith}
+use Rattle.std.proofs.Common.{◌≡◌, false, ℕ, ◌∙◌, Contains, List, [], ◌∷◌, ◌++◌, Some, None, replicate, refl, sym, subst, ap, inl, inr, lit≤, arith}
 use Rattle.std.specs.Prelude.{codes, nat_eq, ℕ}
 use Rattle.std.specs.List.{IsDistinct}
 use Rattle.std.specs.Fmt.{digits}
@@ -22,13 +22,16 @@ use Rattle.slot_order.proofs.Lists.{contains_none}
 use Rattle.slot_pool.specs.Arrangement.{Slots}
 use Rattle.ternary_word.specs.declared.Entry.{Entry}
 use Rattle.tcam_device.specs.Order.{IsOrdered}
+use Rattle.tcam_device.specs.declared.Write.{Write}
+use Rattle.tcam_device.proofs.States.{IsState-blank}
 use Rattle.tcam_device.proofs.Wider.{empty_slot}
 use Rattle.commit_writes.proofs.NoBits.{bit_writes-none}
 use Rattle.tcam_device.specs.State as State
 use Rattle.commit_writes.specs.declared.Done.{Done as Counts}
 use Rattle.commit_writes.specs.Bits.{no_bits}
-use Rattle.commit_writes.specs.Commit.{IsSegment}
+use Rattle.commit_writes.specs.Commit.{HoldsInOrder, IsSegment}
 use Rattle.commit_writes.specs.Planned.{AreArranged}
+use Rattle.commit_writes.specs.PlannedBatch.{IsPlannedBatch}
 use Rattle.batch_order.specs.declared.Placement.TheVariants.{Middle}
 use Rattle.batch_order.specs.Placing.{IsPlacedBy}
 use Rattle.tcam_cli.specs.Readings.{reading}
@@ -36,7 +39,7 @@ use Rattle.tcam_cli.specs.CommandLine.{script_setting}
 use Rattle.tcam_cli.specs.Headline.{NoJob, Reads, IsCarriedOut}
 
 abbrev routes : ℕ → Setting
-routes slots = script_setting Route slots Middle false
+routes slots = script_setting Route slots Cover Middle false
 
 abbrev feed : List ℕ → List ℕ
 feed line = line ++ 10 ∷ []
@@ -175,6 +178,14 @@ blank-ordered =
       order = λ i j first second less member other here there meet. absurd (contains_none first member);
     }
 
+-- and its tables serve none
+blank-holds : HoldsInOrder (State.blank 8) (Contains [])
+blank-holds =
+    record {
+      ordered = blank-ordered;
+      serves = record { srcbits = λ ranked bit member. absurd (contains_none ranked member); dstbits = λ ranked bit member. absurd (contains_none ranked member) };
+    }
+
 nothing-made : IsSegment Cover no_bits [] [] (State.blank 8) []
 nothing-made =
     record {
@@ -186,14 +197,14 @@ nothing-made =
       turns = λ none key is. (0, record { before = λ n early. absurd (omega arith); since = λ n late. rw take-nil refl });
       order =
           record {
-            inserting = λ n within. (0, rw take-nil blank-ordered);
+            inserting = λ n within. (0, rw take-nil blank-holds);
             finishing = λ n past. (
               [],
               record { known = λ ranked member. absurd (contains_none ranked member); kept = λ was is old. absurd (contains_none was old) },
-              rw take-nil blank-ordered,
+              rw take-nil blank-holds,
               λ ranked member. absurd (contains_none ranked member),
             );
-            after = blank-ordered;
+            after = blank-holds;
             once = λ ranked member. absurd (contains_none ranked member);
             between = λ k insertion none. absurd (none-some insertion none);
           };
@@ -236,7 +247,7 @@ none-arranged =
       order = λ i j first second less here there. absurd (let none : None ≡ Some first = sym (empty_slot {E = ℕ} 8 i) ∙ here in cc);
     }
 
-nothing-placed : IsPlacedBy Middle [] [] (State.blank 8) []
+nothing-placed : IsPlacedBy Middle Cover no_bits [] [] (State.blank 8) []
 nothing-placed =
     record {
       live = [];
@@ -246,8 +257,11 @@ nothing-placed =
       rewrites = [];
       erased = [];
       stands = refl;
-      commit =
+      commit = subst (λ writes. IsPlannedBatch Cover no_bits (State.state_after (State.blank 8) writes) [] [] [] no-ids [] [] [] []) (sym (bit_writes-none (State.blank 8)))
           record {
+            is_state = IsState-blank 8;
+            mirrors = refl;
+            serving = refl;
             is_set = tt;
             right = tt;
             changes = tt;
@@ -266,7 +280,7 @@ nothing-placed =
             erased_are = tt;
           };
       aims = refl;
-      writes_are = refl;
+      writes_are = sym (ap (λ (words : List Write). words ++ []) (bit_writes-none (State.blank 8)));
     }
 
 abbrev committed : Progress

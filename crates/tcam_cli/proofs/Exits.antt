@@ -1,27 +1,30 @@
 -- What a turn comes to, by what its callees answer.
 use Rattle.std.proofs.Common.{◌≡◌, ◌≢◌, ◌⊎◌, inl, inr, ℕ, ◌∷◌, ◌++◌, Option, Some, None, Result, Ok, Err, List, [], length, refl, ap, sym, ◌∙◌, subst, append-nil}
 use Rattle.std.specs.Io.KnownBytes.{Appends}
-use Rattle.std.proofs.KnownBytes.{Appends-trans}
 use Rattle.script_lines.specs.declared.Line.{Line}
 use Rattle.script_lines.specs.declared.LineFault.{LineFault}
 use Rattle.script_lines.specs.declared.LineFault.TheVariants as fault
 use Rattle.script_lines.specs.Lines.{Faulty, ends_at, numbered}
 use Rattle.tcam_device.specs.declared.Write.{Write}
 use Rattle.replay.specs.declared.Act.{Act}
+use Rattle.replay.specs.declared.RunFault.{RunFault}
+use Rattle.replay.specs.declared.RunFault.TheVariants as run_fault
+use Rattle.replay.specs.Running.{limit_text}
 use Rattle.replay.specs.Script.{ScriptEnd, Whole, FaultAt, Reading, NumberedAct, byte_end, script_of, pending_after, probes_after, limit_fault}
 use Rattle.replay.specs.Text.{fault_line}
-use Rattle.replay.specs.Run.{Setting, Effect, Writes, Prints, Progress, IsCutStep, Runs, written, printed, ending}
+use Rattle.replay.specs.Run.{Setting, Progress, Runs, printed, ending}
 use Rattle.tcam_cli.specs.declared.Status.{Status}
-use Rattle.tcam_cli.specs.declared.Status.TheVariants.{Done, Refused, Script as ScriptFault, ReadFault, WriteFault, DeviceFault, Memory}
-use Rattle.tcam_cli.specs.Headline.{IsAtAct, IsComplete, IsOutcome, acts_of, last_line, script_so_far, status_of}
+use Rattle.tcam_cli.specs.declared.Status.TheVariants.{Done, Refused, Script as ScriptFault, ReadFault, WriteFault}
+use Rattle.tcam_cli.specs.Headline.{MatchesOutcome, acts_of, last_line, script_so_far, status_of}
 use Rattle.tcam_cli.specs.Readings.{reading}
 use Rattle.script_lines.specs.declared.Over.{Over}
 use Rattle.script_lines.specs.declared.Over.TheVariants as over
 use Rattle.script_lines.specs.Reader.{HeldBytes, lines_held, Hands, Again}
-use Rattle.replay.specs.Carried.{IsAt, Carries, CutsAtLine, CutsAtWrite, Wants}
-use Rattle.tcam_cli.specs.Turns.{onto_all, acts_next, IsGoing, IsAllRead, IsRead, acts_only, SoFar, Ends, Closes, GoesOn, WantsNext}
+use Rattle.replay.specs.Carried.{IsAt, Carries, Wants}
+use Rattle.tcam_cli.specs.Turns.{onto_all, acts_next, IsGoing, IsAllRead, IsRead, acts_only, SoFar, Ends, Closes, GoesOn, WantsNext, status_of_fault}
+use Rattle.tcam_cli.proofs.Outcomes.{Stops, closed-outcome, stopped-outcome}
 use Rattle.tcam_cli.proofs.OneMore.{run-at, run-more, does-journal, does-report, step-pending, step-probes}
-use Rattle.tcam_cli.proofs.Endings.{HandsOne, line-none, line-fault, line-full, line-act, next-line, line-here, bytes-fault, bytes-end, so-far, onto-nil, onto-more, only-more, outcome-complete, written-line, printed-line, act-here}
+use Rattle.tcam_cli.proofs.Endings.{HandsOne, line-none, line-fault, line-full, line-act, next-line, line-here, bytes-fault, bytes-end, so-far, onto-nil, onto-more, only-more, act-here}
 
 abbrev not-end : Result (Option Line) LineFault → Type 0
 not-end r = r ≢ Ok None
@@ -39,46 +42,33 @@ closes-script line result before after now (inl c) (inr d) = let e : ScriptFault
 closes-script line result before after now (inr c) (inl d) = let e : WriteFault ≡ Done = sym c.0 ∙ d in absurd (cc)
 closes-script line result before after now (inr c) (inr d) = let e : WriteFault ≡ Refused = sym c.0 ∙ d in absurd (cc)
 
+-- a fault of an act is no end of the input
+not-whole : {now : List ℕ} (why : RunFault) → limit_text (Err why) ≡ None → (status_of_fault why ≡ Done) ⊎ (status_of_fault why ≡ Refused) → now ≡ []
+not-whole run_fault.Sink room (inl e) = absurd (cc)
+not-whole run_fault.Sink room (inr e) = absurd (cc)
+not-whole run_fault.Device room (inl e) = absurd (cc)
+not-whole run_fault.Device room (inr e) = absurd (cc)
+not-whole run_fault.Memory room (inl e) = absurd (cc)
+not-whole run_fault.Memory room (inr e) = absurd (cc)
+not-whole run_fault.BatchFull room e = absurd (cc)
+not-whole run_fault.ProbesFull room e = absurd (cc)
+
 module _ (setting : Setting) (slots : ℕ) (bytes : List ℕ) (old : HeldBytes) (left : List ℕ) (last : Progress) (journal : List Write) (start before : Option (List ℕ)) (s : SoFar setting slots bytes old left last journal start before) where
+  ends-by : (taken now : List ℕ) (result : Status) (journal_new : List Write) (after : Option (List ℕ))
+      → MatchesOutcome setting slots (script_of (reading setting.family) bytes) (script_so_far (reading setting.family) taken) result journal_new start after
+      → ((result ≡ Done) ⊎ (result ≡ Refused) → now ≡ []) → Ends setting slots bytes taken now result journal_new start after
+  ends-by taken now result journal_new after is all =
+      record { effects = is.effects; partial = is.partial; outcome = is.outcome; journal_is = is.journal_is; report = is.report_is; all = all }
+
   -- the last line is written, or a part of it
   closed : (taken now : List ℕ) (end : ScriptEnd) (after : Option (List ℕ)) (result : Status) → script_of (reading setting.family) bytes ≡ record { acts = s.acts; last = end }
       → Closes (last_line setting last end) (status_of last end) result before after → ((result ≡ Done) ⊎ (result ≡ Refused) → now ≡ [])
       → Ends setting slots bytes taken now result journal start after
-  closed taken now end after result is (inl (e, line)) all =
-      let S = script_of (reading setting.family) bytes in
-      let more : List Effect = s.effects ++ Prints (last_line setting last end) ∷ [] in
-      let whole : IsComplete setting slots S result more = record {
-        body = s.effects;
-        last = last;
-        run = subst (λ script. Runs setting slots (acts_of script) s.effects last) (sym is) s.run;
-        status_is = e ∙ sym (ap (λ script. status_of last script.last) is);
-        effects_are = sym (ap (λ script. s.effects ++ Prints (last_line setting last script.last) ∷ []) is);
-      } in
-      record {
-        effects = more;
-        partial = [];
-        outcome = outcome-complete setting slots S (script_so_far (reading setting.family) taken) last end result more e whole;
-        journal_is = s.journal_is ∙ written-line s.effects (last_line setting last end);
-        report = subst (Appends start after) (printed-line s.effects (last_line setting last end)) (Appends-trans start before after (printed s.effects) (last_line setting last end) s.report line);
-        all = all;
-      }
-  closed taken now end after result is (inr (e, (partial, rest, part, line))) all = record {
-    effects = s.effects;
-    partial = partial;
-    outcome = subst (λ status. IsOutcome setting slots (script_of (reading setting.family) bytes) (script_so_far (reading setting.family) taken) status s.effects partial) (sym e) (record {
-      line = last_line setting last end;
-      rest = rest;
-      due = inr (record {
-        last = last;
-        run = subst (λ script. Runs setting slots (acts_of script) s.effects last) (sym is) s.run;
-        due_is = sym (ap (λ script. Prints (last_line setting last script.last)) is);
-      });
-      part = part;
-    });
-    journal_is = s.journal_is;
-    report = Appends-trans start before after (printed s.effects) partial s.report line;
-    all = all;
-  }
+  closed taken now end after result is closes all =
+      let script = script_of (reading setting.family) bytes in
+      ends-by taken now result journal after
+      (closed-outcome setting slots script (script_so_far (reading setting.family) taken) (acts_only s.acts) s.effects last journal start before s.run s.journal_is s.report after result (ap acts_of is)
+      (subst (λ end. Closes (last_line setting last end) (status_of last end) result before after) (sym (ap (λ script. script.last) is)) closes)) all
 
   -- a fault of a byte
   pub exit-bytes : (taken now : List ℕ) (after : Option (List ℕ)) (result : Status) (found : LineFault) (number : ℕ) (text : List ℕ) → byte_end (Faulty found) ≡ FaultAt number text
@@ -205,41 +195,14 @@ module _ (setting : Setting) (slots : ℕ) (bytes : List ℕ) (old : HeldBytes) 
       here : (later : List Act) × (acts_of (script_of (reading setting.family) bytes) ≡ acts_only s.acts ++ act ∷ later)
       here = act-here (reading setting.family) bytes old left (numbered line) new now act s.acts _ _ going.1 (hands going.0) is room
 
-      cut-at : (front : List Effect) (due : Effect) → IsCutStep setting last act front due → IsAtAct setting slots (script_of (reading setting.family) bytes) (s.effects ++ front) due
-      cut-at front due cut =
-          record { done = acts_only s.acts; act = act; later = here.0; acts = here.1; body = s.effects; before = last; run = s.run; front = front; cut = cut; effects_are = refl }
-
-      pub exit-line : (taken : List ℕ) → (IsAt slots journal last → CutsAtLine setting last act journal journal_new before after) → Ends setting slots bytes taken now WriteFault journal_new start after
-      exit-line taken cuts =
-          let cut = cuts at in record {
-            effects = s.effects ++ cut.front;
-            partial = cut.partial;
-            outcome = record { line = cut.partial ++ cut.rest; rest = cut.rest; due = inl (cut-at cut.front (Prints (cut.partial ++ cut.rest)) cut.cut); part = refl };
-            journal_is = does-journal s.effects cut.front cut.partial journal journal_new before after cut.does s.journal_is;
-            report = does-report s.effects cut.front cut.partial journal journal_new start before after cut.does s.report;
-            all = λ e. elim e [ inl d ↦ absurd (cc) | inr r ↦ absurd (cc) ];
-          }
-
-      pub exit-device : (taken : List ℕ) → (IsAt slots journal last → CutsAtWrite setting last act journal journal_new before after) → Ends setting slots bytes taken now DeviceFault journal_new start after
-      exit-device taken cuts =
-          let cut = cuts at in record {
-            effects = s.effects ++ cut.front;
-            partial = [];
-            outcome = (record { write = cut.write; due = inl (cut-at cut.front (Writes cut.write) cut.cut) }, refl);
-            journal_is = does-journal s.effects cut.front [] journal journal_new before after cut.does s.journal_is;
-            report = does-report s.effects cut.front [] journal journal_new start before after cut.does s.report;
-            all = λ e. elim e [ inl d ↦ absurd (cc) | inr r ↦ absurd (cc) ];
-          }
-
-      pub exit-memory : (taken : List ℕ) → Wants setting last act journal journal_new before after → Ends setting slots bytes taken now Memory journal_new start after
-      exit-memory taken wants = record {
-        effects = s.effects;
-        partial = [];
-        outcome = (inr (record { done = acts_only s.acts; act = act; later = here.0; acts = here.1; before = last; run = s.run; needs = wants.needs }), refl);
-        journal_is = does-journal s.effects [] [] journal journal_new before after wants.does s.journal_is ∙ ap written (append-nil s.effects);
-        report = subst (λ e. Appends start after (printed e ++ [])) (append-nil s.effects) (does-report s.effects [] [] journal journal_new start before after wants.does s.report);
-        all = λ e. elim e [ inl d ↦ absurd (cc) | inr r ↦ absurd (cc) ];
-      }
+      -- by its fault
+      pub exit-stopped : (taken : List ℕ) (why : RunFault) → limit_text (Err why) ≡ None → Stops slots setting last act why journal journal_new before after
+          → Ends setting slots bytes taken now (status_of_fault why) journal_new start after
+      exit-stopped taken why full is =
+          ends-by taken now (status_of_fault why) journal_new after
+          (stopped-outcome setting slots (script_of (reading setting.family) bytes) (script_so_far (reading setting.family) taken) (acts_only s.acts) s.effects last journal start before s.run s.journal_is s.report
+          act here.0 here.1 journal_new after why full is)
+          (not-whole why full)
 
       pub wants-next : Wants setting last act journal journal_new before after → WantsNext setting s.acts bytes last journal journal_new before after
       wants-next wants = record { act = act; later = here.0; acts_are = here.1; wants = wants }

@@ -4,6 +4,7 @@ use Rattle.std.specs.Prelude.{codes}
 use Rattle.std.specs.List.{concat}
 use Rattle.script_lines.specs.Given.{HasEnd, MayGive}
 use Rattle.tcam_device.specs.declared.Write.{Write}
+use Rattle.rule_store.specs.declared.Mode.TheVariants.{Cover}
 use Rattle.batch_order.specs.declared.Placement.TheVariants.{Middle}
 use Rattle.replay.specs.declared.Family.TheVariants.{Route}
 use Rattle.replay.specs.Run.{Setting}
@@ -14,7 +15,7 @@ use Rattle.tcam_cli.specs.Headline.{Reads, MayEnd}
 use Rattle.tcam_cli.specs.Given.{IsPromisedByGiven}
 
 abbrev routes : Setting
-routes = script_setting Route 8 Middle false
+routes = script_setting Route 8 Cover Middle false
 
 -- ---- Done and Refused come only where the source said that the input is at its end
 

@@ -1,5 +1,5 @@
 -- A run by what its source gave.
-use Rattle.std.proofs.Common.{◌≡◌, ◌≢◌, inl, inr, ℕ, Option, Some, None, Result, List, [], ◌++◌, refl, ap, sym, ◌∙◌, append_assoc, append-nil, subst}
+use Rattle.std.proofs.Common.{◌≡◌, ◌≢◌, inl, inr, ℕ, Option, Some, None, Result, Err, List, [], ◌++◌, refl, ap, sym, ◌∙◌, append_assoc, append-nil, subst}
 use Rattle.std.specs.List.{concat}
 use Rattle.std.specs.Io.KnownBytes.{Consumes, IsAtEnd}
 use Rattle.std.proofs.KnownBytes.{Consumes-nil, Consumes-trans}
@@ -11,24 +11,34 @@ use Rattle.script_lines.specs.Given.{HasEnd, MayGive, GivesPieces}
 use Rattle.script_lines.specs.Reader.{HeldBytes, HandsByGiven}
 use Rattle.script_lines.proofs.Pieces.{concat-append, end-left, end-right, end-either}
 use Rattle.tcam_device.specs.declared.Write.{Write}
+use Rattle.replay.specs.declared.RunFault.{RunFault}
+use Rattle.replay.specs.declared.RunFault.TheVariants as run_fault
+use Rattle.replay.specs.Running.{limit_text}
 use Rattle.replay.specs.Run.{Setting, Progress}
 use Rattle.tcam_cli.specs.declared.Status.{Status}
 use Rattle.tcam_cli.specs.declared.Status.TheVariants.{Done, Memory, Usage}
 use Rattle.tcam_cli.specs.Headline.{Job, NoJob, Tells, Reads, IsCarriedOut, MayEnd}
-use Rattle.tcam_cli.specs.Turns.{SoFar, Ends, Closes, TurnsBy, GoesOn, WantsNext, Grows}
+use Rattle.tcam_cli.specs.Turns.{SoFar, Ends, Closes, TurnsBy, GoesOn, WantsNext, Grows, status_of_fault}
 use Rattle.tcam_cli.specs.Given.{IsPromisedByGiven}
 use Rattle.tcam_cli.proofs.WholeRun.{EndsTold, carried, may-end}
 use Rattle.tcam_cli.proofs.HitlessRuns.{hitless-job}
 
--- a turn that ends the run, for want of memory
-pub turns-memory : (setting : Setting) (slots : ℕ) (old : HeldBytes) (before : Progress) (pieces : List (List ℕ)) (answer : Result (Option Line) LineFault) (held : HeldBytes) (status : Status) (new : HeldBytes) (after : Progress) (journal_old journal_new : List Write) (taken_old taken_new : Option (List ℕ))
-    → HandsByGiven old pieces answer held
+-- a turn that ends the run at an act
+pub turns-stopped : (setting : Setting) (slots : ℕ) (old : HeldBytes) (before : Progress) (pieces : List (List ℕ)) (answer : Result (Option Line) LineFault) (held : HeldBytes) (why : RunFault) (new : HeldBytes) (after : Progress) (journal_old journal_new : List Write) (taken_old taken_new : Option (List ℕ))
+    → HandsByGiven old pieces answer held → limit_text (Err why) ≡ None
     → ((bytes left now : List ℕ) (start : Option (List ℕ)) → MayGive left pieces now → SoFar setting slots bytes old left before journal_old start taken_old → Grows journal_old journal_new taken_old taken_new)
-    → ((bytes taken left now : List ℕ) (start : Option (List ℕ)) → MayGive left pieces now → bytes ≡ taken ++ now → SoFar setting slots bytes old left before journal_old start taken_old → Ends setting slots bytes taken now status journal_new start taken_new)
-    → ((bytes left now : List ℕ) (start : Option (List ℕ)) → MayGive left pieces now → (s : SoFar setting slots bytes old left before journal_old start taken_old) → WantsNext setting s.acts bytes before journal_old journal_new taken_old taken_new)
-    → TurnsBy setting slots old before pieces (Some status) new after journal_old journal_new taken_old taken_new
-turns-memory setting slots old before pieces answer held status new after journal_old journal_new taken_old taken_new by grows ends wants =
-    record { goes = tt; ends = ends; wants = λ e. wants; ended = λ _. tt; rests = by.rests; last = by.last; grows = grows }
+    → ((bytes taken left now : List ℕ) (start : Option (List ℕ)) → MayGive left pieces now → bytes ≡ taken ++ now → SoFar setting slots bytes old left before journal_old start taken_old → Ends setting slots bytes taken now (status_of_fault why) journal_new start taken_new)
+    → (why ≡ run_fault.Memory → (bytes left now : List ℕ) (start : Option (List ℕ)) → MayGive left pieces now → (s : SoFar setting slots bytes old left before journal_old start taken_old) → WantsNext setting s.acts bytes before journal_old journal_new taken_old taken_new)
+    → TurnsBy setting slots old before pieces (Some (status_of_fault why)) new after journal_old journal_new taken_old taken_new
+turns-stopped setting slots old before pieces answer held why new after journal_old journal_new taken_old taken_new by room grows ends wants =
+    record { goes = tt; ends = ends; wants = λ e. wants (is-memory why room e); ended = λ _. tt; rests = by.rests; last = by.last; grows = grows }
+  where
+    is-memory : (why : RunFault) → limit_text (Err why) ≡ None → Some (status_of_fault why) ≡ Some Memory → why ≡ run_fault.Memory
+    is-memory run_fault.Memory room e = refl
+    is-memory run_fault.Sink room e = absurd (cc)
+    is-memory run_fault.Device room e = absurd (cc)
+    is-memory run_fault.BatchFull room e = absurd (cc)
+    is-memory run_fault.ProbesFull room e = absurd (cc)
 
 -- for another reason
 pub turns-some : (setting : Setting) (slots : ℕ) (old : HeldBytes) (before : Progress) (pieces : List (List ℕ)) (answer : Result (Option Line) LineFault) (held : HeldBytes) (status : Status) (new : HeldBytes) (after : Progress) (journal_old journal_new : List Write) (taken_old taken_new : Option (List ℕ))

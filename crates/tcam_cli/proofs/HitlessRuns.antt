@@ -11,7 +11,8 @@ use Rattle.replay.specs.Run.{Setting, Effect, Writes, Prints, written, Progress,
 use Rattle.replay.specs.Text.{accepted_line}
 use Rattle.tcam_cli.specs.declared.Status.{Status}
 use Rattle.tcam_cli.specs.declared.Status.TheVariants.{Done, Refused, Script as ScriptFault, ReadFault, WriteFault, DeviceFault, Memory, Usage}
-use Rattle.tcam_cli.specs.Headline.{Job, NoJob, Tells, Reads, acts_of, script_so_far, IsComplete, IsDue, IsOutcome, IsOutOfMemory, IsCarriedOut}
+use Rattle.tcam_cli.specs.Headline.{Job, NoJob, Tells, Reads, Makes, acts_of, script_so_far, IsComplete, IsDue, IsOutcome, IsOutOfMemory, IsCarriedOut}
+use Rattle.tcam_cli.specs.MadeScript.{made_script}
 use Rattle.tcam_cli.specs.Readings.{reading}
 use Rattle.tcam_cli.specs.AllTheWay.{sets_through, sets_of, AnswersAllTheWay, EndsAtLast, EndsAfter, EndsAfterSome, IsNoProbe, TellsNoWrite, IsHitlessRun, IsHitlessJob}
 use Rattle.replay.proofs.Effects.{written-append}
@@ -159,3 +160,8 @@ hitless-job (Reads setting) slots status (Some old) (Some new) taken_old taken_n
     λ sound. subst (λ bytes. AreFirstActs (acts_of came) (acts_of (script_of (reading setting.family) bytes))) (take-append-drop n old) (first-acts (reading setting.family) (take n old) (drop n old) sound) in
     subst (λ writes. IsHitlessRun setting slots (script_of (reading setting.family) old) came status writes) (sym is.1.journal_is)
     (outcome_answers setting slots (script_of (reading setting.family) old) came status is.1.effects is.1.partial first is.1.outcome)
+hitless-job (Makes setting seed rules batches) slots status left_old left_new taken_old taken_new journal is =
+    let script = made_script seed rules batches in
+    let made = is.1.1 in
+    subst (λ writes. IsHitlessRun setting slots script script status writes) (sym made.journal_is)
+    (outcome_answers setting slots script script status made.effects made.partial (λ sound. ([], sym (append-nil (acts_of script)))) made.outcome)

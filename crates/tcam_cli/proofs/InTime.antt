@@ -16,7 +16,7 @@ use Rattle.replay.specs.Run.{Setting, Effect, Progress, Runs, written, printed}
 use Rattle.replay.specs.Carried.{IsAt, Does}
 use Rattle.tcam_cli.specs.declared.Status.{Status}
 use Rattle.tcam_cli.specs.declared.Status.TheVariants.{Memory}
-use Rattle.tcam_cli.specs.Headline.{Job, NoJob, Tells, Reads, acts_of}
+use Rattle.tcam_cli.specs.Headline.{Job, NoJob, Tells, Reads, Makes, acts_of}
 use Rattle.tcam_cli.specs.Readings.{reading}
 use Rattle.tcam_cli.specs.Turns.{IsGoing, IsRead, acts_only, SoFar, Closes, Grows, TurnsBy}
 use Rattle.tcam_cli.specs.Given.{given_so_far, IsInTime, WantsInTime, ReadsInTime}
@@ -222,5 +222,6 @@ reads-in-time setting slots status given_old given_new pieces journal accepted_o
 pub nothing-read : (job : Job) (slots : ℕ) (status : Status) (given : List (List ℕ)) (journal : List Write) (accepted : List ℕ) → ReadsInTime job slots status given given journal accepted accepted
 nothing-read NoJob slots status given journal accepted = refl
 nothing-read (Tells text) slots status given journal accepted = refl
+nothing-read (Makes setting seed rules batches) slots status given journal accepted = refl
 nothing-read (Reads setting) slots status given journal accepted =
     reads-in-time setting slots status given given [] journal accepted accepted (sym (append-nil given)) (in-time-none setting slots journal accepted accepted) (λ memory front last e. absurd (no-push front last e))

@@ -9,7 +9,9 @@ use Rattle.rule_store.specs.declared.Command.TheVariants.{Add}
 use Rattle.rule_store.specs.Verdict.{verdict}
 use Rattle.ternary_word.specs.declared.Entry.{Entry}
 use Rattle.tcam_device.specs.declared.Write.TheVariants.{Slot}
+use Rattle.commit_writes.specs.Bits.{no_bits}
 use Rattle.batch_order.proofs.Padded.{one-write}
+use Rattle.rule_store.specs.declared.Mode.TheVariants.{Cover}
 use Rattle.batch_order.specs.declared.Placement.TheVariants.{Middle}
 use Rattle.replay.specs.declared.Family.TheVariants.{Route}
 use Rattle.replay.specs.Run.{Setting, Effect, Prints, Progress, Commits, Judged, start, written, write_effects, slots_in_use}
@@ -19,7 +21,7 @@ use Rattle.tcam_cli.specs.CommandLine.{script_setting}
 use Rattle.tcam_cli.specs.Headline.{Reads, IsCarriedOut}
 
 abbrev setting : Setting
-setting = script_setting Route 8 Middle false
+setting = script_setting Route 8 Cover Middle false
 
 -- the addition of a route, pending
 abbrev pending : Progress
@@ -32,7 +34,7 @@ one-commit effects new commits =
     ap written commits.effects_are
     ∙ (written-append (write_effects setting [] 1 pending.state commits.made) (Prints _ ∷ [])
     ∙ (append-nil _ ∙ written-writes setting [] 1 pending.state commits.made)) in
-    ap length made ∙ one-write setting.placement pending.batch (slots_in_use setting pending.state) commits.made refl refl commits.placed
+    ap length made ∙ one-write setting.placement Cover no_bits pending.batch (slots_in_use setting pending.state) commits.made refl refl refl commits.placed
 
 judged : (before : Progress) (effects : List Effect) (new : Progress) → before ≡ pending → Judged setting before (verdict setting.slots setting.mode before.rules before.batch) effects new → length (written effects) ≡ 1
 judged before effects new is commits =

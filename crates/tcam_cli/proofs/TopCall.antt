@@ -6,7 +6,7 @@ use Rattle.replay.specs.Script.{Script}
 use Rattle.replay.specs.Run.{Setting}
 use Rattle.tcam_cli.specs.declared.Status.{Status}
 use Rattle.tcam_cli.specs.declared.Status.TheVariants.{Done, Memory, Usage}
-use Rattle.tcam_cli.specs.Headline.{Job, NoJob, Tells, Reads, IsTold, IsToldAlone, IsCarriedOut, MatchesOutcome}
+use Rattle.tcam_cli.specs.Headline.{Job, NoJob, Tells, Reads, Makes, IsTold, IsToldAlone, IsCarriedOut, MatchesOutcome}
 use Rattle.tcam_cli.specs.Turns.{Closes}
 
 nothing-told : (text : List ℕ) (last : Status) (taken : Option (List ℕ)) → IfSome taken (λ before. IfSome taken (λ after. (report : List ℕ) × (after ≡ before ++ report) × IsTold text last Memory report))
@@ -25,6 +25,7 @@ memory-carried (Tells text) slots left taken journal blank = (refl, blank, nothi
 memory-carried (Reads setting) slots None taken journal blank = tt
 memory-carried (Reads setting) slots (Some old) taken journal blank =
     (record { taken = []; parts = refl; all = λ e. elim e [ inl d ↦ absurd (cc) | inr r ↦ absurd (cc) ] }, nothing-done setting slots _ _ taken journal blank)
+memory-carried (Makes setting seed rules batches) slots left taken journal blank = (refl, (λ e. absurd (cc), nothing-done setting slots _ _ taken journal blank))
 
 told-text : (text : List ℕ) (last result : Status) (before after : Option (List ℕ)) → Closes text last result before after
     → IfSome before (λ b. IfSome after (λ a. (report : List ℕ) × (a ≡ b ++ report) × IsTold text last result report))

@@ -1,7 +1,7 @@
 -- What words ask for, by what clap made of them.
-use Rattle.std.proofs.Common.{◌≡◌, ◌∙◌, refl, sym, ap, subst, true, List, [], Option, Some, None, Bool, cond, codes}
-use Rattle.std.specs.Prelude.{◌≤◌, ℕ, IfOk, Ok, Err, Result, option_map, unwrap_or}
-use Rattle.clap.specs.Walk.{Row, Text}
+use Rattle.std.proofs.Common.{◌≡◌, ◌∙◌, refl, sym, ap, subst, true, List, [], Option, Some, None}
+use Rattle.std.specs.Prelude.{IfOk, Ok, Err, Result, option_map, unwrap_or}
+use Rattle.clap.specs.Walk.{Text}
 use Rattle.clap.specs.Simple.{App, argument_words, built, is_simple, subcommand_of, subcommand_rows_of}
 use Rattle.clap.specs.Walk.{nothing_held, rows_of}
 use Rattle.clap.proofs.WalkLemmas.{first_value-rows}
@@ -13,45 +13,26 @@ use Rattle.clap.specs.Matches.{first_value}
 use Rattle.clap.specs.declared.error.kind.ErrorKind.{ErrorKind}
 use Rattle.clap.specs.declared.parser.matches.ArgMatches.{ArgMatches}
 use Rattle.clap.proofs.OnLiterals.{clap_on_literals}
-use Rattle.batch_order.specs.declared.Placement.{Placement}
-use Rattle.replay.specs.declared.Family.{Family}
-use Rattle.replay.specs.declared.Family.TheVariants.{Route, Acl}
+use Rattle.tcam_cli.specs.declared.own_texts.Topic.{Topic}
 use Rattle.tcam_cli.specs.declared.command_line.Asked.{Asked}
-use Rattle.tcam_cli.specs.declared.command_line.Asked.TheVariants.{Script}
 use Rattle.tcam_cli.specs.declared.command_line.WordsFault.{WordsFault}
-use Rattle.tcam_cli.specs.CommandLine.{job_by_faults, job_of, job_of_fault, job_of_subcommand, job_at, number_of, placed_by, acl_command, placement_option, route_command, slots_option, tcam_command, text_of, trace_flag, is_traced, topic_in}
+use Rattle.tcam_cli.specs.CommandLine.{job_by_faults, job_of, job_of_fault, acl_command, gen_command, number_position, placement_option, ranges_option, route_command, slots_option, tcam_command, text_of, trace_flag, topic_in}
 use Rattle.tcam_cli.specs.Asked.{asked_by, tested_job}
-use Rattle.tcam_cli.specs.Headline.{Job, NoJob}
-use Rattle.std.specs.Str.{bytes_eq}
-use Rattle.clap.specs.ValueTests.{is_unsigned_in}
-use Rattle.tcam_cli.proofs.TakenSlots.{slots_taken}
+use Rattle.tcam_cli.specs.Headline.{Job}
+use Rattle.tcam_cli.proofs.NumbersTaken.{tested}
 use Rattle.tcam_cli.proofs.ClearFaults.{Clear, built-clear, fault_job}
 
 pub simple_and_free : is_simple_and_free tcam_command ≡ true
-unfolding clap_on_literals tcam_command route_command acl_command slots_option placement_option trace_flag
+unfolding clap_on_literals tcam_command route_command acl_command gen_command slots_option ranges_option placement_option trace_flag number_position
 simple_and_free = refl
 
 pub simple : is_simple tcam_command ≡ true
-unfolding clap_on_literals tcam_command route_command acl_command slots_option placement_option trace_flag
+unfolding clap_on_literals tcam_command route_command acl_command gen_command slots_option ranges_option placement_option trace_flag number_position
 simple = refl
 
 tcam-clear : (words : List Text) → Clear (fault_of tcam_command words)
-unfolding tcam_command route_command acl_command slots_option placement_option trace_flag
-tcam-clear words = built-clear (built tcam_command) nothing_held (argument_words tcam_command words) refl (refl, (refl, tt))
-
--- where clap takes the words, the test of --slots passes
-tested : (words : List Text) → fault_of tcam_command words ≡ [] → (o : Option (Text × List Row)) → subcommand_of tcam_command words ≡ o
-    → job_of_subcommand o ≡ tested_job o
-tested words none None are = refl
-tested words none (Some (name, rows)) are = go (is_unsigned_in 1 4096 (text_of (codes "slots") rows)) (slots_taken words name rows none are)
-  where
-    asks : Family → Job
-    asks family = job_at family (number_of (codes "slots") rows) (placed_by rows) (is_traced rows)
-
-    go : (b : Bool) → b ≡ true
-        → cond (bytes_eq name (codes "route")) (asks Route) (cond (bytes_eq name (codes "acl")) (asks Acl) NoJob)
-        ≡ cond (bytes_eq name (codes "route")) (cond b (asks Route) NoJob) (cond (bytes_eq name (codes "acl")) (cond b (asks Acl) NoJob) NoJob)
-    go b e = rw e refl
+unfolding tcam_command route_command acl_command gen_command slots_option ranges_option placement_option trace_flag number_position
+tcam-clear words = built-clear (built tcam_command) nothing_held (argument_words tcam_command words) refl (refl, (refl, (refl, tt)))
 
 pub taken : (a : App) (words : List Text) (m : ArgMatches) → a ≡ tcam_command → fault_of a words ≡ [] → subcommand_rows_of m ≡ subcommand_of a words
     → job_of words ≡ tested_job (subcommand_rows_of m)
@@ -60,7 +41,7 @@ taken a words m is none rows =
     ap (λ ks. job_by_faults (topic_in words) ks (subcommand_of tcam_command words)) free ∙ tested words free (subcommand_of tcam_command words) refl
     ∙ ap tested_job (ap (λ (x : App). subcommand_of x words) (sym is) ∙ sym rows)
 
-pub refused : (a : App) (words : List Text) (topic : Option Family) (k : ErrorKind) → a ≡ tcam_command → topic ≡ topic_in words → IsAmong k (fault_of a words)
+pub refused : (a : App) (words : List Text) (topic : Option Topic) (k : ErrorKind) → a ≡ tcam_command → topic ≡ topic_in words → IsAmong k (fault_of a words)
     → job_of words ≡ job_of_fault topic k
 refused a words topic k is whose among =
     fault_job (topic_in words) (fault_of tcam_command words) (subcommand_of tcam_command words) k (tcam-clear words) (subst (λ (x : App). IsAmong k (fault_of x words)) is among)
@@ -70,11 +51,6 @@ refused a words topic k is whose among =
 pub then_asked : (r : Result Asked WordsFault) (x y : Job) → y ≡ x → IfOk r (λ job. x ≡ asked_by job) → IfOk r (λ job. y ≡ asked_by job)
 then_asked (Ok job) x y is h = is ∙ h
 then_asked (Err e) x y is h = tt
-
-pub no_script : (r : Result Asked WordsFault) → IfOk r (λ job. (family : Family) (n : ℕ) (placement : Placement) (trace : Bool) → job ≡ Script family n placement trace → ⊥)
-    → IfOk r (λ job. (family : Family) (n : ℕ) (placement : Placement) (trace : Bool) → job ≡ Script family n placement trace → (1 ≤ n) × (n ≤ 4096))
-no_script (Ok job) h = λ family n placement trace e. absurd (h family n placement trace e)
-no_script (Err e) h = tt
 
 -- the first text of an argument, where none stands for the empty text
 pub given_text : (f : Found) (id : Text) (o : Option (Bor Text)) (r d : Bor Text) → r ≡ unwrap_or o d → d.now ≡ []

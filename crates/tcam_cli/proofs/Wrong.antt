@@ -3,12 +3,12 @@ use Rattle.std.proofs.Common.{◌≡◌, false, List, [], ◌∷◌, ◌++◌, S
 use Rattle.std.specs.Prelude.{codes}
 use Rattle.rule_store.specs.declared.Mode.TheVariants.{Cover}
 use Rattle.batch_order.specs.declared.Placement.TheVariants.{Middle}
-use Rattle.replay.specs.declared.Family.TheVariants.{Route}
+use Rattle.replay.specs.declared.Family.TheVariants.{Route, Acl}
 use Rattle.tcam_device.specs.declared.Write.{Write}
 use Rattle.replay.specs.declared.Act.{Act}
 use Rattle.replay.specs.Run.{Setting, written}
 use Rattle.tcam_cli.specs.declared.Status.TheVariants.{Done, Refused, Script as ScriptFault, ReadFault, WriteFault, DeviceFault, Usage}
-use Rattle.tcam_cli.specs.Headline.{NoJob, Reads, IsCarriedOut, MayEnd}
+use Rattle.tcam_cli.specs.Headline.{NoJob, Reads, Makes, IsCarriedOut, MayEnd}
 
 abbrev setting : Setting
 setting = record { slots = 8; mode = Cover; placement = Middle; family = Route; trace = false }
@@ -75,3 +75,29 @@ late-read claim =
     let nothing = claim.1.outcome.0.run.0 in
     let part = claim.1.outcome.1 in
     let report = claim.1.report_is in cc
+
+-- ---- made commands
+
+abbrev made : Setting
+made = record setting { family = Acl }
+
+-- they take from the source, or end by its failure
+made-takes : IsCarriedOut (Makes made 1 1 1) 8 Done (Some (codes "commit")) (Some []) (Some []) (Some []) [] → ⊥
+made-takes claim = let same = claim.0 in cc
+
+made-reads : IsCarriedOut (Makes made 1 1 1) 8 ReadFault None None (Some []) (Some []) [] → ⊥
+made-reads claim = claim.1.0 refl
+
+-- they are at fault at a line, or are no command line
+made-fault : MayEnd ScriptFault (Makes made 1 1 1) None → ⊥
+made-fault claim = claim.0
+
+made-usage : MayEnd Usage (Makes made 1 1 1) None → ⊥
+made-usage claim = cc
+
+-- the second batch has no room in one slot: a body that leaves it off is done
+made-full : MayEnd Refused (Makes (record made { slots = 1 }) 1 1 2) None
+made-full = refl
+
+made-short : MayEnd Done (Makes (record made { slots = 1 }) 1 1 2) None → ⊥
+made-short claim = cc

@@ -15,7 +15,8 @@ use Rattle.replay.specs.Script.{Script, script_of}
 use Rattle.replay.specs.Run.{Setting}
 use Rattle.tcam_cli.specs.declared.Status.{Status}
 use Rattle.tcam_cli.specs.declared.Status.TheVariants.{Done, Refused, Script as ScriptFault, ReadFault, WriteFault, DeviceFault, Memory, Usage}
-use Rattle.tcam_cli.specs.Headline.{Job, NoJob, Tells, Reads, acts_of, script_so_far}
+use Rattle.tcam_cli.specs.Headline.{Job, NoJob, Tells, Reads, Makes, acts_of, script_so_far}
+use Rattle.tcam_cli.specs.MadeScript.{made_script}
 use Rattle.tcam_cli.specs.Readings.{reading}
 
 -- the sets that acts lead through, by the rule lists alone: the first, and one more for each accepted commit
@@ -101,7 +102,7 @@ pub record IsHitlessRun (setting : Setting) (device_slots : ℕ) (script came : 
   pub ends : EndsAs (blank device_slots) setting script came status journal
 
 -- What packets see of a job over a device that was blank, where the source is told; of one that foretells nothing
--- specs/Given.antt speaks. A job without a script writes nothing.
+-- specs/Given.antt speaks, and made commands need none. A job without a script writes nothing.
 abbrev pub IsHitlessJob : Job → ℕ → Status → Option (List ℕ) → Option (List ℕ) → List Write → Type 0
 IsHitlessJob NoJob device_slots status left_old left_new journal = journal ≡ []
 IsHitlessJob (Tells text) device_slots status left_old left_new journal = journal ≡ []
@@ -109,3 +110,5 @@ IsHitlessJob (Reads setting) device_slots status left_old left_new journal =
     IfSome left_old (λ old. IfSome left_new (λ new.
     IsHitlessRun setting device_slots (script_of (reading setting.family) old)
     (script_so_far (reading setting.family) (take (length old - length new) old)) status journal))
+IsHitlessJob (Makes setting seed rules batches) device_slots status left_old left_new journal =
+    IsHitlessRun setting device_slots (made_script seed rules batches) (made_script seed rules batches) status journal

@@ -1,27 +1,48 @@
 -- What the calls that read a command line answer: words that only their contracts need.
-use Rattle.std.specs.Prelude.{Bool, Option, Some, None, List, codes, if◌then◌else◌}
+use Rattle.std.specs.Prelude.{ℕ, ◌≤◌, Option, Some, None, List, false, codes, if◌then◌else◌}
 use Rattle.std.specs.Str.{bytes_eq}
 use Rattle.clap.specs.Walk.{Row, Text}
 use Rattle.clap.specs.ValueTests.{is_unsigned_in}
-use Rattle.batch_order.specs.declared.Placement.{Placement}
 use Rattle.replay.specs.declared.Family.{Family}
 use Rattle.replay.specs.declared.Family.TheVariants.{Route, Acl}
 use Rattle.tcam_cli.specs.declared.command_line.Asked.{Asked}
 use Rattle.tcam_cli.specs.declared.command_line.Asked.TheVariants as asked
-use Rattle.tcam_cli.specs.CommandLine.{is_traced, job_at, number_in, placed_by, script_setting, text_of}
+use Rattle.tcam_cli.specs.CommandLine.{is_traced, job_at, made_at, mode_by, number_in, placed_by, script_setting, text_of}
 use Rattle.tcam_cli.specs.OwnTexts.{help_on, version_text}
-use Rattle.tcam_cli.specs.Headline.{Job, NoJob, Tells, Reads}
+use Rattle.tcam_cli.specs.Headline.{Job, NoJob, Tells, Reads, Makes}
 
--- the same for rows that may not be clap's, whose text of --slots is tested again; where clap takes
--- the words the test passes, and the two are one
-abbrev pub job_of_slots : Family → Text → Option Placement → Bool → Job
-job_of_slots family text placement trace =
-    if is_unsigned_in 1 4096 text then job_at family (number_in text) placement trace else NoJob
+-- the number that a text writes, if it is one of the range
+abbrev pub number_within : ℕ → ℕ → Text → Option ℕ
+number_within least greatest text = if is_unsigned_in least greatest text then Some (number_in text) else None
+
+-- what is asked for by a number, if there is one
+abbrev pub job_by : Option ℕ → (ℕ → Job) → Job
+job_by None job = NoJob
+job_by (Some number) job = job number
+
+-- the number in a range that an argument was given
+abbrev pub number_given : ℕ → ℕ → Text → List Row → Option ℕ
+number_given least greatest id rows = number_within least greatest (text_of id rows)
+
+-- what a subcommand asks for by rows that may not be clap's, whose numbers are tested again; where clap takes
+-- the words the tests pass, and the two are one
+abbrev pub tested_script : Family → List Row → Job
+tested_script family rows =
+    job_by (number_given 1 4096 (codes "slots") rows) (λ slots. job_at family slots (mode_by family rows) (placed_by rows) (is_traced rows))
+
+abbrev pub tested_made : List Row → Job
+tested_made rows =
+    job_by (number_given 1 4096 (codes "slots") rows) (λ slots.
+    job_by (number_given 0 2147483647 (codes "seed") rows) (λ seed.
+    job_by (number_given 1 256 (codes "rules") rows) (λ rules.
+    job_by (number_given 1 64 (codes "batches") rows) (λ batches.
+    made_at slots (mode_by Acl rows) (placed_by rows) seed rules batches))))
 
 abbrev pub tested_job_of_rows : Text → List Row → Job
 tested_job_of_rows name rows =
-    if bytes_eq name (codes "route") then job_of_slots Route (text_of (codes "slots") rows) (placed_by rows) (is_traced rows)
-    else if bytes_eq name (codes "acl") then job_of_slots Acl (text_of (codes "slots") rows) (placed_by rows) (is_traced rows)
+    if bytes_eq name (codes "route") then tested_script Route rows
+    else if bytes_eq name (codes "acl") then tested_script Acl rows
+    else if bytes_eq name (codes "gen") then tested_made rows
     else NoJob
 
 abbrev pub tested_job : Option (Text × List Row) → Job
@@ -30,6 +51,24 @@ tested_job (Some (name, rows)) = tested_job_of_rows name rows
 
 -- what an answer says that words ask for
 abbrev pub asked_by : Asked → Job
-asked_by (asked.Script family slots placement trace) = Reads (script_setting family slots placement trace)
+asked_by (asked.Script family slots mode placement trace) = Reads (script_setting family slots mode placement trace)
+asked_by (asked.Made slots mode placement seed rules batches) = Makes (script_setting Acl slots mode placement false) seed rules batches
 asked_by (asked.Help topic) = Tells (help_on topic)
 asked_by asked.Version = Tells version_text
+
+-- the numbers of made commands are in their ranges
+pub record AreMadeNumbers (slots seed rules batches : ℕ) : Type 0 where
+  pub some_slots : 1 ≤ slots
+  pub most_slots : slots ≤ 4096
+  pub seed_fits : seed ≤ 2147483647
+  pub some_rules : 1 ≤ rules
+  pub most_rules : rules ≤ 256
+  pub some_batches : 1 ≤ batches
+  pub most_batches : batches ≤ 64
+
+-- the numbers of an answer are in their ranges
+abbrev pub IsWithin : Asked → Type 0
+IsWithin (asked.Script family slots mode placement trace) = (1 ≤ slots) × (slots ≤ 4096)
+IsWithin (asked.Made slots mode placement seed rules batches) = AreMadeNumbers slots seed rules batches
+IsWithin (asked.Help topic) = Unit {0}
+IsWithin asked.Version = Unit {0}

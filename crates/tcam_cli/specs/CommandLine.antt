@@ -1,5 +1,5 @@
 -- The command lines, by the declaration that clap is given, and what each asks for.
-use Rattle.std.specs.Prelude.{ℕ, Bool, Option, Some, None, unwrap_or, option_and_then, slice_get, List, [], ◌∷◌, true, codes, if◌then◌else◌}
+use Rattle.std.specs.Prelude.{ℕ, Bool, Option, Some, None, unwrap_or, option_and_then, slice_get, List, [], ◌∷◌, true, false, codes, if◌then◌else◌}
 use Rattle.std.specs.Str.{bytes_eq}
 use Rattle.std.specs.Str.Parse.{digits_value, without_leading_plus}
 use Rattle.clap.specs.Walk.{Rule, Row, Text, first_of}
@@ -10,19 +10,23 @@ use Rattle.clap.specs.declared.error.kind.ErrorKind.{ErrorKind}
 use Rattle.clap.specs.declared.error.kind.ErrorKind.TheVariants as kind
 use Rattle.clap.specs.declared.builder.action.ArgAction.TheVariants.{Set, SetTrue}
 use Rattle.clap.specs.declared.builder.value_parser.ValueParser.TheVariants.{Unsigned}
-use Rattle.rule_store.specs.declared.Mode.TheVariants.{Cover}
+use Rattle.rule_store.specs.declared.Mode.{Mode}
+use Rattle.rule_store.specs.declared.Mode.TheVariants.{Cover, Bits}
 use Rattle.batch_order.specs.declared.Placement.{Placement}
 use Rattle.batch_order.specs.declared.Placement.TheVariants.{Middle, Rank}
 use Rattle.replay.specs.declared.Family.{Family}
 use Rattle.replay.specs.declared.Family.TheVariants.{Route, Acl}
 use Rattle.replay.specs.Run.{Setting}
-use Rattle.tcam_cli.specs.Headline.{Job, NoJob, Tells, Reads}
+use Rattle.tcam_cli.specs.declared.own_texts.Topic.{Topic}
+use Rattle.tcam_cli.specs.declared.own_texts.Topic.TheVariants as about
+use Rattle.tcam_cli.specs.Headline.{Job, NoJob, Tells, Reads, Makes}
 use Rattle.tcam_cli.specs.OwnTexts.{help_on, version_text}
 
--- a script of a family over so many slots in use, each insertion aiming as the placement says, with a trace or without
-abbrev pub script_setting : Family → ℕ → Placement → Bool → Setting
-script_setting family slots placement trace =
-    record { slots = slots; mode = Cover; placement = placement; family = family; trace = trace }
+-- a script of a family over so many slots in use, port ranges tested as the mode says, each insertion aiming as the
+-- placement says, with a trace or without
+abbrev pub script_setting : Family → ℕ → Mode → Placement → Bool → Setting
+script_setting family slots mode placement trace =
+    record { slots = slots; mode = mode; placement = placement; family = family; trace = trace }
 
 -- --slots, a number from 1 to 4096, by default 4096
 unfoldable pub slots_option : Rule
@@ -31,6 +35,14 @@ slots_option = record (new_rule (codes "slots")) {
   action = Some Set;
   parser = Some (Unsigned 1 4096);
   defaults = codes "4096" ∷ [];
+}
+
+-- --ranges, a word, by default cover
+unfoldable pub ranges_option : Rule
+ranges_option = record (new_rule (codes "ranges")) {
+  long = Some (codes "ranges");
+  action = Some Set;
+  defaults = codes "cover" ∷ [];
 }
 
 -- --placement, a word, by default middle
@@ -51,15 +63,30 @@ route_command = with_rule (with_rule (with_rule (new_app (codes "route")) slots_
 
 -- the subcommand for access-list scripts
 unfoldable pub acl_command : App
-acl_command = with_rule (with_rule (with_rule (new_app (codes "acl")) slots_option) placement_option) trace_flag
+acl_command =
+    with_rule (with_rule (with_rule (with_rule (new_app (codes "acl")) slots_option) ranges_option) placement_option) trace_flag
+
+-- a required number of a range, which stands behind the subcommand in its order
+unfoldable pub number_position : Text → ℕ → ℕ → Rule
+number_position name least greatest = record (new_rule name) {
+  action = Some Set;
+  parser = Some (Unsigned least greatest);
+  required = true;
+}
+
+-- the subcommand for made commands: SEED, RULES and BATCHES
+unfoldable pub gen_command : App
+gen_command =
+    with_rule (with_rule (with_rule (with_rule (with_rule (with_rule (new_app (codes "gen")) (number_position (codes "seed") 0 2147483647))
+    (number_position (codes "rules") 1 256)) (number_position (codes "batches") 1 64)) slots_option) ranges_option) placement_option
 
 -- tcam with a required subcommand and a version; help is asked for by its flag alone
 unfoldable pub tcam_command : App
-tcam_command = with_subcommand (with_subcommand (on_top (λ top. record top {
+tcam_command = with_subcommand (with_subcommand (with_subcommand (on_top (λ top. record top {
   has_version = true;
   subcommand_required = true;
   disable_help_subcommand = true;
-}) (new_app (codes "tcam"))) route_command.top) acl_command.top
+}) (new_app (codes "tcam"))) route_command.top) acl_command.top) gen_command.top
 
 -- the text that an argument was given, or has by default
 abbrev pub text_of : Text → List Row → Text
@@ -81,6 +108,16 @@ has_text id text rows = bytes_eq (text_of id rows) text
 abbrev pub is_traced : List Row → Bool
 is_traced rows = has_text (codes "trace") (codes "true") rows
 
+-- the mode that a word names
+abbrev pub mode_in : Text → Option Mode
+mode_in text =
+    if bytes_eq text (codes "cover") then Some Cover else if bytes_eq text (codes "bits") then Some Bits else None
+
+-- the mode that is wanted: the ranges of a route are any port, and it has no such option
+abbrev pub mode_by : Family → List Row → Option Mode
+mode_by Route rows = Some Cover
+mode_by Acl rows = mode_in (text_of (codes "ranges") rows)
+
 -- the placement that a word names
 abbrev pub placement_in : Text → Option Placement
 placement_in text =
@@ -90,16 +127,25 @@ placement_in text =
 abbrev pub placed_by : List Row → Option Placement
 placed_by rows = placement_in (text_of (codes "placement") rows)
 
--- a script of a family over so many slots, where the word of --placement names one
-abbrev pub job_at : Family → ℕ → Option Placement → Bool → Job
-job_at family slots None trace = NoJob
-job_at family slots (Some placement) trace = Reads (script_setting family slots placement trace)
+-- a script of a family over so many slots, where the words of --ranges and --placement name a mode and a placement
+abbrev pub job_at : Family → ℕ → Option Mode → Option Placement → Bool → Job
+job_at family slots None placement trace = NoJob
+job_at family slots (Some mode) None trace = NoJob
+job_at family slots (Some mode) (Some placement) trace = Reads (script_setting family slots mode placement trace)
 
--- what a subcommand and its arguments ask for: a script of its family over so many slots
+-- the commands of a seed, over so many slots, where these words name them: so many batches of so many rules
+abbrev pub made_at : ℕ → Option Mode → Option Placement → ℕ → ℕ → ℕ → Job
+made_at slots None placement seed rules batches = NoJob
+made_at slots (Some mode) None seed rules batches = NoJob
+made_at slots (Some mode) (Some placement) seed rules batches = Makes (script_setting Acl slots mode placement false) seed rules batches
+
+-- what a subcommand and its arguments ask for: a script of its family over so many slots, or made commands
 abbrev pub job_of_rows : Text → List Row → Job
 job_of_rows name rows =
-    if bytes_eq name (codes "route") then job_at Route (number_of (codes "slots") rows) (placed_by rows) (is_traced rows)
-    else if bytes_eq name (codes "acl") then job_at Acl (number_of (codes "slots") rows) (placed_by rows) (is_traced rows)
+    if bytes_eq name (codes "route") then job_at Route (number_of (codes "slots") rows) (mode_by Route rows) (placed_by rows) (is_traced rows)
+    else if bytes_eq name (codes "acl") then job_at Acl (number_of (codes "slots") rows) (mode_by Acl rows) (placed_by rows) (is_traced rows)
+    else if bytes_eq name (codes "gen") then made_at (number_of (codes "slots") rows) (mode_by Acl rows) (placed_by rows) (number_of (codes "seed") rows)
+    (number_of (codes "rules") rows) (number_of (codes "batches") rows)
     else NoJob
 
 -- what a subcommand asks for, if there is one
@@ -107,22 +153,26 @@ abbrev pub job_of_subcommand : Option (Text × List Row) → Job
 job_of_subcommand None = NoJob
 job_of_subcommand (Some (name, rows)) = job_of_rows name rows
 
--- the family of scripts whose subcommand a word names
-abbrev pub family_named : Text → Option Family
-family_named word = if bytes_eq word (codes "route") then Some Route else if bytes_eq word (codes "acl") then Some Acl else None
+-- the subcommand that a word names
+abbrev pub topic_named : Text → Option Topic
+topic_named word =
+    if bytes_eq word (codes "route") then Some about.Route
+    else if bytes_eq word (codes "acl") then Some about.Acl
+    else if bytes_eq word (codes "gen") then Some about.Gen
+    else None
 
 -- whose help words ask for, the program's name first: that of the subcommand that follows the name, if one does
-abbrev pub topic_in : List Text → Option Family
-topic_in words = option_and_then family_named (slice_get words 1)
+abbrev pub topic_in : List Text → Option Topic
+topic_in words = option_and_then topic_named (slice_get words 1)
 
 -- what words ask for that clap doesn't take, by the kind of error that it answers and whose help it would be
-abbrev pub job_of_fault : Option Family → ErrorKind → Job
+abbrev pub job_of_fault : Option Topic → ErrorKind → Job
 job_of_fault topic kind.DisplayHelp = Tells (help_on topic)
 job_of_fault topic kind.DisplayVersion = Tells version_text
 job_of_fault topic k = NoJob
 
 -- the same by the kinds that it may answer, and what the subcommand does where there is none
-abbrev pub job_by_faults : Option Family → Kinds → Option (Text × List Row) → Job
+abbrev pub job_by_faults : Option Topic → Kinds → Option (Text × List Row) → Job
 job_by_faults topic [] subcommand = job_of_subcommand subcommand
 job_by_faults topic (k ∷ []) subcommand = job_of_fault topic k
 job_by_faults topic (k ∷ l ∷ ks) subcommand = NoJob

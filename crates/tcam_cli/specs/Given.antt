@@ -10,7 +10,7 @@ use Rattle.replay.specs.Script.{Script, Whole, script_of}
 use Rattle.replay.specs.Run.{Setting, Effect, Progress, Runs, written, printed}
 use Rattle.tcam_cli.specs.declared.Status.{Status}
 use Rattle.tcam_cli.specs.declared.Status.TheVariants.{Memory}
-use Rattle.tcam_cli.specs.Headline.{Job, NoJob, Tells, Reads, IsCarriedOut, IsOutOfMemoryAtAct, MayEnd, acts_of, script_so_far}
+use Rattle.tcam_cli.specs.Headline.{Job, NoJob, Tells, Reads, Makes, IsCarriedOut, IsOutOfMemoryAtAct, MayEnd, acts_of, script_so_far}
 use Rattle.tcam_cli.specs.AllTheWay.{IsHitlessJob}
 use Rattle.tcam_cli.specs.Readings.{reading}
 
@@ -54,10 +54,11 @@ pub record WantsInTime (setting : Setting) (device_slots : ℕ) (before : List (
 
 -- Lines are carried out as soon as they are known, and their report is accepted: no read comes between, since the write
 -- after it may fail, which ends the run. Where memory was wanting, no read came after that either, whatever the bytes
--- that were to come. A job without a script reads nothing.
+-- that were to come. A job without a script of the source's reads nothing.
 abbrev pub ReadsInTime : Job → ℕ → Status → List (List ℕ) → List (List ℕ) → List Write → List ℕ → List ℕ → Type 0
 ReadsInTime NoJob device_slots status given_old given_new journal accepted_old accepted_new = given_new ≡ given_old
 ReadsInTime (Tells text) device_slots status given_old given_new journal accepted_old accepted_new = given_new ≡ given_old
+ReadsInTime (Makes setting seed rules batches) device_slots status given_old given_new journal accepted_old accepted_new = given_new ≡ given_old
 ReadsInTime (Reads setting) device_slots status given_old given_new journal accepted_old accepted_new =
     (front : List (List ℕ)) (last : List ℕ) → given_new ≡ given_old ++ front ++ last ∷ []
     → IsInTime setting device_slots front journal accepted_old accepted_new

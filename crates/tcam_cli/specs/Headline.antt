@@ -1,7 +1,7 @@
 -- What the top call promises: for every script the commits are accepted or refused as the rule lists alone say; after
 -- every device write each packet gets the old or the new rule set's answer, and after a commit's last write the new
 -- one; a refused commit writes nothing; and an insertion takes at most 1 + 2 m (1 + c) writes.
-use Rattle.std.specs.Prelude.{◌≡◌, ℕ, ◌-◌, ◌==◌, true, false, Bool, Option, Some, option_map, IfSome, List, [], ◌∷◌, ◌++◌, length, take, map, ◌⊎◌}
+use Rattle.std.specs.Prelude.{◌≡◌, ◌≢◌, ℕ, ◌-◌, ◌==◌, true, false, Bool, Option, Some, option_map, IfSome, List, [], ◌∷◌, ◌++◌, length, take, map, ◌⊎◌}
 use Rattle.std.specs.Io.KnownBytes.{Appends}
 use Rattle.call_history.specs.Cause.{IsCounted}
 use Rattle.script_lines.specs.Lines.{line_feed, lines_of}
@@ -18,12 +18,14 @@ use Rattle.replay.specs.Run.{Setting, Effect, Writes, Prints, written, printed, 
 use Rattle.tcam_cli.specs.declared.Status.{Status}
 use Rattle.tcam_cli.specs.declared.Status.TheVariants.{Done, Refused, Script as ScriptFault, ReadFault, WriteFault, DeviceFault, Memory, Usage}
 use Rattle.tcam_cli.specs.Readings.{reading}
+use Rattle.tcam_cli.specs.MadeScript.{made_script}
 
--- what words ask for: nothing, a text of the product about itself, or a script from the source
+-- what words ask for: nothing, a text of the product about itself, a script from the source, or made commands
 pub data Job : Type 0 where
   NoJob : Job
   Tells : (text : List ℕ) → Job
   Reads : (setting : Setting) → Job
+  Makes : (setting : Setting) (seed rules batches : ℕ) → Job
 
 -- the acts of a script without the numbers of their lines
 abbrev pub acts_of : Script → List Act
@@ -146,6 +148,11 @@ pub record MatchesOutcome (setting : Setting) (device_slots : ℕ) (script came 
   pub journal_is : journal ≡ written effects
   pub report_is : Appends taken_old taken_new (printed effects ++ partial)
 
+-- The same of a script that isn't read: no read of it fails, so that no part of it is all that came.
+abbrev pub MatchesMade : Setting → ℕ → Script → Status → List Write → Option (List ℕ) → Option (List ℕ) → Type 0
+MatchesMade setting device_slots script status journal taken_old taken_new =
+    (status ≢ ReadFault) × MatchesOutcome setting device_slots script script status journal taken_old taken_new
+
 -- what was taken of the source is the beginning of what was left, and all of it at the end of the input
 pub record TakesFrom (status : Status) (old new : List ℕ) : Type 0 where
   pub taken : List ℕ
@@ -159,7 +166,7 @@ IsToldAlone text last status left_old left_new taken_old taken_new journal =
     × IfSome taken_old (λ before. IfSome taken_new (λ after. (report : List ℕ) × (after ≡ before ++ report) × IsTold text last status report))
 
 -- The promise of a job over a device that was blank, each part where what it rests on is told of source and sink. Of a
--- source that foretells nothing specs/Given.antt speaks.
+-- source that foretells nothing specs/Given.antt speaks. Made commands leave the source as it is.
 abbrev pub IsCarriedOut : Job → ℕ → Status → Option (List ℕ) → Option (List ℕ) → Option (List ℕ) → Option (List ℕ) → List Write → Type 0
 IsCarriedOut NoJob device_slots status left_old left_new taken_old taken_new journal =
     IsToldAlone usage_line Usage status left_old left_new taken_old taken_new journal
@@ -170,6 +177,8 @@ IsCarriedOut (Reads setting) device_slots status left_old left_new taken_old tak
     TakesFrom status old new
     × MatchesOutcome setting device_slots (script_of (reading setting.family) old)
     (script_so_far (reading setting.family) (take (length old - length new) old)) status journal taken_old taken_new))
+IsCarriedOut (Makes setting seed rules batches) device_slots status left_old left_new taken_old taken_new journal =
+    (left_new ≡ left_old) × MatchesMade setting device_slots (made_script seed rules batches) status journal taken_old taken_new
 
 -- whether a commit of the acts is refused, by the rule lists alone: the set before them and the batch that is pending
 abbrev pub any_refused : Setting → List Rule → List Change → List Act → Bool
@@ -191,13 +200,14 @@ decided setting script =
       | FaultAt line text ↦ ScriptFault
     ]
 
--- the status that words and script alone decide, where the script is told
+-- the status that words and script alone decide, where the script is told or made
 abbrev pub decision : Job → Option (List ℕ) → Option Status
 decision NoJob left = Some Usage
 decision (Tells text) left = Some Done
 decision (Reads setting) left = option_map (λ bytes. decided setting (script_of (reading setting.family) bytes)) left
+decision (Makes setting seed rules batches) left = Some (decided setting (made_script seed rules batches))
 
--- words and script alone decide this status, where the script is told
+-- words and script alone decide this status, where the script is told or made
 abbrev pub IsDecided : Status → Job → Option (List ℕ) → Type 0
 IsDecided status job left = IfSome (decision job left) (λ is. is ≡ status)
 
@@ -206,12 +216,14 @@ abbrev pub ReadsSource : Job → Type 0
 ReadsSource NoJob = ⊥
 ReadsSource (Tells text) = ⊥
 ReadsSource (Reads setting) = Unit {0}
+ReadsSource (Makes setting seed rules batches) = ⊥
 
 -- a job that writes the device
 abbrev pub WritesDevice : Job → Type 0
 WritesDevice NoJob = ⊥
 WritesDevice (Tells text) = ⊥
 WritesDevice (Reads setting) = Unit {0}
+WritesDevice (Makes setting seed rules batches) = Unit {0}
 
 -- how a job may end: by a fault of what it uses, for want of memory, or as its words and its script decide
 abbrev pub MayEnd : Status → Job → Option (List ℕ) → Type 0

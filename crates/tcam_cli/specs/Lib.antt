@@ -7,3 +7,4 @@ pub mod Turns
 pub mod ExitCodes
 pub mod AllTheWay
 pub mod Given
+pub mod MadeScript

@@ -1,30 +1,39 @@
 -- The texts that the program prints about itself.
 use Rattle.std.specs.Prelude.{ℕ, Option, Some, None, List, [], ◌∷◌, ◌++◌, codes}
-use Rattle.replay.specs.declared.Family.{Family}
-use Rattle.replay.specs.declared.Family.TheVariants.{Route, Acl}
+use Rattle.tcam_cli.specs.declared.own_texts.Topic.{Topic}
+use Rattle.tcam_cli.specs.declared.own_texts.Topic.TheVariants as about
 
 -- the help of the program: what it does, its command lines, options and exit statuses
 unfoldable pub help_text : List ℕ
 help_text = codes "tcam: the table manager of a ternary content-addressable memory."
-    ++ 10 ∷ codes "It reads a script from standard input, carries its commits out over a modelled"
-    ++ 10 ∷ codes "device one write at a time, and writes a report to standard output."
+    ++ 10 ∷ codes "It reads a script from standard input, or makes one, carries its commits out"
+    ++ 10 ∷ codes "over a modelled device one write at a time, and writes a report to standard"
+    ++ 10 ∷ codes "output."
     ++ 10 ∷ 10 ∷ codes "    tcam route [OPTIONS] < FILE    a script of routes"
     ++ 10 ∷ codes "    tcam acl [OPTIONS] < FILE      a script of an access list"
+    ++ 10 ∷ codes "    tcam gen SEED RULES BATCHES [OPTIONS]"
+    ++ 10 ∷ codes "                                   changes of an access list, made from SEED"
     ++ 10 ∷ codes "    tcam route --help              the commands of a script of routes"
     ++ 10 ∷ codes "    tcam acl --help                the commands of a script of an access list"
+    ++ 10 ∷ codes "    tcam gen --help                what SEED, RULES and BATCHES make"
     ++ 10 ∷ codes "    tcam --help                    this text"
     ++ 10 ∷ codes "    tcam --version                 name and version"
     ++ 10 ∷ 10 ∷ codes "Options:"
     ++ 10 ∷ codes "    --slots N        N slots in use, 1 to 4096, by default 4096"
+    ++ 10 ∷ codes "    --ranges R       of acl and gen, how port ranges are tested: cover, by an"
+    ++ 10 ∷ codes "                     entry for each block of a range, which is the default,"
+    ++ 10 ∷ codes "                     and has no limit but slots; or bits, by one entry a rule,"
+    ++ 10 ∷ codes "                     for at most 16 distinct ranges a field that come seldom:"
+    ++ 10 ∷ codes "                     words of a table are written when one comes"
     ++ 10 ∷ codes "    --placement P    where a new entry aims: middle, of the gap between the"
     ++ 10 ∷ codes "                     entries that it must stand between, which is the default;"
     ++ 10 ∷ codes "                     or rank, its place among all entries, for a table that is"
     ++ 10 ∷ codes "                     loaded in one commit, or a list in its order"
-    ++ 10 ∷ codes "    --trace          a line for each device write"
+    ++ 10 ∷ codes "    --trace          a line for each device write; gen has no such option"
     ++ 10 ∷ 10 ∷ codes "Exit status:"
-    ++ 10 ∷ codes "    0     the script was read to its end and no commit was refused, or a text"
-    ++ 10 ∷ codes "          like this one was printed"
-    ++ 10 ∷ codes "    1     the script was read to its end, and some commit was refused"
+    ++ 10 ∷ codes "    0     the script was read, or made, to its end and no commit was refused,"
+    ++ 10 ∷ codes "          or a text like this one was printed"
+    ++ 10 ∷ codes "    1     the script was read, or made, to its end, and some commit was refused"
     ++ 10 ∷ codes "    2     a line of the script is at fault"
     ++ 10 ∷ codes "    3     standard input could not be read"
     ++ 10 ∷ codes "    4     standard output could not be written"
@@ -42,11 +51,21 @@ script_commands = codes "    commit                     carries out all changes 
     ++ 10 ∷ codes "    frame HEX                           looks up an IPv4 packet in hexadecimal"
     ++ 10 ∷ codes "    # TEXT                              a comment"
 
--- the options of both families, as their helps list them
-unfoldable pub script_options : List ℕ
-script_options = codes "    --slots N        N slots in use, 1 to 4096, by default 4096"
-    ++ 10 ∷ codes "    --placement P    where a new entry aims: middle, the default, or rank"
-    ++ 10 ∷ codes "    --trace          a line for each device write"
+-- the options, as the helps of subcommands list them
+unfoldable pub slots_line : List ℕ
+slots_line = codes "    --slots N        N slots in use, 1 to 4096, by default 4096"
+
+unfoldable pub placement_line : List ℕ
+placement_line = codes "    --placement P    where a new entry aims: middle, the default, or rank"
+
+unfoldable pub trace_line : List ℕ
+trace_line = codes "    --trace          a line for each device write"
+
+-- those of an access list, from a script or made
+unfoldable pub list_options : List ℕ
+list_options = slots_line
+    ++ 10 ∷ codes "    --ranges R       how port ranges are tested: cover, the default, or bits"
+    ++ 10 ∷ placement_line
 
 -- the help of a script of routes: its commands, their words, options and an example
 unfoldable pub route_help : List ℕ
@@ -64,7 +83,9 @@ route_help = codes "tcam route: carries out a script of routes, and writes a rep
     ++ 10 ∷ codes "    PROTO          icmp, tcp, udp, or a number up to 255"
     ++ 10 ∷ codes "    SPORT, DPORT   a number up to 65535"
     ++ 10 ∷ 10 ∷ codes "Options, of which tcam --help says more:"
-    ++ 10 ∷ script_options
+    ++ 10 ∷ slots_line
+    ++ 10 ∷ placement_line
+    ++ 10 ∷ trace_line
     ++ 10 ∷ 10 ∷ codes "Example of a script, whose packet gets the answer 10.0.0.0/8 7:"
     ++ 10 ∷ codes "    route add 10.0.0.0/8 7"
     ++ 10 ∷ codes "    commit"
@@ -75,7 +96,7 @@ route_help = codes "tcam route: carries out a script of routes, and writes a rep
 -- the help of a script of an access list, likewise
 unfoldable pub acl_help : List ℕ
 acl_help = codes "tcam acl: carries out a script of an access list, and writes a report."
-    ++ 10 ∷ 10 ∷ codes "    tcam acl [--slots N] [--placement P] [--trace] < FILE"
+    ++ 10 ∷ 10 ∷ codes "    tcam acl [--slots N] [--ranges R] [--placement P] [--trace] < FILE"
     ++ 10 ∷ 10 ∷ codes "Commands of a script, one a line, with the source's side and ports first:"
     ++ 10 ∷ codes "    acl add SEQ ACTION SIDE SIDE PROTOSPEC PORTSPEC PORTSPEC"
     ++ 10 ∷ codes "                               a new rule: packets that meet its conditions"
@@ -91,7 +112,8 @@ acl_help = codes "tcam acl: carries out a script of an access list, and writes a
     ++ 10 ∷ codes "    SRC, DST       an address, as 10.1.2.3"
     ++ 10 ∷ codes "    SPORT, DPORT   a number up to 65535"
     ++ 10 ∷ 10 ∷ codes "Options, of which tcam --help says more:"
-    ++ 10 ∷ script_options
+    ++ 10 ∷ list_options
+    ++ 10 ∷ trace_line
     ++ 10 ∷ 10 ∷ codes "Example of a script, whose packet gets the answer 10 permit:"
     ++ 10 ∷ codes "    acl add 10 permit any 10.0.0.0/8 tcp any 443"
     ++ 10 ∷ codes "    commit"
@@ -99,11 +121,29 @@ acl_help = codes "tcam acl: carries out a script of an access list, and writes a
     ++ 10 ∷ 10 ∷ codes "The manual is docs/SCRIPT.md."
     ++ 10 ∷ []
 
--- the help of the scripts of a family, or of the program where none is named
-abbrev pub help_on : Option Family → List ℕ
+-- the help of made commands
+unfoldable pub gen_help : List ℕ
+gen_help = codes "tcam gen: carries out changes of an access list that it makes from a number, and"
+    ++ 10 ∷ codes "writes a report. It reads no script."
+    ++ 10 ∷ 10 ∷ codes "    tcam gen SEED RULES BATCHES [--slots N] [--ranges R] [--placement P]"
+    ++ 10 ∷ 10 ∷ codes "    SEED       the number, from 0 to 2147483647: the same gives the same changes"
+    ++ 10 ∷ codes "    RULES      how many rules a batch adds, from 1 to 256"
+    ++ 10 ∷ codes "    BATCHES    how many batches there are, from 1 to 64"
+    ++ 10 ∷ 10 ∷ codes "A batch first removes all rules of the one before, then adds its own, and is"
+    ++ 10 ∷ codes "ended by a commit. The report has a line for each commit, and the last line."
+    ++ 10 ∷ 10 ∷ codes "Options, of which tcam --help says more:"
+    ++ 10 ∷ list_options
+    ++ 10 ∷ 10 ∷ codes "Example, of two commits of one rule each:"
+    ++ 10 ∷ codes "    tcam gen 1 1 2"
+    ++ 10 ∷ 10 ∷ codes "The manual is docs/SCRIPT.md."
+    ++ 10 ∷ []
+
+-- the help of a subcommand, or of the program where none is named
+abbrev pub help_on : Option Topic → List ℕ
 help_on None = help_text
-help_on (Some Route) = route_help
-help_on (Some Acl) = acl_help
+help_on (Some about.Route) = route_help
+help_on (Some about.Acl) = acl_help
+help_on (Some about.Gen) = gen_help
 
 -- the name and the version
 unfoldable pub version_text : List ℕ

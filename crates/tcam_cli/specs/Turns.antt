@@ -9,13 +9,15 @@ use Rattle.tcam_device.specs.declared.Write.{Write}
 use Rattle.route_reader.specs.declared.RouteCommand.{RouteCommand}
 use Rattle.route_reader.specs.declared.RouteCommand.TheVariants as route
 use Rattle.replay.specs.declared.Act.{Act}
+use Rattle.replay.specs.declared.RunFault.{RunFault}
+use Rattle.replay.specs.declared.RunFault.TheVariants as fault
 use Rattle.replay.specs.Script.{Script, Reading, NumberedAct, Whole, acts_from, script_of}
 use Rattle.replay.specs.Run.{Setting, Effect, written, printed, Progress, Runs}
 use Rattle.replay.specs.Outside.{AppendsPart}
 use Rattle.replay.specs.Carried.{Wants}
 use Rattle.replay.specs.Running.{Running}
 use Rattle.tcam_cli.specs.declared.Status.{Status}
-use Rattle.tcam_cli.specs.declared.Status.TheVariants.{Done, Refused, WriteFault, Memory}
+use Rattle.tcam_cli.specs.declared.Status.TheVariants.{Done, Refused, Script as ScriptFault, WriteFault, DeviceFault, Memory}
 use Rattle.tcam_cli.specs.Headline.{acts_of, whole_lines, script_so_far, IsOutcome}
 use Rattle.tcam_cli.specs.Readings.{reading}
 use Rattle.script_lines.specs.declared.Over.{Over}
@@ -48,6 +50,14 @@ pub record IsGoing (reading : Reading) (bytes : List ℕ) (held : HeldBytes) (le
 -- the whole script gave these acts
 abbrev pub IsAllRead : Reading → List ℕ → List ℕ → List NumberedAct → Type 0
 IsAllRead reading bytes left acts = (script_of reading bytes ≡ record { acts = acts; last = Whole }) × (left ≡ [])
+
+-- the status of a run at an act that isn't carried out; a full batch and too many probes are at fault at a line
+abbrev pub status_of_fault : RunFault → Status
+status_of_fault fault.Sink = WriteFault
+status_of_fault fault.Device = DeviceFault
+status_of_fault fault.Memory = Memory
+status_of_fault fault.BatchFull = ScriptFault
+status_of_fault fault.ProbesFull = ScriptFault
 
 -- what of the script is read
 abbrev pub IsRead : Over → Reading → List ℕ → HeldBytes → List ℕ → List NumberedAct → ℕ → ℕ → Type 0

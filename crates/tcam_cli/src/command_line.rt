@@ -3,29 +3,42 @@
 ghost use Rattle.std.specs.Prelude.{◌≡◌, ◌≤◌, codes, Err, IfOk, IsErrOf, IfSome, IsNone, None, false, map, string_bytes};
 ghost use Rattle.clap.specs.Words.{app_of, rule_of, rows_of, found_of, subcommand_rows_of, kind_of};
 ghost use Rattle.clap.specs.declared.builder.command.Command.TheViews.{out-Command};
-ghost use Rattle.tcam_cli.specs.CommandLine.{family_named, is_traced, job_at, job_of, job_of_fault, placed_by, placement_in, topic_in};
-ghost use Rattle.tcam_cli.specs.Asked.{asked_by, job_of_slots, tested_job};
-ghost use Rattle.tcam_cli.specs.CommandLine.{acl_command as acl_app, placement_option, route_command as route_app, slots_option, tcam_command as tcam_app, text_of, trace_flag};
+ghost use Rattle.tcam_cli.specs.CommandLine.{job_of, job_of_fault, mode_by, mode_in, placement_in, topic_in, topic_named};
+ghost use Rattle.tcam_cli.specs.Asked.{IsWithin, asked_by, number_within, tested_job, tested_made, tested_script};
+ghost use Rattle.tcam_cli.specs.CommandLine.{acl_command as acl_app, gen_command as gen_app, number_position, placement_option, ranges_option, route_command as route_app, slots_option, tcam_command as tcam_app, text_of as text_in, trace_flag};
 ghost use Rattle.tcam_cli.specs.Headline.{NoJob};
 
+use crate::own_texts::Topic;
+use clap::builder::ValueParser;
 use clap::error::ErrorKind;
 use clap::{Arg, ArgAction, ArgMatches, Command, Error};
-use replay::{Family, Placement};
+use replay::{Family, Mode, Placement};
 use std::alloc::{AllocError, Global};
 
 /// What a command line asks for.
 #[derive(Clone, Copy, Debug, PartialEq, Eq)]
 pub enum Asked {
-    /// A script of this family from the source, with so many slots in use, 1 to 4,096, where each insertion aims as the
-    /// placement says, and with a trace or without.
+    /// A script of this family from the source, with so many slots in use, 1 to 4,096, where port ranges are tested as
+    /// the mode says and each insertion aims as the placement says, and with a trace or without.
     Script {
         family: Family,
         slots: u32,
+        mode: Mode,
         placement: Placement,
         trace: bool,
     },
-    /// The help of the scripts of this family, or of the program where none is named.
-    Help(Option<Family>),
+    /// Commands of an access list that are made from a seed up to 2,147,483,647, 1 to 64 batches of 1 to 256 rules each,
+    /// over so many slots, in this mode and by this placement, and without a trace. No source is read.
+    Made {
+        slots: u32,
+        mode: Mode,
+        placement: Placement,
+        seed: u32,
+        rules: u32,
+        batches: u32,
+    },
+    /// The help of a subcommand, or of the program where none is named.
+    Help(Option<Topic>),
     /// Name and version.
     Version,
 }
@@ -49,6 +62,17 @@ fn slots_arg<'a>(alloc: Global) -> Arg<'a>
         .action(ArgAction::Set)
         .value_parser(clap::value_parser!(u64).range(1..4097))
         .default_value("4096")
+}
+
+/// How port ranges are tested.
+fn ranges_arg<'a>(alloc: Global) -> Arg<'a>
+    ensures rule { rule_of result ≡ ranges_option }
+    ensures global { result.global ≡ false }
+{
+    Arg::new(alloc, "ranges")
+        .long("ranges")
+        .action(ArgAction::Set)
+        .default_value("cover")
 }
 
 /// Where an insertion aims.
@@ -93,8 +117,36 @@ fn acl_command<'a>(alloc: Global) -> Result<Command<'a>, AllocError>
     Ok(
         Command::new(alloc, "acl")
             .arg(slots_arg(alloc))?
+            .arg(ranges_arg(alloc))?
             .arg(placement_arg(alloc))?
             .arg(trace_arg(alloc))?,
+    )
+}
+
+/// A required number in a range, which stands behind the subcommand in its order.
+fn number_arg<'a>(alloc: Global, name: &'a str, least: u64, greatest: u64) -> Arg<'a>
+    ensures rule { rule_of result ≡ number_position name.entry.now least greatest }
+    ensures global { result.global ≡ false }
+{
+    Arg::new(alloc, name)
+        .required(true)
+        .action(ArgAction::Set)
+        .value_parser(ValueParser::unsigned(least, greatest))
+}
+
+/// The subcommand for made commands.
+fn gen_command<'a>(alloc: Global) -> Result<Command<'a>, AllocError>
+    ensures app { IfOk result (λ c. app_of c ≡ gen_app) }
+    ensures local { IfOk result (λ c. (out-Command c).has_globals ≡ false) }
+{
+    Ok(
+        Command::new(alloc, "gen")
+            .arg(number_arg(alloc, "seed", 0, 2147483647))?
+            .arg(number_arg(alloc, "rules", 1, 256))?
+            .arg(number_arg(alloc, "batches", 1, 64))?
+            .arg(slots_arg(alloc))?
+            .arg(ranges_arg(alloc))?
+            .arg(placement_arg(alloc))?,
     )
 }
 
@@ -108,7 +160,8 @@ fn tcam_command<'a>(alloc: Global) -> Result<Command<'a>, AllocError>
             .subcommand_required(true)
             .disable_help_subcommand(true)
             .subcommand(route_command(alloc)?)?
-            .subcommand(acl_command(alloc)?)?,
+            .subcommand(acl_command(alloc)?)?
+            .subcommand(gen_command(alloc)?)?,
     )
 }
 
@@ -118,49 +171,91 @@ fn tcam_command<'a>(alloc: Global) -> Result<Command<'a>, AllocError>
 pub fn read_words(alloc: Global, words: &[String]) -> Result<Asked, WordsFault>
     ensures asked { IfOk result (λ job. job_of (map string_bytes words.now) ≡ asked_by job) }
     ensures usage { IsErrOf result WordsFault.Usage → job_of (map string_bytes words.now) ≡ NoJob }
-    ensures slots { IfOk result (λ job. (family n placement trace : _) → job ≡ Asked.Script family n placement trace → (1 ≤ n) × (n ≤ 4096)) }
+    ensures within { IfOk result IsWithin }
 {
     let command = match tcam_command(alloc) {
         Ok(command) => command,
         Err(_) => return Err(WordsFault::Memory),
     };
     match command.try_get_matches_from(words) {
-        Ok(matches) => job_of_matches(&matches),
+        Ok(matches) => match job_of_matches(&matches) {
+            Some(job) => Ok(job),
+            None => Err(WordsFault::Usage),
+        },
         Err(error) => job_of_error(topic_of(words), &error),
     }
 }
 
-/// The job of words that were taken.
-fn job_of_matches(matches: &ArgMatches) -> Result<Asked, WordsFault>
-    ensures asked { IfOk result (λ job. tested_job (subcommand_rows_of matches.now) ≡ asked_by job) }
-    ensures usage { IsErrOf result WordsFault.Usage → tested_job (subcommand_rows_of matches.now) ≡ NoJob }
-    ensures slots { IfOk result (λ job. (family n placement trace : _) → job ≡ Asked.Script family n placement trace → (1 ≤ n) × (n ≤ 4096)) }
+/// The job of words that were taken, if they ask for one.
+fn job_of_matches(matches: &ArgMatches) -> Option<Asked>
+    ensures asked { IfSome result (λ job. tested_job (subcommand_rows_of matches.now) ≡ asked_by job) }
+    ensures none { IsNone result → tested_job (subcommand_rows_of matches.now) ≡ NoJob }
+    ensures within { IfSome result IsWithin }
 {
     match matches.subcommand() {
         Some((name, found)) if name == "route" => job_of_script(Family::Route, found),
         Some((name, found)) if name == "acl" => job_of_script(Family::Acl, found),
-        _ => Err(WordsFault::Usage),
+        Some((name, found)) if name == "gen" => job_of_made(found),
+        _ => None,
     }
 }
 
 /// The job of the arguments of a subcommand for scripts of a family.
-fn job_of_script(family: Family, found: &ArgMatches) -> Result<Asked, WordsFault>
-    ensures asked { IfOk result (λ job. job_of_slots family (text_of (codes "slots") (rows_of (found_of found.now))) (placed_by (rows_of (found_of found.now))) (is_traced (rows_of (found_of found.now))) ≡ asked_by job) }
-    ensures usage { IsErrOf result WordsFault.Usage → job_of_slots family (text_of (codes "slots") (rows_of (found_of found.now))) (placed_by (rows_of (found_of found.now))) (is_traced (rows_of (found_of found.now))) ≡ NoJob }
-    ensures slots { IfOk result (λ job. (family n placement trace : _) → job ≡ Asked.Script family n placement trace → (1 ≤ n) × (n ≤ 4096)) }
+fn job_of_script(family: Family, found: &ArgMatches) -> Option<Asked>
+    ensures asked { IfSome result (λ job. tested_script family (rows_of (found_of found.now)) ≡ asked_by job) }
+    ensures none { IsNone result → tested_script family (rows_of (found_of found.now)) ≡ NoJob }
+    ensures within { IfSome result IsWithin }
 {
-    let trace = found.get_str("trace").unwrap_or("") == "true";
-    let Some(placement) = placement_of(found.get_str("placement").unwrap_or("")) else {
-        return Err(WordsFault::Usage);
-    };
-    match slots_of(found.get_str("slots").unwrap_or("")) {
-        Some(slots) => Ok(Asked::Script {
-            family,
-            slots,
-            placement,
-            trace,
-        }),
-        None => Err(WordsFault::Usage),
+    Some(Asked::Script {
+        family,
+        slots: number_of(text_of(found, "slots"), 1, 4096)?,
+        mode: mode_of(family, found)?,
+        placement: placement_of(text_of(found, "placement"))?,
+        trace: text_of(found, "trace") == "true",
+    })
+}
+
+/// The job of the arguments of the subcommand for made commands.
+fn job_of_made(found: &ArgMatches) -> Option<Asked>
+    ensures asked { IfSome result (λ job. tested_made (rows_of (found_of found.now)) ≡ asked_by job) }
+    ensures none { IsNone result → tested_made (rows_of (found_of found.now)) ≡ NoJob }
+    ensures within { IfSome result IsWithin }
+{
+    Some(Asked::Made {
+        slots: number_of(text_of(found, "slots"), 1, 4096)?,
+        seed: number_of(text_of(found, "seed"), 0, 2147483647)?,
+        rules: number_of(text_of(found, "rules"), 1, 256)?,
+        batches: number_of(text_of(found, "batches"), 1, 64)?,
+        mode: mode_of(Family::Acl, found)?,
+        placement: placement_of(text_of(found, "placement"))?,
+    })
+}
+
+/// The text that an argument was given, or has by default.
+fn text_of<'a>(found: &ArgMatches<'a>, id: &str) -> &'a str
+    ensures { result.now ≡ text_in id.now (rows_of (found_of found.now)) }
+{
+    found.get_str(id).unwrap_or("")
+}
+
+/// The mode that is wanted: the ranges of a route are any port, and it has no such option.
+fn mode_of(family: Family, found: &ArgMatches) -> Option<Mode>
+    ensures { result ≡ mode_by family (rows_of (found_of found.now)) }
+{
+    match family {
+        Family::Route => Some(Mode::Cover),
+        Family::Acl => mode_named(text_of(found, "ranges")),
+    }
+}
+
+/// A mode from its word.
+fn mode_named(text: &str) -> Option<Mode>
+    ensures { result ≡ mode_in text.now }
+{
+    match text {
+        "cover" => Some(Mode::Cover),
+        "bits" => Some(Mode::Bits),
+        _ => None,
     }
 }
 
@@ -175,43 +270,43 @@ fn placement_of(text: &str) -> Option<Placement>
     }
 }
 
-/// A number of slots from its text.
-fn slots_of(text: &str) -> Option<u32>
-    ensures some { IfSome result (λ n. (family placement trace : _) → job_of_slots family text.now placement trace ≡ job_at family n placement trace) }
-    ensures range { IfSome result (λ n. (1 ≤ n) × (n ≤ 4096)) }
-    ensures none { IsNone result → (family placement trace : _) → job_of_slots family text.now placement trace ≡ NoJob }
+/// A number in a range from its text.
+fn number_of(text: &str, least: u32, greatest: u32) -> Option<u32>
+    ensures number { result ≡ number_within least greatest text.now }
+    ensures range { IfSome result (λ n. (least ≤ n) × (n ≤ greatest)) }
 {
     match text.parse::<u32>() {
-        Ok(slots) if 1 <= slots && slots <= 4096 => Some(slots),
+        Ok(number) if least <= number && number <= greatest => Some(number),
         _ => None,
     }
 }
 
 /// Whose help words ask for, the program's name first, if they ask for help: that of the subcommand that follows the
 /// name, or the program's own.
-fn topic_of(words: &[String]) -> Option<Family>
+fn topic_of(words: &[String]) -> Option<Topic>
     ensures { result ≡ topic_in (map string_bytes words.now) }
 {
-    family_of(words.get(1)?.as_str())
+    topic_by(words.get(1)?.as_str())
 }
 
-/// The family of scripts whose subcommand a word names.
-fn family_of(word: &str) -> Option<Family>
-    ensures { result ≡ family_named word.now }
+/// The subcommand that a word names.
+fn topic_by(word: &str) -> Option<Topic>
+    ensures { result ≡ topic_named word.now }
 {
     match word {
-        "route" => Some(Family::Route),
-        "acl" => Some(Family::Acl),
+        "route" => Some(Topic::Route),
+        "acl" => Some(Topic::Acl),
+        "gen" => Some(Topic::Gen),
         _ => None,
     }
 }
 
 /// The job of words that weren't, where their help is that of a topic: help, the version, or none.
-fn job_of_error(topic: Option<Family>, error: &Error) -> Result<Asked, WordsFault>
+fn job_of_error(topic: Option<Topic>, error: &Error) -> Result<Asked, WordsFault>
     ensures asked { IfOk result (λ job. job_of_fault topic (kind_of error.now) ≡ asked_by job) }
     ensures usage { IsErrOf result WordsFault.Usage → job_of_fault topic (kind_of error.now) ≡ NoJob }
     ensures memory { kind_of error.now ≡ ErrorKind.OutOfMemory → result ≡ Err WordsFault.Memory }
-    ensures slots { IfOk result (λ job. (family n placement trace : _) → job ≡ Asked.Script family n placement trace → ⊥) }
+    ensures within { IfOk result IsWithin }
 {
     match error.kind() {
         ErrorKind::DisplayHelp => Ok(Asked::Help(topic)),

@@ -119,13 +119,5 @@ fn other_family(rt: HostRuntime) -> Result<(), Fail> {
 
 #[test]
 fn usage(rt: HostRuntime) -> Result<(), Fail> {
-    check(&rt, "tcam acl --slots 0", "", Status::Usage, "usage\n", 0)?;
-    check(
-        &rt,
-        "tcam acl --ranges bits",
-        "",
-        Status::Usage,
-        "usage\n",
-        0,
-    )
+    check(&rt, "tcam acl --slots 0", "", Status::Usage, "usage\n", 0)
 }

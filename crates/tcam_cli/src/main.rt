@@ -1,5 +1,5 @@
-//! The program `tcam`: it reads a script of changes to routes or to an access list from standard input, carries it out
-//! over a modelled device, and writes the report to standard output.
+//! The program `tcam`: it reads a script of changes to routes or to an access list from standard input, or makes one,
+//! carries it out over a modelled device, and writes the report to standard output.
 //!
 //! # The one hard idea
 //! The promise is a clause of one function, [`top::run`], over any source, sink and device. Standard input foretells
@@ -8,7 +8,7 @@
 //!
 //! # How it stands
 //! `command_line` says what `clap` is to take and what its answer asks for, `own_texts` what the program says about
-//! itself; `top` is the loop of lines, acts and the last line. Everything but the few lines of `main` is proved.
+//! itself; `top` is the loop of lines, acts and the last line, and that of made commands. Everything but the few lines of `main` is proved.
 //!
 //! # What it cost
 //! Lines are carried out before the next read, so a source that gives one line a read is read once a line.
@@ -23,9 +23,13 @@ ghost use Rattle.tcam_cli.specs.ExitCodes.{exit_code};
 mod command_line;
 #[cfg(test)]
 mod list_tests;
+#[cfg(test)]
+mod made_tests;
 mod own_texts;
 #[cfg(test)]
 mod probe_tests;
+#[cfg(test)]
+mod ranges_tests;
 #[cfg(test)]
 mod tests;
 mod top;
@@ -41,9 +45,9 @@ use top::run;
 /// How a run ends.
 #[derive(Clone, Copy, Debug, PartialEq, Eq)]
 pub enum Status {
-    /// The input was read to its end, and no commit was refused.
+    /// The input was read, or made, to its end, and no commit was refused.
     Done,
-    /// The input was read to its end, and some commit was refused.
+    /// The input was read, or made, to its end, and some commit was refused.
     Refused,
     /// A line of the script is at fault.
     Script,

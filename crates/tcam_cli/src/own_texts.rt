@@ -3,33 +3,51 @@
 ghost use Rattle.std.specs.Prelude.{◌≡◌};
 ghost use Rattle.tcam_cli.specs.OwnTexts.{help_on};
 
-use replay::Family;
+/// A subcommand, whose help is asked for.
+#[derive(Clone, Copy, Debug, PartialEq, Eq)]
+pub enum Topic {
+    /// A script of routes.
+    Route,
+    /// A script of an access list.
+    Acl,
+    /// Made commands.
+    Gen,
+}
 
 /// The help of the program.
 const HELP: &str = "\
 tcam: the table manager of a ternary content-addressable memory.
-It reads a script from standard input, carries its commits out over a modelled
-device one write at a time, and writes a report to standard output.
+It reads a script from standard input, or makes one, carries its commits out
+over a modelled device one write at a time, and writes a report to standard
+output.
 
     tcam route [OPTIONS] < FILE    a script of routes
     tcam acl [OPTIONS] < FILE      a script of an access list
+    tcam gen SEED RULES BATCHES [OPTIONS]
+                                   changes of an access list, made from SEED
     tcam route --help              the commands of a script of routes
     tcam acl --help                the commands of a script of an access list
+    tcam gen --help                what SEED, RULES and BATCHES make
     tcam --help                    this text
     tcam --version                 name and version
 
 Options:
     --slots N        N slots in use, 1 to 4096, by default 4096
+    --ranges R       of acl and gen, how port ranges are tested: cover, by an
+                     entry for each block of a range, which is the default,
+                     and has no limit but slots; or bits, by one entry a rule,
+                     for at most 16 distinct ranges a field that come seldom:
+                     words of a table are written when one comes
     --placement P    where a new entry aims: middle, of the gap between the
                      entries that it must stand between, which is the default;
                      or rank, its place among all entries, for a table that is
                      loaded in one commit, or a list in its order
-    --trace          a line for each device write
+    --trace          a line for each device write; gen has no such option
 
 Exit status:
-    0     the script was read to its end and no commit was refused, or a text
-          like this one was printed
-    1     the script was read to its end, and some commit was refused
+    0     the script was read, or made, to its end and no commit was refused,
+          or a text like this one was printed
+    1     the script was read, or made, to its end, and some commit was refused
     2     a line of the script is at fault
     3     standard input could not be read
     4     standard output could not be written
@@ -80,7 +98,7 @@ The manual is docs/SCRIPT.md.
 const ACL_HELP: &str = "\
 tcam acl: carries out a script of an access list, and writes a report.
 
-    tcam acl [--slots N] [--placement P] [--trace] < FILE
+    tcam acl [--slots N] [--ranges R] [--placement P] [--trace] < FILE
 
 Commands of a script, one a line, with the source's side and ports first:
     acl add SEQ ACTION SIDE SIDE PROTOSPEC PORTSPEC PORTSPEC
@@ -104,6 +122,7 @@ Commands of a script, one a line, with the source's side and ports first:
 
 Options, of which tcam --help says more:
     --slots N        N slots in use, 1 to 4096, by default 4096
+    --ranges R       how port ranges are tested: cover, the default, or bits
     --placement P    where a new entry aims: middle, the default, or rank
     --trace          a line for each device write
 
@@ -115,18 +134,44 @@ Example of a script, whose packet gets the answer 10 permit:
 The manual is docs/SCRIPT.md.
 ";
 
+/// The help of made commands.
+const GEN_HELP: &str = "\
+tcam gen: carries out changes of an access list that it makes from a number, and
+writes a report. It reads no script.
+
+    tcam gen SEED RULES BATCHES [--slots N] [--ranges R] [--placement P]
+
+    SEED       the number, from 0 to 2147483647: the same gives the same changes
+    RULES      how many rules a batch adds, from 1 to 256
+    BATCHES    how many batches there are, from 1 to 64
+
+A batch first removes all rules of the one before, then adds its own, and is
+ended by a commit. The report has a line for each commit, and the last line.
+
+Options, of which tcam --help says more:
+    --slots N        N slots in use, 1 to 4096, by default 4096
+    --ranges R       how port ranges are tested: cover, the default, or bits
+    --placement P    where a new entry aims: middle, the default, or rank
+
+Example, of two commits of one rule each:
+    tcam gen 1 1 2
+
+The manual is docs/SCRIPT.md.
+";
+
 /// What `--version` prints.
 pub const VERSION: &str = "tcam 0.1.0\n";
 
-/// The help of the scripts of a family, or of the program where none is named.
-pub fn help_of(topic: Option<Family>) -> &'static str
+/// The help of a subcommand, or of the program where none is named.
+pub fn help_of(topic: Option<Topic>) -> &'static str
     ensures { result.now ≡ help_on topic }
 {
     match topic {
         None => HELP,
-        Some(family) => match family {
-            Family::Route => ROUTE_HELP,
-            Family::Acl => ACL_HELP,
+        Some(topic) => match topic {
+            Topic::Route => ROUTE_HELP,
+            Topic::Acl => ACL_HELP,
+            Topic::Gen => GEN_HELP,
         },
     }
 }

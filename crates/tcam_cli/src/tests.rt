@@ -142,10 +142,12 @@ fn helps(rt: HostRuntime) -> Result<(), Fail> {
     let program = "tcam: the table manager of a ternary content-addressable memory.\n";
     let routes = "tcam route: carries out a script of routes, and writes a report.\n";
     let lists = "tcam acl: carries out a script of an access list, and writes a report.\n";
-    tells_help(&rt, "tcam --help", program, 1471)?;
-    tells_help(&rt, "tcam -h acl", program, 1471)?;
+    let made = "tcam gen: carries out changes of an access list that it makes from a number, and\n";
+    tells_help(&rt, "tcam --help", program, 2093)?;
+    tells_help(&rt, "tcam -h acl", program, 2093)?;
     tells_help(&rt, "tcam route --slots 8 -h", routes, 1451)?;
-    tells_help(&rt, "tcam acl --help", lists, 1716)
+    tells_help(&rt, "tcam acl --help", lists, 1806)?;
+    tells_help(&rt, "tcam gen -h", made, 893)
 }
 
 #[test]

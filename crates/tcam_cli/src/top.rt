@@ -10,22 +10,24 @@ ghost use Rattle.tcam_cli.specs.Given.{IsPromisedByGiven, ReadsInTime};
 ghost use Rattle.line_words.specs.Texts.{word_fault_text};
 ghost use Rattle.replay.specs.Run.{start, ending};
 ghost use Rattle.replay.specs.Outside.{Leaves};
-ghost use Rattle.replay.specs.Running.{progress_of, setting_of, IsActOf};
+ghost use Rattle.replay.specs.Running.{progress_of, limit_text, setting_of, IsActOf};
 ghost use Rattle.replay.specs.Script.{Whole};
 ghost use Rattle.replay.specs.Text.{fault_line};
 ghost use Rattle.tcam_cli.specs.AllTheWay.{IsHitlessJob};
 ghost use Rattle.tcam_cli.specs.CommandLine.{job_of};
-ghost use Rattle.tcam_cli.specs.Headline.{IsCarriedOut, HasCauses, Reads, status_of};
+ghost use Rattle.tcam_cli.specs.Headline.{IsCarriedOut, HasCauses, Makes, Reads, status_of};
+ghost use Rattle.tcam_cli.specs.MadeScript.{made_act};
 ghost use Rattle.tcam_cli.specs.Readings.{acl_act, common_act, reading, route_act};
-ghost use Rattle.tcam_cli.specs.Turns.{ClosesReport, IsBetweenLines, IsIpv4Command, TurnsBy};
+ghost use Rattle.tcam_cli.specs.Turns.{ClosesReport, IsBetweenLines, IsIpv4Command, TurnsBy, status_of_fault};
 
 use crate::Status;
 use crate::command_line::{Asked, WordsFault, read_words};
 use crate::own_texts::{VERSION, help_of};
 use acl_reader::{AclCommand, read_acl};
 use line_words::{CommonCommand, WordFault};
-use replay::{Act, Family, Mode, Placement, Run, RunFault, write_fault, write_text};
+use replay::{Act, Family, Run, RunFault, write_fault, write_text};
 use route_reader::{RouteCommand, read_route};
+use rule_gen::{Made, Maker};
 use rule_model::{ipv4_route_rank, list_rank, route_rule, rule_conditions};
 use rule_store::Command;
 use script_lines::{Failed, Line, LineFault, Lines, Sink, Source};
@@ -33,7 +35,8 @@ use std::alloc::Global;
 use tcam_device::Device;
 
 /// Runs what the words of a command line ask for, the program's name first, over a blank device of at least 4,096
-/// slots: a script of routes or of an access list from the source, or one of the product's own texts.
+/// slots: a script of routes or of an access list from the source, commands of an access list that are made from a seed,
+/// of which the same holds as of a script and which leave the source as it is, or one of the product's own texts.
 ///
 /// After every single device write each packet key has the answer of the set before the commit or of the one after it,
 /// and after a commit's last write that of the one after it; a refused commit writes nothing. The answer is `Done` or
@@ -72,11 +75,25 @@ pub fn run<S: Source, K: Sink, D: Device>(
             Asked::Script {
                 family,
                 slots,
+                mode,
                 placement,
                 trace,
             },
-        ) => match Run::new(alloc, slots, Mode::Cover, placement, family, trace) {
+        ) => match Run::new(alloc, slots, mode, placement, family, trace) {
             Ok(mut run) => run_script(&mut run, source, sink, device),
+            Err(_) => Status::Memory,
+        },
+        Ok(
+            Asked::Made {
+                slots,
+                mode,
+                placement,
+                seed,
+                rules,
+                batches,
+            },
+        ) => match Run::new(alloc, slots, mode, placement, Family::Acl, false) {
+            Ok(mut run) => run_made(&mut run, seed, rules, batches, sink, device),
             Err(_) => Status::Memory,
         },
         Ok(Asked::Help(topic)) => tell(sink, help_of(topic), Status::Done),
@@ -156,9 +173,68 @@ fn turn<S: Source, K: Sink, D: Device>(
         Ok(()) => None,
         Err(RunFault::BatchFull) => Some(fault(line.number, "batch full", sink)),
         Err(RunFault::ProbesFull) => Some(fault(line.number, "too many probes", sink)),
-        Err(RunFault::Sink) => Some(Status::WriteFault),
-        Err(RunFault::Device) => Some(Status::DeviceFault),
-        Err(RunFault::Memory) => Some(Status::Memory),
+        Err(fault) => Some(status_of_fault(&fault)),
+    }
+}
+
+/// Carries out the commands of a seed, of an access list, to their end. There is room for each of them, and there are
+/// fewer commits than a run counts.
+fn run_made<K: Sink, D: Device>(
+    run: &mut Run,
+    seed: u32,
+    rules: u32,
+    batches: u32,
+    sink: &mut K,
+    device: &mut D,
+) -> Status
+    requires seed { seed ≤ 2147483647 }
+    requires some_rules { 1 ≤ rules }
+    requires most_rules { rules ≤ 256 }
+    requires some_batches { 1 ≤ batches }
+    requires most_batches { batches ≤ 64 }
+    requires family { run.old.family ≡ Family.Acl }
+    requires slots { run.old.manager.slots ≤ D.slot_count device.old }
+    requires idle { run.old.manager.held ≡ None }
+    requires begun { progress_of (D.slot_count device.old) run.old ≡ start (D.slot_count device.old) }
+    requires blank { D.journal device.old ≡ [] }
+    ensures carried_out { (which : Bool) → (left : Option (List ℕ)) → IsCarriedOut (Makes (setting_of run.old) seed rules batches) (D.slot_count device.old) result
+        left left (counted which (K.taken sink.old) (K.accepted sink.old)) (counted which (K.taken sink.new) (K.accepted sink.new)) (D.journal device.new) }
+    ensures leaves { Leaves K.taken K.faults sink.old sink.new D.slot_count D.faults device.old device.new (result ≡ Status.WriteFault) (result ≡ Status.DeviceFault) }
+{
+    let mut maker = Maker::new(seed, rules, batches);
+    'acts: loop {
+        let Some(made) = maker.next() else {
+            return finish(run, sink);
+        };
+        match run.apply(&act_of_made(&made), sink, device) {
+            Ok(()) => {}
+            Err(fault) => return status_of_fault(&fault),
+        }
+    }
+}
+
+/// The act that a made command is, in a script of an access list.
+fn act_of_made(made: &Made) -> Act
+    ensures act { result ≡ made_act made.now }
+    ensures list { IsActOf Family.Acl result }
+{
+    match made {
+        Made::Change(command) => Act::Command(*command),
+        Made::Commit => Act::Commit,
+    }
+}
+
+/// How a run ends at an act that wasn't carried out, for another cause than want of room.
+fn status_of_fault(fault: &RunFault) -> Status
+    requires { limit_text (Err fault.now) ≡ None }
+    ensures status { result ≡ status_of_fault fault.now }
+    ensures kind { (result ≢ Status.Usage) × (result ≢ Status.ReadFault) }
+{
+    match fault {
+        RunFault::Sink => Status::WriteFault,
+        RunFault::Device => Status::DeviceFault,
+        RunFault::Memory => Status::Memory,
+        RunFault::BatchFull | RunFault::ProbesFull => unreachable!(),
     }
 }
 

@@ -1,33 +1,33 @@
-use Rattle.std.proofs.Common.{◌∙◌, ap, inl, inr, map, string_bytes}
+use Rattle.std.proofs.Common.{◌∙◌, ap, inl, inr, refl, map, string_bytes}
 use Rattle.clap.specs.Simple.{is_simple}
 use Rattle.clap.specs.Faults.{is_simple_and_free}
-use Rattle.tcam_cli.proofs.Words.{no_script, refused, simple, simple_and_free, taken, then_asked}
+use Rattle.tcam_cli.proofs.Words.{refused, simple, simple_and_free, taken, then_asked}
 use Rattle.tcam_cli.proofs.command_line.read_words.Goals as goal
 
-pub returns-in-Ok-try_get_matches_from-clause-asked : goal.returns-in-Ok-try_get_matches_from-clause-asked
-returns-in-Ok-try_get_matches_from-clause-asked c =
+pub returns-in-Some-clause-asked : goal.returns-in-Some-clause-asked
+returns-in-Some-clause-asked c =
     let is = c.in-Ok.ensures in
     let none = c.in-Ok-try_get_matches_from.ensures.kinds (ap is_simple_and_free is ∙ simple_and_free) in
     let rows = (c.in-Ok-try_get_matches_from.ensures.matches (ap is_simple is ∙ simple)).1 in
-    then_asked c.job_of_matches.result _ _ (taken _ (map string_bytes c.args.words.now) _ is none rows) c.job_of_matches.ensures.asked
+    taken _ (map string_bytes c.args.words.now) _ is none rows ∙ c.in-Some.ensures.asked
 
 pub returns-in-Ok-try_get_matches_from-clause-usage : goal.returns-in-Ok-try_get_matches_from-clause-usage
-returns-in-Ok-try_get_matches_from-clause-usage c =
+returns-in-Ok-try_get_matches_from-clause-usage c = λ _.
     let is = c.in-Ok.ensures in
     let none = c.in-Ok-try_get_matches_from.ensures.kinds (ap is_simple_and_free is ∙ simple_and_free) in
     let rows = (c.in-Ok-try_get_matches_from.ensures.matches (ap is_simple is ∙ simple)).1 in
-    λ e. taken _ (map string_bytes c.args.words.now) _ is none rows ∙ c.job_of_matches.ensures.usage e
+    taken _ (map string_bytes c.args.words.now) _ is none rows ∙ c.in-None.ensures.none refl
 
-pub returns-in-Err-try_get_matches_from-clause-asked : goal.returns-in-Err-try_get_matches_from-clause-asked
-returns-in-Err-try_get_matches_from-clause-asked c =
+pub returns-clause-asked : goal.returns-clause-asked
+returns-clause-asked c =
     let is = c.in-Ok.ensures in
     elim (c.in-Err-try_get_matches_from.ensures.kinds (ap is_simple_and_free is ∙ simple_and_free)) [
       | inl memory ↦ rw (c.job_of_error.ensures.memory memory) tt
       | inr among ↦ then_asked c.job_of_error.result _ _ (refused _ (map string_bytes c.args.words.now) _ _ is c.topic_of.ensures among) c.job_of_error.ensures.asked
     ]
 
-pub returns-in-Err-try_get_matches_from-clause-usage : goal.returns-in-Err-try_get_matches_from-clause-usage
-returns-in-Err-try_get_matches_from-clause-usage c =
+pub returns-clause-usage : goal.returns-clause-usage
+returns-clause-usage c =
     let is = c.in-Ok.ensures in
     λ e. elim (c.in-Err-try_get_matches_from.ensures.kinds (ap is_simple_and_free is ∙ simple_and_free)) [
       | inl memory ↦
@@ -35,6 +35,3 @@ returns-in-Err-try_get_matches_from-clause-usage c =
           cc
       | inr among ↦ refused _ (map string_bytes c.args.words.now) _ _ is c.topic_of.ensures among ∙ c.job_of_error.ensures.usage e
     ]
-
-pub returns-in-Err-try_get_matches_from-clause-slots : goal.returns-in-Err-try_get_matches_from-clause-slots
-returns-in-Err-try_get_matches_from-clause-slots c = no_script c.job_of_error.result c.job_of_error.ensures.slots

@@ -25,5 +25,7 @@ returns c =
     let routes : app_of c.in_ok-subcommand.field-0 ≡ with_subcommand (unhelped (wanting (versioned (new_app (codes "tcam"))))) route_command.top =
     c.in_ok-subcommand.ensures.shape c.in_ok-route_command.ensures.local
     ∙ ap₂ with_subcommand no_help (ap (λ (a : App). a.top) c.in_ok-route_command.ensures.app) in
-    c.in_ok-subcommand-2.ensures.shape c.in_ok-acl_command.ensures.local
-    ∙ ap₂ with_subcommand routes (ap (λ (a : App). a.top) c.in_ok-acl_command.ensures.app)
+    let lists = c.in_ok-subcommand-2.ensures.shape c.in_ok-acl_command.ensures.local
+    ∙ ap₂ with_subcommand routes (ap (λ (a : App). a.top) c.in_ok-acl_command.ensures.app) in
+    c.in_ok-subcommand-3.ensures.shape c.in_ok-gen_command.ensures.local
+    ∙ ap₂ with_subcommand lists (ap (λ (a : App). a.top) c.in_ok-gen_command.ensures.app)

@@ -1,7 +1,7 @@
 use Rattle.std.proofs.Common.{◌≡◌, ◌∙◌, ◌<◌, ap, sym, Some, length, map, string_bytes, option_map, slice_get}
 use Rattle.std.specs.Prelude.{option_and_then}
 use Rattle.std.proofs.lemmas.Option.{slice_get-get_or, slice_get-map}
-use Rattle.tcam_cli.specs.CommandLine.{family_named}
+use Rattle.tcam_cli.specs.CommandLine.{topic_named}
 use Rattle.tcam_cli.proofs.command_line.topic_of.Goals as goal
 
 pub returns : goal.returns
@@ -12,4 +12,4 @@ returns c =
     let read : slice_get words 1 ≡ Some word = slice_get-get_or words 1 word within ∙ ap Some (sym c.in_ok-get.ensures.lookup.1) in
     let second : slice_get (map string_bytes words) 1 ≡ Some c.as_str.result.now =
     slice_get-map string_bytes words 1 ∙ ap (option_map string_bytes) read ∙ ap Some (sym c.as_str.ensures.value) in
-    c.family_of.ensures ∙ sym (ap (option_and_then family_named) second)
+    c.topic_by.ensures ∙ sym (ap (option_and_then topic_named) second)

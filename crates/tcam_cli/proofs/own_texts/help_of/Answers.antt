@@ -1,5 +1,5 @@
 use Rattle.std.proofs.Common.{◌∙◌, ap, sym, Some}
-use Rattle.tcam_cli.specs.OwnTexts.{acl_help, help_on, help_text, route_help, script_commands, script_options}
+use Rattle.tcam_cli.specs.OwnTexts.{acl_help, gen_help, help_on, help_text, list_options, placement_line, route_help, script_commands, slots_line, trace_line}
 use Rattle.tcam_cli.proofs.own_texts.help_of.Goals as goal
 
 pub returns-in-None : goal.returns-in-None
@@ -7,9 +7,13 @@ unfolding help_text
 returns-in-None c = ap help_on (sym c.in-None.is)
 
 pub returns-in-Route : goal.returns-in-Route
-unfolding route_help script_commands script_options
+unfolding route_help script_commands slots_line placement_line trace_line
 returns-in-Route c = ap help_on (sym (c.in-Some.is ∙ ap Some c.in-Route.is))
 
 pub returns-in-Acl : goal.returns-in-Acl
-unfolding acl_help script_commands script_options
+unfolding acl_help script_commands list_options slots_line placement_line trace_line
 returns-in-Acl c = ap help_on (sym (c.in-Some.is ∙ ap Some c.in-Acl.is))
+
+pub returns-in-Gen : goal.returns-in-Gen
+unfolding gen_help list_options slots_line placement_line
+returns-in-Gen c = ap help_on (sym (c.in-Some.is ∙ ap Some c.in-Gen.is))

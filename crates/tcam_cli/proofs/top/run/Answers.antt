@@ -1,10 +1,13 @@
-use Rattle.std.proofs.Common.{true, ◌≤◌, refl, ap, sym, ◌∙◌, Err, arith}
+use Rattle.std.proofs.Common.{true, false, ◌≤◌, refl, ap, sym, ◌∙◌, Err, arith}
 use Rattle.tcam_cli.specs.declared.Status.TheVariants.{Done, Usage}
 use Rattle.replay.specs.Running.{Running, progress_of, setting_of}
 use Rattle.replay.specs.Text.{usage_line}
 use Rattle.tcam_cli.specs.OwnTexts.{version_text}
-use Rattle.tcam_cli.specs.Headline.{Reads, Tells}
+use Rattle.replay.specs.declared.Family.TheVariants.{Acl}
+use Rattle.tcam_cli.specs.Headline.{Makes, Reads, Tells}
 use Rattle.tcam_cli.proofs.Begun.{begins}
+use Rattle.tcam_cli.proofs.FaultCounts.{uncounted}
+use Rattle.tcam_cli.proofs.MadeRuns.{made-ends}
 use Rattle.tcam_cli.proofs.TopCall.{memory-carried, told-alone}
 use Rattle.tcam_cli.proofs.HitlessRuns.{hitless-job}
 use Rattle.tcam_cli.proofs.GivenRuns.{promised-none, may-tell, may-usage}
@@ -14,9 +17,9 @@ use Rattle.tcam_cli.proofs.top.run.Goals as goal
 pub run_script-requires-clause-begun : goal.run_script-requires-clause-begun
 run_script-requires-clause-begun g c =
     let slots = g.D.Writable.slot_count c.args.device.now in
-    let range = (rw c.in-Ok-Script.field-0-is at c.in-Ok-Script.ensures.slots) _ _ _ _ refl in
+    let range = rw c.in-Ok-Script.field-0-is at c.in-Ok-Script.ensures.within in
     let within : c.in-Ok-Script.slots ≤ slots = omega (arith, range.1) in
-    ap (progress_of slots) c.in-Ok.ensures ∙ begins c.in-Ok-Script.placement c.in-Ok-Script.family c.in-Ok-Script.slots slots c.in-Ok-Script.trace within
+    ap (progress_of slots) c.in-Ok.ensures ∙ begins c.in-Ok-Script.mode c.in-Ok-Script.placement c.in-Ok-Script.family c.in-Ok-Script.slots slots c.in-Ok-Script.trace within
 
 pub returns-in-Ok-clause-carried_out : goal.returns-in-Ok-clause-carried_out
 returns-in-Ok-clause-carried_out g c =
@@ -115,3 +118,49 @@ returns-in-Err-Usage-clause-in_time g c =
 
 pub returns-in-Err-Memory-clause-in_time : goal.returns-in-Err-Memory-clause-in_time
 returns-in-Err-Memory-clause-in_time g c = nothing-read _ _ _ _ _ _
+
+pub run_made-requires-clause-begun : goal.run_made-requires-clause-begun
+run_made-requires-clause-begun g c =
+    let slots = g.D.Writable.slot_count c.args.device.now in
+    let numbers = rw c.in-Ok-Made.field-0-is at c.in-Ok-Made.ensures.within in
+    let most = numbers.most_slots in
+    let device = c.requires.slots in
+    let within : c.in-Ok-Made.slots ≤ slots = omega (arith, most, device) in
+    ap (progress_of slots) c.in-Ok-new.ensures ∙ begins c.in-Ok-Made.mode c.in-Ok-Made.placement Acl c.in-Ok-Made.slots slots false within
+
+pub returns-in-Ok-new-clause-carried_out : goal.returns-in-Ok-new-clause-carried_out
+returns-in-Ok-new-clause-carried_out g c =
+    let asked = rw c.in-Ok-Made.field-0-is at c.in-Ok-Made.ensures.asked in
+    rw (asked ∙ ap (λ (run : Running). Makes (setting_of run) c.in-Ok-Made.seed c.in-Ok-Made.rules c.in-Ok-Made.batches) (sym c.in-Ok-new.ensures))
+    (c.run_made.ensures.carried_out true (g.S.Source.left c.args.source.now))
+
+pub returns-in-Ok-new-clause-hitless : goal.returns-in-Ok-new-clause-hitless
+returns-in-Ok-new-clause-hitless g c =
+    let asked = rw c.in-Ok-Made.field-0-is at c.in-Ok-Made.ensures.asked in
+    rw (asked ∙ ap (λ (run : Running). Makes (setting_of run) c.in-Ok-Made.seed c.in-Ok-Made.rules c.in-Ok-Made.batches) (sym c.in-Ok-new.ensures))
+    (hitless-job (Makes (setting_of c.in-Ok-new.run') c.in-Ok-Made.seed c.in-Ok-Made.rules c.in-Ok-Made.batches) (g.D.Writable.slot_count c.args.device.now) c.run_made.result
+    (g.S.Source.left c.args.source.now) (g.S.Source.left c.args.source.now) (g.K.Sink.taken c.args.sink.now) (g.K.Sink.taken c.run_made.new.sink) (g.D.Writable.journal c.run_made.new.device)
+    (c.run_made.ensures.carried_out true (g.S.Source.left c.args.source.now)))
+
+pub returns-in-Ok-new-clause-given : goal.returns-in-Ok-new-clause-given
+returns-in-Ok-new-clause-given g c = λ which.
+    let asked = rw c.in-Ok-Made.field-0-is at c.in-Ok-Made.ensures.asked in
+    rw (asked ∙ ap (λ (run : Running). Makes (setting_of run) c.in-Ok-Made.seed c.in-Ok-Made.rules c.in-Ok-Made.batches) (sym c.in-Ok-new.ensures))
+    (promised-none _ _ _ _ _ _ _ (λ left. c.run_made.ensures.carried_out which left) (λ left. made-ends _ _ _ _ _ _ left _ _ _ (c.run_made.ensures.carried_out which left)))
+
+pub returns-in-Ok-new-clause-causes : goal.returns-in-Ok-new-clause-causes
+returns-in-Ok-new-clause-causes g c =
+    let asked = rw c.in-Ok-Made.field-0-is at c.in-Ok-Made.ensures.asked in
+    let carried = c.run_made.ensures.carried_out true (g.S.Source.left c.args.source.now) in
+    rw (asked ∙ ap (λ (run : Running). Makes (setting_of run) c.in-Ok-Made.seed c.in-Ok-Made.rules c.in-Ok-Made.batches) (sym c.in-Ok-new.ensures)) (record {
+      read = uncounted _ (g.S.Source.faults c.args.source.now) (g.S.Source.faults c.args.source.now) carried.1.0 refl;
+      write = c.run_made.ensures.leaves.sink_cause;
+      device = c.run_made.ensures.leaves.device_cause;
+      ends = made-ends _ _ _ _ _ _ (g.S.Source.left c.args.source.now) _ _ _ carried;
+    })
+
+pub returns-in-Err-new-clause-hitless : goal.returns-in-Err-new-clause-hitless
+returns-in-Err-new-clause-hitless g c = hitless-job _ _ _ _ _ _ _ _ (memory-carried _ _ _ (g.K.Sink.taken c.args.sink.now) _ c.requires.blank)
+
+pub returns-in-Err-new-clause-given : goal.returns-in-Err-new-clause-given
+returns-in-Err-new-clause-given g c = λ which. promised-none _ _ _ _ _ _ _ (λ left. memory-carried _ _ left _ _ c.requires.blank) (λ left. tt)

@@ -1,8 +1,11 @@
-use Rattle.std.proofs.Common.{rules, ap, sym, ◌∙◌, Ok, refl}
+use Rattle.std.proofs.Common.{rules, ◌≡◌, None, Err, ap, sym, ◌∙◌, Ok, refl}
+use Rattle.replay.specs.Running.{limit_text}
+use Rattle.tcam_cli.proofs.FaultCounts.{some-leaves, stopped-leaves}
+use Rattle.tcam_cli.proofs.Outcomes.{stops, stops-grows, stops-memory}
 use Rattle.tcam_cli.proofs.Closings.{closes-leaves}
-use Rattle.tcam_cli.proofs.Exits.{exit-bytes, exit-end, exit-read, goes-none, exit-word, exit-full, goes-on, exit-line, exit-device, exit-memory, wants-next}
+use Rattle.tcam_cli.proofs.Exits.{exit-bytes, exit-end, exit-read, goes-none, exit-word, exit-full, goes-on, exit-stopped, wants-next}
 use Rattle.tcam_cli.proofs.InTime.{does-grows, same-grows, closes-grows, so-far-at}
-use Rattle.tcam_cli.proofs.GivenRuns.{turns-some, turns-memory, turns-none, rests-same}
+use Rattle.tcam_cli.proofs.GivenRuns.{turns-some, turns-stopped, turns-none, rests-same}
 use Rattle.tcam_cli.proofs.top.turn.Goals as goal
 
 pub returns-in-Err-Read-clause-gives : goal.returns-in-Err-Read-clause-gives
@@ -117,49 +120,32 @@ returns-in-Err-ProbesFull-clause-gives g c =
           taken _ _ _ _ (c.in-Ok-Some-read_act.ensures.ok ∙ ap Ok c.in-Ok-Some-read_act.field-0-is) (sym (rw c.in-Err-ProbesFull.field-0-is at c.in-Err-ProbesFull.ensures.limit)) (rw same.report at (c.fault-in-Err-ProbesFull.ensures.closes.closes which)))),
     )
 
-pub returns-in-Err-Sink-clause-gives : goal.returns-in-Err-Sink-clause-gives
-returns-in-Err-Sink-clause-gives g c =
-    let h = c.in-Ok-Some in (
+pub returns-in-Err-apply-clause-gives : goal.returns-in-Err-apply-clause-gives
+returns-in-Err-apply-clause-gives g c =
+    let h = c.in-Ok-Some in
+    let why = c.in-Err-apply.fault in
+    let none : limit_text (Err why) ≡ None = search rules in
+    let full = sym c.in-Err-apply.ensures.limit ∙ none in (
       h.ensures.gives.0,
       h.ensures.gives.1,
-      λ which. turns-some _ _ _ _ _ _ _ _ _ _ _ _ _ _ h.ensures.gives.2 (λ e. cc) (λ bytes left now start may s. does-grows _ _ _ _ _ _ ((rw c.in-Err-Sink.field-0-is at (c.in-Err-Sink.ensures.acts which)) (so-far-at _ _ _ _ _ _ _ _ _ s)).does)
+      λ which.
+          let comes = stops _ _ _ _ why _ _ _ _ (c.in-Err-apply.ensures.acts which) in
+          rw c.status_of_fault.ensures.status (turns-stopped _ _ _ _ _ _ _ why _ _ _ _ _ _ h.ensures.gives.2 none
+          (λ bytes left now start may s. stops-grows _ _ _ _ why _ _ _ _ none (so-far-at _ _ _ _ _ _ _ _ _ s) comes)
           (λ bytes taken begun now start may parts s.
-          let is = c.in-Err-Sink.field-0-is in
-          exit-line _ _ bytes _ begun _ _ start _ s h.line c.next.new.self now (rw h.field-0-is at h.ensures.again) (λ going. rw h.field-0-is at (h.ensures.gives.2.hands going begun now may))
-          _ (c.in-Ok-Some-read_act.ensures.ok ∙ ap Ok c.in-Ok-Some-read_act.field-0-is) (sym (rw is at c.in-Err-Sink.ensures.limit)) _ _ taken
-          (rw is at (c.in-Err-Sink.ensures.acts which))),
-    )
-
-pub returns-in-Err-Device-clause-gives : goal.returns-in-Err-Device-clause-gives
-returns-in-Err-Device-clause-gives g c =
-    let h = c.in-Ok-Some in (
-      h.ensures.gives.0,
-      h.ensures.gives.1,
-      λ which. turns-some _ _ _ _ _ _ _ _ _ _ _ _ _ _ h.ensures.gives.2 (λ e. cc) (λ bytes left now start may s. does-grows _ _ _ _ _ _ ((rw c.in-Err-Device.field-0-is at (c.in-Err-Device.ensures.acts which)) (so-far-at _ _ _ _ _ _ _ _ _ s)).does)
-          (λ bytes taken begun now start may parts s.
-          let is = c.in-Err-Device.field-0-is in
-          exit-device _ _ bytes _ begun _ _ start _ s h.line c.next.new.self now (rw h.field-0-is at h.ensures.again) (λ going. rw h.field-0-is at (h.ensures.gives.2.hands going begun now may))
-          _ (c.in-Ok-Some-read_act.ensures.ok ∙ ap Ok c.in-Ok-Some-read_act.field-0-is) (sym (rw is at c.in-Err-Device.ensures.limit)) _ _ taken
-          (rw is at (c.in-Err-Device.ensures.acts which))),
-    )
-
-pub returns-in-Err-Memory-clause-gives : goal.returns-in-Err-Memory-clause-gives
-returns-in-Err-Memory-clause-gives g c =
-    let h = c.in-Ok-Some in (
-      h.ensures.gives.0,
-      h.ensures.gives.1,
-      λ which. turns-memory _ _ _ _ _ _ _ _ _ _ _ _ _ _ h.ensures.gives.2 (λ bytes left now start may s. does-grows _ _ _ _ _ _ (rw c.in-Err-Memory.field-0-is at (c.in-Err-Memory.ensures.acts which)).0.does)
-          (λ bytes taken begun now start may parts s.
-          let is = c.in-Err-Memory.field-0-is in
-          exit-memory _ _ bytes _ begun _ _ start _ s h.line c.next.new.self now (rw h.field-0-is at h.ensures.again) (λ going. rw h.field-0-is at (h.ensures.gives.2.hands going begun now may))
-          _ (c.in-Ok-Some-read_act.ensures.ok ∙ ap Ok c.in-Ok-Some-read_act.field-0-is) (sym (rw is at c.in-Err-Memory.ensures.limit)) _ _ taken
-          (rw is at (c.in-Err-Memory.ensures.acts which)).0)
-          (λ bytes left now start may s.
-          let is = c.in-Err-Memory.field-0-is in
+          exit-stopped _ _ bytes _ begun _ _ start _ s h.line c.next.new.self now (rw h.field-0-is at h.ensures.again) (λ going. rw h.field-0-is at (h.ensures.gives.2.hands going begun now may))
+          _ (c.in-Ok-Some-read_act.ensures.ok ∙ ap Ok c.in-Ok-Some-read_act.field-0-is) full _ _ taken why none comes)
+          (λ memory bytes left now start may s.
           wants-next _ _ bytes _ left _ _ start _ s h.line c.next.new.self now (rw h.field-0-is at h.ensures.again) (λ going. rw h.field-0-is at (h.ensures.gives.2.hands going left now may))
-          _ (c.in-Ok-Some-read_act.ensures.ok ∙ ap Ok c.in-Ok-Some-read_act.field-0-is) (sym (rw is at c.in-Err-Memory.ensures.limit)) _ _
-          (rw is at (c.in-Err-Memory.ensures.acts which)).0),
+          _ (c.in-Ok-Some-read_act.ensures.ok ∙ ap Ok c.in-Ok-Some-read_act.field-0-is) full _ _
+          (stops-memory _ _ _ _ why _ _ _ _ memory comes))),
     )
+
+pub returns-in-Err-apply-clause-leaves : goal.returns-in-Err-apply-clause-leaves
+returns-in-Err-apply-clause-leaves g c =
+    let why = c.in-Err-apply.fault in
+    let none : limit_text (Err why) ≡ None = search rules in
+    some-leaves _ _ _ _ _ _ _ _ _ (rw c.status_of_fault.ensures.status (stopped-leaves _ _ _ _ _ _ _ _ why none c.in-Err-apply.ensures.leaves))
 
 pub returns-in-Ok-None-clause-leaves : goal.returns-in-Ok-None-clause-leaves
 returns-in-Ok-None-clause-leaves g c = let closes = c.finish.ensures.closes (g.D.Writable.slot_count c.args.device.now) in search rules

@@ -1,0 +1,179 @@
+-- Where clap finds no fault, the numbers of a subcommand are in their ranges, and the tests of them pass.
+use Rattle.std.proofs.Common.{◌≡◌, ◌∙◌, ◌&&◌, ℕ, Bool, cond, true, false, not, refl, sym, subst, ap, List, [], ◌∷◌, codes, Option, Some, None}
+use Rattle.std.specs.Prelude.{fold}
+use Rattle.std.specs.List.{list_any}
+use Rattle.std.specs.Str.{bytes_eq}
+use Rattle.clap.specs.ValueTests.{is_unsigned_in}
+use Rattle.clap.specs.Takes.{is_given}
+use Rattle.clap.specs.Walk.{Row, Rule, Text, nothing_held, rows_after, with_default}
+use Rattle.clap.specs.Simple.{Shape, argument_words, built, filled, help_rule, subcommand_of}
+use Rattle.clap.specs.Faults.{fault_of, level_fault}
+use Rattle.replay.specs.declared.Family.{Family}
+use Rattle.replay.specs.declared.Family.TheVariants.{Route, Acl}
+use Rattle.tcam_cli.specs.CommandLine.{acl_command, gen_command, is_traced, job_at, job_of_rows, job_of_subcommand, made_at, mode_by, number_of, number_position, placed_by, placement_option, ranges_option, route_command, slots_option, tcam_command, text_of, trace_flag}
+use Rattle.tcam_cli.specs.Asked.{job_by, tested_job, tested_job_of_rows, tested_made, tested_script}
+use Rattle.tcam_cli.specs.Headline.{Job}
+use Rattle.tcam_cli.proofs.ArgumentRows.{AllKeep, Good, HasNumber, apart-keeps, has-apart, number-given, or_no, position, position-keeps, slots-default, slots-keep, slots_id}
+use Rattle.tcam_cli.proofs.TakenRows.{IsTaken, built-gives, level-taken}
+
+-- ---- the jobs by tests that pass
+
+script-tested : (family : Family) (rows : List Row) → HasNumber slots_id 1 4096 rows
+    → job_at family (number_of slots_id rows) (mode_by family rows) (placed_by rows) (is_traced rows) ≡ tested_script family rows
+script-tested family rows slots =
+    sym (ap (λ b. job_by (cond b (Some (number_of slots_id rows)) None) (λ n. job_at family n (mode_by family rows) (placed_by rows) (is_traced rows))) slots)
+
+abbrev seed_id : Text
+seed_id = codes "seed"
+
+abbrev rules_id : Text
+rules_id = codes "rules"
+
+abbrev batches_id : Text
+batches_id = codes "batches"
+
+-- what made commands are asked for by four tests
+abbrev made_by : List Row → Bool → Bool → Bool → Bool → Job
+made_by rows slots seed rules batches =
+    job_by (cond slots (Some (number_of slots_id rows)) None) (λ s.
+    job_by (cond seed (Some (number_of seed_id rows)) None) (λ d.
+    job_by (cond rules (Some (number_of rules_id rows)) None) (λ r.
+    job_by (cond batches (Some (number_of batches_id rows)) None) (λ b. made_at s (mode_by Acl rows) (placed_by rows) d r b))))
+
+made-tested : (rows : List Row) → HasNumber slots_id 1 4096 rows → HasNumber seed_id 0 2147483647 rows → HasNumber rules_id 1 256 rows → HasNumber batches_id 1 64 rows
+    → made_at (number_of slots_id rows) (mode_by Acl rows) (placed_by rows) (number_of seed_id rows) (number_of rules_id rows) (number_of batches_id rows) ≡ tested_made rows
+made-tested rows slots seed rules batches =
+    sym (ap (λ b. made_by rows b (is_unsigned_in 0 2147483647 (text_of seed_id rows)) (is_unsigned_in 1 256 (text_of rules_id rows)) (is_unsigned_in 1 64 (text_of batches_id rows))) slots
+    ∙ ap (λ b. made_by rows true b (is_unsigned_in 1 256 (text_of rules_id rows)) (is_unsigned_in 1 64 (text_of batches_id rows))) seed
+    ∙ ap (λ b. made_by rows true true b (is_unsigned_in 1 64 (text_of batches_id rows))) rules
+    ∙ ap (λ b. made_by rows true true true b) batches)
+
+-- ---- other arguments
+
+-- these arguments are others
+abbrev AreOthers : Text → List Rule → Type 0
+AreOthers id rules = list_any (λ a. bytes_eq a.id id) rules ≡ false
+
+others-keep : (id : Text) (low high : ℕ) (rules : List Rule) → AreOthers id rules → AllKeep (Good id low high) rules
+others-keep id low high [] others = tt
+others-keep id low high (a ∷ rest) others =
+    let parts = or_no (bytes_eq a.id id) _ others in
+    (apart-keeps id low high a parts.0, others-keep id low high rest parts.1)
+
+-- their defaults leave a number
+has-still : (id : Text) (low high : ℕ) (rules : List Rule) → AreOthers id rules → (rows : List Row) → HasNumber id low high rows → HasNumber id low high (fold with_default rows rules)
+has-still id low high [] others rows has = has
+has-still id low high (a ∷ rest) others rows has =
+    let parts = or_no (bytes_eq a.id id) _ others in
+    has-still id low high rest parts.1 (with_default rows a) (has-apart id low high a parts.0 rows has)
+
+-- ---- a subcommand for scripts
+
+-- what stands behind --slots
+abbrev route_rest : List Rule
+route_rest = filled placement_option ∷ filled trace_flag ∷ filled help_rule ∷ []
+
+abbrev list_rest : List Rule
+list_rest = filled ranges_option ∷ filled placement_option ∷ filled trace_flag ∷ filled help_rule ∷ []
+
+module _ (s : Shape) (rest : List Rule) (others : AreOthers slots_id rest) (are : s.rules ≡ filled slots_option ∷ rest) (once : s.args_override_self ≡ false) (words : List Text) (none : level_fault s [] nothing_held words false [] ≡ []) where
+  script-slots : HasNumber slots_id 1 4096 (rows_after s.rules [] words)
+  script-slots =
+      let keep : AllKeep (Good slots_id 1 4096) s.rules =
+      subst (AllKeep (Good slots_id 1 4096)) (sym are) (slots-keep, others-keep slots_id 1 4096 rest others) in
+      let taken = level-taken (Good slots_id 1 4096) s keep once tt words none in
+      subst (HasNumber slots_id 1 4096) (sym (taken.after ∙ ap (fold with_default taken.rows) are))
+      (has-still slots_id 1 4096 rest others (with_default taken.rows (filled slots_option)) (slots-default taken.rows taken.good).0)
+
+-- ---- the subcommand for made commands
+
+abbrev made_rest : List Rule
+made_rest = filled ranges_option ∷ filled placement_option ∷ filled help_rule ∷ []
+
+abbrev gen_rules : List Rule
+gen_rules =
+    position 1 seed_id 0 2147483647 ∷ position 2 rules_id 1 256 ∷ position 3 batches_id 1 64 ∷ filled slots_option ∷ made_rest
+
+not-false : (a : Bool) → not a ≡ false → a ≡ true
+not-false true is = refl
+not-false false is = cc
+
+pub record AreGiven (rows : List Row) : Type 0 where
+  pub seed : is_given seed_id rows ≡ true
+  pub rules : is_given rules_id rows ≡ true
+  pub batches : is_given batches_id rows ≡ true
+
+all-given : (rows : List Row) → list_any (λ a. a.required && not (is_given a.id rows)) gen_rules ≡ false → AreGiven rows
+unfolding number_position
+all-given rows none =
+    let first = or_no (not (is_given seed_id rows)) _ none in
+    let second = or_no (not (is_given rules_id rows)) _ first.1 in
+    let third = or_no (not (is_given batches_id rows)) _ second.1 in
+    record { seed = not-false _ first.0; rules = not-false _ second.0; batches = not-false _ third.0 }
+
+module _ (s : Shape) (are : s.rules ≡ gen_rules) (once : s.args_override_self ≡ false) (words : List Text) (none : level_fault s [] nothing_held words false [] ≡ []) where
+  -- the numbers that stand at the positions
+  module _ (id : Text) (low high : ℕ) (keep : AllKeep (Good id low high) gen_rules) where
+    gen-taken : IsTaken (Good id low high) s words
+    gen-taken = level-taken (Good id low high) s (subst (AllKeep (Good id low high)) (sym are) keep) once tt words none
+
+    keep-defaults : (rules : List Rule) → AllKeep (Good id low high) rules → (rows : List Row) → Good id low high rows → Good id low high (fold with_default rows rules)
+    keep-defaults [] all rows good = good
+    keep-defaults (a ∷ rest) all rows good = keep-defaults rest all.1 (with_default rows a) (all.0.by_default rows good)
+
+    gen-good : Good id low high (rows_after s.rules [] words)
+    gen-good = subst (Good id low high) (sym (gen-taken.after ∙ ap (fold with_default gen-taken.rows) are)) (keep-defaults gen_rules keep gen-taken.rows gen-taken.good)
+
+    gen-given : AreGiven (rows_after s.rules [] words)
+    gen-given = all-given (rows_after s.rules [] words) (subst (λ (rules : List Rule). list_any (λ a. a.required && not (is_given a.id (rows_after s.rules [] words))) rules ≡ false) are gen-taken.given)
+
+    gen-number : is_given id (rows_after s.rules [] words) ≡ true → HasNumber id low high (rows_after s.rules [] words)
+    gen-number given = number-given id low high (rows_after s.rules [] words) given gen-good
+
+  gen-made : made_at (number_of slots_id (rows_after s.rules [] words)) (mode_by Acl (rows_after s.rules [] words)) (placed_by (rows_after s.rules [] words)) (number_of seed_id (rows_after s.rules [] words))
+      (number_of rules_id (rows_after s.rules [] words)) (number_of batches_id (rows_after s.rules [] words)) ≡ tested_made (rows_after s.rules [] words)
+  unfolding slots_option ranges_option placement_option number_position
+  gen-made =
+      let seed : AllKeep (Good seed_id 0 2147483647) gen_rules =
+      (position-keeps 1 seed_id 0 2147483647, others-keep _ _ _ (position 2 rules_id 1 256 ∷ position 3 batches_id 1 64 ∷ filled slots_option ∷ made_rest) refl) in
+      let rules : AllKeep (Good rules_id 1 256) gen_rules = (
+        apart-keeps _ _ _ (position 1 seed_id 0 2147483647) refl,
+        (
+          position-keeps 2 rules_id 1 256,
+          others-keep _ _ _ (position 3 batches_id 1 64 ∷ filled slots_option ∷ made_rest) refl,
+        ),
+      ) in
+      let batches : AllKeep (Good batches_id 1 64) gen_rules = (
+        apart-keeps _ _ _ (position 1 seed_id 0 2147483647) refl,
+        (
+          apart-keeps _ _ _ (position 2 rules_id 1 256) refl,
+          (
+            position-keeps 3 batches_id 1 64,
+            others-keep _ _ _ (filled slots_option ∷ made_rest) refl,
+          ),
+        ),
+      ) in
+      let front : List Rule = position 1 seed_id 0 2147483647 ∷ position 2 rules_id 1 256 ∷ position 3 batches_id 1 64 ∷ [] in
+      let ahead : AllKeep (Good slots_id 1 4096) front = others-keep _ _ _ front refl in
+      let slots : AllKeep (Good slots_id 1 4096) gen_rules =
+      (ahead.0, (ahead.1.0, (ahead.1.1.0, (slots-keep, others-keep _ _ _ made_rest refl)))) in
+      let given = gen-given seed_id 0 2147483647 seed in
+      let taken = gen-taken slots_id 1 4096 slots in
+      let before = fold with_default taken.rows front in
+      let good = keep-defaults slots_id 1 4096 slots front ahead taken.rows taken.good in
+      let has : HasNumber slots_id 1 4096 (rows_after s.rules [] words) =
+      subst (HasNumber slots_id 1 4096) (sym (taken.after ∙ ap (fold with_default taken.rows) are))
+      (has-still slots_id 1 4096 made_rest refl (with_default before (filled slots_option)) (slots-default before good).0) in
+      made-tested (rows_after s.rules [] words) has (gen-number seed_id 0 2147483647 seed given.seed) (gen-number rules_id 1 256 rules given.rules) (gen-number batches_id 1 64 batches given.batches)
+
+-- ---- the program
+
+-- where clap finds no fault, the tests of the numbers pass
+pub tested : (words : List Text) → fault_of tcam_command words ≡ [] → (o : Option (Text × List Row)) → subcommand_of tcam_command words ≡ o → job_of_subcommand o ≡ tested_job o
+unfolding tcam_command route_command acl_command gen_command slots_option ranges_option placement_option trace_flag number_position
+tested words none None are = refl
+tested words none (Some (name, rows)) are =
+    built-gives (λ name rows. job_of_rows name rows ≡ tested_job_of_rows name rows) (built tcam_command) (
+      λ words none. script-tested Route (rows_after (filled slots_option ∷ route_rest) [] words) (script-slots _ route_rest refl refl refl words none),
+      (λ words none. script-tested Acl (rows_after (filled slots_option ∷ list_rest) [] words) (script-slots _ list_rest refl refl refl words none), (λ words none. gen-made _ refl refl words none, tt)),
+    ) (argument_words tcam_command words) name rows none are

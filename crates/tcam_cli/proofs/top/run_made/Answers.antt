@@ -1,0 +1,122 @@
+use Rattle.std.proofs.Common.{true, Bool, Err, ◌≡◌, ◌*◌, ◌∷◌, List, length, refl, ap, sym, ◌∙◌, subst, arith}
+use Rattle.script_lines.specs.Given.{counted}
+use Rattle.rule_gen.specs.Batches.{AreBatches}
+use Rattle.rule_gen.specs.Made.{made_commands}
+use Rattle.rule_gen.specs.declared.Made.{Made}
+use Rattle.replay.specs.declared.Family.{Family}
+use Rattle.replay.specs.Run.{Progress, Setting}
+use Rattle.replay.specs.Running.{IsActOf, progress_of, setting_of}
+use Rattle.replay.specs.Carried.{Carries}
+use Rattle.tcam_cli.specs.MadeScript.{made_act}
+use Rattle.tcam_cli.proofs.FaultCounts.{closed-leaves, leaves-from, stopped-leaves}
+use Rattle.tcam_cli.proofs.MadeRuns.{MadeSoFar, made-at, made-ended, made-first, made-fits, made-more, made-pending, made-stopped}
+use Rattle.tcam_cli.proofs.OneMore.{step-pending}
+use Rattle.tcam_cli.proofs.Outcomes.{Stops, stops}
+use Rattle.tcam_cli.proofs.top.run_made.Goals as goal
+
+pub acts-init : goal.acts-init
+acts-init g c =
+    let none : c.args.run.now.commits ≡ 0 = ap (λ (p : Progress). p.commits) c.requires.begun in
+    let empty : length c.args.run.now.pending ≡ 0 = ap (λ (p : Progress). length p.batch) c.requires.begun in
+    let few = c.new-maker.ensures.few in
+    let most = c.requires.most_batches in
+    record {
+      setting = refl;
+      slot_count = refl;
+      idle = c.requires.idle;
+      commits = omega (arith, none, few, most);
+      room = subst (λ come. AreBatches (2 * c.args.rules) come c.new-maker.result) (sym empty) c.new-maker.ensures.batches;
+      made = λ which. made-first _ _ _ _ _ _ _ c.new-maker.ensures.commands c.requires.begun c.requires.blank;
+      told = λ some. some;
+      writes = refl;
+      makes = refl;
+    }
+
+pub apply-requires : goal.apply-requires
+apply-requires g c =
+    let i = c.acts.invariant in
+    let slots : c.acts.run.manager.slots ≡ c.args.run.now.manager.slots = ap (λ (s : Setting). s.slots) i.setting in
+    let family = ap (λ (s : Setting). s.family) i.setting ∙ c.requires.family in
+    let count = i.slot_count in
+    let within = c.requires.slots in
+    let few = i.commits in
+    record {
+      slots = omega (arith, slots, count, within);
+      act = subst (λ (family : Family). IsActOf family c.act_of_made.result) (sym family) c.act_of_made.ensures.list;
+      idle = i.idle;
+      commits = omega (arith, few);
+    }
+
+pub acts-smaller : goal.acts-smaller
+acts-smaller g c =
+    let one = ap length c.in-Some.ensures.next in
+    omega (arith, one)
+
+pub status_of_fault-requires : goal.status_of_fault-requires
+status_of_fault-requires g c =
+    let most = c.requires.most_rules in
+    made-fits (2 * c.args.rules) _ _ c.in-Some.made _ _ _ (Err c.in-Err.fault) c.in-Some.ensures.next c.act_of_made.ensures.act c.acts.invariant.room (omega (arith, most)) c.in-Err.ensures.limit
+
+pub acts-preserved : goal.acts-preserved
+acts-preserved g c =
+    let i = c.acts.invariant in
+    let a = c.in-Ok.ensures in
+    let next = c.in-Some.ensures.next in
+    let one = ap length next in
+    let few = i.commits in
+    let more = a.commits in
+    let here : (which : Bool) → MadeSoFar (setting_of c.acts.run) (g.D.Writable.slot_count c.acts.device) (made_commands c.args.seed c.args.rules c.args.batches) (c.in-Some.made ∷ c.next.new.self)
+    (progress_of (g.D.Writable.slot_count c.acts.device) c.acts.run) (g.D.Writable.journal c.acts.device) (counted which (g.K.Sink.taken c.args.sink.now) (g.K.Sink.accepted c.args.sink.now))
+    (counted which (g.K.Sink.taken c.acts.sink) (g.K.Sink.accepted c.acts.sink)) = λ which. rw (i.setting, i.slot_count, ← next) (i.made which) in
+    let carried : (which : Bool) → Carries (setting_of c.acts.run) (progress_of (g.D.Writable.slot_count c.acts.device) c.acts.run) (made_act c.in-Some.made) (progress_of (g.D.Writable.slot_count c.acts.device) c.apply.new.self)
+    (g.D.Writable.journal c.acts.device) (g.D.Writable.journal c.apply.new.device) (counted which (g.K.Sink.taken c.acts.sink) (g.K.Sink.accepted c.acts.sink)) (counted which (g.K.Sink.taken c.apply.new.sink) (g.K.Sink.accepted c.apply.new.sink)) =
+    λ which. rw (← c.act_of_made.ensures.act) (a.acts which (made-at _ _ _ _ _ _ _ _ (here which))) in
+    let are = subst (λ (maker : List Made). AreBatches (2 * c.args.rules) (length c.acts.run.pending) maker) next i.room in
+    record {
+      setting = a.setting ∙ i.setting;
+      slot_count = a.leaves.slot_count ∙ i.slot_count;
+      idle = a.idle;
+      commits = omega (arith, one, few, more);
+      room = subst (λ come. AreBatches (2 * c.args.rules) come c.next.new.self) (sym (step-pending (setting_of c.acts.run) (progress_of (g.D.Writable.slot_count c.acts.device) c.acts.run) (made_act c.in-Some.made) (carried true).effects (progress_of (g.D.Writable.slot_count c.acts.device) c.apply.new.self) (carried true).step)) (made-pending (2 * c.args.rules) c.in-Some.made c.next.new.self (length c.acts.run.pending) are);
+      made = λ which. rw (← i.setting, ← i.slot_count) (made-more _ _ _ _ c.in-Some.made _ _ _ _ _ _ _ (here which) (carried which));
+      told = λ some. a.leaves.told (i.told some);
+      writes = a.leaves.sink_cause.stayed (λ e. cc) ∙ i.writes;
+      makes = a.leaves.device_cause.stayed (λ e. cc) ∙ i.makes;
+    }
+
+pub returns-in_default-clause-carried_out : goal.returns-in_default-clause-carried_out
+returns-in_default-clause-carried_out g c = λ which source.
+    let i = c.acts.invariant in
+    let slots = g.D.Writable.slot_count c.args.device.now in
+    let last = progress_of slots c.acts.run in
+    made-ended (setting_of c.args.run.now) (setting_of c.acts.run) slots c.args.seed c.args.rules c.args.batches c.acts.maker last (g.D.Writable.journal c.acts.device) _ _ _ c.finish.result (i.made which) (c.in_default.ensures.end.0 refl)
+    c.finish.ensures.kind.1 i.setting ((c.finish.ensures.closes slots).closes which) source
+
+pub returns-in_default-clause-leaves : goal.returns-in_default-clause-leaves
+returns-in_default-clause-leaves g c =
+    let i = c.acts.invariant in
+    leaves-from _ _ _ _ _ _ _ _ _ _ i.told i.slot_count i.writes i.makes _ _ (closed-leaves _ _ _ _ g.K.Sink.accepted _ _ c.acts.device _ _ _ c.finish.ensures.kind.2 (c.finish.ensures.closes 0))
+
+pub returns-in-Err-clause-carried_out : goal.returns-in-Err-clause-carried_out
+returns-in-Err-clause-carried_out g c = λ which source.
+    let i = c.acts.invariant in
+    let most = c.requires.most_rules in
+    let why = c.in-Err.fault in
+    let next = c.in-Some.ensures.next in
+    let none = made-fits (2 * c.args.rules) _ _ c.in-Some.made _ _ _ (Err why) next c.act_of_made.ensures.act i.room (omega (arith, most)) c.in-Err.ensures.limit in
+    let slots = g.D.Writable.slot_count c.acts.device in
+    let here : MadeSoFar (setting_of c.acts.run) slots (made_commands c.args.seed c.args.rules c.args.batches) (c.in-Some.made ∷ c.next.new.self) (progress_of slots c.acts.run) (g.D.Writable.journal c.acts.device)
+    (counted which (g.K.Sink.taken c.args.sink.now) (g.K.Sink.accepted c.args.sink.now)) (counted which (g.K.Sink.taken c.acts.sink) (g.K.Sink.accepted c.acts.sink)) = rw (i.setting, i.slot_count, ← next) (i.made which) in
+    let is : Stops slots (setting_of c.acts.run) (progress_of slots c.acts.run) (made_act c.in-Some.made) why (g.D.Writable.journal c.acts.device) (g.D.Writable.journal c.apply.new.device)
+    (counted which (g.K.Sink.taken c.acts.sink) (g.K.Sink.accepted c.acts.sink)) (counted which (g.K.Sink.taken c.apply.new.sink) (g.K.Sink.accepted c.apply.new.sink)) =
+    rw (← c.act_of_made.ensures.act) (stops _ _ _ _ why _ _ _ _ (c.in-Err.ensures.acts which)) in
+    rw (c.status_of_fault.ensures.status, ← i.setting, ← i.slot_count)
+    (made-stopped (setting_of c.acts.run) slots c.args.seed c.args.rules c.args.batches c.next.new.self c.in-Some.made (progress_of slots c.acts.run) _ _ _ _ _ why here none is source)
+
+pub returns-in-Err-clause-leaves : goal.returns-in-Err-clause-leaves
+returns-in-Err-clause-leaves g c =
+    let i = c.acts.invariant in
+    let most = c.requires.most_rules in
+    let why = c.in-Err.fault in
+    let none = made-fits (2 * c.args.rules) _ _ c.in-Some.made _ _ _ (Err why) c.in-Some.ensures.next c.act_of_made.ensures.act i.room (omega (arith, most)) c.in-Err.ensures.limit in
+    rw c.status_of_fault.ensures.status (leaves-from _ _ _ _ _ _ _ _ _ _ i.told i.slot_count i.writes i.makes _ _ (stopped-leaves _ _ _ _ _ _ _ _ why none c.in-Err.ensures.leaves))
