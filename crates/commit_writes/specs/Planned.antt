@@ -16,7 +16,7 @@ use Rattle.move_planner.specs.Placement.{IsPlacement, IsInOrder, after_moves, sp
 use Rattle.move_planner.specs.Insertion.{IsLive, StandOnce}
 use Rattle.tcam_device.specs.declared.Write.{Write}
 use Rattle.tcam_device.specs.declared.Write.TheVariants.{Slot}
-use Rattle.tcam_device.specs.State.{State, IsState, blank_table}
+use Rattle.tcam_device.specs.State.{State, IsState}
 use Rattle.tcam_device.specs.Order.{IsTranslated}
 
 -- the entry of each id, if it has one
@@ -39,10 +39,6 @@ contents entries slots = map (held_entry entries) slots
 -- a state whose slots hold this, with its tables as they are
 abbrev pub with_slots : State → List (Option Entry) → State
 with_slots state slots = record state { slots = slots }
-
--- the state of a device with these slots, whose tables were never written
-abbrev pub plain_state : List (Option Entry) → State
-plain_state slots = record { slots = slots; src = blank_table; dst = blank_table }
 
 -- the device write that a move is
 abbrev pub write_for : IdEntries → Move → Write
