@@ -1,0 +1,13 @@
+use Rattle.std.proofs.Common.{◌≡◌, map}
+use Rattle.order_chains.specs.Ends.{has_lower, without_those}
+use Rattle.order_chains.specs.Pairs.{pairs_of}
+use Rattle.order_chains.proofs.Edges.drop_above.Given as goal
+
+abbrev pub invariant-loop-at : goal.invariant-loop-at
+invariant-loop-at l = record {
+  gone : map (without_those (has_lower l.id)) l.self.places ≡ map (without_those (has_lower l.id)) l.fn.self.places;
+  ids : l.self.ids ≡ l.fn.self.ids;
+}
+
+abbrev pub decreases-loop-at : goal.decreases-loop-at
+decreases-loop-at l = pairs_of l.self

@@ -1,0 +1,19 @@
+mod Along
+mod Examples
+mod Filled
+mod Firsts
+mod Freed
+mod GivenUp
+mod Grown
+mod Held
+mod Linked
+mod Links
+mod Listed
+mod Named
+mod Places
+mod Rows
+pub mod Seen
+mod Sharing
+mod Without
+mod Words
+mod Written
