@@ -1,18 +1,16 @@
 -- Live ids: each stands once, and the index's test says who overlaps whom and is higher.
-use Rattle.std.proofs.Common.{◌≡◌, ℕ, ◌<◌, Bool, false, List, [], ◌∷◌, ◌++◌, length, map, filter, Contains, get_or, inl, inr, refl, sym, ◌∙◌, subst, ap}
-use Rattle.std.specs.Prelude.{◌==◌, ◌↔◌, nat_eq, slice_index_or}
-use Rattle.std.specs.List.{list_any, AllByRecursion, IsDistinct}
+use Rattle.std.proofs.Common.{◌≡◌, ℕ, ◌<◌, Bool, false, List, [], ◌∷◌, ◌++◌, map, filter, Contains, get_or, inl, inr, refl, sym, ◌∙◌, subst}
+use Rattle.std.specs.Prelude.{◌==◌, nat_eq}
+use Rattle.std.specs.List.{AllByRecursion, IsDistinct}
 use Rattle.std.specs.Cmp.{nat_eq_equiv}
-use Rattle.std.proofs.Math.Bool.{or-false}
 use Rattle.std.proofs.lemmas.Bool.{both_ways, cases_Bool, cond-true, cond-false, false_from_ne_true, eqb-true, eq-eqb}
 use Rattle.std.proofs.lemmas.List.{get_or_default, map_push}
-use Rattle.std.proofs.lemmas.List.Elements.{All-filter, All-from_recursion, filter_agree, recursion_from_All}
+use Rattle.std.proofs.lemmas.List.Elements.{All-filter, All-from_recursion, recursion_from_All}
 use Rattle.std.proofs.lemmas.Map.Keys.{IsDistinct-push}
-use Rattle.slot_order.proofs.Lists.{contains_cases, contains_none, all_append, AllByRecursion-member, any_is, any_from, in_map, map_in, in_filter, filter_nothing}
-use Rattle.overlap_index.specs.declared.overlaps.Side.{Side}
-use Rattle.overlap_index.specs.declared.overlaps.Side.TheVariants.{Above, Below}
+use Rattle.slot_order.proofs.Lists.{all_append, AllByRecursion-member, any_is, any_from, in_map, map_in, in_filter}
+use Rattle.overlap_index.specs.declared.scan.Side.{Side}
 use Rattle.overlap_index.specs.declared.LivePiece.{LivePiece}
-use Rattle.overlap_index.specs.Live.{AreApart, is_live, is_over, is_on, ids_on, with_id, ids_above, ids_below}
+use Rattle.overlap_index.specs.Live.{AreApart, is_live, is_on, ids_on}
 
 -- the ids of some live pieces
 abbrev ids : List LivePiece → List ℕ
@@ -68,36 +66,6 @@ pub apart_more : (slots : ℕ) (one : LivePiece) (live : List LivePiece) → one
 apart_more slots one live small absent apart =
     record { small = all_append (λ x. x.id < slots) live (one ∷ []) apart.small (small, tt); once = distinct_more one live absent apart.once }
 
--- what is live by an id is the one piece with it
-pub with_one : (live : List LivePiece) (one : LivePiece) → IsDistinct nat_eq (ids live) → Contains live one → with_id live one.id ≡ one ∷ []
-unfolding IsDistinct
-with_one [] one d c = absurd (contains_none one c)
-with_one (other ∷ live) one d c = elim (contains_cases other one live c) [
-  | inl same ↦ cond-true _ _ _ (eq-eqb other.id one.id (ap (λ x. x.id) same)) ∙ (ap (λ xs. other ∷ xs) (filter_nothing (λ x. x.id == one.id) live (λ x i. false_from_ne_true (x.id == one.id) (λ e.
-      all_apart other.id (ids live) d.0 (subst (λ id. Contains (ids live) id) (eqb-true x.id one.id e ∙ ap (λ y. y.id) (sym same)) (map_in (λ y. y.id) live x i)))))
-      ∙ ap (λ z. z ∷ []) same)
-  | inr later ↦ cond-false _ _ _ (false_from_ne_true (other.id == one.id) (λ e. all_apart other.id (ids live) d.0 (subst (λ id. Contains (ids live) id) (sym (eqb-true other.id one.id e)) (map_in (λ y. y.id) live one later))))
-      ∙ with_one live one d.1 later
-]
-
--- the ids on one side of the one piece with an id
-pub ids_above_one : (live : List LivePiece) (id : ℕ) (one : LivePiece) → with_id live id ≡ one ∷ [] → ids_above live id ≡ ids_on Above one live
-ids_above_one live id one is = ap ids (filter_agree (λ upper. list_any (λ lower. is_over upper lower) (with_id live id)) (λ upper. is_over upper one)
-    (λ upper. ap (λ xs. list_any (λ lower. is_over upper lower) xs) is ∙ or-false (is_over upper one)) live)
-
-pub ids_below_one : (live : List LivePiece) (id : ℕ) (one : LivePiece) → with_id live id ≡ one ∷ [] → ids_below live id ≡ ids_on Below one live
-ids_below_one live id one is = ap ids (filter_agree (λ lower. list_any (λ upper. is_over upper lower) (with_id live id)) (λ lower. is_over one lower)
-    (λ lower. ap (λ xs. list_any (λ upper. is_over upper lower) xs) is ∙ or-false (is_over one lower)) live)
-
--- lists that are equal have the same members
-pub same_members : (xs ys : List ℕ) → xs ≡ ys → (other : ℕ) → Contains xs other ↔ Contains ys other
-same_members xs ys same other = (λ c. subst (λ zs. Contains zs other) same c, λ c. subst (λ zs. Contains zs other) (sym same) c)
-
 -- the ids on one side are distinct
 pub distinct_on : (side : Side) (of : LivePiece) (live : List LivePiece) → IsDistinct nat_eq (ids live) → IsDistinct nat_eq (ids_on side of live)
 distinct_on side of live d = distinct_filter (λ other. is_on side other of) live d
-
--- an id that was found among the first pieces is that of one live piece
-pub found_piece : (live : List LivePiece) (one : LivePiece) (id k : ℕ) → IsDistinct nat_eq (ids live) → k < length live → slice_index_or live k one ≡ one → one.id ≡ id
-    → with_id live id ≡ one ∷ []
-found_piece live one id k d inside at same = subst (λ z. with_id live z ≡ one ∷ []) same (with_one live one d (k, inside, at))

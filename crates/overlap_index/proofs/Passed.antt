@@ -5,8 +5,8 @@ use Rattle.std.specs.Option.{option_eq}
 use Rattle.std.proofs.lemmas.Bool.{cases_lt, cond-true, cond-false, and_parts, and_from, false_from_ne_true}
 use Rattle.std.proofs.lemmas.List.{drop_more, get_or-map, get_or_default}
 use Rattle.rule_model.specs.declared.Piece.{Piece}
-use Rattle.overlap_index.specs.declared.overlaps.Side.{Side}
-use Rattle.overlap_index.specs.declared.overlaps.Side.TheVariants.{Above, Below}
+use Rattle.overlap_index.specs.declared.scan.Side.{Side}
+use Rattle.overlap_index.specs.declared.scan.Side.TheVariants.{Above, Below}
 use Rattle.overlap_index.specs.declared.LivePiece.{LivePiece}
 use Rattle.overlap_index.specs.Live.{is_on, ids_on}
 use Rattle.overlap_index.specs.Near.{AreColumns, first_of, last_of, is_near}

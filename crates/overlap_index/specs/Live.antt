@@ -2,8 +2,8 @@
 use Rattle.std.specs.Prelude.{ℕ, ◌<◌, Bool, not, ◌==◌, ◌&&◌, nat_lt, nat_eq, List, filter, map}
 use Rattle.std.specs.List.{list_any, AllByRecursion, IsDistinct}
 use Rattle.rule_model.specs.Piece.{pieces_meet}
-use Rattle.overlap_index.specs.declared.overlaps.Side.{Side}
-use Rattle.overlap_index.specs.declared.overlaps.Side.TheVariants.{Above, Below}
+use Rattle.overlap_index.specs.declared.scan.Side.{Side}
+use Rattle.overlap_index.specs.declared.scan.Side.TheVariants.{Above, Below}
 use Rattle.overlap_index.specs.declared.LivePiece.{LivePiece}
 
 -- the live ids, each with its piece and its priority, and the number that ids are below

@@ -1,41 +1,53 @@
 //! Which of the live ids overlap, above and below.
 //!
 //! An id is live from `add` to `remove`, with a piece of a rule and its priority. Of two live ids whose pieces overlap,
-//! as some packet key matches both, the one of higher priority is above the other. `above` and `below` name them, and
-//! `id_of` finds one by its piece and its priority.
+//! as some packet key matches both, the one of higher priority is above the other. `above` and `below` name them,
+//! `is_above` says it of two, and `id_of` finds one by its piece and its priority.
 //!
 //! # The one hard idea
-//! Most live pieces have nothing to do with the one that is asked for, and almost all of them are told apart by their
-//! destinations alone. So each live piece is looked at once, but eight at a time, by the upper 32 bits of its
+//! Which ids overlap is found once, when an id comes, and not at each question: each pair of overlapping ids is a link
+//! that both ends lead to, and a question only follows the links of its id. To ask of two ids needs no link: their
+//! pieces stand in a table by id, and are compared.
+//!
+//! A new id is compared with every live piece. But most of them have nothing to do with it, and almost all are told
+//! apart by their destinations alone. So each is looked at once, but eight at a time, by the upper 32 bits of its
 //! destination's first and last address, which stand in columns of their own; only those that are near are compared by
 //! priority and piece.
 //!
 //! # What it cost
-//! A question costs time by the number of live pieces, an eighth of a step each, and not by the number that overlap.
-//! First and last addresses, and not address and mask, stand in the columns, since the order of numbers is all that the
-//! proof needs then. Only `new` and `add` take memory: 8 bytes an id beside the piece.
+//! A question costs time by the number of ids that it names, and not by the number of live pieces, and `is_above` takes
+//! the same time whatever is live. `add` passes over the live pieces twice and `id_of` once, eight in a step; `remove`
+//! takes as many steps as there are links that go, and a pass. First and last addresses, and not address and mask, are
+//! in the columns, since the order of numbers is all that the proof needs then.
+//!
+//! Only `new` and `add` take memory: 16 bytes an id beside the piece, which stands twice, in the list and in the table
+//! by id, and 24 bytes a pair of ids that overlap, whose room doubles where it grows. The worst list, each piece over
+//! each other, has n (n - 1) / 2 pairs: 12 bytes times n squared, 201 MB at 4,096 ids and 51 GB at 65,536.
 //!
 //! # What isn't promised
 //! Any order of the ids that are named. Lists in which many rules have one destination, `any` say, gain nothing from
-//! the columns.
+//! the columns. Room for links isn't given back before the whole index is.
 #![tactic(auto)]
 
-ghost use Rattle.std.specs.Prelude.{◌≡◌, ◌<◌, ◌≤◌, ◌↔◌, ℕ, [], ◌∷◌, ◌++◌, length, slice_index_or, IsTrue, IsFalse, IsNone, IfSome, IfOk, OnOk, OnErr, Contains, nat_lt, nat_eq};
+ghost use Rattle.std.specs.Prelude.{◌≡◌, ◌<◌, ◌≤◌, ◌↔◌, ℕ, [], ◌∷◌, ◌++◌, length, slice_index_or, IsTrue, IsFalse, IsNone, IfSome, IfOk, OnOk, OnErr, Contains, nat_eq};
 ghost use Rattle.std.specs.List.{IsDistinct};
-ghost use Rattle.rule_model.specs.Piece.{pieces_meet};
 ghost use Rattle.overlap_index.specs.declared.LivePiece.{LivePiece};
-ghost use Rattle.overlap_index.specs.Live.{AreApart, is_live, is_over, is_on, with_id, without_id, ids_above, ids_below};
+ghost use Rattle.overlap_index.specs.Live.{AreApart, is_live, is_above, without_id, ids_above, ids_below, ids_on};
 
 mod exact;
+mod links;
 mod near;
 mod overlaps;
+mod scan;
 #[cfg(test)]
 mod tests;
 
+use links::{link_above, link_below};
 use near::{first_of, last_of};
+use order_chains::Edges;
 pub use overlaps::Overlaps;
-use overlaps::Side;
-use rule_model::{Piece, Rank};
+use rule_model::{Piece, Prefix, Rank, route_rule};
+use scan::{Scan, Side, is_over};
 use std::alloc::{AllocError, AllocFailed, Global};
 use std::marker::Model;
 
@@ -51,7 +63,7 @@ pub struct LivePiece {
 }
 
 /// The live ids below a number, each with its piece and its priority.
-#[derive(Debug, Drop)]
+#[derive(Drop)]
 pub struct Index {
     // The number that ids are below.
     slots: u32,
@@ -60,17 +72,22 @@ pub struct Index {
     // The upper 32 bits of the first and of the last address of each one's destination.
     firsts: Vec<u32>,
     lasts: Vec<u32>,
+    // Each of them at its id; what stands at another id is of no account.
+    by_id: Vec<LivePiece>,
+    // Which of them overlap.
+    edges: Edges,
+    alloc: Global,
 }
 
 impl Model for Index {
-    ghost use Rattle.overlap_index.specs.Live.{LivePieces, AreApart};
-    ghost use Rattle.overlap_index.specs.Near.{AreColumns};
+    ghost use Rattle.overlap_index.specs.Live.{LivePieces};
+    ghost use Rattle.overlap_index.specs.Linked.{AreParts};
 
     ghost Value = { LivePieces };
 
     ghost view = { λ i. record { slots = i.slots; live = i.live.items } };
 
-    ghost invariant = { λ i. AreApart i.slots i.live.items × AreColumns i.firsts.items i.lasts.items i.live.items };
+    ghost invariant = { λ i. AreParts i.slots i.live.items i.firsts.items i.lasts.items i.by_id.items i.edges };
 }
 
 impl Index {
@@ -84,11 +101,16 @@ impl Index {
         let live = Vec::with_capacity(alloc, slots as usize)?;
         let firsts = Vec::with_capacity(alloc, slots as usize)?;
         let lasts = Vec::with_capacity(alloc, slots as usize)?;
+        let by_id = Vec::from_elem(alloc, no_piece(), slots as usize)?;
+        let edges = Edges::new(alloc, slots)?;
         Ok(Index {
             slots,
             live,
             firsts,
             lasts,
+            by_id,
+            edges,
+            alloc,
         })
     }
 
@@ -105,11 +127,18 @@ impl Index {
             piece: *piece,
             rank: priority,
         };
+        let above = self.on_side(Side::Above, &one)?;
+        let below = self.on_side(Side::Below, &one)?;
+        // Room comes first: once the piece is pushed, nothing can fail.
+        self.edges.reserve((above.len() + below.len()) as u32)?;
         self.firsts.reserve(1)?;
         self.lasts.reserve(1)?;
         self.live.push(one)?;
         self.firsts.push_reserved(first_of(&piece.dst));
         self.lasts.push_reserved(last_of(&piece.dst));
+        self.by_id[id as usize] = one;
+        link_above(&mut self.edges, &above, id);
+        link_below(&mut self.edges, id, &below);
         Ok(())
     }
 
@@ -123,6 +152,7 @@ impl Index {
         self.live.remove(place);
         self.firsts.remove(place);
         self.lasts.remove(place);
+        self.edges.drop_node(id);
     }
 
     /// The live ids of higher priority whose pieces overlap that of a live id, each once, in any
@@ -133,13 +163,9 @@ impl Index {
         ensures once { IsDistinct nat_eq result }
         ensures apart { AreApart self.now.slots self.now.live }
     {
-        Overlaps::new(
-            Side::Above,
-            self.piece_of(id),
-            self.live.as_slice(),
-            self.firsts.as_slice(),
-            self.lasts.as_slice(),
-        )
+        Overlaps {
+            partners: self.edges.above(id),
+        }
     }
 
     /// The live ids of lower priority whose pieces overlap that of a live id, each once, in any
@@ -150,13 +176,18 @@ impl Index {
         ensures once { IsDistinct nat_eq result }
         ensures apart { AreApart self.now.slots self.now.live }
     {
-        Overlaps::new(
-            Side::Below,
-            self.piece_of(id),
-            self.live.as_slice(),
-            self.firsts.as_slice(),
-            self.lasts.as_slice(),
-        )
+        Overlaps {
+            partners: self.edges.below(id),
+        }
+    }
+
+    /// Whether the pieces of two live ids overlap and the first has the higher priority. No other id is looked at.
+    pub fn is_above(&self, upper: u32, lower: u32) -> bool
+        requires upper { IsTrue (is_live self.now.live upper) }
+        requires lower { IsTrue (is_live self.now.live lower) }
+        ensures { result ≡ is_above self.now.live upper lower }
+    {
+        is_over(&self.by_id[upper as usize], &self.by_id[lower as usize])
     }
 
     /// The live id of this piece and this priority, if there is one.
@@ -173,17 +204,29 @@ impl Index {
         )
     }
 
-    /// What is live by a live id.
-    fn piece_of(&self, id: u32) -> LivePiece
-        requires { IsTrue (is_live self.now.live id) }
-        ensures { with_id self.now.live id ≡ result ∷ [] }
+    /// The live ids on one side of a piece, by a pass over all live pieces.
+    fn on_side(&self, side: Side, of: &LivePiece) -> Result<Vec<u32>, AllocError>
+        ensures ids { IfOk result (λ ids. ids.items ≡ ids_on side of.now self.now.live) }
+        ensures most { IfOk result (λ ids. length ids.items ≤ MOST_IDS) }
     {
-        for one in &self.live {
-            if one.id == id {
-                return *one;
-            }
-        }
-        unreachable!()
+        Scan::new(
+            side,
+            of,
+            self.live.as_slice(),
+            self.firsts.as_slice(),
+            self.lasts.as_slice(),
+        )
+        .collect(self.alloc)
+    }
+}
+
+/// What stands at an id that was never live.
+fn no_piece() -> LivePiece {
+    let any = route_rule(Prefix::any(), 0);
+    LivePiece {
+        id: 0,
+        piece: Piece::whole(&any),
+        rank: any.priority,
     }
 }
 

@@ -1,9 +1,10 @@
-ghost use Rattle.std.specs.Prelude.{IfOk};
+ghost use Rattle.std.specs.Prelude.{◌≡◌, IfOk, IsTrue};
+ghost use Rattle.overlap_index.specs.Live.{is_live};
 ghost use Rattle.overlap_index.specs.Near.{AreColumns};
 
 use crate::exact::id_of;
 use crate::near::{first_of, last_of};
-use crate::overlaps::{Side, next_on};
+use crate::scan::{Scan, Side, next_on};
 use crate::{Index, LivePiece};
 use rule_model::{Piece, Prefix, Rank, list_rank, piece_overlaps, route_rule};
 use std::alloc::{AllocError, Global};
@@ -65,9 +66,8 @@ fn plain(side: Side, of: &LivePiece, live: &[LivePiece], at: usize) -> Option<(u
 }
 
 // Prefixes of all lengths, some apart and some nested, 29 of them: the last few aren't eight.
-#[test]
-fn finds_what_the_plain_loop_finds(rt: HostRuntime) -> Result<(), Fail> {
-    let mut live: Vec<LivePiece> = Vec::new(rt.alloc());
+fn pieces(alloc: Global) -> Result<Vec<LivePiece>, Fail> {
+    let mut live: Vec<LivePiece> = Vec::new(alloc);
     for id in 0..29u32 {
         let past = 32 - id * 7 % 33;
         let bits = u64::from(id % 5) * 0x3333_3333;
@@ -75,6 +75,12 @@ fn finds_what_the_plain_loop_finds(rt: HostRuntime) -> Result<(), Fail> {
         let (piece, rank) = line(1 + id * 11 % 29, addr, (32 - past) as u8)?;
         live.push(LivePiece { id, piece, rank })?;
     }
+    Ok(live)
+}
+
+#[test]
+fn finds_what_the_plain_loop_finds(rt: HostRuntime) -> Result<(), Fail> {
+    let live = pieces(rt.alloc())?;
     let (firsts, lasts) = columns(rt.alloc(), &live)?;
     for of in &live {
         let found = id_of(&live, &firsts, &lasts, &of.piece, of.rank);
@@ -86,6 +92,55 @@ fn finds_what_the_plain_loop_finds(rt: HostRuntime) -> Result<(), Fail> {
                 let found = next_on(side, of, &live, &firsts, &lasts, at);
                 assert_eq!(rt; found, plain(side, of, &live, at));
             }
+        }
+    }
+    Ok(())
+}
+
+// Whether an id is live.
+fn is_live(index: &Index, id: u32) -> bool
+    ensures { result ≡ is_live index.now.live id }
+{
+    index.live.iter().any(|one| one.id == id)
+}
+
+// The ids on one side of a live one, as they are linked.
+fn linked(alloc: Global, index: &Index, side: Side, id: u32) -> Result<Vec<u32>, AllocError>
+    requires { IsTrue (is_live index.now.live id) }
+{
+    match side {
+        Side::Above => index.above(id).collect(alloc),
+        Side::Below => index.below(id).collect(alloc),
+    }
+}
+
+// What is linked to an id is what a scan finds, where every third id has gone.
+#[test]
+fn links_what_a_scan_finds(rt: HostRuntime) -> Result<(), Fail> {
+    let mut index = Index::new(rt.alloc(), 29)?;
+    let mut live = pieces(rt.alloc())?;
+    for one in &live {
+        assert!(rt; one.id < 29 && !is_live(&index, one.id));
+        index.add(one.id, &one.piece, one.rank)?;
+    }
+    for one in &live {
+        if one.id % 3 == 0 {
+            assert!(rt; is_live(&index, one.id));
+            index.remove(one.id);
+        }
+    }
+    live.retain(|one| one.id % 3 != 0);
+    let (firsts, lasts) = columns(rt.alloc(), &live)?;
+    for of in &live {
+        for side in [Side::Above, Side::Below] {
+            assert!(rt; is_live(&index, of.id));
+            let mut linked = linked(rt.alloc(), &index, side, of.id)?;
+            linked.sort()?;
+            let mut found: Vec<u32> = Scan::new(side, of, &live, &firsts, &lasts).collect(
+                rt.alloc(),
+            )?;
+            found.sort()?;
+            assert_eq!(rt; linked.as_slice(), found.as_slice());
         }
     }
     Ok(())

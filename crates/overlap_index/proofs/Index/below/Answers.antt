@@ -1,21 +1,19 @@
-use Rattle.std.proofs.Common.{◌∙◌, ap, sym, subst}
-use Rattle.std.specs.Prelude.{nat_eq}
-use Rattle.std.specs.List.{IsDistinct}
-use Rattle.overlap_index.specs.declared.overlaps.Side.TheVariants.{Below}
-use Rattle.overlap_index.specs.Live.{AreApart, ids_on, ids_below}
-use Rattle.overlap_index.proofs.Live.{ids_below_one, same_members, distinct_on}
+use Rattle.std.proofs.Common.{◌≡◌, ◌<◌, true, subst, sym}
+use Rattle.overlap_index.specs.Live.{AreApart, is_live}
+use Rattle.overlap_index.specs.Linked.{AreLinked}
+use Rattle.overlap_index.proofs.Linked.{linked_below, live_small}
 use Rattle.overlap_index.proofs.Index.below.Goals as goal
+
+pub below-requires : goal.below-requires
+below-requires c =
+    let parts = c.self.invariant in
+    let live = subst (λ v. is_live v.live c.args.id ≡ true) (sym c.self.view_is) c.requires in
+    let small = live_small c.self.inside.slots c.self.inside.live.items c.args.id parts.apart live in
+    subst (λ n. c.args.id < n) (sym parts.ids) small
 
 pub returns-clause-exact : goal.returns-clause-exact
 returns-clause-exact c =
-    same_members c.new.result (ids_below c.args.self.now.live c.args.id)
-    (c.new.ensures ∙ (ap (ids_on Below c.piece_of.result) (c.as_slice.ensures.value ∙ ap (λ v. v.live) c.self.view_is)
-    ∙ sym (ids_below_one c.args.self.now.live c.args.id c.piece_of.result c.piece_of.ensures)))
-
-pub returns-clause-once : goal.returns-clause-once
-returns-clause-once c =
-    subst (IsDistinct nat_eq) (sym (c.new.ensures ∙ ap (ids_on Below c.piece_of.result) c.as_slice.ensures.value))
-    (distinct_on Below c.piece_of.result c.self.inside.live.items c.self.invariant.0.once)
+    linked_below c.self.inside.edges c.args.self.now.live c.args.id c.below.result (subst (λ v. AreLinked c.self.inside.edges v.live) c.self.view_is c.self.invariant.links) c.below.ensures.exact
 
 pub returns-clause-apart : goal.returns-clause-apart
-returns-clause-apart c = subst (λ v. AreApart v.slots v.live) c.self.view_is c.self.invariant.0
+returns-clause-apart c = subst (λ v. AreApart v.slots v.live) c.self.view_is c.self.invariant.apart

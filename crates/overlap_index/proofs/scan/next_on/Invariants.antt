@@ -1,6 +1,6 @@
 use Rattle.std.proofs.Common.{◌≡◌, ◌≤◌, ◌-◌, length, drop}
 use Rattle.overlap_index.specs.Live.{ids_on}
-use Rattle.overlap_index.proofs.overlaps.next_on.Given as goal
+use Rattle.overlap_index.proofs.scan.next_on.Given as goal
 
 -- only pieces that aren't on that side were passed over
 abbrev pub invariant-loop-next : goal.invariant-loop-next

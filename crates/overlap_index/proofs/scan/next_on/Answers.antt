@@ -3,7 +3,7 @@ use Rattle.std.proofs.lemmas.List.{get_or_default}
 use Rattle.overlap_index.specs.Live.{is_on, ids_on}
 use Rattle.overlap_index.proofs.Passed.{skip_to, skip_one, keep_one}
 use Rattle.overlap_index.proofs.Columns.{columns_size}
-use Rattle.overlap_index.proofs.overlaps.next_on.Goals as goal
+use Rattle.overlap_index.proofs.scan.next_on.Goals as goal
 
 pub returns-then-is_on-clause-some : goal.returns-then-is_on-clause-some
 returns-then-is_on-clause-some c =
