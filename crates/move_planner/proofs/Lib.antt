@@ -18,6 +18,7 @@ pub mod Reach
 pub mod Readied
 pub mod Settled
 pub mod Shifted
+pub mod Sought
 pub mod Tallied
 pub mod Turned
 pub mod Uncrossing

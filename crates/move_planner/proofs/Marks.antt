@@ -74,6 +74,19 @@ module _ (index : LivePieces) (id : ℕ) (slots : Slots) (ready : IsReady index 
       let k = ranked index ready.apart a b e in
       stands_before (Related (is_above index.live)) (rank_in index.live) (IsOther index.live id) slots i j a b ordered s t (inr e) k
 
+  -- an entry that is led to leads nowhere there
+  falls : (upper lower : ℕ) → Leads (is_above index.live) slots upper lower → rank_in index.live lower < rank_in index.live upper
+  falls upper lower (straight e) = ranked index ready.apart upper lower e
+  falls upper lower (through at between stands e rest) =
+      let a = ranked index ready.apart upper between e in let b = falls between lower rest in omega arith
+
+  pub not_both : (at : ℕ) → LedTo (is_above index.live) slots id at → LeadsFrom (is_above index.live) slots id at → ⊥
+  not_both at to from =
+      let k : Some from.0 ≡ Some to.0 = sym from.1 ∙ to.1 in
+      let same : from.0 ≡ to.0 = cc in
+      let a = falls id to.0 to.2 in
+      let b = falls to.0 id (subst (λ x. Leads (is_above index.live) slots x id) same from.2) in omega arith
+
   -- what stands in a slot is led to where the id or a marked entry is above it
   pub led_is : (start held at : ℕ) (marks : List Bool) (mark : Bool) (ids : List ℕ) → start ≡ gap_end (is_above index.live) slots id → slot slots at ≡ Some held
       → ((i : ℕ) → start ≤ i → i < at → IsTrue (is_marked (Some i) start marks) ↔ LedTo (is_above index.live) slots id i)

@@ -1,7 +1,7 @@
 -- Which entry passes the boundary of a cut under way next, or that none is left.
-use Rattle.std.proofs.Common.{◌≡◌, ℕ, suc, ◌+◌, ◌-◌, ◌<◌, ◌≤◌, ◌⊎◌, Bool, true, false, Option, None, Some, List, ◌∷◌, length, inl, inr, arith, refl, sym, ◌∙◌, subst, ap}
-use Rattle.std.specs.Prelude.{is_none, ◌&&◌, nat_lt, slice_index_or}
-use Rattle.std.proofs.lemmas.Bool.{cases_lt, cases_Bool, cond-true, cond-false, false_from_ne_true, and_from, lt-ltb, ltb-true, ltb-false, both_ways}
+use Rattle.std.proofs.Common.{◌≡◌, ℕ, ◌+◌, ◌-◌, ◌<◌, ◌≤◌, ◌⊎◌, Bool, true, false, Option, None, Some, List, ◌∷◌, length, inl, inr, arith, refl, sym, ◌∙◌, subst, ap}
+use Rattle.std.specs.Prelude.{is_none, ◌&&◌, nat_lt, slice_index_or, IfSome}
+use Rattle.std.proofs.lemmas.Bool.{cases_lt, cond-true, cond-false, false_from_ne_true, and_from, lt-ltb, ltb-true, both_ways}
 use Rattle.slot_order.specs.Order.{slot}
 use Rattle.slot_order.specs.Cuts.{holds, early, late, free_before, free_behind}
 use Rattle.slot_order.proofs.Writes.{slot_inside}
@@ -10,16 +10,17 @@ use Rattle.slot_order.proofs.BestCut.{take_none, drop_none}
 use Rattle.slot_order.proofs.Tally.{take_clear, drop_clear}
 use Rattle.slot_pool.specs.Arrangement.{Slots, is_free, next_free_above, last_free_below}
 use Rattle.slot_pool.proofs.Places.{find_range_none}
-use Rattle.slot_pool.proofs.Scan.{find_back_none}
+use Rattle.slot_pool.proofs.Scan.{find_back_none, next_free_is, last_free_is}
 use Rattle.overlap_index.specs.Live.{LivePieces, is_above}
 use Rattle.move_planner.specs.declared.Move.{Move}
 use Rattle.move_planner.specs.declared.sides.Sides.{Sides}
 use Rattle.move_planner.specs.declared.crossings.Cut.{Cut}
 use Rattle.move_planner.specs.declared.chains.Chain.{Chain}
+use Rattle.move_planner.specs.declared.shorter.Ends.{Ends}
 use Rattle.move_planner.specs.Placement.{DownChain, UpChain, IsLastBefore, IsFirstFrom}
 use Rattle.move_planner.specs.Placement.{IsDownChain as PlansDown, IsUpChain as PlansUp}
-use Rattle.move_planner.specs.Steps.{CanShift, IsShiftedOut, FindsDown, FindsUp, EarlyChain, NoEarlyChain, FindsEarly, LateChain, NoLateChain, FindsLate, EarlyPasses, LatePasses, NonePass, FindsPasser, IsUnderway, OnePassed, IsLastMarked, IsFirstMarked, mark_at, shorter, cleared}
-use Rattle.move_planner.proofs.Planner.{down_one, up_one, last_alone, first_alone}
+use Rattle.move_planner.specs.Steps.{CanShift, CanGoDown, CanGoUp, IsShiftedOut, FindsShorter, EarlyEnds, NoEarlyEnds, FindsEarly, LateEnds, NoLateEnds, FindsLate, EarlyPasses, LatePasses, NonePass, FindsPasser, IsUnderway, OnePassed, IsLastMarked, IsFirstMarked, mark_at, cleared}
+use Rattle.move_planner.proofs.Planner.{last_alone, first_alone}
 use Rattle.move_planner.proofs.Turned.{down_shifts, up_shifts}
 use Rattle.move_planner.proofs.Reach.{holding}
 use Rattle.move_planner.proofs.Passed.{went_down, went_up, cut_inside, passed_down, passed_up}
@@ -31,29 +32,6 @@ stands_there test slots at e = let h = holding test (slot slots at) e in (h.0, h
 module _ (index : LivePieces) (id : ℕ) (behind before : ℕ → Bool) (slots : Slots) (sides : Sides) (cut : Cut) (w : IsUnderway index id behind before slots sides cut) where
   inside : cut.boundary ≤ length slots
   inside = cut_inside index id behind before slots sides cut w
-
-  -- the last slot on the wrong side before the boundary
-  pub last_is : (lower : ℕ) → sides.start ≤ lower → lower < cut.low → mark_at sides.behind.items sides.start lower ≡ true
-      → ((other : ℕ) → lower < other → other < cut.low → mark_at sides.behind.items sides.start other ≡ false) → IsLastBefore behind cut.boundary slots lower
-  last_is lower a b marked none = record {
-    inside = let l = w.low_cut in omega arith;
-    passing = sym (w.marks_behind lower a b) ∙ marked;
-    nearest = λ other m n. elim (cases_lt other cut.low) [
-      | inl l ↦ sym (w.marks_behind other (omega arith) l) ∙ none other m l
-      | inr l ↦ w.clear_low other l n
-    ];
-  }
-
-  pub first_is : (upper : ℕ) → cut.high ≤ upper → upper < sides.end → mark_at sides.before.items sides.start upper ≡ true
-      → ((other : ℕ) → cut.high ≤ other → other < upper → mark_at sides.before.items sides.start other ≡ false) → IsFirstFrom before cut.boundary slots upper
-  first_is upper a b marked none = record {
-    inside = let l = w.cut_high in omega arith;
-    passing = sym (w.marks_before upper a b) ∙ marked;
-    nearest = λ other m n. elim (cases_lt other cut.high) [
-      | inl l ↦ w.clear_high other m l
-      | inr l ↦ sym (w.marks_before other l (omega arith)) ∙ none other l n
-    ];
-  }
 
   -- no slot before the boundary is marked any more, or none from it on is free
   pub no_early : ((at : ℕ) → sides.start ≤ at → at < cut.low → mark_at sides.behind.items sides.start at ≡ false) → early behind cut.boundary slots ≡ 0
@@ -92,8 +70,8 @@ module _ (index : LivePieces) (id : ℕ) (behind before : ℕ → Bool) (slots :
       let k = can_pass behind before cut.boundary slots w.room w.ready.free a b in
       record { early_none = omega arith; late_none = omega arith }
 
-  -- the chains that were looked for
-  pub early_unmarked : IsLastMarked sides.behind.items sides.start cut.low None → NoEarlyChain behind slots cut
+  -- the ends that were looked for
+  pub early_unmarked : IsLastMarked sides.behind.items sides.start cut.low None → NoEarlyEnds behind slots cut
   early_unmarked none =
       let e = no_early none in
       record {
@@ -101,12 +79,11 @@ module _ (index : LivePieces) (id : ℕ) (behind before : ℕ → Bool) (slots :
         done = inl e;
       }
 
-  pub early_found : (lower : ℕ) (found : Option Chain) → IsLastMarked sides.behind.items sides.start cut.low (Some lower)
-      → FindsDown (is_above index.live) slots lower (next_free_above slots (cut.boundary - 1)) found → FindsEarly (is_above index.live) behind slots sides cut found
-  early_found lower None m none = let l = w.low_cut in let a = m.1 in record { none = λ other last. none; done = inr (none_behind (omega arith) none) }
-  early_found lower (Some chain) m d = record { lower = lower; low = m.0; less = m.1; last = last_is lower m.0 m.1 m.2 m.3; down = d }
+  pub early_blocked : (lower : ℕ) → IsLastMarked sides.behind.items sides.start cut.low (Some lower) → next_free_above slots (cut.boundary - 1) ≡ None
+      → NoEarlyEnds behind slots cut
+  early_blocked lower m none = let l = w.low_cut in let a = m.1 in record { none = λ other last. none; done = inr (none_behind (omega arith) none) }
 
-  pub late_unmarked : IsFirstMarked sides.before.items sides.start cut.high sides.end None → NoLateChain before slots cut
+  pub late_unmarked : IsFirstMarked sides.before.items sides.start cut.high sides.end None → NoLateEnds before slots cut
   late_unmarked none =
       let e = no_late none in
       record {
@@ -116,56 +93,82 @@ module _ (index : LivePieces) (id : ℕ) (behind before : ℕ → Bool) (slots :
         done = inl e;
       }
 
-  pub late_found : (upper : ℕ) (found : Option Chain) → IsFirstMarked sides.before.items sides.start cut.high sides.end (Some upper)
-      → FindsUp (is_above index.live) slots upper (last_free_below slots cut.boundary) found → FindsLate (is_above index.live) before slots sides cut found
-  late_found upper None m none = record { none = λ other first. none; done = inr (none_before none) }
-  late_found upper (Some chain) m d = record { upper = upper; high = m.0; less = m.1; first = first_is upper m.0 m.1 m.2 m.3; up = d }
+  pub late_blocked : last_free_below slots cut.boundary ≡ None → NoLateEnds before slots cut
+  late_blocked none = record { none = λ other first. none; done = inr (none_before none) }
 
-  -- an early one's chain is as long as any, and likewise a late one's
-  early_length : (chain : Chain) (e : EarlyChain (is_above index.live) behind slots sides cut chain) (lower : ℕ) → IsLastBefore behind cut.boundary slots lower
-      → (down : DownChain (is_above index.live) slots lower (next_free_above slots (cut.boundary - 1))) → length chain.members.items ≡ suc (length down.rest)
-  early_length chain e lower last down =
-      let same : lower ≡ e.lower = last_alone behind cut.boundary slots lower e.lower last e.last in
-      ap length e.down.members ∙ ap suc (ap length (down_one (is_above index.live) slots e.lower (next_free_above slots (cut.boundary - 1))
-      (record { free = chain.free; rest = e.down.rest; to = e.down.to; chain = e.down.follows })
-      (record { free = down.free; rest = down.rest; to = down.to; chain = subst (λ x. PlansDown (is_above index.live) slots down.free (x ∷ down.rest)) same down.chain })))
+  -- a chain can go between them
+  pub early_goes : (found : Option Ends) → FindsEarly behind slots sides cut found → IfSome found (CanGoDown slots)
+  early_goes None e = tt
+  early_goes (Some ends) e =
+      let f = next_free_is slots (cut.boundary - 1) ends.free e.to in
+      let l = f.0 in let i = e.last.inside in
+      (omega arith, f.1.inside, stands_there behind slots ends.from e.last.passing)
 
-  late_length : (chain : Chain) (e : LateChain (is_above index.live) before slots sides cut chain) (upper : ℕ) → IsFirstFrom before cut.boundary slots upper
-      → (up : UpChain (is_above index.live) slots upper (last_free_below slots cut.boundary)) → length chain.members.items ≡ suc (length up.rest)
-  late_length chain e upper first up =
-      let same : upper ≡ e.upper = first_alone before cut.boundary slots upper e.upper first e.first in
-      ap length e.up.members ∙ ap suc (ap length (up_one (is_above index.live) slots e.upper (last_free_below slots cut.boundary)
-      (record { free = chain.free; rest = e.up.rest; to = e.up.to; chain = e.up.follows })
-      (record { free = up.free; rest = up.rest; to = up.to; chain = subst (λ x. PlansUp (is_above index.live) slots up.free (x ∷ up.rest)) same up.chain })))
+  pub late_goes : (found : Option Ends) → FindsLate before slots sides cut found → IfSome found (CanGoUp slots)
+  late_goes None e = tt
+  late_goes (Some ends) e =
+      let f = last_free_is slots cut.boundary ends.free e.to in
+      let l = f.0 in let i = e.first.inside in
+      (omega arith, stands_there before slots ends.from e.first.passing)
+
+  -- whatever chain there is goes between them
+  early_any : (down : Option Ends) → FindsEarly behind slots sides cut down → (lower : ℕ) → IsLastBefore behind cut.boundary slots lower
+      → (way : DownChain (is_above index.live) slots lower (next_free_above slots (cut.boundary - 1)))
+      → (other : Ends) × (down ≡ Some other) × PlansDown (is_above index.live) slots other.free (other.from ∷ way.rest)
+  early_any None d lower last way = absurd (let k : None ≡ Some way.free = sym (d.none lower last) ∙ way.to in cc)
+  early_any (Some other) d lower last way =
+      let same : lower ≡ other.from = last_alone behind cut.boundary slots lower other.from last d.last in
+      let to : way.free ≡ other.free = (let k : Some way.free ≡ Some other.free = sym way.to ∙ d.to in cc) in (
+        other,
+        refl,
+        subst (λ f. PlansDown (is_above index.live) slots f (other.from ∷ way.rest)) to
+            (subst (λ x. PlansDown (is_above index.live) slots way.free (x ∷ way.rest)) same way.chain),
+      )
+
+  late_any : (up : Option Ends) → FindsLate before slots sides cut up → (upper : ℕ) → IsFirstFrom before cut.boundary slots upper
+      → (way : UpChain (is_above index.live) slots upper (last_free_below slots cut.boundary))
+      → (other : Ends) × (up ≡ Some other) × PlansUp (is_above index.live) slots other.free (other.from ∷ way.rest)
+  late_any None u upper first way = absurd (let k : None ≡ Some way.free = sym (u.none upper first) ∙ way.to in cc)
+  late_any (Some other) u upper first way =
+      let same : upper ≡ other.from = first_alone before cut.boundary slots upper other.from first u.first in
+      let to : way.free ≡ other.free = (let k : Some way.free ≡ Some other.free = sym way.to ∙ u.to in cc) in (
+        other,
+        refl,
+        subst (λ f. PlansUp (is_above index.live) slots f (other.from ∷ way.rest)) to
+            (subst (λ x. PlansUp (is_above index.live) slots way.free (x ∷ way.rest)) same way.chain),
+      )
 
   -- the shorter one passes
-  pub passer_is : (down up : Option Chain) → FindsEarly (is_above index.live) behind slots sides cut down → FindsLate (is_above index.live) before slots sides cut up
-      → FindsPasser (is_above index.live) behind before slots sides cut (shorter down up)
-  passer_is None None d u = none_left d.done u.done
-  passer_is (Some down) None d u = inl (record {
-    early_one = d;
-    shortest = λ upper first up. absurd (let k : None ≡ Some up.free = sym (u.none upper first) ∙ up.to in cc);
-  })
-  passer_is None (Some up) d u = inr (record {
-    late_one = u;
-    shortest = λ lower last down. absurd (let k : None ≡ Some down.free = sym (d.none lower last) ∙ down.to in cc);
-  })
-  passer_is (Some down) (Some up) d u = elim (cases_Bool (nat_lt (length up.members.items) (length down.members.items))) [
-    | inl y ↦ subst (FindsPasser (is_above index.live) behind before slots sides cut) (sym (cond-true _ _ _ y)) (inr (record {
-      late_one = u;
-      shortest = λ lower last other.
-          let a = early_length down d lower last other in
-          let b : length up.members.items ≡ suc (length u.up.rest) = ap length u.up.members in
-          let l = ltb-true (length up.members.items) (length down.members.items) y in omega arith;
-    }))
-    | inr n ↦ subst (FindsPasser (is_above index.live) behind before slots sides cut) (sym (cond-false _ _ _ n)) (inl (record {
-      early_one = d;
-      shortest = λ upper first other.
-          let a = late_length up u upper first other in
-          let b : length down.members.items ≡ suc (length d.down.rest) = ap length d.down.members in
-          let l = ltb-false (length up.members.items) (length down.members.items) n in omega arith;
-    }))
-  ]
+  pub passer_is : (down up : Option Ends) (found : Option Chain) → FindsEarly behind slots sides cut down → FindsLate before slots sides cut up
+      → FindsShorter (is_above index.live) slots down up found → FindsPasser (is_above index.live) behind before slots sides cut found
+  passer_is down up None d u s =
+      let e : NoEarlyEnds behind slots cut = subst (FindsEarly behind slots sides cut) s.0 d in
+      let f : NoLateEnds before slots cut = subst (FindsLate before slots sides cut) s.1 u in
+      none_left e.done f.done
+  passer_is down up (Some chain) d u (inl s) =
+      let e : EarlyEnds behind slots sides cut s.ends = subst (FindsEarly behind slots sides cut) s.begins d in
+      inl (record {
+        early_one = record {
+          lower = s.ends.from;
+          low = e.low;
+          less = e.less;
+          last = e.last;
+          down = record { rest = s.goes.rest; to = e.to ∙ s.goes.to; members = s.goes.members; follows = s.goes.follows };
+        };
+        shortest = λ upper first way. let a = late_any up u upper first way in s.shortest a.0 a.1 way.rest a.2;
+      })
+  passer_is down up (Some chain) d u (inr s) =
+      let e : LateEnds before slots sides cut s.ends = subst (FindsLate before slots sides cut) s.begins u in
+      inr (record {
+        late_one = record {
+          upper = s.ends.from;
+          high = e.high;
+          less = e.less;
+          first = e.first;
+          up = record { rest = s.goes.rest; to = e.to ∙ s.goes.to; members = s.goes.members; follows = s.goes.follows };
+        };
+        shortest = λ lower last way. let a = early_any down d lower last way in s.shortest a.0 a.1 way.rest a.2;
+      })
 
   -- its chain can move
   pub passer_shifts : (chain : Chain) → EarlyPasses (is_above index.live) behind before slots sides cut chain ⊎ LatePasses (is_above index.live) behind before slots sides cut chain
@@ -223,12 +226,3 @@ module _ (index : LivePieces) (id : ℕ) (behind before : ℕ → Bool) (slots :
       let c : cleared cut first ≡ record { boundary = cut.boundary; low = cut.low; high = e.late_one.upper + 1 } = ap (cleared cut) k ∙ cond-false _ _ _ l in
       let less = e.late_one.less in let high = e.late_one.high in
       subst (λ x. x.low + (sides.end - x.high) < cut.low + (sides.end - cut.high)) (sym c) (omega arith)
-
--- a mark that was looked for, and none
-pub no_last : (marks : List Bool) (start end : ℕ) (found : Option ℕ) → ((at : ℕ) → found ≡ Some at → ⊥) → IsLastMarked marks start end found → IsLastMarked marks start end None
-no_last marks start end None none w = w
-no_last marks start end (Some at) none w = absurd (none at refl)
-
-pub no_first : (marks : List Bool) (start from end : ℕ) (found : Option ℕ) → ((at : ℕ) → found ≡ Some at → ⊥) → IsFirstMarked marks start from end found → IsFirstMarked marks start from end None
-no_first marks start from end None none w = w
-no_first marks start from end (Some at) none w = absurd (none at refl)

@@ -9,6 +9,7 @@ use Rattle.move_planner.specs.declared.Aim.{Aim}
 use Rattle.move_planner.specs.declared.Move.{Move}
 use Rattle.move_planner.specs.declared.Move.TheVariants.{Put, Erase}
 use Rattle.move_planner.specs.declared.chains.Chain.{Chain}
+use Rattle.move_planner.specs.declared.shorter.Ends.{Ends}
 use Rattle.move_planner.specs.declared.sides.Sides.{Sides}
 use Rattle.move_planner.specs.declared.crossings.Cut.{Cut}
 use Rattle.move_planner.specs.Placement.{Above, after_moves, moves_along, first_lower, last_upper, gap_start, gap_end, gap_slot, StopsBelow, StopsAbove, step_down, step_up}
@@ -74,12 +75,46 @@ pub record IsUp (above : Above) (slots : Slots) (from : ℕ) (target : Option �
   pub members : chain.members.items ≡ from ∷ rest
   pub follows : IsUpChain above slots chain.free (from ∷ rest)
 
--- a chain that was looked for: there is one exactly where there is a free slot to go to
-abbrev pub FindsDown : Above → Slots → ℕ → Option ℕ → Option Chain → Type 0
-FindsDown above slots from target found = MatchOption found (target ≡ None) (IsDown above slots from target)
+-- a chain can go down from one slot to another, or up
+abbrev pub CanGoDown : Slots → Ends → Type 0
+CanGoDown slots ends = (ends.from < ends.free) × (ends.free < length slots) × IsTaken slots ends.from
 
-abbrev pub FindsUp : Above → Slots → ℕ → Option ℕ → Option Chain → Type 0
-FindsUp above slots from target found = MatchOption found (target ≡ None) (IsUp above slots from target)
+abbrev pub CanGoUp : Slots → Ends → Type 0
+CanGoUp slots ends = (ends.free < ends.from) × IsTaken slots ends.from
+
+-- of the chains between two pairs of ends the down chain, where no up chain is shorter, or the up chain, where each down
+-- chain is longer
+pub record DownIsShorter (above : Above) (slots : Slots) (down up : Option Ends) (chain : Chain) : Type 0 where
+  pub ends : Ends
+  pub begins : down ≡ Some ends
+  pub goes : IsDown above slots ends.from (Some ends.free) chain
+  pub shortest : (other : Ends) → up ≡ Some other → (rest : List ℕ) → IsUpChain above slots other.free (other.from ∷ rest) → length goes.rest ≤ length rest
+
+pub record UpIsShorter (above : Above) (slots : Slots) (down up : Option Ends) (chain : Chain) : Type 0 where
+  pub ends : Ends
+  pub begins : up ≡ Some ends
+  pub goes : IsUp above slots ends.from (Some ends.free) chain
+  pub shortest : (other : Ends) → down ≡ Some other → (rest : List ℕ) → IsDownChain above slots other.free (other.from ∷ rest) → length goes.rest < length rest
+
+abbrev pub IsShorter : Above → Slots → Option Ends → Option Ends → Chain → Type 0
+IsShorter above slots down up chain = DownIsShorter above slots down up chain ⊎ UpIsShorter above slots down up chain
+
+abbrev pub FindsShorter : Above → Slots → Option Ends → Option Ends → Option Chain → Type 0
+FindsShorter above slots down up found = MatchOption found ((down ≡ None) × (up ≡ None)) (IsShorter above slots down up)
+
+-- a slot, and the free one that a chain from it goes to, if there is one
+abbrev pub ends_at : ℕ → Option ℕ → Option Ends
+ends_at from None = None
+ends_at from (Some free) = Some (record { from = from; free = free })
+
+-- the ends of the down chain from a slot, if there is a slot, and of the up chain
+abbrev pub ends_down : Slots → Option ℕ → Option Ends
+ends_down slots None = None
+ends_down slots (Some lower) = ends_at lower (next_free_above slots lower)
+
+abbrev pub ends_up : Slots → Option ℕ → Option Ends
+ends_up slots None = None
+ends_up slots (Some upper) = ends_at upper (last_free_below slots upper)
 
 -- an arrangement in which a live id is to be placed
 pub record IsReady (index : LivePieces) (id : ℕ) (slots : Slots) : Type 0 where
@@ -177,20 +212,41 @@ pub record OnePassed (index : LivePieces) (id : ℕ) (behind before : ℕ → Bo
   pub fewer : wrong_side behind before cut.boundary slots' + 1 ≡ wrong_side behind before cut.boundary slots
   pub few : length moves ≤ 4097
 
--- the chain of the last early entry, or none, since none is early or no slot behind the boundary is free
+-- the ends of the last early entry's chain, or none, since none is early or no slot behind the boundary is free
+pub record EarlyEnds (behind : ℕ → Bool) (slots : Slots) (sides : Sides) (cut : Cut) (ends : Ends) : Type 0 where
+  pub low : sides.start ≤ ends.from
+  pub less : ends.from < cut.low
+  pub last : IsLastBefore behind cut.boundary slots ends.from
+  pub to : next_free_above slots (cut.boundary - 1) ≡ Some ends.free
+
+pub record NoEarlyEnds (behind : ℕ → Bool) (slots : Slots) (cut : Cut) : Type 0 where
+  pub none : (lower : ℕ) → IsLastBefore behind cut.boundary slots lower → next_free_above slots (cut.boundary - 1) ≡ None
+  pub done : (early behind cut.boundary slots ≡ 0) ⊎ (free_behind cut.boundary slots ≡ 0)
+
+abbrev pub FindsEarly : (ℕ → Bool) → Slots → Sides → Cut → Option Ends → Type 0
+FindsEarly behind slots sides cut found = MatchOption found (NoEarlyEnds behind slots cut) (EarlyEnds behind slots sides cut)
+
+-- the ends of the first late entry's chain
+pub record LateEnds (before : ℕ → Bool) (slots : Slots) (sides : Sides) (cut : Cut) (ends : Ends) : Type 0 where
+  pub high : cut.high ≤ ends.from
+  pub less : ends.from < sides.end
+  pub first : IsFirstFrom before cut.boundary slots ends.from
+  pub to : last_free_below slots cut.boundary ≡ Some ends.free
+
+pub record NoLateEnds (before : ℕ → Bool) (slots : Slots) (cut : Cut) : Type 0 where
+  pub none : (upper : ℕ) → IsFirstFrom before cut.boundary slots upper → last_free_below slots cut.boundary ≡ None
+  pub done : (late before cut.boundary slots ≡ 0) ⊎ (free_before cut.boundary slots ≡ 0)
+
+abbrev pub FindsLate : (ℕ → Bool) → Slots → Sides → Cut → Option Ends → Type 0
+FindsLate before slots sides cut found = MatchOption found (NoLateEnds before slots cut) (LateEnds before slots sides cut)
+
+-- the chain of the last early entry
 pub record EarlyChain (above : Above) (behind : ℕ → Bool) (slots : Slots) (sides : Sides) (cut : Cut) (chain : Chain) : Type 0 where
   pub lower : ℕ
   pub low : sides.start ≤ lower
   pub less : lower < cut.low
   pub last : IsLastBefore behind cut.boundary slots lower
   pub down : IsDown above slots lower (next_free_above slots (cut.boundary - 1)) chain
-
-pub record NoEarlyChain (behind : ℕ → Bool) (slots : Slots) (cut : Cut) : Type 0 where
-  pub none : (lower : ℕ) → IsLastBefore behind cut.boundary slots lower → next_free_above slots (cut.boundary - 1) ≡ None
-  pub done : (early behind cut.boundary slots ≡ 0) ⊎ (free_behind cut.boundary slots ≡ 0)
-
-abbrev pub FindsEarly : Above → (ℕ → Bool) → Slots → Sides → Cut → Option Chain → Type 0
-FindsEarly above behind slots sides cut found = MatchOption found (NoEarlyChain behind slots cut) (EarlyChain above behind slots sides cut)
 
 -- the chain of the first late entry
 pub record LateChain (above : Above) (before : ℕ → Bool) (slots : Slots) (sides : Sides) (cut : Cut) (chain : Chain) : Type 0 where
@@ -199,13 +255,6 @@ pub record LateChain (above : Above) (before : ℕ → Bool) (slots : Slots) (si
   pub less : upper < sides.end
   pub first : IsFirstFrom before cut.boundary slots upper
   pub up : IsUp above slots upper (last_free_below slots cut.boundary) chain
-
-pub record NoLateChain (before : ℕ → Bool) (slots : Slots) (cut : Cut) : Type 0 where
-  pub none : (upper : ℕ) → IsFirstFrom before cut.boundary slots upper → last_free_below slots cut.boundary ≡ None
-  pub done : (late before cut.boundary slots ≡ 0) ⊎ (free_before cut.boundary slots ≡ 0)
-
-abbrev pub FindsLate : Above → (ℕ → Bool) → Slots → Sides → Cut → Option Chain → Type 0
-FindsLate above before slots sides cut found = MatchOption found (NoLateChain before slots cut) (LateChain above before slots sides cut)
 
 -- the shorter of the two, the early one's of equal ones
 pub record EarlyPasses (above : Above) (behind before : ℕ → Bool) (slots : Slots) (sides : Sides) (cut : Cut) (chain : Chain) : Type 0 where
@@ -264,21 +313,6 @@ pub record IsPlaced (index : LivePieces) (aim : Aim) (id : ℕ) (slots slots' : 
   pub placement : IsPlacing (is_above index.live) aim id slots moves
   pub few : length moves ≤ 4097
   pub one_fewer : free_slots slots' + 1 ≡ free_slots slots
-
--- a chain from a slot, if there is a slot
-abbrev pub FindsDownFrom : Above → Slots → Option ℕ → Option Chain → Type 0
-FindsDownFrom above slots None found = found ≡ None
-FindsDownFrom above slots (Some lower) found = FindsDown above slots lower (next_free_above slots lower) found
-
-abbrev pub FindsUpFrom : Above → Slots → Option ℕ → Option Chain → Type 0
-FindsUpFrom above slots None found = found ≡ None
-FindsUpFrom above slots (Some upper) found = FindsUp above slots upper (last_free_below slots upper) found
-
--- of two chains the shorter one, the first of equal ones, or the one that there is
-abbrev pub shorter : Option Chain → Option Chain → Option Chain
-shorter None up = up
-shorter (Some down) None = Some down
-shorter (Some down) (Some up) = if nat_lt (length up.members.items) (length down.members.items) then Some up else Some down
 
 -- the chain that makes way for a new id: down from the first lower one, where no up chain is shorter, or up from the
 -- last upper one, where each down chain is longer

@@ -1,33 +1,26 @@
 //! Chains of ids that make way for one another.
-ghost use Rattle.std.specs.Prelude.{◌≡◌, ◌<◌, ◌≤◌, ◌+◌, ◌++◌, ℕ, Some, IfOk, OnOk, OnErr, length, slice_index_or};
+ghost use Rattle.std.specs.Prelude.{◌≡◌, ◌<◌, ◌+◌, ◌++◌, ℕ, Some, OnOk, OnErr, length, slice_index_or, IsTrue, MatchOption};
 ghost use Rattle.slot_order.specs.Order.{slot as held_in};
-ghost use Rattle.slot_pool.specs.Arrangement.{HasTwin, next_free_above, last_free_below};
-ghost use Rattle.overlap_index.specs.Live.{is_above};
-ghost use Rattle.move_planner.specs.Placement.{IsInOrder, after_moves, moves_along};
+ghost use Rattle.slot_pool.specs.Arrangement.{HasTwin, passes};
+ghost use Rattle.overlap_index.specs.Live.{is_above, is_live};
+ghost use Rattle.move_planner.specs.Placement.{IsInOrder, StopsBelow, StopsAbove, after_moves, moves_along};
 ghost use Rattle.move_planner.specs.Insertion.{AreMade, free_slots};
-ghost use Rattle.move_planner.specs.Steps.{IsTaken, AllLive, StepsDown, StepsUp, CanShift, IsDown, IsUp, FindsDown, FindsUp, shorter};
+ghost use Rattle.move_planner.specs.Steps.{AllLive, StepsDown, StepsUp, CanShift};
 
-use crate::places::{first_lower, last_upper};
+use crate::places::{greater, lesser};
 use crate::{Move, Moves};
 use overlap_index::Index;
 use slot_pool::Arrangement;
-use std::alloc::{AllocError, Global};
+use std::alloc::AllocError;
 
 /// The slots of a chain, and the free slot that its last member moves to.
 #[derive(Debug, Drop)]
 pub(crate) struct Chain {
-    free: u32,
-    members: Vec<u32>,
+    pub(crate) free: u32,
+    pub(crate) members: Vec<u32>,
 }
 
 impl Chain {
-    /// The number of members.
-    pub(crate) fn len(&self) -> usize
-        ensures { result ≡ length self.now.members.items }
-    {
-        self.members.len()
-    }
-
     /// The slot of the first member.
     pub(crate) fn first(&self) -> u32
         requires { 0 < length self.now.members.items }
@@ -58,140 +51,92 @@ impl Chain {
     }
 }
 
-/// The down chain from a slot, to the least free slot above another one. `None` exactly where no
-/// slot there is free.
-pub(crate) fn down_chain(
-    alloc: Global,
-    slots: &Arrangement,
-    index: &Index,
-    from: u32,
-    past: u32,
-) -> Result<Option<Chain>, AllocError>
-    requires inside { past < length slots.now }
-    requires before { from ≤ past }
-    requires taken { IsTaken slots.now from }
-    requires live { AllLive index.now slots.now }
-    requires order { IsInOrder (is_above index.now.live) slots.now }
-    ensures { IfOk result (FindsDown (is_above index.now.live) slots.now from (next_free_above slots.now past)) }
-{
-    let Some(free) = slots.next_free_above(past) else {
-        return Ok(None);
-    };
-    let chain = walk_down(alloc, slots, index, from, free)?;
-    Ok(Some(chain))
-}
-
-/// The up chain from a slot, to the greatest free slot below another one. `None` exactly where no
-/// slot there is free.
-pub(crate) fn up_chain(
-    alloc: Global,
-    slots: &Arrangement,
-    index: &Index,
-    from: u32,
-    past: u32,
-) -> Result<Option<Chain>, AllocError>
-    requires inside { from < length slots.now }
-    requires after { past ≤ from }
-    requires taken { IsTaken slots.now from }
-    requires live { AllLive index.now slots.now }
-    requires once { (i j other : ℕ) → held_in slots.now i ≡ Some other → held_in slots.now j ≡ Some other → i ≡ j }
-    requires order { IsInOrder (is_above index.now.live) slots.now }
-    ensures { IfOk result (FindsUp (is_above index.now.live) slots.now from (last_free_below slots.now past)) }
-{
-    let Some(free) = slots.last_free_below(past) else {
-        return Ok(None);
-    };
-    let chain = walk_up(alloc, slots, index, from, free)?;
-    Ok(Some(chain))
-}
-
-/// The down chain from a slot to a free one above it.
-fn walk_down(
-    alloc: Global,
-    slots: &Arrangement,
-    index: &Index,
-    from: u32,
-    free: u32,
-) -> Result<Chain, AllocError>
-    requires before { from < free }
+/// The slot that a down chain goes on to, if it is before the free one: the first behind `slot` whose id is below the one
+/// there. The list of those below it and the slots are gone through side by side, until either ends or the slot is found.
+pub(crate) fn step_down(slots: &Arrangement, index: &Index, slot: u32, free: u32) -> Option<u32>
+    requires before { slot < free }
     requires inside { free < length slots.now }
-    requires taken { IsTaken slots.now from }
-    requires live { AllLive index.now slots.now }
-    requires order { IsInOrder (is_above index.now.live) slots.now }
-    ensures { IfOk result (IsDown (is_above index.now.live) slots.now from (Some free)) }
-{
-    let mut members = Vec::new(alloc);
-    members.push(from)?;
-    let mut last = from;
-    while let Some(next) = step_down(slots, index, last, free) {
-        members.push(next)?;
-        last = next;
-    }
-    Ok(Chain { free, members })
-}
-
-/// The up chain from a slot to a free one below it.
-fn walk_up(
-    alloc: Global,
-    slots: &Arrangement,
-    index: &Index,
-    from: u32,
-    free: u32,
-) -> Result<Chain, AllocError>
-    requires after { free < from }
-    requires inside { from < length slots.now }
-    requires taken { IsTaken slots.now from }
-    requires live { AllLive index.now slots.now }
-    requires once { (i j other : ℕ) → held_in slots.now i ≡ Some other → held_in slots.now j ≡ Some other → i ≡ j }
-    requires order { IsInOrder (is_above index.now.live) slots.now }
-    ensures { IfOk result (IsUp (is_above index.now.live) slots.now from (Some free)) }
-{
-    let mut members = Vec::new(alloc);
-    members.push(from)?;
-    let mut last = from;
-    while let Some(next) = step_up(slots, index, last, free) {
-        members.push(next)?;
-        last = next;
-    }
-    Ok(Chain { free, members })
-}
-
-/// The slot that a down chain goes on to, if it is before the free one.
-fn step_down(slots: &Arrangement, index: &Index, slot: u32, free: u32) -> Option<u32>
-    requires inside { slot < length slots.now }
     requires live { AllLive index.now slots.now }
     requires order { IsInOrder (is_above index.now.live) slots.now }
     ensures { StepsDown (is_above index.now.live) slots.now free slot result }
 {
-    let next = first_lower(slots, index, slots.at(slot)?)?;
-    if next < free { Some(next) } else { None }
+    let id = slots.at(slot)?;
+    let mut at = slot;
+    let mut first = None;
+    for other in index.below(id) {
+        at += 1;
+        if at == free {
+            return None;
+        }
+        if holds_lower(slots, index, id, at) {
+            return Some(at);
+        }
+        first = lesser(first, slots.home(other));
+    }
+    if_before(first, free)
 }
 
-/// The slot that an up chain goes on to, if it is behind the free one.
-fn step_up(slots: &Arrangement, index: &Index, slot: u32, free: u32) -> Option<u32>
+/// The slot that an up chain goes on to, if it is behind the free one: the mirror.
+pub(crate) fn step_up(slots: &Arrangement, index: &Index, slot: u32, free: u32) -> Option<u32>
+    requires after { free < slot }
     requires inside { slot < length slots.now }
     requires live { AllLive index.now slots.now }
     requires once { (i j other : ℕ) → held_in slots.now i ≡ Some other → held_in slots.now j ≡ Some other → i ≡ j }
     requires order { IsInOrder (is_above index.now.live) slots.now }
     ensures { StepsUp (is_above index.now.live) slots.now free slot result }
 {
-    let next = last_upper(slots, index, slots.at(slot)?)?;
-    if free < next { Some(next) } else { None }
+    let id = slots.at(slot)?;
+    let mut at = slot;
+    let mut last = None;
+    for other in index.above(id) {
+        at -= 1;
+        if at == free {
+            return None;
+        }
+        if holds_upper(slots, index, id, at) {
+            return Some(at);
+        }
+        last = greater(last, slots.home(other));
+    }
+    if_behind(last, free)
 }
 
-/// The shorter of two chains, the down chain of equal ones, or the one that there is.
-pub(crate) fn shorter_of(down: Option<Chain>, up: Option<Chain>) -> Option<Chain>
-    ensures { result ≡ shorter down up }
+/// Whether a slot holds an id that is below this one.
+fn holds_lower(slots: &Arrangement, index: &Index, id: u32, slot: u32) -> bool
+    requires inside { slot < length slots.now }
+    requires live { AllLive index.now slots.now }
+    requires id { IsTrue (is_live index.now.live id) }
+    ensures { result ≡ passes (λ other. is_above index.now.live id other) (held_in slots.now slot) }
 {
-    match (down, up) {
-        (Some(down), Some(up)) => {
-            if up.len() < down.len() {
-                Some(up)
-            } else {
-                Some(down)
-            }
-        }
-        (Some(down), None) => Some(down),
-        (None, up) => up,
+    match slots.at(slot) {
+        Some(other) => index.is_above(id, other),
+        None => false,
     }
+}
+
+/// Whether a slot holds an id that is above this one.
+fn holds_upper(slots: &Arrangement, index: &Index, id: u32, slot: u32) -> bool
+    requires inside { slot < length slots.now }
+    requires live { AllLive index.now slots.now }
+    requires id { IsTrue (is_live index.now.live id) }
+    ensures { result ≡ passes (λ other. is_above index.now.live other id) (held_in slots.now slot) }
+{
+    match slots.at(slot) {
+        Some(other) => index.is_above(other, id),
+        None => false,
+    }
+}
+
+/// A slot, if there is one and it is before the free one.
+fn if_before(slot: Option<u32>, free: u32) -> Option<u32>
+    ensures { MatchOption result (StopsBelow free slot) (λ next. (slot ≡ Some next) × (next < free)) }
+{
+    slot.filter(|next| *next < free)
+}
+
+/// A slot, if there is one and it is behind the free one.
+fn if_behind(slot: Option<u32>, free: u32) -> Option<u32>
+    ensures { MatchOption result (StopsAbove free slot) (λ next. (slot ≡ Some next) × (free < next)) }
+{
+    slot.filter(|next| free < *next)
 }

@@ -1,14 +1,15 @@
 //! The turns that put the entries that must stand before a new id and those that must stand behind it apart.
 ghost use Rattle.std.specs.Prelude.{◌≡◌, ℕ, ◌-◌, ◌<◌, ◌≤◌, Bool, IfOk, OnOk, OnErr, length};
 ghost use Rattle.slot_pool.specs.Arrangement.{next_free_above, last_free_below};
-ghost use Rattle.overlap_index.specs.Live.{is_above};
+ghost use Rattle.overlap_index.specs.Live.{LivePieces, is_above};
 ghost use Rattle.move_planner.specs.Placement.{gap_start, gap_end, IsInOrder};
 ghost use Rattle.move_planner.specs.Insertion.{AreMade};
 ghost use Rattle.move_planner.specs.Steps.{CanShift, IsReady, IsShiftedOut, FindsEarly, FindsLate, FindsPasser, IsUnderway, MayPass, IsFurther, UndoesCrossing, cleared};
 
 use crate::boundary::best_boundary;
-use crate::chains::{Chain, down_chain, shorter_of, up_chain};
+use crate::chains::Chain;
 use crate::places::Gap;
+use crate::shorter::{Ends, shorter_chain};
 use crate::sides::{Sides, find_sides, first_marked, last_marked};
 use crate::{Move, Moves};
 use overlap_index::Index;
@@ -89,47 +90,33 @@ fn passer(
     ensures { IfOk result (λ found. (id : ℕ) (behind before : ℕ → Bool) → IsUnderway index.now id behind before slots.now sides.now cut
         → FindsPasser (is_above index.now.live) behind before slots.now sides.now cut found) }
 {
-    let down = early_chain(alloc, slots, index, sides, cut)?;
-    let up = late_chain(alloc, slots, index, sides, cut)?;
-    Ok(shorter_of(down, up))
+    let down = early_ends(slots, sides, cut);
+    let up = late_ends(slots, sides, cut);
+    shorter_chain(alloc, slots, index, down, up)
 }
 
-/// The chain of the last entry before a boundary that must stand behind it. `None` where there is
-/// none or no slot from the boundary on is free.
-fn early_chain(
-    alloc: Global,
-    slots: &Arrangement,
-    index: &Index,
-    sides: &Sides,
-    cut: Cut,
-) -> Result<Option<Chain>, AllocError>
-    requires { (id : ℕ) × (behind : ℕ → Bool) × (before : ℕ → Bool) × IsUnderway index.now id behind before slots.now sides.now cut }
-    ensures { IfOk result (λ found. (id : ℕ) (behind before : ℕ → Bool) → IsUnderway index.now id behind before slots.now sides.now cut
-        → FindsEarly (is_above index.now.live) behind slots.now sides.now cut found) }
+/// The last entry before a boundary that must stand behind it, and the least free slot from the
+/// boundary on. `None` where one of these isn't there.
+fn early_ends(slots: &Arrangement, sides: &Sides, cut: Cut) -> Option<Ends>
+    requires { (index : LivePieces) × (id : ℕ) × (behind : ℕ → Bool) × (before : ℕ → Bool) × IsUnderway index id behind before slots.now sides.now cut }
+    ensures { (index : LivePieces) (id : ℕ) (behind before : ℕ → Bool) → IsUnderway index id behind before slots.now sides.now cut
+        → FindsEarly behind slots.now sides.now cut result }
 {
-    let Some(lower) = last_marked(sides.behind.as_slice(), sides.start, cut.low) else {
-        return Ok(None);
-    };
-    down_chain(alloc, slots, index, lower, cut.boundary - 1)
+    let from = last_marked(sides.behind.as_slice(), sides.start, cut.low)?;
+    let free = slots.next_free_above(cut.boundary - 1)?;
+    Some(Ends { from, free })
 }
 
-/// The chain of the first entry from a boundary on that must stand before it. `None` where there is
-/// none or no slot before the boundary is free.
-fn late_chain(
-    alloc: Global,
-    slots: &Arrangement,
-    index: &Index,
-    sides: &Sides,
-    cut: Cut,
-) -> Result<Option<Chain>, AllocError>
-    requires { (id : ℕ) × (behind : ℕ → Bool) × (before : ℕ → Bool) × IsUnderway index.now id behind before slots.now sides.now cut }
-    ensures { IfOk result (λ found. (id : ℕ) (behind before : ℕ → Bool) → IsUnderway index.now id behind before slots.now sides.now cut
-        → FindsLate (is_above index.now.live) before slots.now sides.now cut found) }
+/// The first entry from a boundary on that must stand before it, and the greatest free slot before
+/// the boundary. `None` where one of these isn't there.
+fn late_ends(slots: &Arrangement, sides: &Sides, cut: Cut) -> Option<Ends>
+    requires { (index : LivePieces) × (id : ℕ) × (behind : ℕ → Bool) × (before : ℕ → Bool) × IsUnderway index id behind before slots.now sides.now cut }
+    ensures { (index : LivePieces) (id : ℕ) (behind before : ℕ → Bool) → IsUnderway index id behind before slots.now sides.now cut
+        → FindsLate before slots.now sides.now cut result }
 {
-    let Some(upper) = first_marked(sides.before.as_slice(), sides.start, cut.high, sides.end) else {
-        return Ok(None);
-    };
-    up_chain(alloc, slots, index, upper, cut.boundary)
+    let from = first_marked(sides.before.as_slice(), sides.start, cut.high, sides.end)?;
+    let free = slots.last_free_below(cut.boundary)?;
+    Some(Ends { from, free })
 }
 
 /// How far a boundary is clear once what stood in a slot has passed it.

@@ -62,9 +62,19 @@
 //! moves. So `n` entries take at most `(n + 1)^2` moves. One move more than entries stand isn't enough, for any way to
 //! insert: a lower entry, a free slot and an upper one, in three slots, take four. Where `p` lower entries, one free slot
 //! and `q` upper ones stand in this order, all of either kind overlapping one another, a search over small `p` and `q`
-//! found `(p + 1) * (q + 1)` moves to be the least. The gap is found once before the cut and once after it, the cut looks
-//! once at what overlaps each entry of the crossed stretch on either side, and a chain at what overlaps each of its
-//! members; an entry's slot is looked up, not searched for.
+//! found `(p + 1) * (q + 1)` moves to be the least.
+//!
+//! What is asked of the index is the list of what is above an entry or of what is below it. The gap takes one of either,
+//! before the cut and again after it. The cut takes at most one of either for each entry of the crossed stretch. Chains
+//! take one for each member: where a down chain and an up chain are both there they are walked in turns, a member of each,
+//! until one ends, and the other goes no further. So without a cut at most two lists are asked for each move, and a cut
+//! takes at most two more for each entry of its stretch. An entry's slot is looked up, not searched for.
+//!
+//! A chain's list is seldom gone through to its end. The next member of a chain is also the first slot on the way to the
+//! free one whose entry overlaps the member before, and is lower, or higher on the way up. So the list and the slots are
+//! gone through side by side, a node and a slot at a time, and whichever ends first gives the answer: at most as many of
+//! either as the list has entries, or as there are slots to the next member or to the free slot, whichever is less. Where
+//! entries overlap much the lists are long, and the next member stands near.
 //!
 //! # What isn't promised
 //! A least number of moves. The cut counts entries and not the moves that they take, and chains are taken one by one; we
@@ -75,7 +85,7 @@
 ghost use Rattle.std.specs.Prelude.{◌≡◌, ℕ, ◌+◌, ◌*◌, ◌<◌, ◌≤◌, ◌++◌, ◌∷◌, [], List, Bool, IsTrue, IfOk, OnOk, OnErr, length, take, slice_index_or};
 ghost use Rattle.overlap_index.specs.Live.{is_live, is_above};
 ghost use Rattle.slot_order.specs.Cuts.{wrong_side, HasRoomNear};
-ghost use Rattle.move_planner.specs.Placement.{AreSides, IsCut, IsPlacement, IsInOrder, gap_start, gap_end, span_of, after_move, after_moves};
+ghost use Rattle.move_planner.specs.Placement.{AreSides, IsCut, IsPlacement, IsInOrder, first_lower, last_upper, gap_start, gap_end, span_of, after_move, after_moves};
 ghost use Rattle.move_planner.specs.Insertion.{IsLive, IsOther, StandOnce, BoundsLiveChains, AreMade, free_slots, moves_since};
 ghost use Rattle.move_planner.specs.Steps.{CanMake, IsReady, UndoesCrossing};
 
@@ -84,6 +94,7 @@ mod chains;
 mod crossings;
 mod places;
 mod placing;
+mod shorter;
 mod sides;
 #[cfg(test)]
 mod tests;
@@ -254,9 +265,13 @@ fn clear_gap(
     gap: Gap,
 ) -> Result<Gap, AllocError>
     requires ready { IsReady index.now id slots.old }
+    requires upper { gap.upper ≡ last_upper (is_above index.now.live) slots.old id }
+    requires lower { gap.lower ≡ first_lower (is_above index.now.live) slots.old id }
     requires start { gap.start ≡ gap_start (is_above index.now.live) slots.old id }
     requires end { gap.end ≡ gap_end (is_above index.now.live) slots.old id }
     ensures clear { OnOk result (UndoesCrossing index.now id slots.old slots.new plan.old plan.new) }
+    ensures upper { IfOk result (λ now. now.upper ≡ last_upper (is_above index.now.live) slots.new id) }
+    ensures lower { IfOk result (λ now. now.lower ≡ first_lower (is_above index.now.live) slots.new id) }
     ensures start { IfOk result (λ now. now.start ≡ gap_start (is_above index.now.live) slots.new id) }
     ensures end { IfOk result (λ now. now.end ≡ gap_end (is_above index.now.live) slots.new id) }
     ensures made { OnErr result (AreMade slots.old slots.new plan.old plan.new) }

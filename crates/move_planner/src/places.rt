@@ -38,7 +38,7 @@ pub(crate) fn last_upper(slots: &Arrangement, index: &Index, id: u32) -> Option<
 }
 
 /// The lesser of two slots, or the one that there is.
-fn lesser(a: Option<u32>, b: Option<u32>) -> Option<u32>
+pub(crate) fn lesser(a: Option<u32>, b: Option<u32>) -> Option<u32>
     ensures { result ≡ lesser a b }
 {
     match (a, b) {
@@ -49,7 +49,7 @@ fn lesser(a: Option<u32>, b: Option<u32>) -> Option<u32>
 }
 
 /// The greater of two slots, or the one that there is.
-fn greater(a: Option<u32>, b: Option<u32>) -> Option<u32>
+pub(crate) fn greater(a: Option<u32>, b: Option<u32>) -> Option<u32>
     ensures { result ≡ greater a b }
 {
     match (a, b) {
@@ -70,10 +70,13 @@ fn next_slot(slot: Option<u32>) -> u32
     }
 }
 
-/// The slots in which a live id may stand: those from `start` on and before `end`. Where `end` is
-/// before `start` the last upper id stands past the first lower one.
+/// The slots in which a live id may stand: those from `start` on and before `end`, which its last
+/// upper and its first lower id bound. Where `end` is before `start` the last upper id stands past
+/// the first lower one.
 #[derive(Clone, Copy, Debug)]
 pub(crate) struct Gap {
+    pub(crate) upper: Option<u32>,
+    pub(crate) lower: Option<u32>,
     pub(crate) start: u32,
     pub(crate) end: u32,
 }
@@ -92,6 +95,8 @@ pub(crate) fn find_gap(slots: &Arrangement, index: &Index, id: u32) -> Gap
     requires few { length slots.now ≤ 4096 }
     requires live { IsTrue (is_live index.now.live id) }
     requires once { (i j other : ℕ) → held_in slots.now i ≡ Some other → held_in slots.now j ≡ Some other → i ≡ j }
+    ensures upper { result.upper ≡ last_upper (is_above index.now.live) slots.now id }
+    ensures lower { result.lower ≡ first_lower (is_above index.now.live) slots.now id }
     ensures start { result.start ≡ gap_start (is_above index.now.live) slots.now id }
     ensures end { result.end ≡ gap_end (is_above index.now.live) slots.now id }
     ensures apart { AreApart index.now.slots index.now.live }
@@ -100,7 +105,12 @@ pub(crate) fn find_gap(slots: &Arrangement, index: &Index, id: u32) -> Gap
     let lower = first_lower(slots, index, id);
     let start = next_slot(upper);
     let end = lower.unwrap_or(slots.slots());
-    Gap { start, end }
+    Gap {
+        upper,
+        lower,
+        start,
+        end,
+    }
 }
 
 /// The place in a gap, from `start` on and before `end`, that a new id takes: the free slot nearest

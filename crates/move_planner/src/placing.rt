@@ -1,12 +1,13 @@
 //! The last part of an insertion: the new id's own move, and the chain that makes way for it.
-ghost use Rattle.std.specs.Prelude.{◌≡◌, ◌≤◌, None, IfOk, OnOk, OnErr};
+ghost use Rattle.std.specs.Prelude.{◌≡◌, ◌<◌, ◌≤◌, IfSome, IfOk, OnOk, OnErr, length};
 ghost use Rattle.overlap_index.specs.Live.{is_above};
 ghost use Rattle.move_planner.specs.Placement.{first_lower, last_upper, gap_start, gap_end};
 ghost use Rattle.move_planner.specs.Insertion.{AreMade};
-ghost use Rattle.move_planner.specs.Steps.{IsReady, IsFull, IsPlaced, IsWay, FindsDownFrom, FindsUpFrom};
+ghost use Rattle.move_planner.specs.Steps.{IsReady, IsFull, IsPlaced, IsWay, ends_down, ends_up};
 
-use crate::chains::{Chain, down_chain, shorter_of, up_chain};
-use crate::places::{Gap, choose, first_lower, last_upper};
+use crate::chains::Chain;
+use crate::places::{Gap, choose};
+use crate::shorter::{Ends, shorter_chain};
 use crate::{Aim, Move, Moves};
 use overlap_index::Index;
 use slot_pool::Arrangement;
@@ -24,6 +25,8 @@ pub(crate) fn place(
     gap: Gap,
 ) -> Result<(), AllocError>
     requires ready { IsReady index.now id slots.old }
+    requires upper { gap.upper ≡ last_upper (is_above index.now.live) slots.old id }
+    requires lower { gap.lower ≡ first_lower (is_above index.now.live) slots.old id }
     requires start { gap.start ≡ gap_start (is_above index.now.live) slots.old id }
     requires end { gap.end ≡ gap_end (is_above index.now.live) slots.old id }
     requires uncrossed { gap_start (is_above index.now.live) slots.old id ≤ gap_end (is_above index.now.live) slots.old id }
@@ -33,54 +36,51 @@ pub(crate) fn place(
     if let Some(slot) = choose(slots, gap.start, gap.end, aim) {
         return plan.make(slots, Move::Put(slot, id));
     }
-    let chain = way(alloc, slots, index, id)?;
+    let chain = way(alloc, slots, index, id, gap)?;
     chain.shift(slots, plan)?;
     plan.make(slots, Move::Put(chain.first(), id))
 }
 
-/// The chain that makes way for a new id whose gap has no free slot.
-fn way(alloc: Global, slots: &Arrangement, index: &Index, id: u32) -> Result<Chain, AllocError>
+/// The chain that makes way for a new id whose gap has no free slot: the shorter of that down from its
+/// first lower id and that up from its last upper one, each to the nearest free slot.
+fn way(
+    alloc: Global,
+    slots: &Arrangement,
+    index: &Index,
+    id: u32,
+    gap: Gap,
+) -> Result<Chain, AllocError>
     requires ready { IsReady index.now id slots.now }
+    requires upper { gap.upper ≡ last_upper (is_above index.now.live) slots.now id }
+    requires lower { gap.lower ≡ first_lower (is_above index.now.live) slots.now id }
     requires full { IsFull (is_above index.now.live) slots.now id }
     requires uncrossed { gap_start (is_above index.now.live) slots.now id ≤ gap_end (is_above index.now.live) slots.now id }
     ensures { IfOk result (IsWay (is_above index.now.live) slots.now id) }
 {
-    let down = way_down(alloc, slots, index, id)?;
-    let up = way_up(alloc, slots, index, id)?;
-    match shorter_of(down, up) {
+    let down = down_ends(slots, gap.lower);
+    let up = up_ends(slots, gap.upper);
+    match shorter_chain(alloc, slots, index, down, up)? {
         Some(chain) => Ok(chain),
         None => unreachable!(),
     }
 }
 
-/// The down chain from the first lower id, to the least free slot above it.
-fn way_down(
-    alloc: Global,
-    slots: &Arrangement,
-    index: &Index,
-    id: u32,
-) -> Result<Option<Chain>, AllocError>
-    requires { IsReady index.now id slots.now }
-    ensures { IfOk result (FindsDownFrom (is_above index.now.live) slots.now (first_lower (is_above index.now.live) slots.now id)) }
+/// The ends of the down chain from a slot, to the least free slot above it.
+fn down_ends(slots: &Arrangement, from: Option<u32>) -> Option<Ends>
+    requires { IfSome from (λ at. at < length slots.now) }
+    ensures { result ≡ ends_down slots.now from }
 {
-    match first_lower(slots, index, id) {
-        Some(lower) => down_chain(alloc, slots, index, lower, lower),
-        None => Ok(None),
-    }
+    let from = from?;
+    let free = slots.next_free_above(from)?;
+    Some(Ends { from, free })
 }
 
-/// The up chain from the last upper id, to the greatest free slot below it.
-fn way_up(
-    alloc: Global,
-    slots: &Arrangement,
-    index: &Index,
-    id: u32,
-) -> Result<Option<Chain>, AllocError>
-    requires { IsReady index.now id slots.now }
-    ensures { IfOk result (FindsUpFrom (is_above index.now.live) slots.now (last_upper (is_above index.now.live) slots.now id)) }
+/// The ends of the up chain from a slot, to the greatest free slot below it.
+fn up_ends(slots: &Arrangement, from: Option<u32>) -> Option<Ends>
+    requires { IfSome from (λ at. at < length slots.now) }
+    ensures { result ≡ ends_up slots.now from }
 {
-    match last_upper(slots, index, id) {
-        Some(upper) => up_chain(alloc, slots, index, upper, upper),
-        None => Ok(None),
-    }
+    let from = from?;
+    let free = slots.last_free_below(from)?;
+    Some(Ends { from, free })
 }

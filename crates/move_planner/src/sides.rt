@@ -38,7 +38,7 @@ pub(crate) fn find_sides(
     let start = gap.end;
     let end = gap.start;
     let behind = mark_behind(alloc, slots, index, id, start, end)?;
-    let before = mark_before(alloc, slots, index, id, start, end)?;
+    let before = mark_before(alloc, slots, index, id, start, end, behind.as_slice())?;
     Ok(Sides {
         start,
         end,
@@ -72,6 +72,7 @@ fn mark_behind(
 }
 
 /// The slots from `start` on and before `end` whose entry must stand before an id, by falling slots.
+/// `behind` marks those whose entry must stand behind it.
 fn mark_before(
     alloc: Global,
     slots: &Arrangement,
@@ -79,15 +80,17 @@ fn mark_before(
     id: u32,
     start: u32,
     end: u32,
+    behind: &[bool],
 ) -> Result<Vec<bool>, AllocError>
     requires ready { IsReady index.now id slots.now }
     requires to { end ≡ gap_start (is_above index.now.live) slots.now id }
     requires order { start ≤ end }
+    requires behind { AreLedTo (is_above index.now.live) slots.now id start end behind.now }
     ensures { IfOk result (λ marks. LeadFrom (is_above index.now.live) slots.now id start end marks.items) }
 {
     let mut marks = vec![in alloc; false; (end - start) as usize]?;
     for slot in (start..end).rev() {
-        let mark = leads_there(slots, index, id, start, marks.as_slice(), slot);
+        let mark = leads_there(slots, index, id, start, behind, marks.as_slice(), slot);
         marks[(slot - start) as usize] = mark;
     }
     Ok(marks)
@@ -114,22 +117,28 @@ fn is_led_to(
     any_marked(slots, id, start, marks, index.above(held))
 }
 
-/// Whether what stands in a slot has the id or a marked entry below it.
+/// Whether what stands in a slot has the id or a marked entry below it. What must stand behind the id
+/// has none, so the index isn't asked for it.
 fn leads_there(
     slots: &Arrangement,
     index: &Index,
     id: u32,
     start: u32,
+    behind: &[bool],
     marks: &[bool],
     slot: u32,
 ) -> bool
     requires ready { IsReady index.now id slots.now }
     requires inside { slot < length slots.now }
     requires low { start ≤ slot }
+    requires behind { IsTrue (is_marked (Some slot) start behind.now) → LedTo (is_above index.now.live) slots.now id slot }
     requires marks { (at : ℕ) → slot < at → at < gap_start (is_above index.now.live) slots.now id → IsTrue (is_marked (Some at) start marks.now) ↔ LeadsFrom (is_above index.now.live) slots.now id at }
     requires past { (at : ℕ) → gap_start (is_above index.now.live) slots.now id ≤ at → IsFalse (is_marked (Some at) start marks.now) }
     ensures { IsTrue result ↔ LeadsFrom (is_above index.now.live) slots.now id slot }
 {
+    if is_marked(Some(slot), start, behind) {
+        return false;
+    }
     let Some(held) = slots.at(slot) else {
         return false;
     };

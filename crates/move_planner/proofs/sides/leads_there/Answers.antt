@@ -1,8 +1,8 @@
-use Rattle.std.proofs.Common.{sym}
+use Rattle.std.proofs.Common.{◌≡◌, true, false, sym, ◌∙◌}
 use Rattle.overlap_index.specs.Live.{is_above}
 use Rattle.overlap_index.proofs.Above.{ids_below_are}
 use Rattle.move_planner.proofs.Ends.{both_are}
-use Rattle.move_planner.proofs.Marks.{lead_is}
+use Rattle.move_planner.proofs.Marks.{lead_is, not_both}
 use Rattle.move_planner.proofs.sides.leads_there.Goals as goal
 
 pub returns : goal.returns
@@ -11,3 +11,9 @@ returns c =
     c.requires.low (sym c.in-Some.ensures) c.requires.marks c.requires.past
     (both_are c.below.result _ (λ other. is_above c.args.index.now.live c.in-Some.held other) c.below.ensures.exact (ids_below_are c.args.index.now.live c.in-Some.held))
     c.any_marked.ensures
+
+pub returns-then-is_marked : goal.returns-then-is_marked
+returns-then-is_marked c = (
+  λ e. absurd (let k : false ≡ true = e in cc),
+  λ from. absurd (not_both c.args.index.now c.args.id c.args.slots.now c.requires.ready c.args.slot (c.requires.behind (sym c.is_marked.ensures ∙ c.if-is_marked.true)) from),
+)

@@ -1,11 +1,11 @@
 use Rattle.std.proofs.Common.{◌-◌}
 use Rattle.overlap_index.specs.Live.{is_above}
 use Rattle.move_planner.proofs.Walked.{IsWalkedDown}
-use Rattle.move_planner.proofs.chains.walk_down.Given as goal
+use Rattle.move_planner.proofs.shorter.walk_down.Given as goal
 
 -- the members so far are the first part of a chain
 abbrev pub invariant-loop-next : goal.invariant-loop-next
-invariant-loop-next l = IsWalkedDown (is_above l.index.live) l.slots l.free l.from l.last l.members.items
+invariant-loop-next l = IsWalkedDown (is_above l.index.live) l.slots l.ends l.walk.last l.walk.members.items
 
 abbrev pub decreases-loop-next : goal.decreases-loop-next
-decreases-loop-next l = l.free - l.last
+decreases-loop-next l = l.ends.free - l.walk.last

@@ -1,10 +1,10 @@
 use Rattle.overlap_index.specs.Live.{is_above}
 use Rattle.move_planner.proofs.Walked.{IsWalkedUp}
-use Rattle.move_planner.proofs.chains.walk_up.Given as goal
+use Rattle.move_planner.proofs.shorter.walk_up.Given as goal
 
 -- the members so far are the first part of a chain
 abbrev pub invariant-loop-next : goal.invariant-loop-next
-invariant-loop-next l = IsWalkedUp (is_above l.index.live) l.slots l.free l.from l.last l.members.items
+invariant-loop-next l = IsWalkedUp (is_above l.index.live) l.slots l.ends l.walk.last l.walk.members.items
 
 abbrev pub decreases-loop-next : goal.decreases-loop-next
-decreases-loop-next l = l.last
+decreases-loop-next l = l.walk.last
