@@ -1,5 +1,5 @@
 -- What carries a commit under way to its end, and where it stops.
-use Rattle.std.specs.Prelude.{◌≡◌, ℕ, ◌+◌, ◌*◌, ◌-◌, ◌^◌, ◌≤◌, ◌++◌, min, Result, OnOk, OnErr, Option, Some, None, IfSome, List, [], ◌∷◌, length, take}
+use Rattle.std.specs.Prelude.{◌≡◌, ℕ, ◌+◌, ◌*◌, ◌-◌, ◌^◌, ◌≤◌, ◌++◌, min, Option, Some, None, IfSome, List, [], ◌∷◌, length, take}
 use Rattle.rule_model.specs.declared.Rule.{Rule}
 use Rattle.tcam_device.specs.declared.Write.{Write}
 use Rattle.tcam_device.specs.State.{replay, state_after}
@@ -68,10 +68,10 @@ pub record StopsAt (old new : Managed) (before after : List Write) (left : ℕ) 
   pub new_is : new ≡ record old { state = state_after old.state made; held = Some (record held { writes = due ∷ rest }) }
   pub journal : after ≡ before ++ made
 
--- A count of failures after so many writes were made, each tried up to so many times: it rose by each try of the write that
--- came to no end, or stands at its last value, and by at most the tries but one for each write that was made.
-pub record IsTried {T E : Type 0} (tries made before now : ℕ) (result : Result T E) : Type 0 where
+-- A count of failures after so many writes were made, each tried up to so many times: where a write came to no end it rose
+-- by each try of that write, or stands at its last value, and by at most the tries but one for each write that was made.
+pub record IsTried (tries made : ℕ) (Stuck : Type 0) (before now : ℕ) : Type 0 where
   pub later : before ≤ now
-  pub most : OnOk result (now ≤ before + made * (tries - 1))
-  pub most_err : OnErr result (now ≤ before + made * (tries - 1) + tries)
-  pub failed : OnErr result (min (before + tries) (2 ^ 64 - 1) ≤ now)
+  pub most : ¬ Stuck → now ≤ before + made * (tries - 1)
+  pub most_stuck : now ≤ before + made * (tries - 1) + tries
+  pub failed : Stuck → min (before + tries) (2 ^ 64 - 1) ≤ now

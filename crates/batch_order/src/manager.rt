@@ -1,6 +1,6 @@
 //! The manager of one device.
 
-ghost use Rattle.std.specs.Prelude.{◌≡◌, ◌+◌, ◌-◌, ◌*◌, ◌^◌, ◌++◌, ◌∷◌, [], ◌≤◌, ◌<◌, ◌↔◌, ℕ, List, Option, Some, None, Err, IfSome, IsSome, IfOk, IfErr, OnOk, OnErr, length, option_map, fold};
+ghost use Rattle.std.specs.Prelude.{◌≡◌, ◌+◌, ◌-◌, ◌*◌, ◌^◌, ◌++◌, ◌∷◌, [], ◌≤◌, ◌<◌, ◌↔◌, ℕ, List, Option, Some, None, Err, IfSome, IsSome, IfOk, IfErr, IsErr, OnOk, OnErr, length, option_map, fold};
 ghost use Rattle.std.specs.List.{AllByRecursion};
 ghost use Rattle.call_history.specs.Cause.{HasCause};
 ghost use Rattle.tcam_device.specs.declared.Write.{Write};
@@ -375,7 +375,7 @@ impl Manager {
         ensures spare { D.spare device.new + length (writes_left self.old.held) ≡ D.spare device.old + length (writes_left self.new.held) }
         ensures room { HasRoomLeft self.new.held (D.spare device.new) }
         ensures slot_count { D.slot_count device.new ≡ D.slot_count device.old }
-        ensures tried { IsTried tries (length (D.journal device.new) - length (D.journal device.old)) (D.faults device.old) (D.faults device.new) result }
+        ensures tried { IsTried tries (length (D.journal device.new) - length (D.journal device.old)) (IsErr result) (D.faults device.old) (D.faults device.new) }
         ensures stays_on { IsOn (D.slot_count device.old) (D.journal device.old) self.old → IsOn (D.slot_count device.new) (D.journal device.new) self.new }
         ensures hitless { IsOn (D.slot_count device.old) (D.journal device.old) self.old → IsServed (D.slot_count device.new) (D.journal device.old) (D.journal device.new) self.old.rules (ahead self.old) }
         ensures serves { IsOn (D.slot_count device.old) (D.journal device.old) self.old → Serves (replay (D.slot_count device.new) (D.journal device.new)) self.new.rules self.new.held }

@@ -5,6 +5,8 @@ pub mod RouteSets
 pub mod Runs
 pub mod Acts
 pub mod Making
+pub mod Tries
+pub mod Leaving
 pub mod Probing
 pub mod Telling
 pub mod Handing

@@ -1,8 +1,10 @@
 -- What a call hands to a sink, and what it leaves of a sink and a device.
-use Rattle.std.specs.Prelude.{◌≡◌, ℕ, ◌++◌, ◌∷◌, Bool, Option, IsSome, Result, OnOk, OnErr, List}
+use Rattle.std.specs.Prelude.{◌≡◌, ℕ, ◌++◌, ◌∷◌, Bool, Option, IsSome, Result, OnOk, OnErr, List, length}
 use Rattle.std.specs.Io.KnownBytes.{Appends}
 use Rattle.script_lines.specs.Given.{counted}
 use Rattle.call_history.specs.Cause.{HasCause, IsCounted}
+use Rattle.tcam_device.specs.declared.Write.{Write}
+use Rattle.batch_order.specs.CarriedOut.{IsTried}
 use Rattle.replay.specs.Run.{Effect, Prints, printed}
 
 -- What a call hands to a sink: one thing where it succeeds and another where it fails, by either count of the sink's
@@ -37,10 +39,14 @@ abbrev pub WritesLines : {S T E : Type 0} → (S → Option (List ℕ)) → (S �
 WritesLines taken accepted faults old new lines result =
     HandsOver taken accepted faults old new (λ before after. Appends before after (printed lines)) (CutsLines lines) result
 
--- What a call leaves of a sink and a device, whatever comes of it: what was told stays told, and the slots stay. This
--- failure has this cause: a count of failures rises, by one, exactly where the call ended by that failure.
-pub record Leaves {S D : Type 0} (taken : S → Option (List ℕ)) (sink_faults : S → ℕ) (sink_old sink_new : S) (slots device_faults : D → ℕ) (device_old device_new : D) (SinkFailed DeviceFailed : Type 0) : Type 0 where
+-- What a call leaves of a sink and a device, whatever comes of it: what was told stays told, the slots stay, and the
+-- journal only grows. A sink's failure has this cause: its count rises, by one, exactly where the call ended by it. A
+-- device's has this: one write failed at each of four tries; beside them its count rises by at most three for each write
+-- that was made.
+pub record Leaves {S D : Type 0} (taken : S → Option (List ℕ)) (sink_faults : S → ℕ) (sink_old sink_new : S) (slots : D → ℕ) (journal : D → List Write) (device_faults : D → ℕ) (device_old device_new : D) (SinkFailed DeviceFailed : Type 0) : Type 0 where
   pub told : IsSome (taken sink_old) → IsSome (taken sink_new)
   pub slot_count : slots device_new ≡ slots device_old
+  pub more : List Write
+  pub grown : journal device_new ≡ journal device_old ++ more
   pub sink_cause : IsCounted SinkFailed (sink_faults sink_old) (sink_faults sink_new)
-  pub device_cause : IsCounted DeviceFailed (device_faults device_old) (device_faults device_new)
+  pub device_cause : IsTried 4 (length more) DeviceFailed (device_faults device_old) (device_faults device_new)

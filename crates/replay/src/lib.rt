@@ -8,7 +8,8 @@
 //! What an act does is a list of effects, device writes and report lines in one order, said of rule lists, journal and
 //! report alone (`specs/Run`). A body that prints first and writes later has other effects, and so has one that answers
 //! a probe from the set and not from the device as it stands. `apply` has exactly the effects of its act, or those
-//! before the line or the write that failed, and no memory is taken between two writes of a commit.
+//! before the line or the write that failed, and no memory is taken between two writes of a commit. A write that fails
+//! is tried again at once, [`TRIES`] times in all.
 //!
 //! # How it stands
 //! `run` has the acts and the commit's loop, `watch` what is told after a write, `report` the lines in fixed room. Each
@@ -19,7 +20,8 @@
 //! trace or a probe may stand within a commit; the commit is then still under way, as where a write fails.
 //!
 //! # What isn't promised
-//! That a run can go on after a failed line or write: after a fault of sink or device no further act is taken.
+//! That a run can go on after a failed line or write: after a fault of sink or device no further act is taken. That no
+//! write is tried a fifth time where its act has made others before it: a device has one count for all of its failures.
 #![tactic(auto)]
 
 mod report;
@@ -33,6 +35,10 @@ use rule_store::Command;
 pub use run::Run;
 use std::alloc::AllocError;
 use thiserror::Error;
+
+/// How often a device write is tried before its failure ends the run. A failure that passes, as of a busy bus, mostly
+/// has passed by then, and a lasting one is told soon.
+pub const TRIES: u32 = 4;
 
 /// What the rules of a script are. It decides how lines are read, how the report names rules, and which bounds hold:
 /// among routes nothing is crossed, and an insertion takes at most 33 writes.
@@ -69,7 +75,7 @@ pub enum RunFault {
     /// The sink failed.
     #[error("the report can't be written")]
     Sink,
-    /// The device failed.
+    /// The device failed, at each try of one write.
     #[error("the device can't be written")]
     Device,
     /// Want of memory.

@@ -1,9 +1,11 @@
 //! A run of acts over one device.
 
-ghost use Rattle.std.specs.Prelude.{Bool, true, ◌≡◌, ◌≢◌, ◌+◌, ◌<◌, ◌≤◌, ◌^◌, ◌++◌, ◌∷◌, [], ℕ, Ok, Err, None, Some, IsSome, IfOk, IfErr, IfSome, OnOk, OnErr, length};
+ghost use Rattle.std.specs.Prelude.{Bool, true, ⊤, ◌≡◌, ◌≢◌, ◌+◌, ◌<◌, ◌≤◌, ◌^◌, ◌++◌, ◌∷◌, [], ℕ, Ok, Err, None, Some, IsSome, IfOk, IfErr, IfSome, OnOk, OnErr, length};
 ghost use Rattle.script_lines.specs.Given.{counted};
 ghost use Rattle.call_history.specs.Cause.{HasCause};
 ghost use Rattle.rule_store.specs.Verdict.{Accepted};
+ghost use Rattle.batch_order.specs.CarriedOut.{HasRoomLeft, IsTried};
+ghost use Rattle.batch_order.specs.Managed.{Steps, next_of, writes_of};
 ghost use Rattle.replay.specs.Text.{refused_line};
 ghost use Rattle.replay.specs.Told.{verdict_told};
 ghost use Rattle.replay.specs.Run.{ending};
@@ -13,14 +15,14 @@ ghost use Rattle.replay.specs.Running.{HoldsPending, ComesTo, Makes, begun, limi
 
 use crate::report::{Totals, write_accepted, write_end, write_packet, write_refused};
 use crate::watch::Watch;
-use crate::{Act, Family, RunFault};
+use crate::{Act, Family, RunFault, TRIES};
 use batch_order::{Done, Manager, Mode, Placement, Refusal, Step};
 use rule_model::{Key, key_fields};
 use rule_store::{Batch, Command, PushFault};
 use script_lines::{Failed, Sink};
 use std::alloc::{AllocError, Global};
 use std::marker::Model;
-use tcam_device::{Device, DeviceFault};
+use tcam_device::{Device, DeviceFault, Writable};
 
 /// A run of acts: its manager, what is told of each write, the pending batch, and what the report counts.
 #[derive(Drop)]
@@ -95,8 +97,9 @@ impl Run {
     ///
     /// `Memory` comes at a change, or at a commit that would be accepted. Nothing was done then, and the run is as
     /// before. `Sink` comes exactly where the sink's count of failures rose: all that comes before the line was done,
-    /// and a part of the line was taken, perhaps none or all of it. `Device` comes exactly where the device's count of
-    /// failures rose: the writes of the commit before the failed one were made and told, and its line wasn't written.
+    /// and a part of the line was taken, perhaps none or all of it. `Device` comes where one write failed four times, and
+    /// the device's count of failures rose by that: the writes of the commit before the failed one were made and told,
+    /// and its line wasn't written. A write that fails less often is made, once, and nothing tells of its failures.
     /// No act may follow one that answered `Device` or `Sink`, since its commit may still be under way.
     pub fn apply<K: Sink, D: Device>(
         &mut self,
@@ -114,7 +117,7 @@ impl Run {
         ensures idle { OnOk result (self.new.manager.held ≡ None) }
         ensures setting { setting_of self.new ≡ setting_of self.old }
         ensures commits { self.new.commits ≤ self.old.commits + 1 }
-        ensures leaves { Leaves K.taken K.faults sink.old sink.new D.slot_count D.faults device.old device.new (result ≡ Err RunFault.Sink) (result ≡ Err RunFault.Device) }
+        ensures leaves { Leaves K.taken K.faults sink.old sink.new D.slot_count D.journal D.faults device.old device.new (result ≡ Err RunFault.Sink) (result ≡ Err RunFault.Device) }
     {
         match *act {
             Act::Command(command) => self.push(command),
@@ -186,7 +189,7 @@ impl Run {
         ensures idle { OnOk result (self.new.manager.held ≡ None) }
         ensures setting { setting_of self.new ≡ setting_of self.old }
         ensures commits { self.new.commits ≤ self.old.commits + 1 }
-        ensures leaves { Leaves K.taken K.faults sink.old sink.new D.slot_count D.faults device.old device.new (result ≡ Err RunFault.Sink) (result ≡ Err RunFault.Device) }
+        ensures leaves { Leaves K.taken K.faults sink.old sink.new D.slot_count D.journal D.faults device.old device.new (result ≡ Err RunFault.Sink) (result ≡ Err RunFault.Device) }
     {
         match self.manager.prepare(&self.pending, device) {
             Ok(_) => self.carry_out(sink, device),
@@ -237,7 +240,7 @@ impl Run {
         ensures idle { OnOk result (self.new.manager.held ≡ None) }
         ensures setting { setting_of self.new ≡ setting_of self.old }
         ensures commits { self.new.commits ≤ self.old.commits + 1 }
-        ensures leaves { Leaves K.taken K.faults sink.old sink.new D.slot_count D.faults device.old device.new (result ≡ Err RunFault.Sink) (result ≡ Err RunFault.Device) }
+        ensures leaves { Leaves K.taken K.faults sink.old sink.new D.slot_count D.journal D.faults device.old device.new (result ≡ Err RunFault.Sink) (result ≡ Err RunFault.Device) }
     {
         let done = match make_writes(&mut self.manager, &self.watch, sink, device) {
             Ok(done) => done,
@@ -274,7 +277,7 @@ impl Run {
 }
 
 // Makes the writes of the commit under way, one at a time, and tells each of them. `Sink` comes where the lines of a
-// write can't be written, and `Device` where a write isn't made.
+// write can't be written, and `Device` where a write failed each time it was tried.
 fn make_writes<K: Sink, D: Device>(
     manager: &mut Manager,
     watch: &Watch,
@@ -287,11 +290,11 @@ fn make_writes<K: Sink, D: Device>(
     requires few { IfSome manager.old.held (λ held. length held.writes ≤ 2 ^ 39) }
     ensures makes { (which : Bool) → Makes manager.old manager.new watch.now (D.slot_count device.old) result
         (D.journal device.old) (D.journal device.new) (counted which (K.taken sink.old) (K.accepted sink.old)) (counted which (K.taken sink.new) (K.accepted sink.new)) }
-    ensures leaves { Leaves K.taken K.faults sink.old sink.new D.slot_count D.faults device.old device.new (result ≡ Err RunFault.Sink) (result ≡ Err RunFault.Device) }
+    ensures leaves { Leaves K.taken K.faults sink.old sink.new D.slot_count D.journal D.faults device.old device.new (result ≡ Err RunFault.Sink) (result ≡ Err RunFault.Device) }
 {
     let mut number = 0u64;
     'making: loop {
-        match manager.step(device) {
+        match step_tried(manager, device) {
             Ok(Step::Wrote(write)) => {
                 number += 1;
                 match watch.tell(number, &write, sink, device) {
@@ -302,6 +305,35 @@ fn make_writes<K: Sink, D: Device>(
             Ok(Step::Finished(done)) => return Ok(done),
             Ok(Step::Idle) => unreachable!(),
             Err(DeviceFault) => return Err(RunFault::Device),
+        }
+    }
+}
+
+// Takes the next step of the commit under way. A write that fails is tried again at once, `TRIES` times in all; an Err
+// says that each of them failed, and nothing has changed then.
+fn step_tried<D: Writable>(manager: &mut Manager, device: &mut D) -> Result<Step, DeviceFault>
+    requires slots { manager.old.slots ≤ D.slot_count device.old }
+    requires room { HasRoomLeft manager.old.held (D.spare device.old) }
+    ensures stepped { IfOk result (λ step. Steps manager.old manager.old.held step manager.new) }
+    ensures journal { IfOk result (λ step. D.journal device.new ≡ D.journal device.old ++ writes_of step) }
+    ensures spare { IfOk result (λ step. D.spare device.new + length (writes_of step) ≡ D.spare device.old) }
+    ensures failed { OnErr result (manager.new ≡ manager.old) }
+    ensures journal_err { OnErr result (D.journal device.new ≡ D.journal device.old) }
+    ensures due { OnErr result (IsSome (next_of manager.old.held)) }
+    ensures slot_count { D.slot_count device.new ≡ D.slot_count device.old }
+    ensures tried { IfOk result (λ step. IsTried 4 (length (writes_of step)) ⊥ (D.faults device.old) (D.faults device.new)) }
+    ensures tried_err { OnErr result (IsTried 4 0 ⊤ (D.faults device.old) (D.faults device.new)) }
+{
+    let mut failures = 0;
+    'trying: loop {
+        match manager.step(device) {
+            Ok(step) => return Ok(step),
+            Err(DeviceFault) => {
+                failures += 1;
+                if failures == TRIES {
+                    return Err(DeviceFault);
+                }
+            }
         }
     }
 }

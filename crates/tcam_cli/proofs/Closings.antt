@@ -1,11 +1,10 @@
 -- A line that is written whole or in part closes a report.
-use Rattle.std.proofs.Common.{◌≡◌, ◌≢◌, inl, inr, ap, true, false, ℕ, Option, Some, List, Ok, Err, refl, sym, subst}
-use Rattle.call_history.specs.Cause.{IsCounted}
-use Rattle.replay.specs.Outside.{WritesLine, Leaves}
+use Rattle.std.proofs.Common.{◌≡◌, ◌≢◌, inl, inr, ap, true, false, ℕ, Option, List, Ok, Err, refl, sym}
+use Rattle.replay.specs.Outside.{WritesLine}
 use Rattle.replay.specs.Run.{Progress}
 use Rattle.replay.specs.Script.{Whole}
 use Rattle.tcam_cli.specs.declared.Status.{Status}
-use Rattle.tcam_cli.specs.declared.Status.TheVariants.{Done, Refused, WriteFault, DeviceFault}
+use Rattle.tcam_cli.specs.declared.Status.TheVariants.{Done, Refused, WriteFault}
 use Rattle.tcam_cli.specs.Headline.{status_of}
 use Rattle.tcam_cli.specs.Turns.{ClosesReport}
 
@@ -24,18 +23,6 @@ module _ {S T E : Type 0} (taken : S → Option (List ℕ)) (accepted : S → Li
     told = writes.told;
     cause = record { later = writes.cause.later; once = writes.cause.once; failed = λ _. writes.cause.failed; stayed = λ other. absurd (other refl) };
   }
-
--- what a call leaves that failed by neither, and then the last line
-pub closes-leaves : {S D : Type 0} (taken : S → Option (List ℕ)) (accepted : S → List ℕ) (faults : S → ℕ) (old mid new : S) (slots device_faults : D → ℕ) (before after : D) (A B : Type 0) (line : List ℕ) (last status : Status)
-    → Leaves taken faults old mid slots device_faults before after A B → (A → ⊥) → (B → ⊥) → ClosesReport taken accepted faults mid new line last status → status ≢ DeviceFault
-    → Leaves taken faults old new slots device_faults before after (Some status ≡ Some WriteFault) (Some status ≡ Some DeviceFault)
-closes-leaves taken accepted faults old mid new slots device_faults before after A B line last status leaves no_sink no_device closes other = record {
-  told = λ some. closes.told (leaves.told some);
-  slot_count = leaves.slot_count;
-  sink_cause = subst (λ count. IsCounted (Some status ≡ Some WriteFault) count (faults new)) (leaves.sink_cause.stayed no_sink)
-      (record { later = closes.cause.later; once = closes.cause.once; failed = λ e. closes.cause.failed (cc); stayed = λ neither. closes.cause.stayed (λ e. neither (ap Some e)) });
-  device_cause = record { later = leaves.device_cause.later; once = leaves.device_cause.once; failed = λ e. absurd (other (cc)); stayed = λ _. leaves.device_cause.stayed no_device };
-}
 
 -- the status of a run that came to its end
 pub ended-refused : (last : Progress) → last.refused ≡ true → Refused ≡ status_of last Whole

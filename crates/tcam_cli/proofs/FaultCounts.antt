@@ -1,24 +1,15 @@
 -- The counts of failures, by the status that a fault of an act gives.
-use Rattle.std.proofs.Common.{◌≡◌, ◌≢◌, ℕ, Option, Some, None, IsSome, Result, Err, List, refl, ap, ◌∙◌, subst, arith}
-use Rattle.call_history.specs.Cause.{IsCounted}
+use Rattle.std.proofs.Common.{◌≡◌, ◌≢◌, ℕ, Option, Some, None, Result, Err, List, [], ◌++◌, length, refl, sym, ap, ◌∙◌, subst}
+use Rattle.tcam_device.specs.declared.Write.{Write}
+use Rattle.batch_order.specs.CarriedOut.{IsTried}
 use Rattle.replay.specs.declared.RunFault.{RunFault}
 use Rattle.replay.specs.declared.RunFault.TheVariants as fault
 use Rattle.replay.specs.Outside.{Leaves}
 use Rattle.replay.specs.Running.{limit_text}
+use Rattle.replay.proofs.Leaving.{leaves-as, leaves-line, leaves-then}
 use Rattle.tcam_cli.specs.declared.Status.{Status}
 use Rattle.tcam_cli.specs.declared.Status.TheVariants.{WriteFault, DeviceFault}
 use Rattle.tcam_cli.specs.Turns.{ClosesReport, status_of_fault}
-
-counted-as : (A B : Type 0) (old new : ℕ) → (B → A) → (A → B) → IsCounted A old new → IsCounted B old new
-counted-as A B old new back forth is =
-    record { later = is.later; once = is.once; failed = λ b. is.failed (back b); stayed = λ other. is.stayed (λ a. other (forth a)) }
-
--- a count that stood before
-counted-from : (A : Type 0) (old mid new : ℕ) → mid ≡ old → IsCounted A mid new → IsCounted A old new
-counted-from A old mid new same is = subst (λ count. IsCounted A count new) same is
-
-pub uncounted : (A : Type 0) (old new : ℕ) → (A → ⊥) → new ≡ old → IsCounted A old new
-uncounted A old new never same = record { later = omega (arith, same); once = omega (arith, same); failed = λ a. absurd (never a); stayed = λ _. same }
 
 sink-fault : (why : RunFault) → limit_text (Err why) ≡ None → status_of_fault why ≡ WriteFault → why ≡ fault.Sink
 sink-fault fault.Sink room e = refl
@@ -38,44 +29,58 @@ device-fault fault.ProbesFull room e = absurd (cc)
 abbrev failed : RunFault → Result (Unit {0}) RunFault
 failed why = Err why
 
-module _ {S D : Type 0} (taken : S → Option (List ℕ)) (sink_faults : S → ℕ) (slots device_faults : D → ℕ) where
+module _ {S D : Type 0} (taken : S → Option (List ℕ)) (sink_faults : S → ℕ) (slots : D → ℕ) (journal : D → List Write) (device_faults : D → ℕ) where
   -- what a call leaves that failed at an act
   pub stopped-leaves : (sink_old sink_new : S) (device_old device_new : D) (why : RunFault) → limit_text (Err why) ≡ None
-      → Leaves taken sink_faults sink_old sink_new slots device_faults device_old device_new (failed why ≡ failed fault.Sink) (failed why ≡ failed fault.Device)
-      → Leaves taken sink_faults sink_old sink_new slots device_faults device_old device_new (status_of_fault why ≡ WriteFault) (status_of_fault why ≡ DeviceFault)
-  stopped-leaves sink_old sink_new device_old device_new why room is = record {
-    told = is.told;
-    slot_count = is.slot_count;
-    sink_cause = counted-as _ _ (sink_faults sink_old) (sink_faults sink_new) (λ e. ap failed (sink-fault why room e)) (λ e. let same : why ≡ fault.Sink = cc in ap status_of_fault same) is.sink_cause;
-    device_cause = counted-as _ _ (device_faults device_old) (device_faults device_new) (λ e. ap failed (device-fault why room e)) (λ e. let same : why ≡ fault.Device = cc in ap status_of_fault same) is.device_cause;
-  }
+      → Leaves taken sink_faults sink_old sink_new slots journal device_faults device_old device_new (failed why ≡ failed fault.Sink) (failed why ≡ failed fault.Device)
+      → Leaves taken sink_faults sink_old sink_new slots journal device_faults device_old device_new (status_of_fault why ≡ WriteFault) (status_of_fault why ≡ DeviceFault)
+  stopped-leaves sink_old sink_new device_old device_new why room is = leaves-as taken sink_faults slots journal device_faults sink_old sink_new device_old device_new
+      (failed why ≡ failed fault.Sink) (failed why ≡ failed fault.Device) (status_of_fault why ≡ WriteFault) (status_of_fault why ≡ DeviceFault)
+      (λ e. ap failed (sink-fault why room e)) (λ e. let same : why ≡ fault.Sink = cc in ap status_of_fault same)
+      (λ e. ap failed (device-fault why room e)) (λ e. let same : why ≡ fault.Device = cc in ap status_of_fault same) is
 
   -- the same as an answer
   pub some-leaves : (sink_old sink_new : S) (device_old device_new : D) (status : Status)
-      → Leaves taken sink_faults sink_old sink_new slots device_faults device_old device_new (status ≡ WriteFault) (status ≡ DeviceFault)
-      → Leaves taken sink_faults sink_old sink_new slots device_faults device_old device_new (Some status ≡ Some WriteFault) (Some status ≡ Some DeviceFault)
-  some-leaves sink_old sink_new device_old device_new status is = record {
-    told = is.told;
-    slot_count = is.slot_count;
-    sink_cause = counted-as _ _ (sink_faults sink_old) (sink_faults sink_new) (λ e. cc) (λ e. ap Some e) is.sink_cause;
-    device_cause = counted-as _ _ (device_faults device_old) (device_faults device_new) (λ e. cc) (λ e. ap Some e) is.device_cause;
-  }
+      → Leaves taken sink_faults sink_old sink_new slots journal device_faults device_old device_new (status ≡ WriteFault) (status ≡ DeviceFault)
+      → Leaves taken sink_faults sink_old sink_new slots journal device_faults device_old device_new (Some status ≡ Some WriteFault) (Some status ≡ Some DeviceFault)
+  some-leaves sink_old sink_new device_old device_new status is = leaves-as taken sink_faults slots journal device_faults sink_old sink_new device_old device_new
+      (status ≡ WriteFault) (status ≡ DeviceFault) (Some status ≡ Some WriteFault) (Some status ≡ Some DeviceFault)
+      (λ e. cc) (λ e. ap Some e) (λ e. cc) (λ e. ap Some e) is
 
-  -- what calls left before it, of which none failed
-  module _ (sink_old sink_mid sink_new : S) (device_old device_mid device_new : D) (told : IsSome (taken sink_old) → IsSome (taken sink_mid)) (count : slots device_mid ≡ slots device_old)
-      (writes : sink_faults sink_mid ≡ sink_faults sink_old) (makes : device_faults device_mid ≡ device_faults device_old) where
-    pub leaves-from : (A B : Type 0) → Leaves taken sink_faults sink_mid sink_new slots device_faults device_mid device_new A B
-        → Leaves taken sink_faults sink_old sink_new slots device_faults device_old device_new A B
-    leaves-from A B is = record {
-      told = λ some. is.told (told some);
-      slot_count = is.slot_count ∙ count;
-      sink_cause = counted-from A (sink_faults sink_old) (sink_faults sink_mid) (sink_faults sink_new) writes is.sink_cause;
-      device_cause = counted-from B (device_faults device_old) (device_faults device_mid) (device_faults device_new) makes is.device_cause;
-    }
+  -- and as none
+  pub status-leaves : (sink_old sink_new : S) (device_old device_new : D) (status : Status)
+      → Leaves taken sink_faults sink_old sink_new slots journal device_faults device_old device_new (Some status ≡ Some WriteFault) (Some status ≡ Some DeviceFault)
+      → Leaves taken sink_faults sink_old sink_new slots journal device_faults device_old device_new (status ≡ WriteFault) (status ≡ DeviceFault)
+  status-leaves sink_old sink_new device_old device_new status is = leaves-as taken sink_faults slots journal device_faults sink_old sink_new device_old device_new
+      (Some status ≡ Some WriteFault) (Some status ≡ Some DeviceFault) (status ≡ WriteFault) (status ≡ DeviceFault)
+      (λ e. ap Some e) (λ e. cc) (λ e. ap Some e) (λ e. cc) is
+
+  -- a call that failed by neither
+  pub leaves-none : (sink_old sink_new : S) (device_old device_new : D) (A B : Type 0)
+      → Leaves taken sink_faults sink_old sink_new slots journal device_faults device_old device_new A B → (A → ⊥) → (B → ⊥)
+      → Leaves taken sink_faults sink_old sink_new slots journal device_faults device_old device_new ⊥ ⊥
+  leaves-none sink_old sink_new device_old device_new A B is no_sink no_device = leaves-as taken sink_faults slots journal device_faults sink_old sink_new device_old device_new
+      A B ⊥ ⊥ (λ e. absurd e) no_sink (λ e. absurd e) no_device is
 
   -- a last line leaves the device
   pub closed-leaves : (accepted : S → List ℕ) (sink_old sink_new : S) (device : D) (line : List ℕ) (last status : Status) → status ≢ DeviceFault
       → ClosesReport taken accepted sink_faults sink_old sink_new line last status
-      → Leaves taken sink_faults sink_old sink_new slots device_faults device device (status ≡ WriteFault) (status ≡ DeviceFault)
+      → Leaves taken sink_faults sink_old sink_new slots journal device_faults device device (status ≡ WriteFault) (status ≡ DeviceFault)
   closed-leaves accepted sink_old sink_new device line last status other closes =
-      record { told = closes.told; slot_count = refl; sink_cause = closes.cause; device_cause = uncounted (status ≡ DeviceFault) (device_faults device) (device_faults device) other refl }
+      leaves-line taken sink_faults slots journal device_faults sink_old sink_new device device (status ≡ WriteFault) (status ≡ DeviceFault) closes.told refl refl refl closes.cause other
+
+  -- what a call leaves that failed by neither, and then the last line
+  pub closes-leaves : (accepted : S → List ℕ) (sink_old sink_mid sink_new : S) (device_old device_new : D) (A B : Type 0) (line : List ℕ) (last status : Status)
+      → Leaves taken sink_faults sink_old sink_mid slots journal device_faults device_old device_new A B → (A → ⊥) → (B → ⊥)
+      → ClosesReport taken accepted sink_faults sink_mid sink_new line last status → status ≢ DeviceFault
+      → Leaves taken sink_faults sink_old sink_new slots journal device_faults device_old device_new (Some status ≡ Some WriteFault) (Some status ≡ Some DeviceFault)
+  closes-leaves accepted sink_old sink_mid sink_new device_old device_new A B line last status leaves no_sink no_device closes other =
+      leaves-then taken sink_faults slots journal device_faults sink_old sink_mid sink_new device_old device_new device_new A B _ _ no_sink no_device leaves
+      (some-leaves sink_mid sink_new device_new device_new status (closed-leaves accepted sink_mid sink_new device_new line last status other closes))
+
+  -- the tries of a run whose device was blank, by its journal
+  pub made-tried : (sink_old sink_new : S) (device_old device_new : D) (A B : Type 0) → journal device_old ≡ []
+      → Leaves taken sink_faults sink_old sink_new slots journal device_faults device_old device_new A B → IsTried 4 (length (journal device_new)) B (device_faults device_old) (device_faults device_new)
+  made-tried sink_old sink_new device_old device_new A B blank is =
+      let all : journal device_new ≡ is.more = is.grown ∙ ap (λ j. j ++ is.more) blank in
+      subst (λ writes. IsTried 4 (length writes) B (device_faults device_old) (device_faults device_new)) (sym all) is.device_cause

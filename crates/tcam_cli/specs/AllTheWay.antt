@@ -84,8 +84,8 @@ TellsNoWrite setting script = (setting.trace ≡ false) × AllByRecursion IsNoPr
 -- Where the writes of a run end, by its status: at the last set of the script, of what came of it, or of some first
 -- acts. Memory is wanting only before a commit's first write, and a commit prints its line after its last one, so
 -- want of memory leaves no commit half made, nor does a line that fails where no write has a line of its own. A device
--- write that fails may, and so may the line of a write: the writes then end within a commit, where each key has the
--- answer of the set before it or of the one after it (`answers` of IsHitlessRun), and nothing more can be said.
+-- write that fails each time may, and so may the line of a write: the writes then end within a commit, where each key
+-- has the answer of the set before it or of the one after it (`answers` of IsHitlessRun), and nothing more can be said.
 abbrev pub EndsAs : State → Setting → Script → Script → Status → List Write → Type 0
 EndsAs state setting script came Done writes = EndsAtLast state (sets_of setting script) writes
 EndsAs state setting script came Refused writes = EndsAtLast state (sets_of setting script) writes

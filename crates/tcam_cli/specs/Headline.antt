@@ -10,6 +10,7 @@ use Rattle.rule_store.specs.declared.Command.{Command as Change}
 use Rattle.rule_store.specs.Batch.{set_after}
 use Rattle.rule_store.specs.Verdict.{Accepted, verdict}
 use Rattle.tcam_device.specs.declared.Write.{Write}
+use Rattle.batch_order.specs.CarriedOut.{IsTried}
 use Rattle.replay.specs.declared.Act.{Act}
 use Rattle.replay.specs.declared.Act.TheVariants.{Command, Probe, Packet, Commit}
 use Rattle.replay.specs.Script.{Script, ScriptEnd, Whole, FaultAt, Reading, acts_from, script_of}
@@ -80,7 +81,7 @@ pub record IsCutAtLine (setting : Setting) (device_slots : ℕ) (script : Script
   pub due : IsDue setting device_slots script effects (Prints line)
   pub part : line ≡ partial ++ rest
 
--- A device write failed: the effects before it.
+-- A device write failed, each time it was tried: the effects before it.
 pub record IsCutAtWrite (setting : Setting) (device_slots : ℕ) (script : Script) (effects : List Effect) : Type 0 where
   pub write : Write
   pub due : IsDue setting device_slots script effects (Writes write)
@@ -236,10 +237,11 @@ MayEnd Done job left = IsDecided Done job left
 MayEnd Refused job left = IsDecided Refused job left
 MayEnd ScriptFault job left = ReadsSource job × IsDecided ScriptFault job left
 
--- A fault of the outside exactly where its count rose, by one: none is passed over in silence, and none tried again. Else
--- it is want of memory, or the status that words and script decide.
-pub record HasCauses (job : Job) (left : Option (List ℕ)) (status : Status) (source_old source_new sink_old sink_new device_old device_new : ℕ) : Type 0 where
+-- A fault of source or sink exactly where its count rose, by one; of the device by four tries of one write, and its count
+-- rose beside them by at most three for each write that was made. Else it is want of memory, or the status that words and
+-- script decide.
+pub record HasCauses (job : Job) (left : Option (List ℕ)) (status : Status) (made source_old source_new sink_old sink_new device_old device_new : ℕ) : Type 0 where
   pub read : IsCounted (status ≡ ReadFault) source_old source_new
   pub write : IsCounted (status ≡ WriteFault) sink_old sink_new
-  pub device : IsCounted (status ≡ DeviceFault) device_old device_new
+  pub device : IsTried 4 made (status ≡ DeviceFault) device_old device_new
   pub ends : MayEnd status job left

@@ -37,7 +37,7 @@ help_text = codes "tcam: the table manager of a ternary content-addressable memo
     ++ 10 ∷ codes "    2     a line of the script is at fault"
     ++ 10 ∷ codes "    3     standard input could not be read"
     ++ 10 ∷ codes "    4     standard output could not be written"
-    ++ 10 ∷ codes "    5     the device could not be written"
+    ++ 10 ∷ codes "    5     a device write failed four times"
     ++ 10 ∷ codes "    6     memory was wanting"
     ++ 10 ∷ codes "    64    the words are no command line"
     ++ 10 ∷ 10 ∷ codes "The manual is docs/SCRIPT.md."

@@ -76,7 +76,7 @@ fn failing_sink(rt: HostRuntime) -> Result<(), Fail> {
 fn failing_device(rt: HostRuntime) -> Result<(), Fail> {
     let alloc = rt.alloc();
     let words = words_of(alloc, "tcam gen 1 1 2")?;
-    let mut device = FlakyTcam::new(alloc, 4096, &[2])?;
+    let mut device = FlakyTcam::new(alloc, 4096, &[2, 3, 4, 5])?;
     let mut source = MemSource::new(b"".as_slice());
     let mut sink = MemSink::new(alloc)?;
     sink.reserve(4096)?;

@@ -11,7 +11,8 @@
 //! itself; `top` is the loop of lines, acts and the last line, and that of made commands. Everything but the few lines of `main` is proved.
 //!
 //! # What it cost
-//! Lines are carried out before the next read, so a source that gives one line a read is read once a line.
+//! Lines are carried out before the next read, so a source that gives one line a read is read once a line. A device write
+//! that fails is tried three times more, at once, before the run ends.
 //!
 //! # What isn't promised
 //! Speed, and that memory is there. What std's reader and writer do with the file is trusted.
@@ -55,7 +56,7 @@ pub enum Status {
     ReadFault,
     /// The sink failed.
     WriteFault,
-    /// The device failed.
+    /// The device failed, at each try of one write.
     DeviceFault,
     /// Want of memory.
     Memory,

@@ -51,7 +51,7 @@ Exit status:
     2     a line of the script is at fault
     3     standard input could not be read
     4     standard output could not be written
-    5     the device could not be written
+    5     a device write failed four times
     6     memory was wanting
     64    the words are no command line
 

@@ -12,11 +12,12 @@ const EIGHT: &str = "tcam route --slots 8";
 const PROBED: &str =
     "route add 10.0.0.0/8 7\ncommit\nroute add 10.1.2.0/24 8\ncommit\nroute add 10.1.0.0/16 9\ncommit\nprobe 0.0.0.0 10.1.2.3 0 0 0\nroute add 10.1.0.0/20 5\ncommit\n";
 
+const PROBED_REPORT: &str =
+    "commit 1 ok writes 1 words 0 most 1 span 0\ncommit 2 ok writes 1 words 0 most 1 span 0\ncommit 3 ok writes 1 words 0 most 1 span 0\nw 1 p 1 10.1.2.0/24 8\nw 2 p 1 10.1.2.0/24 8\ncommit 4 ok writes 2 words 0 most 2 span 0\nend rules 4 entries 4 writes 5 pending 0\n";
+
 #[test]
 fn probed(rt: HostRuntime) -> Result<(), Fail> {
-    let report =
-        "commit 1 ok writes 1 words 0 most 1 span 0\ncommit 2 ok writes 1 words 0 most 1 span 0\ncommit 3 ok writes 1 words 0 most 1 span 0\nw 1 p 1 10.1.2.0/24 8\nw 2 p 1 10.1.2.0/24 8\ncommit 4 ok writes 2 words 0 most 2 span 0\nend rules 4 entries 4 writes 5 pending 0\n";
-    check(&rt, EIGHT, PROBED, Status::Done, report, 5)?;
+    check(&rt, EIGHT, PROBED, Status::Done, PROBED_REPORT, 5)?;
     let mut probes = String::new(rt.alloc());
     for _ in 0..16 {
         probes.push_str("probe 0.0.0.0 10.1.2.3 0 0 0\n")?;
@@ -59,7 +60,7 @@ fn traced(rt: HostRuntime) -> Result<(), Fail> {
 fn probed_over_a_failing_device(rt: HostRuntime) -> Result<(), Fail> {
     let alloc = rt.alloc();
     let words = words_of(alloc, EIGHT)?;
-    let mut device = FlakyTcam::new(alloc, 4096, &[5])?;
+    let mut device = FlakyTcam::new(alloc, 4096, &[5, 6, 7, 8])?;
     let mut source = MemSource::new(PROBED.as_bytes());
     let mut sink = MemSink::new(alloc)?;
     sink.reserve(4096)?;
@@ -72,6 +73,23 @@ fn probed_over_a_failing_device(rt: HostRuntime) -> Result<(), Fail> {
     assert_eq!(rt; device.journal().len(), 4);
     let whole = carried_out(alloc, PROBED)?;
     assert_eq!(rt; whole.journal().get(..4), Some(device.journal()));
+    Ok(())
+}
+
+/// A write that fails three times is made at the fourth try, once, and the report tells nothing of it.
+#[test]
+fn probed_over_a_device_that_recovers(rt: HostRuntime) -> Result<(), Fail> {
+    let alloc = rt.alloc();
+    let words = words_of(alloc, EIGHT)?;
+    let mut device = FlakyTcam::new(alloc, 4096, &[5, 6, 7])?;
+    let mut source = MemSource::new(PROBED.as_bytes());
+    let mut sink = MemSink::new(alloc)?;
+    sink.reserve(4096)?;
+    let ended = run(alloc, words.as_slice(), &mut source, &mut sink, &mut device);
+    assert_eq!(rt; ended, Status::Done);
+    assert_eq!(rt; sink.bytes(), PROBED_REPORT.as_bytes());
+    let whole = carried_out(alloc, PROBED)?;
+    assert_eq!(rt; whole.journal(), device.journal());
     Ok(())
 }
 

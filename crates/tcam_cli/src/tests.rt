@@ -143,8 +143,8 @@ fn helps(rt: HostRuntime) -> Result<(), Fail> {
     let routes = "tcam route: carries out a script of routes, and writes a report.\n";
     let lists = "tcam acl: carries out a script of an access list, and writes a report.\n";
     let made = "tcam gen: carries out changes of an access list that it makes from a number, and\n";
-    tells_help(&rt, "tcam --help", program, 2093)?;
-    tells_help(&rt, "tcam -h acl", program, 2093)?;
+    tells_help(&rt, "tcam --help", program, 2094)?;
+    tells_help(&rt, "tcam -h acl", program, 2094)?;
     tells_help(&rt, "tcam route --slots 8 -h", routes, 1451)?;
     tells_help(&rt, "tcam acl --help", lists, 1806)?;
     tells_help(&rt, "tcam gen -h", made, 893)
@@ -167,7 +167,7 @@ fn pending(rt: HostRuntime) -> Result<(), Fail> {
 fn failing_device(rt: HostRuntime) -> Result<(), Fail> {
     let alloc = rt.alloc();
     let words = words_of(alloc, EIGHT)?;
-    let mut device = FlakyTcam::new(alloc, 4096, &[1])?;
+    let mut device = FlakyTcam::new(alloc, 4096, &[1, 2, 3, 4])?;
     let mut source = MemSource::new(FIRST.as_bytes());
     let mut sink = MemSink::new(alloc)?;
     sink.reserve(4096)?;
@@ -349,19 +349,18 @@ fn result_at(device: &FlakyTcam<'_>, slot: u32) -> Option<u32>
     }
 }
 
-/// Runs the nested commits over a device of which one write call fails, and compares report, number of writes, the
-/// results in slots 0 to 3, and the journal with the first writes of the whole run.
+/// Runs the nested commits over a device of which four write calls fail, all tries of one write, and compares report,
+/// number of writes, the results in slots 0 to 3, and the journal with the first writes of the whole run.
 fn check_call(
     rt: &(impl Abort + AllocGlobal),
-    call: u64,
+    calls: &[u64],
     report: &str,
     writes: usize,
     held: (Option<u32>, Option<u32>, Option<u32>, Option<u32>),
 ) -> Result<(), Fail> {
     let alloc = rt.alloc();
     let words = words_of(alloc, EIGHT)?;
-    let calls = [call];
-    let mut device = FlakyTcam::new(alloc, 4096, &calls)?;
+    let mut device = FlakyTcam::new(alloc, 4096, calls)?;
     let mut source = MemSource::new(NESTED.as_bytes());
     let mut sink = MemSink::new(alloc)?;
     sink.reserve(4096)?;
@@ -381,11 +380,23 @@ fn check_call(
 
 #[test]
 fn each_device_write(rt: HostRuntime) -> Result<(), Fail> {
-    check_call(&rt, 1, "", 0, (None, None, None, None))?;
-    check_call(&rt, 2, ONE, 1, (None, None, None, Some(7)))?;
-    check_call(&rt, 3, TWO, 2, (None, Some(8), None, Some(7)))?;
-    check_call(&rt, 4, THREE, 3, (None, Some(8), Some(9), Some(7)))?;
-    check_call(&rt, 5, THREE, 4, (Some(8), Some(8), Some(9), Some(7)))
+    check_call(&rt, &[1, 2, 3, 4], "", 0, (None, None, None, None))?;
+    check_call(&rt, &[2, 3, 4, 5], ONE, 1, (None, None, None, Some(7)))?;
+    check_call(&rt, &[3, 4, 5, 6], TWO, 2, (None, Some(8), None, Some(7)))?;
+    check_call(
+        &rt,
+        &[4, 5, 6, 7],
+        THREE,
+        3,
+        (None, Some(8), Some(9), Some(7)),
+    )?;
+    check_call(
+        &rt,
+        &[5, 6, 7, 8],
+        THREE,
+        4,
+        (Some(8), Some(8), Some(9), Some(7)),
+    )
 }
 
 /// Runs a script with one report write that fails, and compares report, number of device writes, and the journal with

@@ -41,8 +41,9 @@ use tcam_device::Device;
 /// After every single device write each packet key has the answer of the set before the commit or of the one after it,
 /// and after a commit's last write that of the one after it; a refused commit writes nothing. The answer is `Done` or
 /// `Refused` where the script was read to its end, `Refused` where some commit was refused; `Script` where a line is at
-/// fault, which the last line of the report names. `ReadFault`, `WriteFault` and `DeviceFault` come exactly where the
-/// count of failures of source, sink or device rose, and then nothing more is read, written or printed. `Memory` comes
+/// fault, which the last line of the report names. `ReadFault` and `WriteFault` come exactly where the count of failures
+/// of source or sink rose. A device write that fails is tried again at once, four times in all; `DeviceFault` comes where
+/// the fourth failed too. After any of the three nothing more is read, written or printed. `Memory` comes
 /// for want of memory alone, before a commit's first write. `Usage` comes where the words are no command line, and
 /// there nothing else comes but a failing sink and want of memory. The lines of an act are handed to the sink before the
 /// next act is carried out. No input is taken in vain: of the lines that were whole before the last read none is at fault
@@ -66,7 +67,7 @@ pub fn run<S: Source, K: Sink, D: Device>(
         (S.given source.old) (S.given source.new) (D.journal device.new) (K.accepted sink.old) (K.accepted sink.new) }
     ensures told { (IsSome (S.left source.old) → IsSome (S.left source.new)) × (IsSome (K.taken sink.old) → IsSome (K.taken sink.new)) }
     ensures slot_count { D.slot_count device.new ≡ D.slot_count device.old }
-    ensures causes { HasCauses (job_of (map (λ w. string_bytes w) words.now)) (S.left source.old) result
+    ensures causes { HasCauses (job_of (map (λ w. string_bytes w) words.now)) (S.left source.old) result (length (D.journal device.new))
         (S.faults source.old) (S.faults source.new) (K.faults sink.old) (K.faults sink.new)
         (D.faults device.old) (D.faults device.new) }
 {
@@ -122,7 +123,7 @@ fn run_script<S: Source, K: Sink, D: Device>(
         (S.given source.old) (S.given source.new) (D.journal device.new) (K.accepted sink.old) (K.accepted sink.new) }
     ensures told { (IsSome (S.left source.old) → IsSome (S.left source.new)) × (IsSome (K.taken sink.old) → IsSome (K.taken sink.new)) }
     ensures slot_count { D.slot_count device.new ≡ D.slot_count device.old }
-    ensures causes { HasCauses (Reads (setting_of run.old)) (S.left source.old) result
+    ensures causes { HasCauses (Reads (setting_of run.old)) (S.left source.old) result (length (D.journal device.new))
         (S.faults source.old) (S.faults source.new) (K.faults sink.old) (K.faults sink.new)
         (D.faults device.old) (D.faults device.new) }
 {
@@ -154,7 +155,7 @@ fn turn<S: Source, K: Sink, D: Device>(
     ensures rests { lines.old.over ≢ Going → (S.left source.new ≡ S.left source.old) × (lines.new ≡ lines.old) }
     ensures no_usage { result ≢ Some Status.Usage }
     ensures read { IsCounted (result ≡ Some Status.ReadFault) (S.faults source.old) (S.faults source.new) }
-    ensures leaves { Leaves K.taken K.faults sink.old sink.new D.slot_count D.faults device.old device.new (result ≡ Some Status.WriteFault) (result ≡ Some Status.DeviceFault) }
+    ensures leaves { Leaves K.taken K.faults sink.old sink.new D.slot_count D.journal D.faults device.old device.new (result ≡ Some Status.WriteFault) (result ≡ Some Status.DeviceFault) }
 {
     let line = match lines.next(source) {
         Err(LineFault::Read) => return Some(Status::ReadFault),
@@ -199,7 +200,7 @@ fn run_made<K: Sink, D: Device>(
     requires blank { D.journal device.old ≡ [] }
     ensures carried_out { (which : Bool) → (left : Option (List ℕ)) → IsCarriedOut (Makes (setting_of run.old) seed rules batches) (D.slot_count device.old) result
         left left (counted which (K.taken sink.old) (K.accepted sink.old)) (counted which (K.taken sink.new) (K.accepted sink.new)) (D.journal device.new) }
-    ensures leaves { Leaves K.taken K.faults sink.old sink.new D.slot_count D.faults device.old device.new (result ≡ Status.WriteFault) (result ≡ Status.DeviceFault) }
+    ensures leaves { Leaves K.taken K.faults sink.old sink.new D.slot_count D.journal D.faults device.old device.new (result ≡ Status.WriteFault) (result ≡ Status.DeviceFault) }
 {
     let mut maker = Maker::new(seed, rules, batches);
     'acts: loop {

@@ -1,5 +1,6 @@
-use Rattle.std.proofs.Common.{Bool, ◌≡◌, IsSome}
+use Rattle.std.proofs.Common.{Bool}
 use Rattle.script_lines.specs.Given.{counted}
+use Rattle.replay.specs.Outside.{Leaves}
 use Rattle.replay.proofs.Making.{IsMaking, left_number}
 use Rattle.replay.proofs.run.make_writes.Given as goal
 
@@ -7,10 +8,7 @@ abbrev pub invariant-making : goal.invariant-making
 invariant-making g l = record {
   making : (which : Bool) → IsMaking l.fn.manager l.manager l.fn.watch (g.D.Writable.slot_count l.fn.device) (g.D.Writable.journal l.fn.device) (g.D.Writable.journal l.device)
       (counted which (g.K.Sink.taken l.fn.sink) (g.K.Sink.accepted l.fn.sink)) (counted which (g.K.Sink.taken l.sink) (g.K.Sink.accepted l.sink)) l.number (g.D.Writable.spare l.device);
-  slot_count : g.D.Writable.slot_count l.device ≡ g.D.Writable.slot_count l.fn.device;
-  told : IsSome (g.K.Sink.taken l.fn.sink) → IsSome (g.K.Sink.taken l.sink);
-  sink_faults : g.K.Sink.faults l.sink ≡ g.K.Sink.faults l.fn.sink;
-  device_faults : g.D.Writable.faults l.device ≡ g.D.Writable.faults l.fn.device;
+  leaves : Leaves (g.K.Sink.taken) (g.K.Sink.faults) l.fn.sink l.sink g.D.Writable.slot_count g.D.Writable.journal g.D.Writable.faults l.fn.device l.device ⊥ ⊥;
 }
 
 abbrev pub decreases-making : goal.decreases-making

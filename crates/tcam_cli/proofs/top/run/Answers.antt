@@ -6,7 +6,8 @@ use Rattle.tcam_cli.specs.OwnTexts.{version_text}
 use Rattle.replay.specs.declared.Family.TheVariants.{Acl}
 use Rattle.tcam_cli.specs.Headline.{Makes, Reads, Tells}
 use Rattle.tcam_cli.proofs.Begun.{begins}
-use Rattle.tcam_cli.proofs.FaultCounts.{uncounted}
+use Rattle.replay.proofs.Leaving.{uncounted}
+use Rattle.tcam_cli.proofs.FaultCounts.{made-tried}
 use Rattle.tcam_cli.proofs.MadeRuns.{made-ends}
 use Rattle.tcam_cli.proofs.TopCall.{memory-carried, told-alone}
 use Rattle.tcam_cli.proofs.HitlessRuns.{hitless-job}
@@ -155,7 +156,7 @@ returns-in-Ok-new-clause-causes g c =
     rw (asked ∙ ap (λ (run : Running). Makes (setting_of run) c.in-Ok-Made.seed c.in-Ok-Made.rules c.in-Ok-Made.batches) (sym c.in-Ok-new.ensures)) (record {
       read = uncounted _ (g.S.Source.faults c.args.source.now) (g.S.Source.faults c.args.source.now) carried.1.0 refl;
       write = c.run_made.ensures.leaves.sink_cause;
-      device = c.run_made.ensures.leaves.device_cause;
+      device = made-tried _ _ _ _ _ _ _ _ _ _ _ c.requires.blank c.run_made.ensures.leaves;
       ends = made-ends _ _ _ _ _ _ (g.S.Source.left c.args.source.now) _ _ _ carried;
     })
 

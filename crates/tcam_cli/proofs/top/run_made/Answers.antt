@@ -7,8 +7,9 @@ use Rattle.replay.specs.declared.Family.{Family}
 use Rattle.replay.specs.Run.{Progress, Setting}
 use Rattle.replay.specs.Running.{IsActOf, progress_of, setting_of}
 use Rattle.replay.specs.Carried.{Carries}
+use Rattle.replay.proofs.Leaving.{leaves-line, leaves-then, uncounted}
 use Rattle.tcam_cli.specs.MadeScript.{made_act}
-use Rattle.tcam_cli.proofs.FaultCounts.{closed-leaves, leaves-from, stopped-leaves}
+use Rattle.tcam_cli.proofs.FaultCounts.{closed-leaves, leaves-none, stopped-leaves}
 use Rattle.tcam_cli.proofs.MadeRuns.{MadeSoFar, made-at, made-ended, made-first, made-fits, made-more, made-pending, made-stopped}
 use Rattle.tcam_cli.proofs.OneMore.{step-pending}
 use Rattle.tcam_cli.proofs.Outcomes.{Stops, stops}
@@ -22,14 +23,11 @@ acts-init g c =
     let most = c.requires.most_batches in
     record {
       setting = refl;
-      slot_count = refl;
       idle = c.requires.idle;
       commits = omega (arith, none, few, most);
       room = subst (λ come. AreBatches (2 * c.args.rules) come c.new-maker.result) (sym empty) c.new-maker.ensures.batches;
       made = λ which. made-first _ _ _ _ _ _ _ c.new-maker.ensures.commands c.requires.begun c.requires.blank;
-      told = λ some. some;
-      writes = refl;
-      makes = refl;
+      leaves = leaves-line _ _ _ _ _ _ _ _ _ ⊥ ⊥ (λ some. some) refl refl refl (uncounted ⊥ _ _ (λ e. e) refl) (λ e. e);
     }
 
 pub apply-requires : goal.apply-requires
@@ -37,7 +35,7 @@ apply-requires g c =
     let i = c.acts.invariant in
     let slots : c.acts.run.manager.slots ≡ c.args.run.now.manager.slots = ap (λ (s : Setting). s.slots) i.setting in
     let family = ap (λ (s : Setting). s.family) i.setting ∙ c.requires.family in
-    let count = i.slot_count in
+    let count = i.leaves.slot_count in
     let within = c.requires.slots in
     let few = i.commits in
     record {
@@ -67,21 +65,18 @@ acts-preserved g c =
     let more = a.commits in
     let here : (which : Bool) → MadeSoFar (setting_of c.acts.run) (g.D.Writable.slot_count c.acts.device) (made_commands c.args.seed c.args.rules c.args.batches) (c.in-Some.made ∷ c.next.new.self)
     (progress_of (g.D.Writable.slot_count c.acts.device) c.acts.run) (g.D.Writable.journal c.acts.device) (counted which (g.K.Sink.taken c.args.sink.now) (g.K.Sink.accepted c.args.sink.now))
-    (counted which (g.K.Sink.taken c.acts.sink) (g.K.Sink.accepted c.acts.sink)) = λ which. rw (i.setting, i.slot_count, ← next) (i.made which) in
+    (counted which (g.K.Sink.taken c.acts.sink) (g.K.Sink.accepted c.acts.sink)) = λ which. rw (i.setting, i.leaves.slot_count, ← next) (i.made which) in
     let carried : (which : Bool) → Carries (setting_of c.acts.run) (progress_of (g.D.Writable.slot_count c.acts.device) c.acts.run) (made_act c.in-Some.made) (progress_of (g.D.Writable.slot_count c.acts.device) c.apply.new.self)
     (g.D.Writable.journal c.acts.device) (g.D.Writable.journal c.apply.new.device) (counted which (g.K.Sink.taken c.acts.sink) (g.K.Sink.accepted c.acts.sink)) (counted which (g.K.Sink.taken c.apply.new.sink) (g.K.Sink.accepted c.apply.new.sink)) =
     λ which. rw (← c.act_of_made.ensures.act) (a.acts which (made-at _ _ _ _ _ _ _ _ (here which))) in
     let are = subst (λ (maker : List Made). AreBatches (2 * c.args.rules) (length c.acts.run.pending) maker) next i.room in
     record {
       setting = a.setting ∙ i.setting;
-      slot_count = a.leaves.slot_count ∙ i.slot_count;
       idle = a.idle;
       commits = omega (arith, one, few, more);
       room = subst (λ come. AreBatches (2 * c.args.rules) come c.next.new.self) (sym (step-pending (setting_of c.acts.run) (progress_of (g.D.Writable.slot_count c.acts.device) c.acts.run) (made_act c.in-Some.made) (carried true).effects (progress_of (g.D.Writable.slot_count c.acts.device) c.apply.new.self) (carried true).step)) (made-pending (2 * c.args.rules) c.in-Some.made c.next.new.self (length c.acts.run.pending) are);
-      made = λ which. rw (← i.setting, ← i.slot_count) (made-more _ _ _ _ c.in-Some.made _ _ _ _ _ _ _ (here which) (carried which));
-      told = λ some. a.leaves.told (i.told some);
-      writes = a.leaves.sink_cause.stayed (λ e. cc) ∙ i.writes;
-      makes = a.leaves.device_cause.stayed (λ e. cc) ∙ i.makes;
+      made = λ which. rw (← i.setting, ← i.leaves.slot_count) (made-more _ _ _ _ c.in-Some.made _ _ _ _ _ _ _ (here which) (carried which));
+      leaves = leaves-then _ _ _ _ _ _ _ _ _ _ _ ⊥ ⊥ ⊥ ⊥ (λ e. e) (λ e. e) i.leaves (leaves-none _ _ _ _ _ _ _ _ _ _ _ a.leaves (λ e. cc) (λ e. cc));
     }
 
 pub returns-in_default-clause-carried_out : goal.returns-in_default-clause-carried_out
@@ -95,7 +90,7 @@ returns-in_default-clause-carried_out g c = λ which source.
 pub returns-in_default-clause-leaves : goal.returns-in_default-clause-leaves
 returns-in_default-clause-leaves g c =
     let i = c.acts.invariant in
-    leaves-from _ _ _ _ _ _ _ _ _ _ i.told i.slot_count i.writes i.makes _ _ (closed-leaves _ _ _ _ g.K.Sink.accepted _ _ c.acts.device _ _ _ c.finish.ensures.kind.2 (c.finish.ensures.closes 0))
+    leaves-then _ _ _ _ _ _ _ _ _ _ _ ⊥ ⊥ _ _ (λ e. e) (λ e. e) i.leaves (closed-leaves _ _ _ _ _ g.K.Sink.accepted _ _ c.acts.device _ _ _ c.finish.ensures.kind.2 (c.finish.ensures.closes 0))
 
 pub returns-in-Err-clause-carried_out : goal.returns-in-Err-clause-carried_out
 returns-in-Err-clause-carried_out g c = λ which source.
@@ -106,11 +101,11 @@ returns-in-Err-clause-carried_out g c = λ which source.
     let none = made-fits (2 * c.args.rules) _ _ c.in-Some.made _ _ _ (Err why) next c.act_of_made.ensures.act i.room (omega (arith, most)) c.in-Err.ensures.limit in
     let slots = g.D.Writable.slot_count c.acts.device in
     let here : MadeSoFar (setting_of c.acts.run) slots (made_commands c.args.seed c.args.rules c.args.batches) (c.in-Some.made ∷ c.next.new.self) (progress_of slots c.acts.run) (g.D.Writable.journal c.acts.device)
-    (counted which (g.K.Sink.taken c.args.sink.now) (g.K.Sink.accepted c.args.sink.now)) (counted which (g.K.Sink.taken c.acts.sink) (g.K.Sink.accepted c.acts.sink)) = rw (i.setting, i.slot_count, ← next) (i.made which) in
+    (counted which (g.K.Sink.taken c.args.sink.now) (g.K.Sink.accepted c.args.sink.now)) (counted which (g.K.Sink.taken c.acts.sink) (g.K.Sink.accepted c.acts.sink)) = rw (i.setting, i.leaves.slot_count, ← next) (i.made which) in
     let is : Stops slots (setting_of c.acts.run) (progress_of slots c.acts.run) (made_act c.in-Some.made) why (g.D.Writable.journal c.acts.device) (g.D.Writable.journal c.apply.new.device)
     (counted which (g.K.Sink.taken c.acts.sink) (g.K.Sink.accepted c.acts.sink)) (counted which (g.K.Sink.taken c.apply.new.sink) (g.K.Sink.accepted c.apply.new.sink)) =
     rw (← c.act_of_made.ensures.act) (stops _ _ _ _ why _ _ _ _ (c.in-Err.ensures.acts which)) in
-    rw (c.status_of_fault.ensures.status, ← i.setting, ← i.slot_count)
+    rw (c.status_of_fault.ensures.status, ← i.setting, ← i.leaves.slot_count)
     (made-stopped (setting_of c.acts.run) slots c.args.seed c.args.rules c.args.batches c.next.new.self c.in-Some.made (progress_of slots c.acts.run) _ _ _ _ _ why here none is source)
 
 pub returns-in-Err-clause-leaves : goal.returns-in-Err-clause-leaves
@@ -119,4 +114,4 @@ returns-in-Err-clause-leaves g c =
     let most = c.requires.most_rules in
     let why = c.in-Err.fault in
     let none = made-fits (2 * c.args.rules) _ _ c.in-Some.made _ _ _ (Err why) c.in-Some.ensures.next c.act_of_made.ensures.act i.room (omega (arith, most)) c.in-Err.ensures.limit in
-    rw c.status_of_fault.ensures.status (leaves-from _ _ _ _ _ _ _ _ _ _ i.told i.slot_count i.writes i.makes _ _ (stopped-leaves _ _ _ _ _ _ _ _ why none c.in-Err.ensures.leaves))
+    rw c.status_of_fault.ensures.status (leaves-then _ _ _ _ _ _ _ _ _ _ _ ⊥ ⊥ _ _ (λ e. e) (λ e. e) i.leaves (stopped-leaves _ _ _ _ _ _ _ _ _ why none c.in-Err.ensures.leaves))

@@ -1,7 +1,8 @@
-use Rattle.std.proofs.Common.{◌≡◌, ◌+◌, ◌*◌, ◌≤◌, Bool, None, IsSome, length}
+use Rattle.std.proofs.Common.{◌≡◌, ◌+◌, ◌*◌, ◌≤◌, Bool, None, length}
 use Rattle.script_lines.specs.Given.{counted}
 use Rattle.rule_gen.specs.Batches.{AreBatches}
 use Rattle.rule_gen.specs.Made.{made_commands}
+use Rattle.replay.specs.Outside.{Leaves}
 use Rattle.replay.specs.Running.{progress_of, setting_of}
 use Rattle.tcam_cli.proofs.MadeRuns.{MadeSoFar}
 use Rattle.tcam_cli.proofs.top.run_made.Given as goal
@@ -9,15 +10,12 @@ use Rattle.tcam_cli.proofs.top.run_made.Given as goal
 abbrev pub invariant-acts : goal.invariant-acts
 invariant-acts g l = record {
   setting : setting_of l.run ≡ setting_of l.fn.run;
-  slot_count : g.D.Writable.slot_count l.device ≡ g.D.Writable.slot_count l.fn.device;
   idle : l.run.manager.held ≡ None;
   commits : l.run.commits + length l.maker ≤ 513 * 64;
   room : AreBatches (2 * l.rules) (length l.run.pending) l.maker;
   made : (which : Bool) → MadeSoFar (setting_of l.fn.run) (g.D.Writable.slot_count l.fn.device) (made_commands l.seed l.rules l.batches) l.maker (progress_of (g.D.Writable.slot_count l.fn.device) l.run)
       (g.D.Writable.journal l.device) (counted which (g.K.Sink.taken l.fn.sink) (g.K.Sink.accepted l.fn.sink)) (counted which (g.K.Sink.taken l.sink) (g.K.Sink.accepted l.sink));
-  told : IsSome (g.K.Sink.taken l.fn.sink) → IsSome (g.K.Sink.taken l.sink);
-  writes : g.K.Sink.faults l.sink ≡ g.K.Sink.faults l.fn.sink;
-  makes : g.D.Writable.faults l.device ≡ g.D.Writable.faults l.fn.device;
+  leaves : Leaves g.K.Sink.taken g.K.Sink.faults l.fn.sink l.sink g.D.Writable.slot_count g.D.Writable.journal g.D.Writable.faults l.fn.device l.device ⊥ ⊥;
 }
 
 abbrev pub decreases-acts : goal.decreases-acts

@@ -6,23 +6,24 @@ use Rattle.tcam_cli.proofs.InTime.{in-time-none, stands-first, stands-next, turn
 use Rattle.script_lines.specs.Reader.{HeldBytes}
 use Rattle.replay.specs.Run.{Progress}
 use Rattle.replay.specs.Running.{progress_of, setting_of}
+use Rattle.replay.specs.Outside.{Leaves}
+use Rattle.replay.proofs.Leaving.{leaves-line, leaves-then, uncounted}
+use Rattle.tcam_cli.specs.declared.Status.TheVariants.{WriteFault, DeviceFault}
+use Rattle.tcam_cli.proofs.FaultCounts.{leaves-none, made-tried, status-leaves}
 use Rattle.tcam_cli.proofs.WholeRun.{starts, told-source, counted-last, carried, may-end}
 use Rattle.tcam_cli.proofs.top.run_script.Goals as goal
 
 pub acts-init : goal.acts-init
 acts-init g c = record {
   setting = refl;
-  slot_count = refl;
   stands = record {
     idle = c.requires.idle;
     commits = let none : c.args.run.now.commits ≡ 0 = ap (λ (p : Progress). p.commits) c.requires.begun in omega (arith, none);
     within = let none = ap (λ (h : HeldBytes). h.before) c.new-lines.ensures in omega (arith, none);
   };
   gives = ([], gives-none _ _, λ e. absurd e, λ which left now may. stands-first _ _ _ _ _ _ _ _ _ (starts _ _ left _ now _ _ _ c.new-lines.ensures (ap Some may.bytes) c.requires.begun c.requires.blank), in-time-none _ _ _ _ _);
-  told = λ some. some;
+  leaves = leaves-line _ _ _ _ _ _ _ _ _ ⊥ ⊥ (λ some. some) refl refl refl (uncounted ⊥ _ _ (λ e. e) refl) (λ e. e);
   reads = refl;
-  writes = refl;
-  makes = refl;
 }
 
 pub acts-preserved : goal.acts-preserved
@@ -31,7 +32,6 @@ acts-preserved g c =
     let t = c.in-None.ensures in
     record {
       setting = t.setting ∙ i.setting;
-      slot_count = t.leaves.slot_count ∙ i.slot_count;
       stands = t.goes.1;
       gives = (
         i.gives.0 ++ t.gives.0,
@@ -40,18 +40,16 @@ acts-preserved g c =
         λ which left now may.
             let stays : HasEnd i.gives.0 → t.gives.0 ≡ [] = λ e. (t.gives.2 true).rests (no-more _ (i.gives.2 e)) in
             let s = i.gives.3 which left (concat t.gives.0 ++ now) (may-first left now i.gives.0 t.gives.0 may stays) in
-            rw (← i.setting, ← i.slot_count) (stands-next _ _ i.gives.0 t.gives.0 _ _ _ _ _ _ _ _ _ left now (t.gives.2 which) may (rw (i.setting, i.slot_count) s)),
+            rw (← i.setting, ← i.leaves.slot_count) (stands-next _ _ i.gives.0 t.gives.0 _ _ _ _ _ _ _ _ _ left now (t.gives.2 which) may (rw (i.setting, i.leaves.slot_count) s)),
         let turn = t.gives.2 false in
             let stays : HasEnd i.gives.0 → t.gives.0 ≡ [] = λ e. turn.rests (no-more _ (i.gives.2 e)) in
             let may = may-all (i.gives.0 ++ t.gives.0) in
             let s = i.gives.3 false _ (concat t.gives.0 ++ []) (may-first _ [] i.gives.0 t.gives.0 may stays) in
             turn-in-time (setting_of c.args.run.now) (g.D.Writable.slot_count c.args.device.now) i.gives.0 t.gives.0 c.acts.lines (progress_of (g.D.Writable.slot_count c.args.device.now) c.acts.run) (g.D.Writable.journal c.acts.device) _ _ _ _ (λ left now may. (i.gives.3 false left now may).so_far) stays turn.rests turn.last
-            (turn.grows (concat (i.gives.0 ++ t.gives.0)) (concat t.gives.0 ++ []) [] (Some (g.K.Sink.accepted c.args.sink.now)) (may-second _ [] i.gives.0 t.gives.0 may) (rw (i.setting, i.slot_count) s.so_far)) i.gives.4,
+            (turn.grows (concat (i.gives.0 ++ t.gives.0)) (concat t.gives.0 ++ []) [] (Some (g.K.Sink.accepted c.args.sink.now)) (may-second _ [] i.gives.0 t.gives.0 may) (rw (i.setting, i.leaves.slot_count) s.so_far)) i.gives.4,
       );
-      told = λ some. t.leaves.told (i.told some);
+      leaves = leaves-then _ _ _ _ _ _ _ _ _ _ _ ⊥ ⊥ ⊥ ⊥ (λ e. e) (λ e. e) i.leaves (leaves-none _ _ _ _ _ _ _ _ _ _ _ t.leaves (λ e. cc) (λ e. cc));
       reads = t.read.stayed (λ e. cc) ∙ i.reads;
-      writes = t.leaves.sink_cause.stayed (λ e. cc) ∙ i.writes;
-      makes = t.leaves.device_cause.stayed (λ e. cc) ∙ i.makes;
     }
 
 pub returns-in-Some-clause-carried_out : goal.returns-in-Some-clause-carried_out
@@ -63,7 +61,7 @@ returns-in-Some-clause-carried_out g c =
     carried (setting_of c.args.run.now) (g.D.Writable.slot_count c.args.device.now) c.in-Some.status (g.S.Source.left c.args.source.now) (g.S.Source.left c.turn.new.source) (g.D.Writable.journal c.turn.new.device) (g.K.Sink.taken c.args.sink.now) (g.K.Sink.taken c.turn.new.sink)
     (concat (i.gives.0 ++ t.gives.0), all.taken) (ends-told _ _ c.in-Some.status _ _ _ _ (i.gives.0 ++ t.gives.0) _ _ _ all (λ left taken now may parts.
     let s = i.gives.3 true left (concat t.gives.0 ++ now) (may-first left now i.gives.0 t.gives.0 may stays) in
-    rw (← i.setting, ← i.slot_count) ((t.gives.2 true).ends left taken (concat t.gives.0 ++ now) now _ (may-second left now i.gives.0 t.gives.0 may) parts (rw (i.setting, i.slot_count) s.so_far))))
+    rw (← i.setting, ← i.leaves.slot_count) ((t.gives.2 true).ends left taken (concat t.gives.0 ++ now) now _ (may-second left now i.gives.0 t.gives.0 may) parts (rw (i.setting, i.leaves.slot_count) s.so_far))))
 
 pub returns-in-Some-clause-given : goal.returns-in-Some-clause-given
 returns-in-Some-clause-given g c = λ which.
@@ -75,7 +73,7 @@ returns-in-Some-clause-given g c = λ which.
     (g.D.Writable.journal c.turn.new.device) (counted which (g.K.Sink.taken c.args.sink.now) (g.K.Sink.accepted c.args.sink.now)) (counted which (g.K.Sink.taken c.turn.new.sink) (g.K.Sink.accepted c.turn.new.sink))
     (λ e. t.no_usage (ap Some e)) all (λ left taken now may parts.
     let s = i.gives.3 which left (concat t.gives.0 ++ now) (may-first left now i.gives.0 t.gives.0 may stays) in
-    rw (← i.setting, ← i.slot_count) ((t.gives.2 which).ends left taken (concat t.gives.0 ++ now) now _ (may-second left now i.gives.0 t.gives.0 may) parts (rw (i.setting, i.slot_count) s.so_far)))
+    rw (← i.setting, ← i.leaves.slot_count) ((t.gives.2 which).ends left taken (concat t.gives.0 ++ now) now _ (may-second left now i.gives.0 t.gives.0 may) parts (rw (i.setting, i.leaves.slot_count) s.so_far)))
 
 pub returns-in-Some-clause-causes : goal.returns-in-Some-clause-causes
 returns-in-Some-clause-causes g c =
@@ -83,14 +81,16 @@ returns-in-Some-clause-causes g c =
     let t = c.in-Some.ensures in
     let stays : HasEnd i.gives.0 → t.gives.0 ≡ [] = λ e. (t.gives.2 true).rests (no-more _ (i.gives.2 e)) in
     let all = gives-trans _ _ _ _ _ _ i.gives.0 t.gives.0 i.gives.1 t.gives.1 stays (λ e. (t.rests (no-more _ (i.gives.2 e))).0) in
+    let whole : Leaves g.K.Sink.taken g.K.Sink.faults c.args.sink.now c.turn.new.sink g.D.Writable.slot_count g.D.Writable.journal g.D.Writable.faults c.args.device.now c.turn.new.device (c.in-Some.status ≡ WriteFault) (c.in-Some.status ≡ DeviceFault) =
+    leaves-then _ _ _ _ _ _ _ _ _ _ _ ⊥ ⊥ _ _ (λ e. e) (λ e. e) i.leaves (status-leaves _ _ _ _ _ _ _ _ _ c.in-Some.status t.leaves) in
     record {
       read = counted-last (g.S.Source.faults c.args.source.now) (g.S.Source.faults c.acts.source) (g.S.Source.faults c.turn.new.source) c.in-Some.status _ i.reads t.read;
-      write = counted-last (g.K.Sink.faults c.args.sink.now) (g.K.Sink.faults c.acts.sink) (g.K.Sink.faults c.turn.new.sink) c.in-Some.status _ i.writes t.leaves.sink_cause;
-      device = counted-last (g.D.Writable.faults c.args.device.now) (g.D.Writable.faults c.acts.device) (g.D.Writable.faults c.turn.new.device) c.in-Some.status _ i.makes t.leaves.device_cause;
+      write = whole.sink_cause;
+      device = made-tried _ _ _ _ _ _ _ _ _ _ _ c.requires.blank whole;
       ends = may-end (setting_of c.args.run.now) (g.D.Writable.slot_count c.args.device.now) c.in-Some.status (g.S.Source.left c.args.source.now) (g.S.Source.left c.turn.new.source) (g.D.Writable.journal c.turn.new.device) (g.K.Sink.taken c.args.sink.now) (g.K.Sink.taken c.turn.new.sink)
           (concat (i.gives.0 ++ t.gives.0), all.taken) (λ e. t.no_usage (ap Some e)) (ends-told _ _ c.in-Some.status _ _ _ _ (i.gives.0 ++ t.gives.0) _ _ _ all (λ left taken now may parts.
           let s = i.gives.3 true left (concat t.gives.0 ++ now) (may-first left now i.gives.0 t.gives.0 may stays) in
-          rw (← i.setting, ← i.slot_count) ((t.gives.2 true).ends left taken (concat t.gives.0 ++ now) now _ (may-second left now i.gives.0 t.gives.0 may) parts (rw (i.setting, i.slot_count) s.so_far))));
+          rw (← i.setting, ← i.leaves.slot_count) ((t.gives.2 true).ends left taken (concat t.gives.0 ++ now) now _ (may-second left now i.gives.0 t.gives.0 may) parts (rw (i.setting, i.leaves.slot_count) s.so_far))));
     }
 
 -- what was told stays told
@@ -99,7 +99,7 @@ returns-in-Some-clause-told g c =
     let i = c.acts.invariant in
     let t = c.in-Some.ensures in (
       λ some. told-source _ _ (concat t.gives.0, t.gives.1.taken) (told-source _ _ (concat i.gives.0, i.gives.1.taken) some),
-      λ some. t.leaves.told (i.told some),
+      λ some. t.leaves.told (i.leaves.told some),
     )
 
 -- the last turn too comes in time
@@ -114,7 +114,7 @@ returns-in-Some-clause-in_time g c =
     let s = i.gives.3 false _ (concat t.gives.0 ++ []) (may-first _ [] i.gives.0 t.gives.0 may stays) in
     reads-in-time (setting_of c.args.run.now) (g.D.Writable.slot_count c.args.device.now) c.in-Some.status _ _ (i.gives.0 ++ t.gives.0) _ _ _ all.given
     (turn-in-time (setting_of c.args.run.now) (g.D.Writable.slot_count c.args.device.now) i.gives.0 t.gives.0 c.acts.lines (progress_of (g.D.Writable.slot_count c.args.device.now) c.acts.run) (g.D.Writable.journal c.acts.device) _ _ _ _ (λ left now may. (i.gives.3 false left now may).so_far) stays turn.rests turn.last
-    (turn.grows (concat (i.gives.0 ++ t.gives.0)) (concat t.gives.0 ++ []) [] (Some (g.K.Sink.accepted c.args.sink.now)) (may-second _ [] i.gives.0 t.gives.0 may) (rw (i.setting, i.slot_count) s.so_far)) i.gives.4)
+    (turn.grows (concat (i.gives.0 ++ t.gives.0)) (concat t.gives.0 ++ []) [] (Some (g.K.Sink.accepted c.args.sink.now)) (may-second _ [] i.gives.0 t.gives.0 may) (rw (i.setting, i.leaves.slot_count) s.so_far)) i.gives.4)
     (λ memory front last e left after may.
-    rw (← i.setting, ← i.slot_count) (wants-in-time _ _ i.gives.0 t.gives.0 _ _ _ _ _ _ _ _ _ _ left after last front turn memory may
-    (rw (i.setting, i.slot_count) (i.gives.3 false left (concat t.gives.0 ++ after) (may-first left after i.gives.0 t.gives.0 may stays))) e))
+    rw (← i.setting, ← i.leaves.slot_count) (wants-in-time _ _ i.gives.0 t.gives.0 _ _ _ _ _ _ _ _ _ _ left after last front turn memory may
+    (rw (i.setting, i.leaves.slot_count) (i.gives.3 false left (concat t.gives.0 ++ after) (may-first left after i.gives.0 t.gives.0 may stays))) e))

@@ -1,6 +1,7 @@
-use Rattle.std.proofs.Common.{◌≡◌, ◌-◌, ℕ, Bool, List, IsSome}
+use Rattle.std.proofs.Common.{◌≡◌, ◌-◌, ℕ, Bool, List}
 use Rattle.script_lines.specs.Given.{HasEnd, MayGive, GivesPieces, counted}
 use Rattle.script_lines.specs.declared.Over.TheVariants as over
+use Rattle.replay.specs.Outside.{Leaves}
 use Rattle.replay.specs.Running.{progress_of, setting_of}
 use Rattle.tcam_cli.specs.Turns.{IsBetweenLines}
 use Rattle.tcam_cli.proofs.InTime.{InTime, StandsAt}
@@ -9,7 +10,6 @@ use Rattle.tcam_cli.proofs.top.run_script.Given as goal
 abbrev pub invariant-acts : goal.invariant-acts
 invariant-acts g l = record {
   setting : setting_of l.run ≡ setting_of l.fn.run;
-  slot_count : g.D.Writable.slot_count l.device ≡ g.D.Writable.slot_count l.fn.device;
   stands : IsBetweenLines l.lines l.run;
   gives : (pieces : List (List ℕ)) × GivesPieces (g.S.Source.given l.fn.source) (g.S.Source.given l.source) (g.S.Source.left l.fn.source) (g.S.Source.left l.source) pieces
       × (HasEnd pieces → l.lines.over ≡ over.Ended)
@@ -17,10 +17,8 @@ invariant-acts g l = record {
       → StandsAt (setting_of l.fn.run) (g.D.Writable.slot_count l.fn.device) pieces left l.lines now (progress_of (g.D.Writable.slot_count l.fn.device) l.run)
       (g.D.Writable.journal l.device) (counted which (g.K.Sink.taken l.fn.sink) (g.K.Sink.accepted l.fn.sink)) (counted which (g.K.Sink.taken l.sink) (g.K.Sink.accepted l.sink)))
       × InTime (setting_of l.fn.run) (g.D.Writable.slot_count l.fn.device) pieces (g.D.Writable.journal l.device) (g.K.Sink.accepted l.fn.sink) (g.K.Sink.accepted l.sink);
-  told : IsSome (g.K.Sink.taken l.fn.sink) → IsSome (g.K.Sink.taken l.sink);
+  leaves : Leaves g.K.Sink.taken g.K.Sink.faults l.fn.sink l.sink g.D.Writable.slot_count g.D.Writable.journal g.D.Writable.faults l.fn.device l.device ⊥ ⊥;
   reads : g.S.Source.faults l.source ≡ g.S.Source.faults l.fn.source;
-  writes : g.K.Sink.faults l.sink ≡ g.K.Sink.faults l.fn.sink;
-  makes : g.D.Writable.faults l.device ≡ g.D.Writable.faults l.fn.device;
 }
 
 abbrev pub decreases-acts : goal.decreases-acts

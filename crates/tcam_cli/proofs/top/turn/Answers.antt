@@ -1,8 +1,7 @@
 use Rattle.std.proofs.Common.{rules, ◌≡◌, None, Err, ap, sym, ◌∙◌, Ok, refl}
 use Rattle.replay.specs.Running.{limit_text}
-use Rattle.tcam_cli.proofs.FaultCounts.{some-leaves, stopped-leaves}
+use Rattle.tcam_cli.proofs.FaultCounts.{closed-leaves, closes-leaves, some-leaves, stopped-leaves}
 use Rattle.tcam_cli.proofs.Outcomes.{stops, stops-grows, stops-memory}
-use Rattle.tcam_cli.proofs.Closings.{closes-leaves}
 use Rattle.tcam_cli.proofs.Exits.{exit-bytes, exit-end, exit-read, goes-none, exit-word, exit-full, goes-on, exit-stopped, wants-next}
 use Rattle.tcam_cli.proofs.InTime.{does-grows, same-grows, closes-grows, so-far-at}
 use Rattle.tcam_cli.proofs.GivenRuns.{turns-some, turns-stopped, turns-none, rests-same}
@@ -145,11 +144,27 @@ pub returns-in-Err-apply-clause-leaves : goal.returns-in-Err-apply-clause-leaves
 returns-in-Err-apply-clause-leaves g c =
     let why = c.in-Err-apply.fault in
     let none : limit_text (Err why) ≡ None = search rules in
-    some-leaves _ _ _ _ _ _ _ _ _ (rw c.status_of_fault.ensures.status (stopped-leaves _ _ _ _ _ _ _ _ why none c.in-Err-apply.ensures.leaves))
+    some-leaves _ _ _ _ _ _ _ _ _ _ (rw c.status_of_fault.ensures.status (stopped-leaves _ _ _ _ _ _ _ _ _ why none c.in-Err-apply.ensures.leaves))
+
+pub returns-in-Err-ScriptTooLong-clause-leaves : goal.returns-in-Err-ScriptTooLong-clause-leaves
+returns-in-Err-ScriptTooLong-clause-leaves g c = some-leaves _ _ _ _ _ _ _ _ _ _ (closed-leaves _ _ _ _ _ g.K.Sink.accepted _ _ c.args.device.now _ _ _ c.fault.ensures.kind.2 c.fault.ensures.closes)
+
+pub returns-in-Err-TooLong-clause-leaves : goal.returns-in-Err-TooLong-clause-leaves
+returns-in-Err-TooLong-clause-leaves g c = some-leaves _ _ _ _ _ _ _ _ _ _ (closed-leaves _ _ _ _ _ g.K.Sink.accepted _ _ c.args.device.now _ _ _ c.fault-in-Err-TooLong.ensures.kind.2 c.fault-in-Err-TooLong.ensures.closes)
+
+pub returns-in-Err-BadByte-clause-leaves : goal.returns-in-Err-BadByte-clause-leaves
+returns-in-Err-BadByte-clause-leaves g c = some-leaves _ _ _ _ _ _ _ _ _ _ (closed-leaves _ _ _ _ _ g.K.Sink.accepted _ _ c.args.device.now _ _ _ c.fault-in-Err-BadByte.ensures.kind.2 c.fault-in-Err-BadByte.ensures.closes)
+
+pub returns-in-Err-clause-leaves : goal.returns-in-Err-clause-leaves
+returns-in-Err-clause-leaves g c = some-leaves _ _ _ _ _ _ _ _ _ _ (closed-leaves _ _ _ _ _ g.K.Sink.accepted _ _ c.args.device.now _ _ _ c.fault-in-Err.ensures.kind.2 c.fault-in-Err.ensures.closes)
 
 pub returns-in-Ok-None-clause-leaves : goal.returns-in-Ok-None-clause-leaves
-returns-in-Ok-None-clause-leaves g c = let closes = c.finish.ensures.closes (g.D.Writable.slot_count c.args.device.now) in search rules
+returns-in-Ok-None-clause-leaves g c = some-leaves _ _ _ _ _ _ _ _ _ _ (closed-leaves _ _ _ _ _ g.K.Sink.accepted _ _ c.args.device.now _ _ _ c.finish.ensures.kind.2 (c.finish.ensures.closes (g.D.Writable.slot_count c.args.device.now)))
 
 pub returns-in-Err-BatchFull-clause-leaves : goal.returns-in-Err-BatchFull-clause-leaves
 returns-in-Err-BatchFull-clause-leaves g c =
-    closes-leaves _ _ _ _ _ _ _ _ _ _ _ _ _ _ _ (rw c.in-Err-BatchFull.field-0-is at c.in-Err-BatchFull.ensures.leaves) (λ e. cc) (λ e. cc) c.fault-in-Err-BatchFull.ensures.closes c.fault-in-Err-BatchFull.ensures.kind.2
+    closes-leaves _ _ _ _ _ _ _ _ _ _ _ _ _ _ _ _ (rw c.in-Err-BatchFull.field-0-is at c.in-Err-BatchFull.ensures.leaves) (λ e. cc) (λ e. cc) c.fault-in-Err-BatchFull.ensures.closes c.fault-in-Err-BatchFull.ensures.kind.2
+
+pub returns-in-Err-ProbesFull-clause-leaves : goal.returns-in-Err-ProbesFull-clause-leaves
+returns-in-Err-ProbesFull-clause-leaves g c =
+    closes-leaves _ _ _ _ _ _ _ _ _ _ _ _ _ _ _ _ (rw c.in-Err-ProbesFull.field-0-is at c.in-Err-ProbesFull.ensures.leaves) (λ e. cc) (λ e. cc) c.fault-in-Err-ProbesFull.ensures.closes c.fault-in-Err-ProbesFull.ensures.kind.2
