@@ -1,4 +1,5 @@
 pub mod Bits
+pub mod CopyCounts
 mod Examples
 pub mod Finds
 pub mod LeastSlots

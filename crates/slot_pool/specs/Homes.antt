@@ -1,7 +1,7 @@
--- The least slot of each id, kept beside the slots.
-use Rattle.std.specs.Prelude.{◌≡◌, ◌≢◌, ℕ, ◌<◌, ◌≤◌, Option, Some, None, length, min}
+-- The least slot of each id, and how many slots hold it, kept beside the slots.
+use Rattle.std.specs.Prelude.{◌≡◌, ◌≢◌, ℕ, ◌<◌, ◌≤◌, ◌==◌, List, Option, Some, None, length, min, count_by, slice_index_or}
 use Rattle.slot_order.specs.Order.{slot}
-use Rattle.slot_pool.specs.Arrangement.{Slots}
+use Rattle.slot_pool.specs.Arrangement.{Slots, passes}
 
 -- what was found is the least slot from a place on that holds an id
 abbrev pub IsFirstOf : Slots → ℕ → ℕ → Option ℕ → Type 0
@@ -17,3 +17,12 @@ pub record AreHomes (slots homes : Slots) : Type 0 where
 abbrev pub earlier : Option ℕ → ℕ → Option ℕ
 earlier None at = Some at
 earlier (Some home) at = Some (min home at)
+
+-- how many slots hold an id
+abbrev pub copies_of : Slots → ℕ → ℕ
+copies_of slots id = count_by (λ held. passes (λ x. x == id) held) slots
+
+-- of each id below the number of slots, how many slots hold it
+pub record AreCopies (slots : Slots) (copies : List ℕ) : Type 0 where
+  pub size : length copies ≡ length slots
+  pub many : (id : ℕ) → id < length slots → slice_index_or copies id 0 ≡ copies_of slots id

@@ -9,9 +9,10 @@
 //! 64 taken slots at a step.
 //!
 //! A table of homes stands beside them too: for each id below the number of slots the least slot
-//! that holds it. A planner asks for the homes of all entries that overlap one, and erases a slot
-//! only once for each move, so the table is looked up at once, and only an id that leaves its home
-//! is searched for, behind it. An id past the table is searched for among the slots.
+//! that holds it, and how many slots do. A planner asks for the homes of all entries that overlap
+//! one, and erases a slot only once for each move, so the table is looked up at once, and only an id
+//! that leaves its home for another slot is searched for, behind it; one that goes isn't. An id past
+//! the table is searched for among the slots.
 #![tactic(auto)]
 
 ghost use Rattle.std.specs.Prelude.{◌≡◌, ◌==◌, ℕ, ◌+◌, ◌<◌, ◌≤◌, None, Some, IfOk, length, replicate, slice_set, count_by, is_none};
@@ -19,6 +20,7 @@ ghost use Rattle.slot_order.specs.Order.{slot as held_in};
 ghost use Rattle.slot_pool.specs.Free.{IsBelow, IsFrom, nearer_of};
 ghost use Rattle.slot_pool.specs.Arrangement.{home_of, nearest_free, next_free_above, last_free_below, HasTwin};
 
+mod copies;
 mod free;
 mod homes;
 #[cfg(test)]
@@ -36,6 +38,8 @@ pub struct Arrangement {
     slots: Vec<Option<u32>>,
     // The least slot of each id below the number of slots.
     homes: Vec<Option<u32>>,
+    // How many slots hold each of these ids.
+    copies: Vec<u32>,
     // The bit of each slot, 64 slots a word, 1 where the slot is empty.
     free: Vec<u64>,
     // How many slots are empty.
@@ -46,13 +50,13 @@ impl Model for Arrangement {
     ghost use Rattle.std.specs.Prelude.{◌≡◌, ◌≤◌, length, count_by, is_none};
     ghost use Rattle.slot_pool.specs.Arrangement.{Slots};
     ghost use Rattle.slot_pool.specs.Free.{AreFree};
-    ghost use Rattle.slot_pool.specs.Homes.{AreHomes};
+    ghost use Rattle.slot_pool.specs.Homes.{AreHomes, AreCopies};
 
     ghost Value = { Slots };
 
     ghost view = { λ a. a.slots.items };
 
-    ghost invariant = { λ a. (1 ≤ length a.slots.items) × (length a.slots.items ≤ 65536) × AreHomes a.slots.items a.homes.items × AreFree a.slots.items a.free.items × (a.free_count ≡ count_by (λ held. is_none held) a.slots.items) };
+    ghost invariant = { λ a. (1 ≤ length a.slots.items) × (length a.slots.items ≤ 65536) × AreHomes a.slots.items a.homes.items × AreFree a.slots.items a.free.items × (a.free_count ≡ count_by (λ held. is_none held) a.slots.items) × AreCopies a.slots.items a.copies.items };
 }
 
 impl Arrangement {
@@ -65,10 +69,12 @@ impl Arrangement {
         let free = free::all_marked(alloc, slots)?;
         let free_count = slots;
         let homes = vec![in alloc; None; slots as usize]?;
+        let copies = vec![in alloc; 0; slots as usize]?;
         let slots = vec![in alloc; None; slots as usize]?;
         Ok(Arrangement {
             slots,
             homes,
+            copies,
             free,
             free_count,
         })
@@ -144,7 +150,7 @@ impl Arrangement {
         requires free { held_in self.old slot ≡ None }
         ensures { self.new ≡ slice_set self.old slot (Some id) }
     {
-        homes::put(&mut self.slots, &mut self.homes, slot, id);
+        homes::put(&mut self.slots, &mut self.homes, &mut self.copies, slot, id);
         free::unmark(&mut self.free, slot);
         self.free_count -= 1;
     }
@@ -155,7 +161,7 @@ impl Arrangement {
         ensures { self.new ≡ slice_set self.old slot None }
     {
         let held = self.at(slot);
-        homes::erase(&mut self.slots, &mut self.homes, slot);
+        homes::erase(&mut self.slots, &mut self.homes, &mut self.copies, slot);
         free::mark(&mut self.free, slot);
         if held.is_some() {
             self.free_count += 1;
@@ -179,10 +185,12 @@ impl Arrangement {
     {
         let slots = Vec::from_slice(alloc, &self.slots)?;
         let homes = Vec::from_slice(alloc, &self.homes)?;
+        let copies = Vec::from_slice(alloc, &self.copies)?;
         let free = Vec::from_slice(alloc, &self.free)?;
         Ok(Arrangement {
             slots,
             homes,
+            copies,
             free,
             free_count: self.free_count,
         })
