@@ -17,9 +17,10 @@
 //!
 //! # What it cost
 //! A node takes 24 bytes, an id 8. To link two ids takes the same time whatever is there; an id goes in the time of its
-//! pairs, and its partners are named in that time too. Growth copies the block, which at least doubles. The worst list,
-//! each entry over each other, has n (n - 1) / 2 pairs: 12 bytes times n squared, 51 GB at 65,536 entries, where a scan
-//! takes none.
+//! pairs, and its partners are named in that time too. Growth copies the block, which doubles as long as its places are
+//! numbers of 32 bits. The worst list, each entry over each other, has n (n - 1) / 2 pairs: 12 bytes times n squared, 51 GB
+//! at 65,536 entries, where a scan takes none. The block may have room for twice as many, and a growth has the old block
+//! beside the new one.
 //!
 //! # What isn't promised
 //! Any order of the ids that are named. Room is never given back before the whole is.
@@ -99,9 +100,11 @@ impl Edges {
         self.spare
     }
 
-    /// Makes room for at least `n` pairs. After a refusal all is as before.
+    /// Makes room for at least `n` pairs; where there is room for so many nothing changes. It is refused for want of
+    /// memory, and where the block would have 2^32 places or more. After a refusal all is as before.
     pub fn reserve(&mut self, n: u32) -> Result<(), AllocError>
         ensures room { OnOk result (n ≤ spare_of self.new) }
+        ensures enough { n ≤ spare_of self.old → self.new ≡ self.old }
         ensures same { (more : ℕ) × (self.new.places ≡ self.old.places ++ replicate more None) }
         ensures ids { self.new.ids ≡ self.old.ids }
         ensures refused { OnErr result (self.new ≡ self.old) }
