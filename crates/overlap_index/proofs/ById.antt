@@ -1,13 +1,14 @@
 -- The table of live pieces by id.
-use Rattle.std.proofs.Common.{◌≡◌, ℕ, ◌<◌, true, false, List, [], ◌∷◌, ◌++◌, length, set, get_or, Contains, inl, inr, sym, ◌∙◌, subst, get_or-set_same, get_or-set_other}
-use Rattle.std.specs.Prelude.{◌==◌, not}
+use Rattle.std.proofs.Common.{◌≡◌, ℕ, ◌<◌, true, false, List, [], ◌∷◌, ◌++◌, length, set, get_or, map, Contains, inl, inr, refl, sym, ◌∙◌, ap, ap₂, subst, eq-eqb, get_or-set_same, get_or-set_other}
+use Rattle.std.specs.Prelude.{◌==◌, ◌||◌, not}
+use Rattle.std.specs.List.{All, list_any}
 use Rattle.std.proofs.lemmas.Bool.{both_ways, cases_Bool, and_from, false_from_ne_true, lt-ltb}
-use Rattle.std.proofs.lemmas.List.{length-set, get_or_default}
+use Rattle.std.proofs.lemmas.List.{length-map, length-set, get_or_default, get_or-map, map_push}
 use Rattle.std.proofs.lemmas.List.Elements.{Contains-push_cases}
-use Rattle.slot_order.proofs.Lists.{contains_none, AllByRecursion-member, in_filter}
+use Rattle.slot_order.proofs.Lists.{contains_head, contains_tail, contains_none, AllByRecursion-member, any_from, in_map, in_filter}
 use Rattle.overlap_index.specs.declared.LivePiece.{LivePiece}
 use Rattle.overlap_index.specs.Live.{AreApart, is_live, is_over, is_above, without_id}
-use Rattle.overlap_index.specs.Linked.{StandById}
+use Rattle.overlap_index.specs.Table.{StandById, live_at, past_end}
 use Rattle.overlap_index.proofs.Above.{above_is, is_above_from, is_live_from, live_is}
 
 -- nothing is live, one more is, or one goes
@@ -30,6 +31,53 @@ stand_without slots id live by_id old = record {
   many = old.many;
   stands = λ one c. let f = in_filter (λ (x : LivePiece). not (x.id == id)) live one c in old.stands one f.0;
 }
+
+-- what stands at ids that aren't written to is as before
+at_others : (by_id : List LivePiece) (id : ℕ) (one : LivePiece) (ids : List ℕ) → (Contains ids id → ⊥) → live_at (set by_id id one) ids ≡ live_at by_id ids
+at_others by_id id one [] apart = refl
+at_others by_id id one (other ∷ ids) apart =
+    ap₂ (λ (x : LivePiece) (xs : List LivePiece). x ∷ xs)
+    (get_or-set_other by_id id other one past_end (λ same. apart (subst (Contains (other ∷ ids)) same (contains_head other ids))))
+    (at_others by_id id one ids (λ c. apart (contains_tail other id ids c)))
+
+-- a live id is one of the list, and one of the list is live
+pub listed : (live : List LivePiece) (ids : List ℕ) (id : ℕ) → map (λ one. one.id) live ≡ ids → is_live live id ≡ list_any (λ one. one == id) ids
+listed live ids id named = listed_by live ∙ ap (list_any (λ one. one == id)) named
+  where
+    listed_by : (live : List LivePiece) → is_live live id ≡ list_any (λ one. one == id) (map (λ (one : LivePiece). one.id) live)
+    listed_by [] = refl
+    listed_by (one ∷ live) = ap (λ rest. one.id == id || rest) (listed_by live)
+
+not_listed : (live : List LivePiece) (ids : List ℕ) (id : ℕ) → map (λ one. one.id) live ≡ ids → is_live live id ≡ false → Contains ids id → ⊥
+not_listed live ids id named absent c =
+    both_ways (is_live live id) absent (listed live ids id named ∙ any_from (λ one. one == id) ids id c (eq-eqb id id refl))
+
+-- a new id, with what is put at it
+pub live_more : (by_id : List LivePiece) (ids : List ℕ) (one : LivePiece) → one.id < length by_id → map (λ (x : LivePiece). x.id) (live_at by_id ids) ≡ ids
+    → is_live (live_at by_id ids) one.id ≡ false → live_at (set by_id one.id one) (ids ++ one.id ∷ []) ≡ live_at by_id ids ++ one ∷ []
+live_more by_id ids one small named absent =
+    map_push (λ id. get_or (set by_id one.id one) id past_end) ids one.id
+    ∙ ap₂ (λ (xs : List LivePiece) (x : LivePiece). xs ++ x ∷ []) (at_others by_id one.id one ids (not_listed (live_at by_id ids) ids one.id named absent))
+    (get_or-set_same by_id one.id one past_end small)
+
+-- each listed id has a place in the table
+pub all_inside : (slots : ℕ) (by_id : List LivePiece) (ids : List ℕ) → AreApart slots (live_at by_id ids) → map (λ (one : LivePiece). one.id) (live_at by_id ids) ≡ ids
+    → length by_id ≡ slots → All (λ id. id < length by_id) ids
+all_inside slots by_id ids apart named many k d inside =
+    let id = get_or ids k d in
+    let m = in_map (λ (one : LivePiece). one.id) (live_at by_id ids) id (subst (λ xs. Contains xs id) (sym named) (k, inside, get_or_default ids k id d inside)) in
+    let small : m.0.id < slots = AllByRecursion-member (λ (x : LivePiece). x.id < slots) (live_at by_id ids) m.0 apart.small m.1 in
+    subst (λ n. n < length by_id) m.2 (subst (λ n. m.0.id < n) (sym many) small)
+
+-- there are as many live pieces as ids
+pub live_size : (by_id : List LivePiece) (ids : List ℕ) → length (live_at by_id ids) ≡ length ids
+live_size by_id ids = length-map ids (λ id. get_or by_id id past_end)
+
+-- what stands at the id at a place of the list is the live piece at that place
+pub live_here : (by_id : List LivePiece) (ids : List ℕ) (k : ℕ) (one : LivePiece) → k < length ids → get_or ids k 0 < length by_id → one ≡ get_or by_id (get_or ids k 0) one
+    → get_or (live_at by_id ids) k one ≡ one
+live_here by_id ids k one inside small is =
+    get_or-map (λ id. get_or by_id id past_end) ids k 0 one inside ∙ get_or_default by_id (get_or ids k 0) past_end one small ∙ sym is
 
 -- whatever stands past the table, a live piece is what stands at its id
 stands_at : (slots id : ℕ) (live by_id : List LivePiece) (one none : LivePiece) → AreApart slots live → StandById slots live by_id → Contains live one → one.id ≡ id

@@ -13,7 +13,7 @@ use Rattle.overlap_index.specs.declared.scan.Side.{Side}
 use Rattle.overlap_index.specs.declared.scan.Side.TheVariants.{Above, Below}
 use Rattle.overlap_index.specs.declared.LivePiece.{LivePiece}
 use Rattle.overlap_index.specs.Live.{AreApart, is_live, is_over, is_on, ids_on, ids_above, ids_below, is_above, without_id}
-use Rattle.overlap_index.specs.Linked.{AreLinked, AreParts, HaveMore}
+use Rattle.overlap_index.specs.Linked.{AreLinked, HaveMore}
 use Rattle.overlap_index.proofs.Above.{IsOver, above_is, is_above_from, ids_above_are, ids_below_are, is_live_from, live_is}
 use Rattle.overlap_index.proofs.Live.{distinct_on}
 use Rattle.order_chains.proofs.Seen.{roomy_pairs, without_pairs}
@@ -47,10 +47,6 @@ on_others side of slots ids live named is size apart absent id c =
     let on = on_live side of live id (subst (λ xs. Contains xs id) is c) in
     let small = live_small slots live id apart on in
     (omega arith, λ e. both_ways (is_live live id) (subst (λ z. is_live live z ≡ false) (sym e) absent) on)
-
--- what was found, of what is live before
-pub found_is : (side : Side) (of : LivePiece) (live shown : List LivePiece) (named found : List ℕ) → named ≡ found → found ≡ ids_on side of shown → live ≡ shown → named ≡ ids_on side of live
-found_is side of live shown named found is are same = is ∙ are ∙ ap (ids_on side of) (sym same)
 
 pub on_once : (side : Side) (of : LivePiece) (slots : ℕ) (live : List LivePiece) (named : List ℕ) → named ≡ ids_on side of live → AreApart slots live → IsDistinct nat_eq named
 on_once side of slots live named is apart = subst (IsDistinct nat_eq) (sym is) (distinct_on side of live apart.once)
@@ -103,11 +99,6 @@ linked_roomy old new live more is links = record {
         λ e. subst (λ xs. Contains xs (Some (upper, lower))) (sym is) (room.1 ((links.linked upper lower).1 e)),
       );
 }
-
-pub parts_roomy : (slots : ℕ) (live : List LivePiece) (firsts lasts : List ℕ) (by_id : List LivePiece) (old new : Pairs) → ((more : ℕ) × (new.places ≡ old.places ++ replicate more None)) → new.ids ≡ old.ids
-    → AreParts slots live firsts lasts by_id old → AreParts slots live firsts lasts by_id new
-parts_roomy slots live firsts lasts by_id old new room ids parts =
-    record { most = parts.most; apart = parts.apart; columns = parts.columns; table = parts.table; ids = ids ∙ parts.ids; links = linked_roomy old new live room.0 room.1 parts.links }
 
 -- a new id is linked to those above and below it
 pub linked_more : (one : LivePiece) (live : List LivePiece) (old mid new : Pairs) → AreLinked old live

@@ -1,65 +1,104 @@
--- Live pieces that a search passes over, for those on one side or for an equal one, and the columns beside them.
-use Rattle.std.proofs.Common.{◌≡◌, ℕ, zero, suc, Bool, true, false, ◌+◌, ◌-◌, ◌<◌, ◌≤◌, Option, Some, None, List, ◌∷◌, length, map, drop, get_or, arith, inl, inr, refl, sym, ◌∙◌, ap, ap₂, subst, le-leb, eq-eqb}
-use Rattle.std.specs.Prelude.{◌==◌, ◌&&◌, nat_eq}
+-- Live pieces that a search passes over by the columns beside them, for those on one side or for an equal one.
+use Rattle.std.proofs.Common.{◌≡◌, ℕ, zero, suc, Bool, true, false, ◌+◌, ◌-◌, ◌<◌, ◌≤◌, Option, Some, None, List, [], ◌∷◌, ◌++◌, length, map, drop, get_or, arith, inl, inr, refl, sym, ◌∙◌, ap, ap₂, subst, le-leb, eq-eqb, append_assoc}
+use Rattle.std.specs.Prelude.{◌==◌, ◌&&◌, nat_eq, nat_le}
 use Rattle.std.specs.Option.{option_eq}
-use Rattle.std.proofs.lemmas.Bool.{cases_lt, cond-true, cond-false, and_parts, and_from, false_from_ne_true}
-use Rattle.std.proofs.lemmas.List.{drop_more, get_or-map, get_or_default}
+use Rattle.std.proofs.lemmas.Bool.{both_ways, cases_Bool, cases_lt, cond-true, cond-false, and_parts, and_from, false_from_ne_true}
+use Rattle.std.proofs.lemmas.List.{append-nil, drop_all, drop_more, get_or-map, get_or_default}
 use Rattle.rule_model.specs.declared.Piece.{Piece}
 use Rattle.overlap_index.specs.declared.scan.Side.{Side}
 use Rattle.overlap_index.specs.declared.scan.Side.TheVariants.{Above, Below}
 use Rattle.overlap_index.specs.declared.LivePiece.{LivePiece}
-use Rattle.overlap_index.specs.Live.{is_on, ids_on}
-use Rattle.overlap_index.specs.Near.{AreColumns, first_of, last_of, is_near}
+use Rattle.overlap_index.specs.Live.{is_over, is_on, ids_on}
+use Rattle.overlap_index.specs.Near.{SpanColumns, columns_of, spans_of, first_of, last_of, is_near}
+use Rattle.overlap_index.specs.declared.near.Spans.{Spans}
 use Rattle.overlap_index.proofs.Blocks.{meet_near, first_below_last}
 
--- the destination of a piece on one side is near
-side_near : (side : Side) (other of : LivePiece) → is_on side other of ≡ true
-    → (first_of other.piece.dst ≤ last_of of.piece.dst) × (first_of of.piece.dst ≤ last_of other.piece.dst)
-side_near Above other of e = meet_near other.piece.dst of.piece.dst (and_parts _ _ (and_parts _ _ (and_parts _ _ (and_parts _ _ (and_parts _ _ e).0).0).0).0).1
-side_near Below other of e =
-    let near = meet_near of.piece.dst other.piece.dst (and_parts _ _ (and_parts _ _ (and_parts _ _ (and_parts _ _ (and_parts _ _ e).0).0).0).0).1 in (near.1, near.0)
+-- the spans of two pieces have addresses in common, by their destinations and by their sources
+record AreNear (a b : Spans) : Type 0 where
+  dst_starts : a.dst.first ≤ b.dst.last
+  dst_ends : b.dst.first ≤ a.dst.last
+  src_starts : a.src.first ≤ b.src.last
+  src_ends : b.src.first ≤ a.src.last
+
+-- the blocks of a piece on one side are near
+over_near : (upper lower : LivePiece) → is_over upper lower ≡ true → AreNear (spans_of upper.piece) (spans_of lower.piece)
+over_near upper lower e =
+    let blocks = (and_parts _ _ (and_parts _ _ (and_parts _ _ (and_parts _ _ e).0).0).0).0 in
+    let src = meet_near upper.piece.src lower.piece.src (and_parts _ _ blocks).0 in
+    let dst = meet_near upper.piece.dst lower.piece.dst (and_parts _ _ blocks).1 in
+    record { dst_starts = dst.0; dst_ends = dst.1; src_starts = src.0; src_ends = src.1 }
+
+side_near : (side : Side) (other of : LivePiece) → is_on side other of ≡ true → AreNear (spans_of other.piece) (spans_of of.piece)
+side_near Above other of e = over_near other of e
+side_near Below other of e = let near = over_near of other e in record { dst_starts = near.dst_ends; dst_ends = near.dst_starts; src_starts = near.src_ends; src_ends = near.src_starts }
+
+-- what the columns hold at a place, and the test of it
+near_at : (live : List LivePiece) (k : ℕ) (spans : Spans) (other : LivePiece) → k < length live → get_or live k other ≡ other → AreNear (spans_of other.piece) spans
+    → is_near (columns_of live) spans k ≡ true
+near_at live k spans other inside at near =
+    and_from _ _
+    (and_from _ _ (starts (λ one. first_of one.piece.dst) spans.dst.last near.dst_starts) (ends (λ one. last_of one.piece.dst) spans.dst.first near.dst_ends))
+    (and_from _ _ (starts (λ one. first_of one.piece.src) spans.src.last near.src_starts) (ends (λ one. last_of one.piece.src) spans.src.first near.src_ends))
+  where
+    holds : (of : LivePiece → ℕ) → get_or (map of live) k 0 ≡ of other
+    holds of = get_or-map of live k other 0 inside ∙ ap of at
+
+    starts : (of : LivePiece → ℕ) (n : ℕ) → of other ≤ n → nat_le (get_or (map of live) k 0) n ≡ true
+    starts of n l = le-leb _ _ (subst (λ m. m ≤ n) (sym (holds of)) l)
+
+    ends : (of : LivePiece → ℕ) (n : ℕ) → n ≤ of other → nat_le n (get_or (map of live) k 0) ≡ true
+    ends of n l = le-leb _ _ (subst (λ m. n ≤ m) (sym (holds of)) l)
 
 -- a piece at a place that isn't near is on no side
-pub far_off : (side : Side) (of : LivePiece) (live : List LivePiece) (firsts lasts : List ℕ) (k : ℕ) → AreColumns firsts lasts live → k < length live
-    → is_near firsts lasts (first_of of.piece.dst) (last_of of.piece.dst) k ≡ false → is_on side (get_or live k of) of ≡ false
-far_off side of live firsts lasts k are inside far = false_from_ne_true (is_on side (get_or live k of) of) (λ e.
+far_off : (side : Side) (of : LivePiece) (live : List LivePiece) (k : ℕ) → k < length live → is_near (columns_of live) (spans_of of.piece) k ≡ false
+    → is_on side (get_or live k of) of ≡ false
+far_off side of live k inside far = false_from_ne_true (is_on side (get_or live k of) of) (λ e.
     let other = get_or live k of in
-    let near = side_near side other of e in
-    let first : get_or firsts k 0 ≡ first_of other.piece.dst = ap (λ xs. get_or xs k 0) are.first ∙ get_or-map (λ one. first_of one.piece.dst) live k of 0 inside in
-    let last : get_or lasts k 0 ≡ last_of other.piece.dst = ap (λ xs. get_or xs k 0) are.last ∙ get_or-map (λ one. last_of one.piece.dst) live k of 0 inside in
-    let low : get_or firsts k 0 ≤ last_of of.piece.dst = subst (λ n. n ≤ last_of of.piece.dst) (sym first) near.0 in
-    let high : first_of of.piece.dst ≤ get_or lasts k 0 = subst (λ n. first_of of.piece.dst ≤ n) (sym last) near.1 in
-    let both = and_from _ _ (le-leb _ _ low) (le-leb _ _ high) in
-    let v : true ≡ false = sym both ∙ far in absurd (cc))
+    both_ways _ far (near_at live k (spans_of of.piece) other inside (get_or_default live k other of inside) (side_near side other of e)))
 
--- a place that is passed over, and one that isn't
-pub skip_one : (side : Side) (of : LivePiece) (live : List LivePiece) (k : ℕ) → k < length live → is_on side (get_or live k of) of ≡ false
+-- a place that is passed over, and one that is looked at
+skip_one : (side : Side) (of : LivePiece) (live : List LivePiece) (k : ℕ) → k < length live → is_on side (get_or live k of) of ≡ false
     → ids_on side of (drop k live) ≡ ids_on side of (drop (k + 1) live)
 skip_one side of live k inside off = ap (ids_on side of) (drop_more live k of inside) ∙ ap (map (λ one. one.id)) (cond-false _ _ _ off)
 
-pub keep_one : (side : Side) (of : LivePiece) (live : List LivePiece) (k : ℕ) → k < length live → is_on side (get_or live k of) of ≡ true
-    → ids_on side of (drop k live) ≡ (get_or live k of).id ∷ ids_on side of (drop (k + 1) live)
-keep_one side of live k inside on = ap (ids_on side of) (drop_more live k of inside) ∙ ap (map (λ one. one.id)) (cond-true _ _ _ on)
+ids_first : (side : Side) (of one : LivePiece) (live : List LivePiece) → ids_on side of (one ∷ live) ≡ ids_on side of (one ∷ []) ++ ids_on side of live
+ids_first side of one live = elim (cases_Bool (is_on side one of)) [
+  | inl on ↦ ap (map (λ (x : LivePiece). x.id)) (cond-true _ _ _ on) ∙ sym (ap (λ xs. map (λ (x : LivePiece). x.id) xs ++ ids_on side of live) (cond-true _ _ _ on))
+  | inr off ↦ ap (map (λ (x : LivePiece). x.id)) (cond-false _ _ _ off) ∙ sym (ap (λ xs. map (λ (x : LivePiece). x.id) xs ++ ids_on side of live) (cond-false _ _ _ off))
+]
+
+-- with the ids that were found so far, those of what is left are all there are
+pub found_more : (side : Side) (of one : LivePiece) (live : List LivePiece) (k : ℕ) (so_far more all : List ℕ) → k < length live → get_or live k one ≡ one
+    → so_far ++ ids_on side of (drop k live) ≡ all → more ≡ so_far ++ ids_on side of (one ∷ []) → more ++ ids_on side of (drop (k + 1) live) ≡ all
+found_more side of one live k so_far more all inside at before is =
+    ap (λ xs. xs ++ ids_on side of (drop (k + 1) live)) is
+    ∙ append_assoc so_far (ids_on side of (one ∷ [])) (ids_on side of (drop (k + 1) live))
+    ∙ ap (λ xs. so_far ++ xs) (sym (ids_first side of one (drop (k + 1) live)) ∙ ap (λ x. ids_on side of (x ∷ drop (k + 1) live)) (sym at) ∙ ap (ids_on side of) (sym (drop_more live k one inside)))
+    ∙ before
+
+pub found_all : (side : Side) (of : LivePiece) (live : List LivePiece) (k : ℕ) (so_far all : List ℕ) → length live ≤ k → so_far ++ ids_on side of (drop k live) ≡ all → so_far ≡ all
+found_all side of live k so_far all past before =
+    sym (append-nil so_far) ∙ ap (λ xs. so_far ++ ids_on side of xs) (sym (drop_all k live past)) ∙ before
 
 -- places that aren't near are passed over
-skip_far : (side : Side) (of : LivePiece) (live : List LivePiece) (firsts lasts : List ℕ) (at n : ℕ) → AreColumns firsts lasts live → at + n ≤ length live
-    → ((k : ℕ) → at ≤ k → k < at + n → is_near firsts lasts (first_of of.piece.dst) (last_of of.piece.dst) k ≡ false)
-    → ids_on side of (drop at live) ≡ ids_on side of (drop (at + n) live)
-skip_far side of live firsts lasts at zero are room far = let same : at + 0 ≡ at = omega arith in ap (λ k. ids_on side of (drop k live)) (sym same)
-skip_far side of live firsts lasts at (suc n) are room far =
+skip_far : (side : Side) (of : LivePiece) (live : List LivePiece) (at n : ℕ) → at + n ≤ length live
+    → ((k : ℕ) → at ≤ k → k < at + n → is_near (columns_of live) (spans_of of.piece) k ≡ false) → ids_on side of (drop at live) ≡ ids_on side of (drop (at + n) live)
+skip_far side of live at zero room far = let same : at + 0 ≡ at = omega arith in ap (λ k. ids_on side of (drop k live)) (sym same)
+skip_far side of live at (suc n) room far =
     let same : at + n + 1 ≡ at + suc n = omega arith in
-    skip_far side of live firsts lasts at n are (omega arith) (λ k a b. far k a (omega arith))
-    ∙ skip_one side of live (at + n) (omega arith) (far_off side of live firsts lasts (at + n) are (omega arith) (far (at + n) (omega arith) (omega arith)))
+    skip_far side of live at n (omega arith) (λ k a b. far k a (omega arith))
+    ∙ skip_one side of live (at + n) (omega arith) (far_off side of live (at + n) (omega arith) (far (at + n) (omega arith) (omega arith)))
     ∙ ap (λ k. ids_on side of (drop k live)) same
 
-pub skip_to : (side : Side) (of : LivePiece) (live : List LivePiece) (firsts lasts : List ℕ) (at next first last : ℕ) → AreColumns firsts lasts live → at ≤ next → next ≤ length live
-    → first ≡ first_of of.piece.dst → last ≡ last_of of.piece.dst → ((k : ℕ) → at ≤ k → k < next → is_near firsts lasts first last k ≡ false)
-    → ids_on side of (drop at live) ≡ ids_on side of (drop next live)
-skip_to side of live firsts lasts at next first last are after room is_first is_last far =
+-- places that a search passed over by the columns, so that what was found stays as it is
+pub found_still : (side : Side) (of : LivePiece) (live : List LivePiece) (columns : SpanColumns) (spans : Spans) (at next : ℕ) (so_far all : List ℕ) → columns ≡ columns_of live
+    → spans ≡ spans_of of.piece → at ≤ next → next ≤ length live → ((k : ℕ) → at ≤ k → k < next → is_near columns spans k ≡ false)
+    → so_far ++ ids_on side of (drop at live) ≡ all → so_far ++ ids_on side of (drop next live) ≡ all
+found_still side of live columns spans at next so_far all are is after room far before =
     let same : at + (next - at) ≡ next = omega arith in
-    skip_far side of live firsts lasts at (next - at) are (omega arith)
-    (λ k a b. ap₂ (λ f l. is_near firsts lasts f l k) (sym is_first) (sym is_last) ∙ far k a (omega arith))
-    ∙ ap (λ k. ids_on side of (drop k live)) same
+    let skipped : ids_on side of (drop at live) ≡ ids_on side of (drop (at + (next - at)) live) =
+    skip_far side of live at (next - at) (omega arith) (λ k a b. ap₂ (λ c s. is_near c s k) (sym are) (sym is) ∙ far k a (omega arith)) in
+    ap (λ xs. so_far ++ xs) (sym (skipped ∙ ap (λ k. ids_on side of (drop k live)) same)) ∙ before
 
 -- none of the live pieces before a place has this piece and this priority
 abbrev pub HasNone : List LivePiece → Piece → ℕ → ℕ → Type 0
@@ -67,28 +106,20 @@ HasNone live piece priority place =
     (k : ℕ) (other : LivePiece) → k < place → k < length live → get_or live k other ≡ other → other.piece ≡ piece → other.rank ≡ priority → ⊥
 
 -- a place that isn't near hasn't the piece
-not_far : (piece : Piece) (live : List LivePiece) (firsts lasts : List ℕ) (k first last : ℕ) (other : LivePiece) → AreColumns firsts lasts live → k < length live
-    → first ≡ first_of piece.dst → last ≡ last_of piece.dst → get_or live k other ≡ other → other.piece ≡ piece → is_near firsts lasts first last k ≡ true
-not_far piece live firsts lasts k first last other are inside is_first is_last at same =
-    let low : get_or firsts k 0 ≡ first =
-    ap (λ xs. get_or xs k 0) are.first ∙ get_or-map (λ one. first_of one.piece.dst) live k other 0 inside ∙ ap (λ (x : LivePiece). first_of x.piece.dst) at ∙ ap (λ (p : Piece). first_of p.dst) same ∙ sym is_first in
-    let high : get_or lasts k 0 ≡ last =
-    ap (λ xs. get_or xs k 0) are.last ∙ get_or-map (λ one. last_of one.piece.dst) live k other 0 inside ∙ ap (λ (x : LivePiece). last_of x.piece.dst) at ∙ ap (λ (p : Piece). last_of p.dst) same ∙ sym is_last in
-    let between : first_of piece.dst ≤ last_of piece.dst = first_below_last piece.dst in
-    let starts : get_or firsts k 0 ≤ last = omega arith in
-    let ends : first ≤ get_or lasts k 0 = omega arith in
-    and_from _ _ (le-leb _ _ starts) (le-leb _ _ ends)
+not_far : (piece : Piece) (live : List LivePiece) (k : ℕ) (other : LivePiece) → k < length live → get_or live k other ≡ other → other.piece ≡ piece
+    → is_near (columns_of live) (spans_of piece) k ≡ true
+not_far piece live k other inside at same =
+    let dst = first_below_last other.piece.dst in
+    let src = first_below_last other.piece.src in
+    subst (λ p. is_near (columns_of live) (spans_of p) k ≡ true) same
+    (near_at live k (spans_of other.piece) other inside at (record { dst_starts = dst; dst_ends = dst; src_starts = src; src_ends = src }))
 
 -- places that aren't near haven't the piece
-pub none_far : (piece : Piece) (priority : ℕ) (live : List LivePiece) (firsts lasts : List ℕ) (at next first last : ℕ) → AreColumns firsts lasts live
-    → first ≡ first_of piece.dst → last ≡ last_of piece.dst → HasNone live piece priority at → ((k : ℕ) → at ≤ k → k < next → is_near firsts lasts first last k ≡ false)
-    → HasNone live piece priority next
-none_far piece priority live firsts lasts at next first last are is_first is_last before far k other within inside there same rank = elim (cases_lt k at) [
+pub none_far : (piece : Piece) (priority : ℕ) (live : List LivePiece) (columns : SpanColumns) (spans : Spans) (at next : ℕ) → columns ≡ columns_of live → spans ≡ spans_of piece
+    → HasNone live piece priority at → ((k : ℕ) → at ≤ k → k < next → is_near columns spans k ≡ false) → HasNone live piece priority next
+none_far piece priority live columns spans at next are is before far k other within inside there same rank = elim (cases_lt k at) [
   | inl early ↦ before k other early inside there same rank
-  | inr late ↦
-      let near = not_far piece live firsts lasts k first last other are inside is_first is_last there same in
-      let none = far k late within in
-      let v : true ≡ false = sym near ∙ none in cc
+  | inr late ↦ both_ways _ (far k late within) (ap₂ (λ c s. is_near c s k) are is ∙ not_far piece live k other inside there same)
 ]
 
 -- nor has one that was looked at

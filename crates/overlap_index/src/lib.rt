@@ -10,30 +10,34 @@
 //! pieces stand in a table by id, and are compared.
 //!
 //! A new id is compared with every live piece. But most of them have nothing to do with it, and almost all are told
-//! apart by their destinations alone. So each is looked at once, but eight at a time, by the upper 32 bits of its
-//! destination's first and last address, which stand in columns of their own; only those that are near are compared by
-//! priority and piece.
+//! apart by their addresses alone. So each is looked at once, but eight at a time, by the upper 32 bits of its
+//! destination's first and last address, which stand in columns of their own. Where one of the eight is near, so are the
+//! sources, by columns of theirs; only those that are near by both are compared by priority and piece.
 //!
 //! # What it cost
 //! A question costs time by the number of ids that it names, and not by the number of live pieces, and `is_above` takes
-//! the same time whatever is live. `add` passes over the live pieces twice and `id_of` once, eight in a step; `remove`
-//! takes as many steps as there are links that go, and a pass. First and last addresses, and not address and mask, are
-//! in the columns, since the order of numbers is all that the proof needs then.
+//! the same time whatever is live. `add` and `id_of` pass over the live pieces once, eight in a step; `remove` takes as
+//! many steps as there are links that go, looks for the id among those that are live, and moves up what stands behind
+//! it: 20 bytes an id, since the piece itself stands in the table and stays. First and last addresses, and not address
+//! and mask, are in the columns, since the order of numbers is all that the proof needs then.
 //!
-//! Only `new` and `add` take memory: 16 bytes an id beside the piece, which stands twice, in the list and in the table
-//! by id, and 24 bytes a pair of ids that overlap, whose room doubles where it grows. The worst list, each piece over
-//! each other, has n (n - 1) / 2 pairs: 12 bytes times n squared, 201 MB at 4,096 ids and 51 GB at 65,536.
+//! Only `new` and `add` take memory: 28 bytes an id beside the piece, which stands once, in the table by id, and 24
+//! bytes a pair of ids that overlap, whose room doubles where it grows. The worst list, each piece over each other, has
+//! n (n - 1) / 2 pairs: 12 bytes times n squared, 201 MB at 4,096 ids and 51 GB at 65,536, in a block with room for up to
+//! twice as many.
 //!
 //! # What isn't promised
-//! Any order of the ids that are named. Lists in which many rules have one destination, `any` say, gain nothing from
-//! the columns. Room for links isn't given back before the whole index is.
+//! Any order of the ids that are named. Lists in which many rules have both blocks in common, `any` say, gain nothing
+//! from the columns. Room for links isn't given back before the whole index is.
 #![tactic(auto)]
 
-ghost use Rattle.std.specs.Prelude.{◌≡◌, ◌<◌, ◌≤◌, ◌↔◌, ℕ, [], ◌∷◌, ◌++◌, length, slice_index_or, IsTrue, IsFalse, IsNone, IfSome, IfOk, OnOk, OnErr, Contains, nat_eq};
-ghost use Rattle.std.specs.List.{IsDistinct};
+ghost use Rattle.std.specs.Prelude.{◌≡◌, ◌<◌, ◌≤◌, ◌↔◌, ℕ, [], ◌∷◌, ◌++◌, ◌==◌, length, slice_index, IsTrue, IsFalse, IsNone, IfSome, IfOk, OnOk, OnErr, Contains, nat_eq};
+ghost use Rattle.std.specs.List.{IsDistinct, list_any};
 ghost use Rattle.overlap_index.specs.declared.LivePiece.{LivePiece};
 ghost use Rattle.overlap_index.specs.Live.{AreApart, is_live, is_above, without_id, ids_above, ids_below, ids_on};
+ghost use Rattle.overlap_index.specs.declared.scan.Side.TheVariants as side;
 
+mod columns;
 mod exact;
 mod links;
 mod near;
@@ -42,12 +46,12 @@ mod scan;
 #[cfg(test)]
 mod tests;
 
+use columns::Columns;
 use links::{link_above, link_below};
-use near::{first_of, last_of};
 use order_chains::Edges;
 pub use overlaps::Overlaps;
 use rule_model::{Piece, Prefix, Rank, route_rule};
-use scan::{Scan, Side, is_over};
+use scan::{Found, is_over, overlapping};
 use std::alloc::{AllocError, AllocFailed, Global};
 use std::marker::Model;
 
@@ -67,11 +71,10 @@ pub struct LivePiece {
 pub struct Index {
     // The number that ids are below.
     slots: u32,
-    // In the order in which they came, no id twice.
-    live: Vec<LivePiece>,
-    // The upper 32 bits of the first and of the last address of each one's destination.
-    firsts: Vec<u32>,
-    lasts: Vec<u32>,
+    // The live ids in the order in which they came, none twice.
+    ids: Vec<u32>,
+    // Their addresses, in the same order.
+    columns: Columns,
     // Each of them at its id; what stands at another id is of no account.
     by_id: Vec<LivePiece>,
     // Which of them overlap.
@@ -81,13 +84,14 @@ pub struct Index {
 
 impl Model for Index {
     ghost use Rattle.overlap_index.specs.Live.{LivePieces};
+    ghost use Rattle.overlap_index.specs.Table.{live_at};
     ghost use Rattle.overlap_index.specs.Linked.{AreParts};
 
     ghost Value = { LivePieces };
 
-    ghost view = { λ i. record { slots = i.slots; live = i.live.items } };
+    ghost view = { λ i. record { slots = i.slots; live = live_at i.by_id.items i.ids.items } };
 
-    ghost invariant = { λ i. AreParts i.slots i.live.items i.firsts.items i.lasts.items i.by_id.items i.edges };
+    ghost invariant = { λ i. AreParts i.slots (live_at i.by_id.items i.ids.items) i.ids.items i.by_id.items i.columns i.edges };
 }
 
 impl Index {
@@ -98,16 +102,14 @@ impl Index {
         ensures slots { IfOk result (λ index. index.slots ≡ slots) }
         ensures live { IfOk result (λ index. index.live ≡ []) }
     {
-        let live = Vec::with_capacity(alloc, slots as usize)?;
-        let firsts = Vec::with_capacity(alloc, slots as usize)?;
-        let lasts = Vec::with_capacity(alloc, slots as usize)?;
+        let ids = Vec::with_capacity(alloc, slots as usize)?;
+        let columns = Columns::new(alloc, slots as usize)?;
         let by_id = Vec::from_elem(alloc, no_piece(), slots as usize)?;
         let edges = Edges::new(alloc, slots)?;
         Ok(Index {
             slots,
-            live,
-            firsts,
-            lasts,
+            ids,
+            columns,
             by_id,
             edges,
             alloc,
@@ -127,18 +129,16 @@ impl Index {
             piece: *piece,
             rank: priority,
         };
-        let above = self.on_side(Side::Above, &one)?;
-        let below = self.on_side(Side::Below, &one)?;
-        // Room comes first: once the piece is pushed, nothing can fail.
-        self.edges.reserve((above.len() + below.len()) as u32)?;
-        self.firsts.reserve(1)?;
-        self.lasts.reserve(1)?;
-        self.live.push(one)?;
-        self.firsts.push_reserved(first_of(&piece.dst));
-        self.lasts.push_reserved(last_of(&piece.dst));
+        let found = self.overlapping(&one)?;
+        // Room comes first: once the columns are pushed, nothing can fail.
+        self.edges
+            .reserve((found.above.len() + found.below.len()) as u32)?;
+        self.ids.reserve(1)?;
+        self.columns.push(piece)?;
+        self.ids.push_reserved(id);
         self.by_id[id as usize] = one;
-        link_above(&mut self.edges, &above, id);
-        link_below(&mut self.edges, id, &below);
+        link_above(&mut self.edges, &found.above, id);
+        link_below(&mut self.edges, id, &found.below);
         Ok(())
     }
 
@@ -148,10 +148,9 @@ impl Index {
         ensures live { self.new.live ≡ without_id self.old.live id }
         ensures slots { self.new.slots ≡ self.old.slots }
     {
-        let place = place_of(&self.live, id);
-        self.live.remove(place);
-        self.firsts.remove(place);
-        self.lasts.remove(place);
+        let place = place_of(&self.ids, id);
+        self.ids.remove(place);
+        self.columns.remove(place);
         self.edges.drop_node(id);
     }
 
@@ -195,28 +194,17 @@ impl Index {
         ensures found { IfSome result (λ id. Contains self.now.live (record { id = id; piece = piece.now; rank = priority })) }
         ensures none { IsNone result → (one : LivePiece) → Contains self.now.live one → one.piece ≡ piece.now → one.rank ≡ priority → ⊥ }
     {
-        exact::id_of(
-            self.live.as_slice(),
-            self.firsts.as_slice(),
-            self.lasts.as_slice(),
-            piece,
-            priority,
-        )
+        exact::id_of(&self.ids, &self.by_id, &self.columns, piece, priority)
     }
 
-    /// The live ids on one side of a piece, by a pass over all live pieces.
-    fn on_side(&self, side: Side, of: &LivePiece) -> Result<Vec<u32>, AllocError>
-        ensures ids { IfOk result (λ ids. ids.items ≡ ids_on side of.now self.now.live) }
-        ensures most { IfOk result (λ ids. length ids.items ≤ MOST_IDS) }
+    /// The live ids on either side of a piece, by a pass over all live pieces.
+    fn overlapping(&self, of: &LivePiece) -> Result<Found, AllocError>
+        ensures above { IfOk result (λ found. found.above.items ≡ ids_on side.Above of.now self.now.live) }
+        ensures below { IfOk result (λ found. found.below.items ≡ ids_on side.Below of.now self.now.live) }
+        ensures most_above { IfOk result (λ found. length found.above.items ≤ MOST_IDS) }
+        ensures most_below { IfOk result (λ found. length found.below.items ≤ MOST_IDS) }
     {
-        Scan::new(
-            side,
-            of,
-            self.live.as_slice(),
-            self.firsts.as_slice(),
-            self.lasts.as_slice(),
-        )
-        .collect(self.alloc)
+        overlapping(self.alloc, of, &self.ids, &self.by_id, &self.columns)
     }
 }
 
@@ -230,14 +218,14 @@ fn no_piece() -> LivePiece {
     }
 }
 
-/// The first place of a live id.
-fn place_of(live: &[LivePiece], id: u32) -> usize
-    requires { IsTrue (is_live live.now id) }
-    ensures inside { result < length live.now }
-    ensures found { (none : LivePiece) → (slice_index_or live.now result none).id ≡ id }
+/// The first place of an id.
+fn place_of(ids: &[u32], id: u32) -> usize
+    requires { IsTrue (list_any (λ one. one == id) ids.now) }
+    ensures inside { result < length ids.now }
+    ensures found { slice_index ids.now result ≡ id }
 {
-    for (place, one) in live.iter().enumerate() {
-        if one.id == id {
+    for (place, one) in ids.iter().enumerate() {
+        if *one == id {
             return place;
         }
     }

@@ -1,10 +1,24 @@
-// Which live pieces may overlap one, by the upper 32 bits of their destinations, eight at a time.
-ghost use Rattle.std.specs.Prelude.{◌≡◌, ℕ, ◌+◌, ◌-◌, ◌*◌, ◌/◌, ◌%◌, ◌^◌, ◌<◌, ◌≤◌, ◌==◌, true, false, length, slice_index, nat_le};
-ghost use Rattle.overlap_index.specs.Near.{first_of, last_of, is_near};
+// Which live pieces may overlap one, by the upper 32 bits of addresses, eight at a time.
+ghost use Rattle.std.specs.Prelude.{◌≡◌, ℕ, ◌+◌, ◌-◌, ◌*◌, ◌/◌, ◌%◌, ◌^◌, ◌<◌, ◌≤◌, ◌==◌, length, slice_index, nat_le};
+ghost use Rattle.overlap_index.specs.Near.{first_of, last_of, span_of, spans_of, meets_at};
 
-use eight_lanes::{eight, either, first_zero};
-use rule_model::Prefix;
+use eight_lanes::{eight, either};
+use rule_model::{Piece, Prefix};
 use std::simd::prelude::*;
+
+/// The upper 32 bits of the first and of the last address of a block.
+#[derive(Clone, Copy)]
+pub(crate) struct Span {
+    pub(crate) first: u32,
+    pub(crate) last: u32,
+}
+
+/// Those of a piece's destination and of its source.
+#[derive(Clone, Copy)]
+pub(crate) struct Spans {
+    pub(crate) dst: Span,
+    pub(crate) src: Span,
+}
 
 /// The upper 32 bits of the block's address, none of which is set past its length.
 fn upper(block: &Prefix) -> u32
@@ -24,53 +38,58 @@ fn address_count(block: &Prefix) -> u64
 }
 
 /// The upper 32 bits of the first address of the block.
-pub(crate) fn first_of(block: &Prefix) -> u32
+fn first_of(block: &Prefix) -> u32
     ensures { result ≡ first_of block.now }
 {
     upper(block)
 }
 
 /// The upper 32 bits of the last address of the block.
-pub(crate) fn last_of(block: &Prefix) -> u32
+fn last_of(block: &Prefix) -> u32
     ensures { result ≡ last_of block.now }
 {
     upper(block) + (address_count(block) - 1) as u32
 }
 
-/// The next place from `at` on that may be near. Those that are passed over aren't; past the last eight each
-/// place may be.
-pub(crate) fn next_near(firsts: &[u32], lasts: &[u32], first: u32, last: u32, at: usize) -> usize
-    requires same { length lasts.now ≡ length firsts.now }
-    requires inside { at ≤ length firsts.now }
-    ensures from { at ≤ result }
-    ensures most { result ≤ length firsts.now }
-    ensures passed { (k : ℕ) → at ≤ k → k < result → is_near firsts.now lasts.now first last k ≡ false }
+/// Both.
+pub(crate) fn span_of(block: &Prefix) -> Span
+    ensures { result ≡ span_of block.now }
 {
-    // Where many are near, the next one often is.
-    if at < firsts.len() && firsts[at] <= last && first <= lasts[at] {
-        return at;
+    Span {
+        first: first_of(block),
+        last: last_of(block),
     }
-    let mut next = at;
-    while firsts.len() - next >= 8 {
-        let before = first_zero(apart_eight(firsts, lasts, first, last, next));
-        if before < 8 {
-            return next + before as usize;
-        }
-        next += 8;
-    }
-    next
 }
 
-/// Of the eight ranges from `at` on, 0 for each that has an address in common with the one from `first` to `last`.
-fn apart_eight(firsts: &[u32], lasts: &[u32], first: u32, last: u32, at: usize) -> u32x8
+/// Both of the piece's destination and of its source.
+pub(crate) fn spans_of(piece: &Piece) -> Spans
+    ensures { result ≡ spans_of piece.now }
+{
+    Spans {
+        dst: span_of(&piece.dst),
+        src: span_of(&piece.src),
+    }
+}
+
+/// Whether the range at one place of two columns has an address in common with a span.
+pub(crate) fn meets_at(firsts: &[u32], lasts: &[u32], span: Span, at: usize) -> bool
+    requires firsts { at < length firsts.now }
+    requires lasts { at < length lasts.now }
+    ensures { result ≡ meets_at firsts.now lasts.now span at }
+{
+    firsts[at] <= span.last && span.first <= lasts[at]
+}
+
+/// Of the eight ranges from `at` on, 0 for each that has an address in common with a span.
+pub(crate) fn apart_eight(firsts: &[u32], lasts: &[u32], span: Span, at: usize) -> u32x8
     requires firsts { at + 8 ≤ length firsts.now }
     requires lasts { at + 8 ≤ length lasts.now }
     ensures len { length result ≡ 8 }
-    ensures near { (k : ℕ) → k < 8 → (slice_index result k == 0) ≡ is_near firsts.now lasts.now first last (at + k) }
+    ensures near { (k : ℕ) → k < 8 → (slice_index result k == 0) ≡ meets_at firsts.now lasts.now span (at + k) }
 {
     either(
-        above(eight(firsts, at), u32x8::splat(last)),
-        above(u32x8::splat(first), eight(lasts, at)),
+        above(eight(firsts, at), u32x8::splat(span.last)),
+        above(u32x8::splat(span.first), eight(lasts, at)),
     )
 }
 

@@ -1,13 +1,16 @@
-//! The ids on one side of a live one, found by a pass over all live pieces.
-ghost use Rattle.std.specs.Prelude.{◌≡◌, ◌∷◌, [], ◌≤◌, length, drop, IfSome, IsNone};
-ghost use Rattle.std.specs.Iterator.{YieldsFirst, item_count};
-ghost use Rattle.overlap_index.specs.Live.{is_over, is_on, ids_on};
-ghost use Rattle.overlap_index.specs.Near.{AreColumns};
+//! The ids of the live pieces that overlap one, found by a pass over all of them.
+ghost use Rattle.std.specs.Prelude.{◌≡◌, ◌<◌, ◌++◌, ◌∷◌, [], length, IfOk, OnOk};
+ghost use Rattle.std.specs.List.{All};
+ghost use Rattle.overlap_index.specs.declared.scan.Side.TheVariants as side;
+ghost use Rattle.overlap_index.specs.Live.{is_over, ids_on};
+ghost use Rattle.overlap_index.specs.Near.{columns_of};
+ghost use Rattle.overlap_index.specs.Table.{live_at, side_of};
 
 use crate::LivePiece;
-use crate::near::{first_of, last_of, next_near};
+use crate::columns::Columns;
+use crate::near::spans_of;
 use rule_model::piece_overlaps;
-use std::marker::Model;
+use std::alloc::{AllocError, Global};
 
 /// Which of the pieces that overlap one: those of higher or those of lower priority.
 #[derive(Clone, Copy, Debug, Drop)]
@@ -18,119 +21,72 @@ pub(crate) enum Side {
     Below,
 }
 
-/// The ids on one side of a piece, seen as the list of those that are left.
+/// The ids on either side of a piece.
 #[derive(Drop)]
-pub(crate) struct Scan<'a> {
-    side: Side,
-    of: &'a LivePiece,
-    live: &'a [LivePiece],
-    // The upper 32 bits of their destinations' first and last addresses.
-    firsts: &'a [u32],
-    lasts: &'a [u32],
-    // Those from here on weren't looked at yet.
-    at: usize,
+pub(crate) struct Found {
+    pub(crate) above: Vec<u32>,
+    pub(crate) below: Vec<u32>,
 }
 
-impl<'a> Model for Scan<'a> {
-    ghost use Rattle.std.specs.Prelude.{List, ℕ, ◌≤◌, length, drop};
-    ghost use Rattle.overlap_index.specs.Live.{ids_on};
-    ghost use Rattle.overlap_index.specs.Near.{AreColumns};
-
-    ghost Value = { List ℕ };
-
-    ghost view = { λ o. ids_on o.side o.of.now (drop o.at o.live.now) };
-
-    ghost invariant = { λ o. AreColumns o.firsts.now o.lasts.now o.live.now × (o.at ≤ length o.live.now) };
-}
-
-impl<'a> Scan<'a> {
-    /// The ids on one side of a piece, among some live ones whose columns are given.
-    pub(crate) fn new(
-        side: Side,
-        of: &'a LivePiece,
-        live: &'a [LivePiece],
-        firsts: &'a [u32],
-        lasts: &'a [u32],
-    ) -> Scan<'a>
-        requires { AreColumns firsts.now lasts.now live.now }
-        ensures { result ≡ ids_on side of.now live.now }
+impl Found {
+    /// Puts the id of one live piece more on its side of a piece, if it is on one.
+    fn put(&mut self, other: &LivePiece, of: &LivePiece) -> Result<(), AllocError>
+        ensures above { OnOk result (self.new.above.items ≡ self.old.above.items ++ ids_on side.Above of.now (other.now ∷ [])) }
+        ensures below { OnOk result (self.new.below.items ≡ self.old.below.items ++ ids_on side.Below of.now (other.now ∷ [])) }
     {
-        Scan {
-            side,
-            of,
-            live,
-            firsts,
-            lasts,
-            at: 0,
+        match side_of(other, of) {
+            Some(Side::Above) => self.above.push(other.id)?,
+            Some(Side::Below) => self.below.push(other.id)?,
+            None => {}
         }
+        Ok(())
     }
 }
 
-impl<'a> Iterator for Scan<'a> {
-    type Item = u32;
-
-    ghost next_gives = { YieldsFirst (λ rest. rest) };
-
-    ghost remaining = { item_count (λ rest. rest) };
-
-    fn next(&mut self) -> Option<u32> {
-        let (id, next) = next_on(
-            self.side,
-            self.of,
-            self.live,
-            self.firsts,
-            self.lasts,
-            self.at,
-        )?;
-        self.at = next;
-        Some(id)
-    }
-}
-
-/// The first id on one side of a piece among the live ones from `at` on, and the place after it. Those whose
-/// destinations are far from the piece's aren't looked at.
-pub(crate) fn next_on(
-    side: Side,
+/// The ids on either side of a piece, among those that stand by id. Those that are far from it aren't looked at.
+pub(crate) fn overlapping(
+    alloc: Global,
     of: &LivePiece,
-    live: &[LivePiece],
-    firsts: &[u32],
-    lasts: &[u32],
-    at: usize,
-) -> Option<(u32, usize)>
-    requires columns { AreColumns firsts.now lasts.now live.now }
-    requires inside { at ≤ length live.now }
-    ensures some { IfSome result (λ found. ids_on side of.now (drop at live.now) ≡ found.0 ∷ ids_on side of.now (drop found.1 live.now)) }
-    ensures inside { IfSome result (λ found. found.1 ≤ length live.now) }
-    ensures none { IsNone result → ids_on side of.now (drop at live.now) ≡ [] }
+    ids: &[u32],
+    by_id: &[LivePiece],
+    columns: &Columns,
+) -> Result<Found, AllocError>
+    requires inside { All (λ id. id < length by_id.now) ids.now }
+    requires columns { columns.now ≡ columns_of (live_at by_id.now ids.now) }
+    ensures above { IfOk result (λ found. found.above.items ≡ ids_on side.Above of.now (live_at by_id.now ids.now)) }
+    ensures below { IfOk result (λ found. found.below.items ≡ ids_on side.Below of.now (live_at by_id.now ids.now)) }
 {
-    let first = first_of(&of.piece.dst);
-    let last = last_of(&of.piece.dst);
-    let mut next = at;
-    while next < live.len() {
-        next = next_near(firsts, lasts, first, last, next);
-        if next < live.len() {
-            let other = &live[next];
+    let spans = spans_of(&of.piece);
+    let mut found = Found {
+        above: Vec::new(alloc),
+        below: Vec::new(alloc),
+    };
+    let mut next = 0;
+    while next < ids.len() {
+        next = columns.next_near(spans, next);
+        if next < ids.len() {
+            found.put(&by_id[ids[next] as usize], of)?;
             next += 1;
-            if is_on(side, other, of) {
-                return Some((other.id, next));
-            }
         }
     }
-    None
+    Ok(found)
 }
 
-/// Whether a piece overlaps another one and is on that side of it.
-fn is_on(side: Side, other: &LivePiece, of: &LivePiece) -> bool
-    ensures { result ≡ is_on side other.now of.now }
+/// On which side of a piece another one is: on none where no key matches both, or they are of one priority.
+fn side_of(other: &LivePiece, of: &LivePiece) -> Option<Side>
+    ensures { result ≡ side_of other.now of.now }
 {
-    match side {
-        Side::Above => is_over(other, of),
-        Side::Below => is_over(of, other),
+    if is_over(other, of) {
+        Some(Side::Above)
+    } else if is_over(of, other) {
+        Some(Side::Below)
+    } else {
+        None
     }
 }
 
 /// Whether the first piece overlaps the second and has the higher priority. The priorities are looked at first: that
-/// is the cheaper test, and about half of all pieces fail it.
+/// is the cheaper test, and of two pieces it fails one way round at least, so that both ways compare them once.
 pub(crate) fn is_over(upper: &LivePiece, lower: &LivePiece) -> bool
     ensures { result ≡ is_over upper.now lower.now }
 {

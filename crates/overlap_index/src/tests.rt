@@ -1,13 +1,11 @@
-ghost use Rattle.std.specs.Prelude.{◌≡◌, IfOk, IsTrue};
+ghost use Rattle.std.specs.Prelude.{◌≡◌, IsTrue};
 ghost use Rattle.overlap_index.specs.Live.{is_live};
-ghost use Rattle.overlap_index.specs.Near.{AreColumns};
 
-use crate::exact::id_of;
-use crate::near::{first_of, last_of};
-use crate::scan::{Scan, Side, next_on};
+use crate::scan::Side;
 use crate::{Index, LivePiece};
 use rule_model::{Piece, Prefix, Rank, list_rank, piece_overlaps, route_rule};
 use std::alloc::{AllocError, Global};
+use std::process::Abort;
 use std::test::Fail;
 
 // A rule of an access list to the addresses of a prefix.
@@ -38,70 +36,51 @@ fn neighbours(rt: HostRuntime) -> Result<(), Fail> {
     Ok(())
 }
 
-// The columns beside some live pieces.
-fn columns(alloc: Global, live: &[LivePiece]) -> Result<(Vec<u32>, Vec<u32>), AllocError>
-    ensures { IfOk result (λ columns. AreColumns columns.0.items columns.1.items live.now) }
-{
-    let mut firsts = Vec::new(alloc);
-    let mut lasts = Vec::new(alloc);
+// The ids on one side of a piece, each live piece compared.
+fn plain(
+    alloc: Global,
+    side: Side,
+    of: &LivePiece,
+    live: &[LivePiece],
+) -> Result<Vec<u32>, AllocError> {
+    let mut ids = Vec::new(alloc);
     for one in live {
-        firsts.push(first_of(&one.piece.dst))?;
-        lasts.push(last_of(&one.piece.dst))?;
-    }
-    Ok((firsts, lasts))
-}
-
-// The first id on one side of a piece from a place on, and the place after it, each live piece compared.
-fn plain(side: Side, of: &LivePiece, live: &[LivePiece], at: usize) -> Option<(u32, usize)> {
-    for (place, one) in live.iter().enumerate() {
         let higher = match side {
             Side::Above => of.rank < one.rank,
             Side::Below => one.rank < of.rank,
         };
-        if place >= at && higher && piece_overlaps(&one.piece, &of.piece) {
-            return Some((one.id, place + 1));
+        if higher && piece_overlaps(&one.piece, &of.piece) {
+            ids.push(one.id)?;
         }
     }
-    None
+    Ok(ids)
 }
 
-// Prefixes of all lengths, some apart and some nested, 29 of them: the last few aren't eight.
+// Prefixes of all lengths, some apart and some nested, 29 of them: the last few aren't eight. Of every fourth the prefix
+// is the source's, and of some their two blocks differ.
 fn pieces(alloc: Global) -> Result<Vec<LivePiece>, Fail> {
     let mut live: Vec<LivePiece> = Vec::new(alloc);
     for id in 0..29u32 {
         let past = 32 - id * 7 % 33;
         let bits = u64::from(id % 5) * 0x3333_3333;
         let addr = (bits >> past << past) as u32;
-        let (piece, rank) = line(1 + id * 11 % 29, addr, (32 - past) as u8)?;
+        let (mut piece, rank) = line(1 + id * 11 % 29, addr, (32 - past) as u8)?;
+        if id % 4 == 1 {
+            piece.src = piece.dst;
+        }
+        if id % 8 == 5 {
+            piece.dst = Prefix::any();
+        }
         live.push(LivePiece { id, piece, rank })?;
     }
     Ok(live)
-}
-
-#[test]
-fn finds_what_the_plain_loop_finds(rt: HostRuntime) -> Result<(), Fail> {
-    let live = pieces(rt.alloc())?;
-    let (firsts, lasts) = columns(rt.alloc(), &live)?;
-    for of in &live {
-        let found = id_of(&live, &firsts, &lasts, &of.piece, of.rank);
-        assert_eq!(rt; found, Some(of.id));
-        let other = id_of(&live, &firsts, &lasts, &of.piece, list_rank(30));
-        assert_eq!(rt; other, None);
-        for at in 0..live.len() {
-            for side in [Side::Above, Side::Below] {
-                let found = next_on(side, of, &live, &firsts, &lasts, at);
-                assert_eq!(rt; found, plain(side, of, &live, at));
-            }
-        }
-    }
-    Ok(())
 }
 
 // Whether an id is live.
 fn is_live(index: &Index, id: u32) -> bool
     ensures { result ≡ is_live index.now.live id }
 {
-    index.live.iter().any(|one| one.id == id)
+    index.ids.contains(&id)
 }
 
 // The ids on one side of a live one, as they are linked.
@@ -114,33 +93,47 @@ fn linked(alloc: Global, index: &Index, side: Side, id: u32) -> Result<Vec<u32>,
     }
 }
 
-// What is linked to an id is what a scan finds, where every third id has gone.
-#[test]
-fn links_what_a_scan_finds(rt: HostRuntime) -> Result<(), Fail> {
-    let mut index = Index::new(rt.alloc(), 29)?;
-    let mut live = pieces(rt.alloc())?;
-    for one in &live {
+// An index of the pieces, of which every third is taken out again where that is asked for.
+fn index_of(
+    rt: &impl Abort,
+    alloc: Global,
+    pieces: &mut Vec<LivePiece>,
+    thinned: bool,
+) -> Result<Index, Fail> {
+    let mut index = Index::new(alloc, 29)?;
+    for one in &*pieces {
         assert!(rt; one.id < 29 && !is_live(&index, one.id));
         index.add(one.id, &one.piece, one.rank)?;
     }
-    for one in &live {
-        if one.id % 3 == 0 {
-            assert!(rt; is_live(&index, one.id));
-            index.remove(one.id);
+    if thinned {
+        for one in &*pieces {
+            if one.id % 3 == 0 {
+                assert!(rt; is_live(&index, one.id));
+                index.remove(one.id);
+            }
         }
+        pieces.retain(|one| one.id % 3 != 0);
     }
-    live.retain(|one| one.id % 3 != 0);
-    let (firsts, lasts) = columns(rt.alloc(), &live)?;
-    for of in &live {
-        for side in [Side::Above, Side::Below] {
-            assert!(rt; is_live(&index, of.id));
-            let mut linked = linked(rt.alloc(), &index, side, of.id)?;
-            linked.sort()?;
-            let mut found: Vec<u32> = Scan::new(side, of, &live, &firsts, &lasts).collect(
-                rt.alloc(),
-            )?;
-            found.sort()?;
-            assert_eq!(rt; linked.as_slice(), found.as_slice());
+    Ok(index)
+}
+
+// What is linked to an id is what a plain loop finds, whether or not some ids have gone, and each piece is found.
+#[test]
+fn links_what_a_scan_finds(rt: HostRuntime) -> Result<(), Fail> {
+    for thinned in [false, true] {
+        let mut live = pieces(rt.alloc())?;
+        let index = index_of(&rt, rt.alloc(), &mut live, thinned)?;
+        for of in &live {
+            assert_eq!(rt; index.id_of(&of.piece, of.rank), Some(of.id));
+            assert_eq!(rt; index.id_of(&of.piece, list_rank(30)), None);
+            for side in [Side::Above, Side::Below] {
+                assert!(rt; is_live(&index, of.id));
+                let mut linked = linked(rt.alloc(), &index, side, of.id)?;
+                linked.sort()?;
+                let mut found = plain(rt.alloc(), side, of, &live)?;
+                found.sort()?;
+                assert_eq!(rt; linked.as_slice(), found.as_slice());
+            }
         }
     }
     Ok(())

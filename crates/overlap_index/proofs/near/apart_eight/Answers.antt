@@ -6,5 +6,5 @@ use Rattle.overlap_index.proofs.near.apart_eight.Goals as goal
 pub returns-clause-near : goal.returns-clause-near
 returns-clause-near c k l =
     c.either.ensures.zeros k l
-    ∙ ap₂ (λ p q. p && q) (c.above.ensures.lanes k l ∙ ap₂ nat_le (c.eight.ensures.lanes k l) (get_or-replicate 8 k c.args.last 0 l))
-    (c.above-2.ensures.lanes k l ∙ ap₂ nat_le (get_or-replicate 8 k c.args.first 0 l) (c.eight-2.ensures.lanes k l))
+    ∙ ap₂ (λ p q. p && q) (c.above.ensures.lanes k l ∙ ap₂ nat_le (c.eight.ensures.lanes k l) (get_or-replicate 8 k c.args.span.last 0 l))
+    (c.above-2.ensures.lanes k l ∙ ap₂ nat_le (get_or-replicate 8 k c.args.span.first 0 l) (c.eight-2.ensures.lanes k l))

@@ -1,14 +1,14 @@
 use Rattle.std.proofs.Common.{◌≡◌, ℕ, ◌-◌, ◌<◌, ◌≤◌, false, length}
 use Rattle.overlap_index.specs.Near.{is_near}
-use Rattle.overlap_index.proofs.near.next_near.Given as goal
+use Rattle.overlap_index.proofs.columns.Columns.next_near.Given as goal
 
 -- none that was passed over is near
 abbrev pub invariant-loop-next : goal.invariant-loop-next
 invariant-loop-next l = record {
   from : l.at ≤ l.next;
-  inside : l.next ≤ length l.firsts;
-  passed : (k : ℕ) → l.at ≤ k → k < l.next → is_near l.firsts l.lasts l.first l.last k ≡ false;
+  inside : l.next ≤ l.places;
+  passed : (k : ℕ) → l.at ≤ k → k < l.next → is_near l.self l.spans k ≡ false;
 }
 
 abbrev pub decreases-loop-next : goal.decreases-loop-next
-decreases-loop-next l = length l.firsts - l.next
+decreases-loop-next l = l.places - l.next

@@ -7,7 +7,7 @@ use Rattle.std.proofs.lemmas.List.{get_or_default, length-map, map_push}
 use Rattle.slot_order.proofs.Lists.{contains_head, contains_tail, map_in, map-remove}
 use Rattle.overlap_index.specs.declared.LivePiece.{LivePiece}
 use Rattle.overlap_index.specs.Live.{without_id}
-use Rattle.overlap_index.specs.Near.{AreColumns, first_of, last_of}
+use Rattle.overlap_index.specs.Near.{SpanColumns, columns_of, with_row, without_row, first_of, last_of}
 use Rattle.overlap_index.proofs.Live.{all_apart}
 
 abbrev ids : List LivePiece → List ℕ
@@ -38,26 +38,23 @@ remove_place (one ∷ live) id (suc k) none d inside at =
     ap (λ xs. one ∷ xs) (remove_place live id k none d.1 (omega arith) at)
     ∙ sym (cond-true _ _ _ (other_id one.id id (λ e. all_apart one.id (ids live) d.0 (subst (Contains (ids live)) (at ∙ sym e) (map_in (λ y. y.id) live found has)))))
 
--- columns of no live piece, of one more, and of all but one
-pub columns_none : AreColumns [] [] []
-columns_none = record { first = refl; last = refl }
+-- the columns beside one live piece more, and beside all but one
+pub row_more : (live : List LivePiece) (one : LivePiece) → with_row (columns_of live) one.piece ≡ columns_of (live ++ one ∷ [])
+row_more live one =
+    let dst_firsts = map_push (λ (x : LivePiece). first_of x.piece.dst) live one in
+    let dst_lasts = map_push (λ (x : LivePiece). last_of x.piece.dst) live one in
+    let src_firsts = map_push (λ (x : LivePiece). first_of x.piece.src) live one in
+    let src_lasts = map_push (λ (x : LivePiece). last_of x.piece.src) live one in
+    rw (dst_firsts, dst_lasts, src_firsts, src_lasts) refl
 
-pub columns_more : (firsts lasts : List ℕ) (live : List LivePiece) (one : LivePiece) → AreColumns firsts lasts live
-    → AreColumns (firsts ++ first_of one.piece.dst ∷ []) (lasts ++ last_of one.piece.dst ∷ []) (live ++ one ∷ [])
-columns_more firsts lasts live one are = record {
-  first = ap (λ xs. xs ++ first_of one.piece.dst ∷ []) are.first ∙ sym (map_push (λ (x : LivePiece). first_of x.piece.dst) live one);
-  last = ap (λ xs. xs ++ last_of one.piece.dst ∷ []) are.last ∙ sym (map_push (λ (x : LivePiece). last_of x.piece.dst) live one);
-}
-
-pub columns_remove : (firsts lasts : List ℕ) (live : List LivePiece) (k : ℕ) → AreColumns firsts lasts live → AreColumns (remove firsts k) (remove lasts k) (remove live k)
-columns_remove firsts lasts live k are = record {
-  first = ap (λ xs. remove xs k) are.first ∙ sym (map-remove (λ (x : LivePiece). first_of x.piece.dst) live k);
-  last = ap (λ xs. remove xs k) are.last ∙ sym (map-remove (λ (x : LivePiece). last_of x.piece.dst) live k);
-}
+pub row_less : (live : List LivePiece) (k : ℕ) → without_row (columns_of live) k ≡ columns_of (remove live k)
+row_less live k =
+    let dst_firsts = map-remove (λ (x : LivePiece). first_of x.piece.dst) live k in
+    let dst_lasts = map-remove (λ (x : LivePiece). last_of x.piece.dst) live k in
+    let src_firsts = map-remove (λ (x : LivePiece). first_of x.piece.src) live k in
+    let src_lasts = map-remove (λ (x : LivePiece). last_of x.piece.src) live k in
+    rw (dst_firsts, dst_lasts, src_firsts, src_lasts) refl
 
 -- the columns are as long as the list of live pieces
-pub columns_size : (firsts lasts : List ℕ) (live : List LivePiece) → AreColumns firsts lasts live → (length firsts ≡ length live) × (length lasts ≡ length live)
-columns_size firsts lasts live are = (
-  ap length are.first ∙ length-map live (λ one. first_of one.piece.dst),
-  ap length are.last ∙ length-map live (λ one. last_of one.piece.dst),
-)
+pub columns_size : (live : List LivePiece) (columns : SpanColumns) → columns ≡ columns_of live → length columns.dst_firsts ≡ length live
+columns_size live columns are = ap (λ (c : SpanColumns). length c.dst_firsts) are ∙ length-map live (λ one. first_of one.piece.dst)

@@ -1,0 +1,118 @@
+//! Columns beside the live pieces, by which those that have nothing to do with a piece are passed over.
+ghost use Rattle.std.specs.Prelude.{◌≡◌, ℕ, ◌+◌, ◌<◌, ◌≤◌, false, [], length, IfOk, OnOk, OnErr};
+ghost use Rattle.overlap_index.specs.Near.{columns_of, with_row, without_row, is_near};
+
+use crate::near::{Spans, apart_eight, meets_at, spans_of};
+use eight_lanes::{either, first_zero};
+use rule_model::Piece;
+use std::alloc::{AllocError, Global};
+use std::marker::Model;
+
+/// The upper 32 bits of the first and of the last address of some pieces' destinations and sources.
+#[derive(Drop)]
+pub(crate) struct Columns {
+    dst_firsts: Vec<u32>,
+    dst_lasts: Vec<u32>,
+    src_firsts: Vec<u32>,
+    src_lasts: Vec<u32>,
+}
+
+impl Model for Columns {
+    ghost use Rattle.overlap_index.specs.Near.{SpanColumns, AreLevel};
+
+    ghost Value = { SpanColumns };
+
+    ghost view = { λ c. record { dst_firsts = c.dst_firsts.items; dst_lasts = c.dst_lasts.items; src_firsts = c.src_firsts.items; src_lasts = c.src_lasts.items } };
+
+    ghost invariant = { λ c. AreLevel (record { dst_firsts = c.dst_firsts.items; dst_lasts = c.dst_lasts.items; src_firsts = c.src_firsts.items; src_lasts = c.src_lasts.items }) };
+}
+
+impl Columns {
+    /// Those of no piece, with room for some.
+    pub(crate) fn new(alloc: Global, places: usize) -> Result<Columns, AllocError>
+        ensures { IfOk result (λ columns. columns ≡ columns_of []) }
+    {
+        Ok(Columns {
+            dst_firsts: Vec::with_capacity(alloc, places)?,
+            dst_lasts: Vec::with_capacity(alloc, places)?,
+            src_firsts: Vec::with_capacity(alloc, places)?,
+            src_lasts: Vec::with_capacity(alloc, places)?,
+        })
+    }
+
+    /// Puts one piece more at the end. After a refusal all is as before.
+    pub(crate) fn push(&mut self, piece: &Piece) -> Result<(), AllocError>
+        ensures more { OnOk result (self.new ≡ with_row self.old piece.now) }
+        ensures refused { OnErr result (self.new ≡ self.old) }
+    {
+        self.dst_firsts.reserve(1)?;
+        self.dst_lasts.reserve(1)?;
+        self.src_firsts.reserve(1)?;
+        self.src_lasts.reserve(1)?;
+        let spans = spans_of(piece);
+        self.dst_firsts.push_reserved(spans.dst.first);
+        self.dst_lasts.push_reserved(spans.dst.last);
+        self.src_firsts.push_reserved(spans.src.first);
+        self.src_lasts.push_reserved(spans.src.last);
+        Ok(())
+    }
+
+    /// Takes out the piece at a place.
+    pub(crate) fn remove(&mut self, place: usize)
+        requires { place < length self.old.dst_firsts }
+        ensures { self.new ≡ without_row self.old place }
+    {
+        self.dst_firsts.remove(place);
+        self.dst_lasts.remove(place);
+        self.src_firsts.remove(place);
+        self.src_lasts.remove(place);
+    }
+
+    /// The next place from `at` on that may be near. Those that are passed over aren't; past the last eight each
+    /// place may be.
+    pub(crate) fn next_near(&self, spans: Spans, at: usize) -> usize
+        requires { at ≤ length self.now.dst_firsts }
+        ensures from { at ≤ result }
+        ensures most { result ≤ length self.now.dst_firsts }
+        ensures passed { (k : ℕ) → at ≤ k → k < result → is_near self.now spans k ≡ false }
+    {
+        let places = self.dst_firsts.len();
+        // Where many are near, the next one often is.
+        if at < places && self.is_near(spans, at) {
+            return at;
+        }
+        let mut next = at;
+        while places - next >= 8 {
+            let before = self.before_near(spans, next);
+            if before < 8 {
+                return next + before as usize;
+            }
+            next += 8;
+        }
+        next
+    }
+
+    /// Whether the destinations and the sources at a place are near.
+    fn is_near(&self, spans: Spans, at: usize) -> bool
+        requires { at < length self.now.dst_firsts }
+        ensures { result ≡ is_near self.now spans at }
+    {
+        meets_at(&self.dst_firsts, &self.dst_lasts, spans.dst, at)
+            && meets_at(&self.src_firsts, &self.src_lasts, spans.src, at)
+    }
+
+    /// How many of the eight places from `at` on come before the first that is near, 8 where none is. The sources are
+    /// looked at only where some destination is near, since those of routes tell nothing.
+    fn before_near(&self, spans: Spans, at: usize) -> u32
+        requires { at + 8 ≤ length self.now.dst_firsts }
+        ensures most { result ≤ 8 }
+        ensures before { (k : ℕ) → k < result → is_near self.now spans (at + k) ≡ false }
+    {
+        let dst = apart_eight(&self.dst_firsts, &self.dst_lasts, spans.dst, at);
+        if first_zero(dst) == 8 {
+            return 8;
+        }
+        let src = apart_eight(&self.src_firsts, &self.src_lasts, spans.src, at);
+        first_zero(either(dst, src))
+    }
+}
