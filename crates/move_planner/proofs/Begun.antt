@@ -1,5 +1,5 @@
 -- How a cut begins: the marks of a crossed stretch count its two sides, some boundary has room, and the best one is the cut.
-use Rattle.std.proofs.Common.{◌≡◌, ℕ, zero, suc, ◌+◌, ◌-◌, ◌<◌, ◌≤◌, Bool, true, false, Option, Some, List, length, take, drop, arith, le_refl, refl, ◌∙◌, ap, subst, sym}
+use Rattle.std.proofs.Common.{◌≡◌, ℕ, zero, suc, ◌+◌, ◌-◌, ◌<◌, ◌≤◌, Bool, true, false, Option, List, length, take, drop, arith, le_refl, refl, ◌∙◌, ap, subst, sym}
 use Rattle.std.specs.Prelude.{cond, nat_le, slice_index_or}
 use Rattle.std.proofs.lemmas.Bool.{and_parts, and_from, le-leb}
 use Rattle.std.proofs.lemmas.List.{take_all}
@@ -99,10 +99,10 @@ module _ (index : LivePieces) (id : ℕ) (slots : Slots) (sides : Sides) (w : Is
       are_crossed (Related (is_above index.live)) (rank_in index.live) (IsOther index.live id) (IsLive index.live) (is_above index.live) slots id
       (is_behind (is_above index.live) slots id) (is_before (is_above index.live) slots id) reads (λ a p. p.0) w.ready.live ordered are has.apart w.crossed w.ready.free
 
-  marked_is : (marks : List Bool) (at : ℕ) → sides.start ≤ at → is_marked (Some at) sides.start marks ≡ true → mark_at marks sides.start at ≡ true
+  marked_is : (marks : List Bool) (at : ℕ) → sides.start ≤ at → is_marked at sides.start marks ≡ true → mark_at marks sides.start at ≡ true
   marked_is marks at low e = (and_parts (nat_le sides.start at) (slice_index_or marks (at - sides.start) false) e).1
 
-  marked_from : (marks : List Bool) (at : ℕ) → sides.start ≤ at → mark_at marks sides.start at ≡ true → is_marked (Some at) sides.start marks ≡ true
+  marked_from : (marks : List Bool) (at : ℕ) → sides.start ≤ at → mark_at marks sides.start at ≡ true → is_marked at sides.start marks ≡ true
   marked_from marks at low e = and_from (nat_le sides.start at) (slice_index_or marks (at - sides.start) false) (le-leb sides.start at low) e
 
   pub say_behind : SayMarks (is_behind (is_above index.live) slots id) slots sides.start sides.end sides.behind.items

@@ -8,12 +8,14 @@ pub mod Filled
 pub mod Inserted
 pub mod Leading
 pub mod Marks
+pub mod Near
 pub mod Orders
 pub mod Outcomes
 pub mod Passed
 pub mod Placed
 pub mod Planned
 pub mod Planner
+pub mod Pushed
 pub mod Reach
 pub mod Readied
 pub mod Settled

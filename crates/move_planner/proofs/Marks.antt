@@ -1,24 +1,17 @@
--- Marks of the entries that an id leads to, and of those that lead to it.
-use Rattle.std.proofs.Common.{◌≡◌, ℕ, ◌<◌, ◌≤◌, Bool, true, false, Option, None, Some, List, length, IsTrue, ◌↔◌, ◌⊎◌, Contains, inl, inr, arith, refl, sym, ◌∙◌, subst, ap}
-use Rattle.std.specs.Prelude.{◌==◌}
-use Rattle.std.specs.List.{list_any}
-use Rattle.std.proofs.lemmas.Bool.{or_cases, or_left, or_right, and_parts, eqb-true, eq-eqb, leb-true, both_ways, cases_lt}
-use Rattle.slot_order.specs.Order.{slot, Ordered}
+-- Marks of the slots of some ids.
+use Rattle.std.proofs.Common.{◌≡◌, ℕ, ◌-◌, ◌<◌, ◌≤◌, Bool, true, false, Option, None, Some, List, [], ◌++◌, length, take, drop, replicate, ◌↔◌, Contains, inl, inr, arith, refl, sym, ◌∙◌, ap}
+use Rattle.std.specs.Prelude.{◌==◌, nat_le, slice_index_or}
+use Rattle.std.proofs.lemmas.Bool.{and_parts, and_from, le-leb, eqb-true, eq-eqb, leb-true, both_ways, cases_lt}
+use Rattle.std.proofs.lemmas.List.{get_or-replicate, get_or_past, get_or_default, length-replicate}
+use Rattle.std.proofs.Math.Seq.{take-append_seam}
+use Rattle.std.proofs.lemmas.List.Elements.{Contains-append_cases, Contains-append_left, Contains-append_right}
+use Rattle.slot_order.specs.Order.{slot}
 use Rattle.slot_order.proofs.Writes.{slot_inside}
-use Rattle.slot_order.proofs.Lists.{any_is, any_from}
+use Rattle.slot_order.proofs.Lists.{contains_none}
 use Rattle.slot_pool.specs.Arrangement.{Slots, passes, home_of}
 use Rattle.slot_pool.proofs.Places.{first_slot_is, find_range_none}
-use Rattle.overlap_index.specs.Live.{LivePieces, is_above}
-use Rattle.overlap_index.proofs.Above.{rank_in}
-use Rattle.move_planner.specs.Placement.{Above, Leads, straight, through, gap_start, gap_end}
-use Rattle.move_planner.specs.Insertion.{IsLive, IsOther}
-use Rattle.move_planner.specs.Steps.{IsReady, LedTo, LeadsFrom, is_marked, is_marked_id}
-use Rattle.move_planner.proofs.Chain.{Reads, passes_is, stands_before}
-use Rattle.move_planner.proofs.Planner.{Related, ranked_reads}
-use Rattle.move_planner.proofs.Orders.{ranked}
-use Rattle.move_planner.proofs.Readied.{ready_ordered}
-use Rattle.move_planner.proofs.Leading.{leads_more}
-use Rattle.move_planner.proofs.Cutting.{behind_from, before_to}
+use Rattle.move_planner.specs.Steps.{AreMarked, AreReached, is_marked}
+use Rattle.move_planner.proofs.Chain.{passes_is}
 
 -- the home of an id that stands once
 pub home_is : (slots : Slots) (id at : ℕ) → ((i j other : ℕ) → slot slots i ≡ Some other → slot slots j ≡ Some other → i ≡ j) → slot slots at ≡ Some id → home_of slots id ≡ Some at
@@ -42,126 +35,72 @@ stands_at slots id at e =
     let p = passes_is (λ held. held == id) (slot slots at) f.passing in
     p.stands ∙ ap Some (eqb-true p.id id p.passing)
 
--- the last step of what leads to an entry
-pub record LastStep (above : Above) (slots : Slots) (upper lower : ℕ) : Type 0 where
-  pub at : ℕ
-  pub between : ℕ
-  pub stands : slot slots at ≡ Some between
-  pub leads : Leads above slots upper between
-  pub on : above between lower ≡ true
+-- the slot is marked
+abbrev pub Hit : List Bool → ℕ → ℕ → Type 0
+Hit marks start at = is_marked at start marks ≡ true
 
-pub last_step : (above : Above) (slots : Slots) (upper lower : ℕ) → Leads above slots upper lower → (above upper lower ≡ true) ⊎ LastStep above slots upper lower
-last_step above slots upper lower (straight e) = inl e
-last_step above slots upper lower (through at between stands e rest) = inr (elim (last_step above slots between lower rest) [
-  | inl on ↦ record { at = at; between = between; stands = stands; leads = straight e; on = on }
-  | inr w ↦ record { at = w.at; between = w.between; stands = w.stands; leads = through at between stands e w.leads; on = w.on }
-])
+pub hit_low : (marks : List Bool) (start at : ℕ) → Hit marks start at → start ≤ at
+hit_low marks start at e = leb-true start at (and_parts (nat_le start at) (slice_index_or marks (at - start) false) e).0
 
--- a marked home
-marked_home : (start : ℕ) (marks : List Bool) (home : Option ℕ) → is_marked home start marks ≡ true → (at : ℕ) × (home ≡ Some at) × (start ≤ at)
-marked_home start marks None e = absurd (cc)
-marked_home start marks (Some at) e = (at, refl, leb-true start at (and_parts _ _ e).0)
+pub hit_is : (marks : List Bool) (start at : ℕ) → Hit marks start at → slice_index_or marks (at - start) false ≡ true
+hit_is marks start at e = (and_parts (nat_le start at) (slice_index_or marks (at - start) false) e).1
 
-module _ (index : LivePieces) (id : ℕ) (slots : Slots) (ready : IsReady index id slots) where
-  reads : Reads (Related (is_above index.live)) (rank_in index.live) (IsLive index.live) (is_above index.live)
-  reads = ranked_reads (is_above index.live) (rank_in index.live) (IsLive index.live) (ranked index ready.apart)
+pub hit_from : (marks : List Bool) (start at : ℕ) → start ≤ at → slice_index_or marks (at - start) false ≡ true → Hit marks start at
+hit_from marks start at low e = and_from (nat_le start at) (slice_index_or marks (at - start) false) (le-leb start at low) e
 
-  ordered : Ordered (Related (is_above index.live)) (rank_in index.live) (IsOther index.live id) slots
-  ordered = ready_ordered index id slots ready
+-- a mark that was read
+pub hit_read : (marks : List Bool) (start at : ℕ) (mark : Bool) → start ≤ at → at - start < length marks → mark ≡ slice_index_or marks (at - start) mark → mark ≡ true → Hit marks start at
+hit_read marks start at mark low inside read is = hit_from marks start at low (get_or_default marks (at - start) false mark inside ∙ (sym read ∙ is))
 
-  first_of : (i j a b : ℕ) → slot slots i ≡ Some a → slot slots j ≡ Some b → is_above index.live a b ≡ true → i < j
-  first_of i j a b s t e =
-      let k = ranked index ready.apart a b e in
-      stands_before (Related (is_above index.live)) (rank_in index.live) (IsOther index.live id) slots i j a b ordered s t (inr e) k
+pub clear_read : (marks : List Bool) (start at : ℕ) (mark : Bool) → at - start < length marks → mark ≡ slice_index_or marks (at - start) mark → mark ≡ false → Hit marks start at → ⊥
+clear_read marks start at mark inside read is hit =
+    both_ways _ (get_or_default marks (at - start) false mark inside ∙ (sym read ∙ is)) (hit_is marks start at hit)
 
-  -- an entry that is led to leads nowhere there
-  falls : (upper lower : ℕ) → Leads (is_above index.live) slots upper lower → rank_in index.live lower < rank_in index.live upper
-  falls upper lower (straight e) = ranked index ready.apart upper lower e
-  falls upper lower (through at between stands e rest) =
-      let a = ranked index ready.apart upper between e in let b = falls between lower rest in omega arith
+-- no mark yet
+pub no_hit : (count start at : ℕ) → Hit (replicate count false) start at → ⊥
+no_hit count start at e = both_ways _ unset (hit_is (replicate count false) start at e)
+  where
+    unset : slice_index_or (replicate count false) (at - start) false ≡ false
+    unset = elim (cases_lt (at - start) count) [
+      | inl inside ↦ get_or-replicate count (at - start) false false inside
+      | inr past ↦ let n = length-replicate count false in get_or_past (replicate count false) (at - start) false (omega arith)
+    ]
 
-  pub not_both : (at : ℕ) → LedTo (is_above index.live) slots id at → LeadsFrom (is_above index.live) slots id at → ⊥
-  not_both at to from =
-      let k : Some from.0 ≡ Some to.0 = sym from.1 ∙ to.1 in
-      let same : from.0 ≡ to.0 = cc in
-      let a = falls id to.0 to.2 in
-      let b = falls to.0 id (subst (λ x. Leads (is_above index.live) slots x id) same from.2) in omega arith
+-- marks that were written as a slice of all of them
+pub written_back : (marks marks' : List Bool) (len : ℕ) → len ≡ length marks → length marks' ≡ length marks → take len (marks' ++ drop (length marks') marks) ≡ marks'
+written_back marks marks' len is same =
+    ap (λ n. take n (marks' ++ drop (length marks') marks)) (is ∙ sym same) ∙ take-append_seam marks' (drop (length marks') marks)
 
-  -- what stands in a slot is led to where the id or a marked entry is above it
-  pub led_is : (start held at : ℕ) (marks : List Bool) (mark : Bool) (ids : List ℕ) → start ≡ gap_end (is_above index.live) slots id → slot slots at ≡ Some held
-      → ((i : ℕ) → start ≤ i → i < at → IsTrue (is_marked (Some i) start marks) ↔ LedTo (is_above index.live) slots id i)
-      → ((other : ℕ) → Contains ids other ↔ (is_above index.live other held ≡ true))
-      → mark ≡ list_any (is_marked_id slots id start marks) ids → IsTrue mark ↔ LedTo (is_above index.live) slots id at
-  led_is start held at marks mark ids from stands say exact is = (forth, back)
-    where
-      forth : mark ≡ true → LedTo (is_above index.live) slots id at
-      forth e =
-          let w = any_is (is_marked_id slots id start marks) ids (sym is ∙ e) in
-          let on = (exact w.0).0 w.1 in
-          elim (or_cases (w.0 == id) (is_marked (home_of slots w.0) start marks) w.2) [
-            | inl same ↦ (held, stands, straight (subst (λ x. is_above index.live x held ≡ true) (eqb-true w.0 id same) on))
-            | inr yes' ↦
-                let h = marked_home start marks (home_of slots w.0) yes' in
-                let here = stands_at slots w.0 h.0 h.1 in
-                let l = (say h.0 h.2 (first_of h.0 at w.0 held here stands on)).0 (ap (λ x. is_marked x start marks) (sym h.1) ∙ yes') in
-                let k : Some l.0 ≡ Some w.0 = sym l.1 ∙ here in
-                let same : l.0 ≡ w.0 = cc in
-                (held, stands, leads_more (is_above index.live) slots id w.0 held h.0 (subst (Leads (is_above index.live) slots id) same l.2) here on)
-          ]
+-- nothing to mark
+pub marked_none : (slots : Slots) (start : ℕ) (marks : List Bool) → AreMarked slots start [] marks marks
+marked_none slots start marks = record {
+  many = refl;
+  kept = λ at e. e;
+  told = λ at id c home low high. absurd (contains_none id c);
+  only = λ at e. inl e;
+}
 
-      back : LedTo (is_above index.live) slots id at → mark ≡ true
-      back l =
-          let k : Some l.0 ≡ Some held = sym l.1 ∙ stands in
-          let same : l.0 ≡ held = cc in
-          is ∙ elim (last_step (is_above index.live) slots id held (subst (Leads (is_above index.live) slots id) same l.2)) [
-            | inl on ↦ any_from (is_marked_id slots id start marks) ids id ((exact id).1 on) (or_left (id == id) _ (eq-eqb id id refl))
-            | inr w ↦
-                let low = behind_from (Related (is_above index.live)) (rank_in index.live) (IsOther index.live id) (IsLive index.live) (is_above index.live) slots id w.between w.at
-                reads (λ a p. p.0) ready.live ordered w.stands w.leads in
-                let m = (say w.at (omega arith) (first_of w.at at w.between held w.stands stands w.on)).1 (w.between, w.stands, w.leads) in
-                any_from (is_marked_id slots id start marks) ids w.between ((exact w.between).1 w.on)
-                (or_right (w.between == id) _ (ap (λ x. is_marked x start marks) (home_is slots w.between w.at ready.standing.once w.stands) ∙ m))
-          ]
+-- some ids, and then more
+pub marked_more : (slots : Slots) (start : ℕ) (ids more : List ℕ) (a b c : List Bool) → AreMarked slots start ids a b → AreMarked slots start more b c → AreMarked slots start (ids ++ more) a c
+marked_more slots start ids more a b c m n = record {
+  many = n.many ∙ m.many;
+  kept = λ at e. n.kept at (m.kept at e);
+  told = λ at id i home low high. elim (Contains-append_cases ids more id i) [
+    | inl old ↦ n.kept at (m.told at id old home low high)
+    | inr new ↦ let k = m.many in n.told at id new home low (omega arith)
+  ];
+  only = λ at e. elim (n.only at e) [
+    | inr w ↦ inr (w.0, Contains-append_right ids more w.0 w.1, w.2)
+    | inl old ↦ elim (m.only at old) [ inl older ↦ inl older | inr w ↦ inr (w.0, Contains-append_left ids more w.0 w.1, w.2) ]
+  ];
+}
 
-  -- and leads to the id where that or a marked entry is below it
-  pub lead_is : (start held at : ℕ) (marks : List Bool) (mark : Bool) (ids : List ℕ) → start ≤ at → slot slots at ≡ Some held
-      → ((i : ℕ) → at < i → i < gap_start (is_above index.live) slots id → IsTrue (is_marked (Some i) start marks) ↔ LeadsFrom (is_above index.live) slots id i)
-      → ((i : ℕ) → gap_start (is_above index.live) slots id ≤ i → is_marked (Some i) start marks ≡ false)
-      → ((other : ℕ) → Contains ids other ↔ (is_above index.live held other ≡ true))
-      → mark ≡ list_any (is_marked_id slots id start marks) ids → IsTrue mark ↔ LeadsFrom (is_above index.live) slots id at
-  lead_is start held at marks mark ids low stands say past exact is = (forth, back)
-    where
-      forth : mark ≡ true → LeadsFrom (is_above index.live) slots id at
-      forth e =
-          let w = any_is (is_marked_id slots id start marks) ids (sym is ∙ e) in
-          let on = (exact w.0).0 w.1 in
-          elim (or_cases (w.0 == id) (is_marked (home_of slots w.0) start marks) w.2) [
-            | inl same ↦ (held, stands, straight (subst (λ x. is_above index.live held x ≡ true) (eqb-true w.0 id same) on))
-            | inr yes' ↦
-                let h = marked_home start marks (home_of slots w.0) yes' in
-                let here = stands_at slots w.0 h.0 h.1 in
-                let hit = ap (λ x. is_marked x start marks) (sym h.1) ∙ yes' in
-                elim (cases_lt h.0 (gap_start (is_above index.live) slots id)) [
-                  | inl inside ↦
-                      let l = (say h.0 (first_of at h.0 held w.0 stands here on) inside).0 hit in
-                      let k : Some l.0 ≡ Some w.0 = sym l.1 ∙ here in
-                      let same : l.0 ≡ w.0 = cc in
-                      (held, stands, through h.0 w.0 here on (subst (λ x. Leads (is_above index.live) slots x id) same l.2))
-                  | inr outside ↦ absurd (both_ways _ (past h.0 outside) hit)
-                ]
-          ]
-
-      back : LeadsFrom (is_above index.live) slots id at → mark ≡ true
-      back l =
-          let k : Some l.0 ≡ Some held = sym l.1 ∙ stands in
-          let same : l.0 ≡ held = cc in
-          is ∙ next (subst (λ x. Leads (is_above index.live) slots x id) same l.2)
-        where
-          next : Leads (is_above index.live) slots held id → list_any (is_marked_id slots id start marks) ids ≡ true
-          next (straight on) = any_from (is_marked_id slots id start marks) ids id ((exact id).1 on) (or_left (id == id) _ (eq-eqb id id refl))
-          next (through i between here on rest) =
-              let high = before_to (Related (is_above index.live)) (rank_in index.live) (IsOther index.live id) (IsLive index.live) (is_above index.live) slots id between i
-              reads (λ a p. p.0) ready.live ordered here rest in
-              let m = (say i (first_of at i held between stands here on) high).1 (between, here, rest) in
-              any_from (is_marked_id slots id start marks) ids between ((exact between).1 on)
-              (or_right (between == id) _ (ap (λ x. is_marked x start marks) (home_is slots between i ready.standing.once here) ∙ m))
+-- the ids that pass a test, where each id stands once
+pub reached : (test : ℕ → Bool) (slots : Slots) (start : ℕ) (ids : List ℕ) (marks marks' : List Bool) → ((i j other : ℕ) → slot slots i ≡ Some other → slot slots j ≡ Some other → i ≡ j)
+    → ((other : ℕ) → Contains ids other ↔ (test other ≡ true)) → AreMarked slots start ids marks marks' → AreReached test slots start marks marks'
+reached test slots start ids marks marks' once exact m = record {
+  many = m.many;
+  kept = m.kept;
+  told = λ at other stands passing low high. m.told at other ((exact other).1 passing) (home_is slots other at once stands) low high;
+  only = λ at e. elim (m.only at e) [ inl old ↦ inl old | inr w ↦ inr (w.0, stands_at slots w.0 at w.2, (exact w.0).0 w.1) ];
+}

@@ -1,16 +1,15 @@
 -- Which entry passes the boundary of a cut under way next, or that none is left.
 use Rattle.std.proofs.Common.{◌≡◌, ℕ, ◌+◌, ◌-◌, ◌<◌, ◌≤◌, ◌⊎◌, Bool, true, false, Option, None, Some, List, ◌∷◌, length, inl, inr, arith, refl, sym, ◌∙◌, subst, ap}
-use Rattle.std.specs.Prelude.{is_none, ◌&&◌, nat_lt, slice_index_or, IfSome}
-use Rattle.std.proofs.lemmas.Bool.{cases_lt, cond-true, cond-false, false_from_ne_true, and_from, lt-ltb, ltb-true, both_ways}
+use Rattle.std.specs.Prelude.{nat_lt, slice_index_or, IfSome}
+use Rattle.std.proofs.lemmas.Bool.{cases_lt, cond-true, cond-false, false_from_ne_true, lt-ltb, ltb-true, both_ways}
 use Rattle.slot_order.specs.Order.{slot}
 use Rattle.slot_order.specs.Cuts.{holds, early, late, free_before, free_behind}
 use Rattle.slot_order.proofs.Writes.{slot_inside}
 use Rattle.slot_order.proofs.Passes.{can_pass}
 use Rattle.slot_order.proofs.BestCut.{take_none, drop_none}
 use Rattle.slot_order.proofs.Tally.{take_clear, drop_clear}
-use Rattle.slot_pool.specs.Arrangement.{Slots, is_free, next_free_above, last_free_below}
-use Rattle.slot_pool.proofs.Places.{find_range_none}
-use Rattle.slot_pool.proofs.Scan.{find_back_none, next_free_is, last_free_is}
+use Rattle.slot_pool.specs.Arrangement.{Slots, next_free_above, last_free_below}
+use Rattle.slot_pool.proofs.Scan.{next_free_is, last_free_is}
 use Rattle.overlap_index.specs.Live.{LivePieces, is_above}
 use Rattle.move_planner.specs.declared.Move.{Move}
 use Rattle.move_planner.specs.declared.sides.Sides.{Sides}
@@ -21,6 +20,7 @@ use Rattle.move_planner.specs.Placement.{DownChain, UpChain, IsLastBefore, IsFir
 use Rattle.move_planner.specs.Placement.{IsDownChain as PlansDown, IsUpChain as PlansUp}
 use Rattle.move_planner.specs.Steps.{CanShift, CanGoDown, CanGoUp, IsShiftedOut, FindsShorter, EarlyEnds, NoEarlyEnds, FindsEarly, LateEnds, NoLateEnds, FindsLate, EarlyPasses, LatePasses, NonePass, FindsPasser, IsUnderway, OnePassed, IsLastMarked, IsFirstMarked, mark_at, cleared}
 use Rattle.move_planner.proofs.Planner.{last_alone, first_alone}
+use Rattle.move_planner.proofs.Near.{none_before, none_behind}
 use Rattle.move_planner.proofs.Turned.{down_shifts, up_shifts}
 use Rattle.move_planner.proofs.Reach.{holding}
 use Rattle.move_planner.proofs.Passed.{went_down, went_up, cut_inside, passed_down, passed_up}
@@ -52,17 +52,6 @@ module _ (index : LivePieces) (id : ℕ) (behind before : ℕ → Bool) (slots :
     ]
   ])
 
-  pub none_behind : 0 < cut.boundary → next_free_above slots (cut.boundary - 1) ≡ None → free_behind cut.boundary slots ≡ 0
-  none_behind some none = drop_none (λ (h : Option ℕ). is_none h) slots cut.boundary inside (λ at l inside. false_from_ne_true (is_none (slot slots at)) (λ e.
-      let k : nat_lt (cut.boundary - 1) at && is_free slots at ≡ false = find_range_none (λ other. nat_lt (cut.boundary - 1) other && is_free slots other) 0 (length slots) none at (omega arith) (omega arith) in
-      both_ways _ k (and_from (nat_lt (cut.boundary - 1) at) (is_free slots at) (lt-ltb (cut.boundary - 1) at (omega arith)) e)))
-
-  pub none_before : last_free_below slots cut.boundary ≡ None → free_before cut.boundary slots ≡ 0
-  none_before none = take_none (λ (h : Option ℕ). is_none h) slots cut.boundary inside (λ at l. false_from_ne_true (is_none (slot slots at)) (λ e.
-      let a = inside in
-      let k : nat_lt at cut.boundary && is_free slots at ≡ false = find_back_none (λ other. nat_lt other cut.boundary && is_free slots other) 0 (length slots) none at (omega arith) (omega arith) in
-      both_ways _ k (and_from (nat_lt at cut.boundary) (is_free slots at) (lt-ltb at cut.boundary l) e)))
-
   -- then none is left
   pub none_left : (early behind cut.boundary slots ≡ 0) ⊎ (free_behind cut.boundary slots ≡ 0)
       → (late before cut.boundary slots ≡ 0) ⊎ (free_before cut.boundary slots ≡ 0) → NonePass behind before slots cut
@@ -81,7 +70,8 @@ module _ (index : LivePieces) (id : ℕ) (behind before : ℕ → Bool) (slots :
 
   pub early_blocked : (lower : ℕ) → IsLastMarked sides.behind.items sides.start cut.low (Some lower) → next_free_above slots (cut.boundary - 1) ≡ None
       → NoEarlyEnds behind slots cut
-  early_blocked lower m none = let l = w.low_cut in let a = m.1 in record { none = λ other last. none; done = inr (none_behind (omega arith) none) }
+  early_blocked lower m none = let l = w.low_cut in let a = m.1 in let i = inside in
+      record { none = λ other last. none; done = inr (none_behind slots cut.boundary (cut.boundary - 1) (omega arith) (omega arith) none) }
 
   pub late_unmarked : IsFirstMarked sides.before.items sides.start cut.high sides.end None → NoLateEnds before slots cut
   late_unmarked none =
@@ -94,7 +84,7 @@ module _ (index : LivePieces) (id : ℕ) (behind before : ℕ → Bool) (slots :
       }
 
   pub late_blocked : last_free_below slots cut.boundary ≡ None → NoLateEnds before slots cut
-  late_blocked none = record { none = λ other first. none; done = inr (none_before none) }
+  late_blocked none = record { none = λ other first. none; done = inr (none_before slots cut.boundary inside none) }
 
   -- a chain can go between them
   pub early_goes : (found : Option Ends) → FindsEarly behind slots sides cut found → IfSome found (CanGoDown slots)

@@ -1,6 +1,6 @@
 -- What the steps of the planner need and what they leave.
-use Rattle.std.specs.Prelude.{◌≡◌, ◌≢◌, ℕ, ◌+◌, ◌-◌, ◌*◌, ◌<◌, ◌≤◌, ◌⊎◌, IsTrue, Bool, true, false}
-use Rattle.std.specs.Prelude.{Option, None, Some, MatchOption, List, ◌∷◌, ◌++◌, [], length, min, max, slice_index_or, if◌then◌else◌, nat_lt, nat_le, ◌==◌, ◌&&◌, ◌||◌, ◌↔◌}
+use Rattle.std.specs.Prelude.{◌≡◌, ◌≢◌, ℕ, ◌+◌, ◌-◌, ◌*◌, ◌<◌, ◌≤◌, ◌⊎◌, IsTrue, Bool, true, false, Contains}
+use Rattle.std.specs.Prelude.{Option, None, Some, MatchOption, List, ◌∷◌, ◌++◌, [], length, min, max, slice_index_or, if◌then◌else◌, nat_lt, nat_le, ◌&&◌, ◌↔◌}
 use Rattle.slot_order.specs.Order.{slot}
 use Rattle.slot_order.specs.Cuts.{holds, early, late, wrong_side, free_before, free_behind, HasRoom}
 use Rattle.slot_pool.specs.Arrangement.{Slots, HasTwin, home_of, next_free_above, last_free_below}
@@ -157,22 +157,31 @@ abbrev pub LeadsFrom : Above → Slots → ℕ → ℕ → Type 0
 LeadsFrom above slots id at = (other : ℕ) × (slot slots at ≡ Some other) × Leads above slots other id
 
 -- a slot is marked, where the marks begin with one slot
-abbrev pub is_marked : Option ℕ → ℕ → List Bool → Bool
-is_marked None start marks = false
-is_marked (Some at) start marks = nat_le start at && slice_index_or marks (at - start) false
+abbrev pub is_marked : ℕ → ℕ → List Bool → Bool
+is_marked at start marks = nat_le start at && slice_index_or marks (at - start) false
 
--- an id is this one, or stands in a marked slot
-abbrev pub is_marked_id : Slots → ℕ → ℕ → List Bool → ℕ → Bool
-is_marked_id slots id start marks other = (other == id) || is_marked (home_of slots other) start marks
+-- the slots of some ids are marked too, of those that the marks are of
+pub record AreMarked (slots : Slots) (start : ℕ) (ids : List ℕ) (marks marks' : List Bool) : Type 0 where
+  pub many : length marks' ≡ length marks
+  pub kept : (at : ℕ) → IsTrue (is_marked at start marks) → IsTrue (is_marked at start marks')
+  pub told : (at id : ℕ) → Contains ids id → home_of slots id ≡ Some at → start ≤ at → at < start + length marks → IsTrue (is_marked at start marks')
+  pub only : (at : ℕ) → IsTrue (is_marked at start marks') → IsTrue (is_marked at start marks) ⊎ ((id : ℕ) × Contains ids id × (home_of slots id ≡ Some at))
+
+-- likewise those of the entries that pass a test
+pub record AreReached (reached : ℕ → Bool) (slots : Slots) (start : ℕ) (marks marks' : List Bool) : Type 0 where
+  pub many : length marks' ≡ length marks
+  pub kept : (at : ℕ) → IsTrue (is_marked at start marks) → IsTrue (is_marked at start marks')
+  pub told : (at other : ℕ) → slot slots at ≡ Some other → reached other ≡ true → start ≤ at → at < start + length marks → IsTrue (is_marked at start marks')
+  pub only : (at : ℕ) → IsTrue (is_marked at start marks') → IsTrue (is_marked at start marks) ⊎ ((other : ℕ) × (slot slots at ≡ Some other) × (reached other ≡ true))
 
 -- the marks of the slots from one on and before another say which hold an entry that an id leads to
 pub record AreLedTo (above : Above) (slots : Slots) (id start end : ℕ) (marks : List Bool) : Type 0 where
   pub many : length marks ≡ end - start
-  pub say : (at : ℕ) → start ≤ at → at < end → IsTrue (is_marked (Some at) start marks) ↔ LedTo above slots id at
+  pub say : (at : ℕ) → start ≤ at → at < end → IsTrue (is_marked at start marks) ↔ LedTo above slots id at
 
 pub record LeadFrom (above : Above) (slots : Slots) (id start end : ℕ) (marks : List Bool) : Type 0 where
   pub many : length marks ≡ end - start
-  pub say : (at : ℕ) → start ≤ at → at < end → IsTrue (is_marked (Some at) start marks) ↔ LeadsFrom above slots id at
+  pub say : (at : ℕ) → start ≤ at → at < end → IsTrue (is_marked at start marks) ↔ LeadsFrom above slots id at
 
 -- the sides of a crossed stretch, slot by slot
 pub record AreFoundSides (above : Above) (slots : Slots) (id : ℕ) (sides : Sides) : Type 0 where

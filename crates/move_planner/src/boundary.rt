@@ -1,6 +1,6 @@
 //! The best boundary of a crossed stretch: the fewest entries on its wrong side.
-ghost use Rattle.std.specs.Prelude.{◌≡◌, ℕ, ◌+◌, ◌-◌, ◌<◌, ◌≤◌, length};
-ghost use Rattle.slot_order.specs.Cuts.{free_behind};
+ghost use Rattle.std.specs.Prelude.{◌≡◌, ℕ, ◌+◌, ◌-◌, ◌<◌, ◌≤◌, length, min};
+ghost use Rattle.slot_order.specs.Cuts.{free_before, free_behind};
 ghost use Rattle.move_planner.specs.Boundary.{HasMarkedRoom, IsBestTo, IsTallied, one, count_marks, has_room, with_better};
 
 use crate::sides::Sides;
@@ -25,7 +25,7 @@ pub(crate) struct Choice {
 /// The boundary with room that has the fewest entries on its wrong side, the last of equal ones.
 pub(crate) fn best_boundary(slots: &Arrangement, sides: &Sides) -> u32
     requires few { length slots.now ≤ 4096 }
-    requires order { sides.now.start ≤ sides.now.end }
+    requires order { sides.now.start < sides.now.end }
     requires inside { sides.now.end ≤ length slots.now }
     requires behind { length sides.now.behind.items ≡ sides.now.end - sides.now.start }
     requires before { length sides.now.before.items ≡ sides.now.end - sides.now.start }
@@ -47,18 +47,17 @@ pub(crate) fn best_boundary(slots: &Arrangement, sides: &Sides) -> u32
 /// The tally of the first boundary.
 fn tally_at_start(slots: &Arrangement, sides: &Sides) -> Tally
     requires few { length slots.now ≤ 4096 }
-    requires order { sides.now.start ≤ sides.now.end }
+    requires order { sides.now.start < sides.now.end }
     requires inside { sides.now.end ≤ length slots.now }
     requires before { length sides.now.before.items ≡ sides.now.end - sides.now.start }
     ensures { IsTallied slots.now sides.now result sides.now.start }
 {
-    let from_start = free_from(slots, sides.start);
-    let from_end = free_from(slots, sides.end);
+    let between = free_within(slots, sides.start, sides.end);
     Tally {
         early: 0,
         late: count(sides.before.as_slice()),
-        free_before: (slots.free_count() - from_start).min(2),
-        free_behind: from_start - from_end + from_end.min(2),
+        free_before: free_just_before(slots, sides.start),
+        free_behind: between + free_just_behind(slots, sides.end),
     }
 }
 
@@ -138,14 +137,38 @@ fn count(marks: &[bool]) -> u32
     count
 }
 
-/// How many slots from one on are free.
-fn free_from(slots: &Arrangement, start: u32) -> u32
+/// How many slots before one are free, two at most.
+fn free_just_before(slots: &Arrangement, start: u32) -> u32
+    requires { start < length slots.now }
+    ensures { result ≡ min 2 (free_before start slots.now) }
+{
+    match slots.last_free_below(start) {
+        Some(last) => 1 + one_if(slots.last_free_below(last).is_some()),
+        None => 0,
+    }
+}
+
+/// How many slots from one on are free, two at most.
+fn free_just_behind(slots: &Arrangement, end: u32) -> u32
+    requires some { 0 < end }
+    requires inside { end ≤ length slots.now }
+    ensures { result ≡ min 2 (free_behind end slots.now) }
+{
+    match slots.next_free_above(end - 1) {
+        Some(next) => 1 + one_if(slots.next_free_above(next).is_some()),
+        None => 0,
+    }
+}
+
+/// How many slots from one on and before another are free.
+fn free_within(slots: &Arrangement, start: u32, end: u32) -> u32
     requires few { length slots.now ≤ 4096 }
-    requires inside { start ≤ length slots.now }
-    ensures { result ≡ free_behind start slots.now }
+    requires order { start ≤ end }
+    requires inside { end ≤ length slots.now }
+    ensures { result + free_behind end slots.now ≡ free_behind start slots.now }
 {
     let mut count = 0;
-    for slot in start..slots.slots() {
+    for slot in start..end {
         count += one_if(slots.at(slot).is_none());
     }
     count

@@ -65,10 +65,13 @@
 //! found `(p + 1) * (q + 1)` moves to be the least.
 //!
 //! What is asked of the index is the list of what is above an entry or of what is below it. The gap takes one of either,
-//! before the cut and again after it. The cut takes at most one of either for each entry of the crossed stretch. Chains
-//! take one for each member: where a down chain and an up chain are both there they are walked in turns, a member of each,
-//! until one ends, and the other goes no further. So without a cut at most two lists are asked for each move, and a cut
-//! takes at most two more for each entry of its stretch. An entry's slot is looked up, not searched for.
+//! before the cut and again after it. The cut asks for what is below the new entry and below each entry of the crossed
+//! stretch that must stand behind it, and for what is above the new entry and above each one that must stand before it.
+//! No entry is among both, and one that is neither isn't asked for anything. Chains take one list for each member: where a
+//! down chain and an up chain are both there they are walked in turns, a member of each, until one ends, and the other
+//! goes no further. So without a cut at most two lists are asked for each move, and a cut takes at most `s + 2` more, `s`
+//! the number of entries of its stretch that must stand behind the new one or before it. An entry's slot is looked up,
+//! not searched for.
 //!
 //! A chain's list is seldom gone through to its end. The next member of a chain is also the first slot on the way to the
 //! free one whose entry overlaps the member before, and is lower, or higher on the way up. So the list and the slots are

@@ -1,9 +1,9 @@
 //! Which entries must stand behind a new id, and which before it.
-ghost use Rattle.std.specs.Prelude.{◌≡◌, ℕ, ◌+◌, ◌<◌, ◌≤◌, ◌↔◌, IsTrue, IsFalse, Some, IfOk, length};
-ghost use Rattle.std.specs.List.{list_any};
-ghost use Rattle.overlap_index.specs.Live.{is_above};
+ghost use Rattle.std.specs.Prelude.{◌≡◌, ℕ, ◌+◌, ◌<◌, ◌≤◌, ◌∷◌, [], IsTrue, Some, IfOk, length};
+ghost use Rattle.slot_order.specs.Order.{slot};
+ghost use Rattle.overlap_index.specs.Live.{is_live, is_above};
 ghost use Rattle.move_planner.specs.Placement.{gap_start, gap_end};
-ghost use Rattle.move_planner.specs.Steps.{IsReady, IsLastMarked, IsFirstMarked, LedTo, LeadsFrom, AreLedTo, LeadFrom, AreFoundSides, is_marked, is_marked_id};
+ghost use Rattle.move_planner.specs.Steps.{IsReady, IsLastMarked, IsFirstMarked, AreMarked, AreReached, AreLedTo, LeadFrom, AreFoundSides};
 
 use crate::places::Gap;
 use overlap_index::{Index, Overlaps};
@@ -38,7 +38,7 @@ pub(crate) fn find_sides(
     let start = gap.end;
     let end = gap.start;
     let behind = mark_behind(alloc, slots, index, id, start, end)?;
-    let before = mark_before(alloc, slots, index, id, start, end, behind.as_slice())?;
+    let before = mark_before(alloc, slots, index, id, start, end)?;
     Ok(Sides {
         start,
         end,
@@ -47,8 +47,8 @@ pub(crate) fn find_sides(
     })
 }
 
-/// The slots from `start` on and before `end` whose entry must stand behind an id, by rising slots:
-/// what is above an entry stands before it.
+/// The slots from `start` on and before `end` whose entry must stand behind an id. What is below the id
+/// is marked, and then, by rising slots, what is below a marked entry: that stands behind it.
 fn mark_behind(
     alloc: Global,
     slots: &Arrangement,
@@ -64,15 +64,18 @@ fn mark_behind(
     ensures { IfOk result (λ marks. AreLedTo (is_above index.now.live) slots.now id start end marks.items) }
 {
     let mut marks = vec![in alloc; false; (end - start) as usize]?;
+    mark_below(slots, index, id, start, marks.as_mut_slice());
     for slot in start..end {
-        let mark = is_led_to(slots, index, id, start, marks.as_slice(), slot);
-        marks[(slot - start) as usize] = mark;
+        if marks[(slot - start) as usize] {
+            if let Some(held) = slots.at(slot) {
+                mark_below(slots, index, held, start, marks.as_mut_slice());
+            }
+        }
     }
     Ok(marks)
 }
 
-/// The slots from `start` on and before `end` whose entry must stand before an id, by falling slots.
-/// `behind` marks those whose entry must stand behind it.
+/// The slots from `start` on and before `end` whose entry must stand before an id: the mirror.
 fn mark_before(
     alloc: Global,
     slots: &Arrangement,
@@ -80,100 +83,61 @@ fn mark_before(
     id: u32,
     start: u32,
     end: u32,
-    behind: &[bool],
 ) -> Result<Vec<bool>, AllocError>
     requires ready { IsReady index.now id slots.now }
     requires to { end ≡ gap_start (is_above index.now.live) slots.now id }
     requires order { start ≤ end }
-    requires behind { AreLedTo (is_above index.now.live) slots.now id start end behind.now }
+    requires inside { end ≤ length slots.now }
     ensures { IfOk result (λ marks. LeadFrom (is_above index.now.live) slots.now id start end marks.items) }
 {
     let mut marks = vec![in alloc; false; (end - start) as usize]?;
+    mark_above(slots, index, id, start, marks.as_mut_slice());
     for slot in (start..end).rev() {
-        let mark = leads_there(slots, index, id, start, behind, marks.as_slice(), slot);
-        marks[(slot - start) as usize] = mark;
+        if marks[(slot - start) as usize] {
+            if let Some(held) = slots.at(slot) {
+                mark_above(slots, index, held, start, marks.as_mut_slice());
+            }
+        }
     }
     Ok(marks)
 }
 
-/// Whether what stands in a slot has the id or a marked entry above it.
-fn is_led_to(
-    slots: &Arrangement,
-    index: &Index,
-    id: u32,
-    start: u32,
-    marks: &[bool],
-    slot: u32,
-) -> bool
-    requires ready { IsReady index.now id slots.now }
-    requires inside { slot < length slots.now }
-    requires from { start ≡ gap_end (is_above index.now.live) slots.now id }
-    requires marks { (at : ℕ) → start ≤ at → at < slot → IsTrue (is_marked (Some at) start marks.now) ↔ LedTo (is_above index.now.live) slots.now id at }
-    ensures { IsTrue result ↔ LedTo (is_above index.now.live) slots.now id slot }
+/// Marks the slots of what is below an id.
+fn mark_below(slots: &Arrangement, index: &Index, id: u32, start: u32, marks: &mut [bool])
+    requires live { IsTrue (is_live index.now.live id) }
+    requires once { (i j other : ℕ) → slot slots.now i ≡ Some other → slot slots.now j ≡ Some other → i ≡ j }
+    ensures { AreReached (λ other. is_above index.now.live id other) slots.now start marks.old marks.new }
 {
-    let Some(held) = slots.at(slot) else {
-        return false;
-    };
-    any_marked(slots, id, start, marks, index.above(held))
+    mark_all(slots, start, marks, index.below(id));
 }
 
-/// Whether what stands in a slot has the id or a marked entry below it. What must stand behind the id
-/// has none, so the index isn't asked for it.
-fn leads_there(
-    slots: &Arrangement,
-    index: &Index,
-    id: u32,
-    start: u32,
-    behind: &[bool],
-    marks: &[bool],
-    slot: u32,
-) -> bool
-    requires ready { IsReady index.now id slots.now }
-    requires inside { slot < length slots.now }
-    requires low { start ≤ slot }
-    requires behind { IsTrue (is_marked (Some slot) start behind.now) → LedTo (is_above index.now.live) slots.now id slot }
-    requires marks { (at : ℕ) → slot < at → at < gap_start (is_above index.now.live) slots.now id → IsTrue (is_marked (Some at) start marks.now) ↔ LeadsFrom (is_above index.now.live) slots.now id at }
-    requires past { (at : ℕ) → gap_start (is_above index.now.live) slots.now id ≤ at → IsFalse (is_marked (Some at) start marks.now) }
-    ensures { IsTrue result ↔ LeadsFrom (is_above index.now.live) slots.now id slot }
+/// Marks the slots of what is above an id.
+fn mark_above(slots: &Arrangement, index: &Index, id: u32, start: u32, marks: &mut [bool])
+    requires live { IsTrue (is_live index.now.live id) }
+    requires once { (i j other : ℕ) → slot slots.now i ≡ Some other → slot slots.now j ≡ Some other → i ≡ j }
+    ensures { AreReached (λ other. is_above index.now.live other id) slots.now start marks.old marks.new }
 {
-    if is_marked(Some(slot), start, behind) {
-        return false;
-    }
-    let Some(held) = slots.at(slot) else {
-        return false;
-    };
-    any_marked(slots, id, start, marks, index.below(held))
+    mark_all(slots, start, marks, index.above(id));
 }
 
-/// Whether one of some ids is this one or stands in a marked slot.
-fn any_marked(
-    slots: &Arrangement,
-    id: u32,
-    start: u32,
-    marks: &[bool],
-    others: Overlaps<'_>,
-) -> bool
-    ensures { result ≡ list_any (is_marked_id slots.now id start marks.now) others.entry }
+/// Marks the slots of some ids, of those that the marks are of.
+fn mark_all(slots: &Arrangement, start: u32, marks: &mut [bool], others: Overlaps<'_>)
+    ensures { AreMarked slots.now start others.entry marks.old marks.new }
 {
     for other in others {
-        if other == id || is_marked(slots.home(other), start, marks) {
-            return true;
-        }
+        mark(slots, start, marks, other);
     }
-    false
 }
 
-/// Whether a slot is marked, where the marks begin with one slot.
-fn is_marked(slot: Option<u32>, start: u32, marks: &[bool]) -> bool
-    ensures { result ≡ is_marked slot start marks.now }
+/// Marks the slot of an id, if it is one of those that the marks are of.
+fn mark(slots: &Arrangement, start: u32, marks: &mut [bool], id: u32)
+    ensures { AreMarked slots.now start (id ∷ []) marks.old marks.new }
 {
-    match slot {
-        Some(slot) => {
-            slot >= start
-                && ((slot - start) as usize) < marks.len()
-                && marks[(slot - start) as usize]
-        }
-        None => false,
+    let Some(slot) = slots.home(id) else {
+        return;
+    };
+    if slot >= start && ((slot - start) as usize) < marks.len() {
+        marks[(slot - start) as usize] = true;
     }
 }
 

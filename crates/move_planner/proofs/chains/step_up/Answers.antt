@@ -1,4 +1,4 @@
-use Rattle.std.proofs.Common.{◌≡◌, ◌<◌, ◌≤◌, ◌∙◌, ◌++◌, ◌∷◌, [], append-nil, append_assoc, ap, arith, refl, sym}
+use Rattle.std.proofs.Common.{◌≡◌, ◌∙◌, ◌++◌, ◌∷◌, [], append-nil, append_assoc, ap, arith, refl, sym}
 use Rattle.slot_pool.specs.Arrangement.{last_slot}
 use Rattle.overlap_index.specs.Live.{is_above}
 use Rattle.overlap_index.proofs.Above.{rank_in, ids_above_are}

@@ -1,11 +1,7 @@
-use Rattle.std.proofs.Common.{◌≡◌, ℕ, ◌-◌, ◌<◌, ◌≤◌, ◌↔◌, IsTrue, Some, length}
 use Rattle.overlap_index.specs.Live.{is_above}
-use Rattle.move_planner.specs.Steps.{LedTo, is_marked}
+use Rattle.move_planner.proofs.Pushed.{LedSoFar}
 use Rattle.move_planner.proofs.sides.mark_behind.Given as goal
 
 -- the marks so far
 abbrev pub invariant-loop-slot : goal.invariant-loop-slot
-invariant-loop-slot l = record {
-  many : length l.marks.items ≡ l.end - l.start;
-  say : (at : ℕ) → l.start ≤ at → at < l.slot → IsTrue (is_marked (Some at) l.start l.marks.items) ↔ LedTo (is_above l.index.live) l.slots l.id at;
-}
+invariant-loop-slot l = LedSoFar (is_above l.index.live) l.slots l.id l.start l.end l.slot l.marks.items

@@ -1,6 +1,6 @@
 use Rattle.std.proofs.Common.{◌≡◌, ◌+◌, ◌≤◌}
 use Rattle.slot_order.specs.Cuts.{free_behind}
-use Rattle.move_planner.proofs.boundary.free_from.Given as goal
+use Rattle.move_planner.proofs.boundary.free_within.Given as goal
 
 -- the slots so far
 abbrev pub invariant-loop-slot : goal.invariant-loop-slot
