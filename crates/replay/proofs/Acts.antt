@@ -1,5 +1,5 @@
 -- Each act, as what it does to the journal and to the report.
-use Rattle.std.proofs.Common.{◌≡◌, ◌≢◌, ℕ, ◌+◌, ◌≤◌, true, List, [], ◌∷◌, ◌++◌, Option, None, Result, Ok, Err, IfErr, OnOk, OnErr, length, append_assoc, refl, sym, ap, ◌∙◌, subst}
+use Rattle.std.proofs.Common.{◌≡◌, ◌≢◌, ◌⊎◌, inl, inr, ℕ, ◌+◌, ◌≤◌, true, List, [], ◌∷◌, ◌++◌, Option, None, Result, Ok, Err, IfErr, OnOk, OnErr, refl, sym, ap, ◌∙◌, subst}
 use Rattle.std.specs.Io.KnownBytes.{Appends}
 use Rattle.rule_model.specs.declared.Key.{Key}
 use Rattle.rule_model.specs.Key.{IsKey}
@@ -7,21 +7,17 @@ use Rattle.rule_model.specs.RuleSet.{Answer, answer}
 use Rattle.rule_store.specs.declared.Command.{Command as Change}
 use Rattle.rule_store.specs.Verdict.{Verdict, Accepted, Unsound, OutOfBits, OutOfSlots}
 use Rattle.tcam_device.specs.declared.Write.{Write}
-use Rattle.tcam_device.specs.State.{State, apply, lookup, replay, state_after, on_device}
-use Rattle.batch_order.specs.declared.Ready.{Ready}
-use Rattle.batch_order.specs.Managed.{Holds}
+use Rattle.tcam_device.specs.State.{lookup, replay, on_device}
 use Rattle.replay.specs.declared.Family.{Family}
 use Rattle.replay.specs.declared.Act.{Act}
 use Rattle.replay.specs.declared.Act.TheVariants.{Command, Probe, Packet, Commit}
 use Rattle.replay.specs.declared.RunFault.{RunFault}
 use Rattle.replay.specs.declared.RunFault.TheVariants as fault
-use Rattle.replay.specs.Run.{Setting, Progress, Effect, Writes, Prints, Refuses, Judged, HasEffects, TakesMemory, printed, lines_of, write_effects}
-use Rattle.replay.specs.Text.{packet_line, accepted_line, refused_line}
+use Rattle.replay.specs.Run.{Setting, Progress, Effect, Prints, Refuses, Judged, HasEffects, TakesMemory}
+use Rattle.replay.specs.Text.{packet_line, refused_line}
 use Rattle.replay.specs.Outside.{AppendsPart}
-use Rattle.replay.specs.Carried.{CutsEffects}
-use Rattle.replay.specs.Running.{Running, IsRun, IsUntouched, ShowsRules, ComesTo, setting_of, progress_of, verdict_of}
-use Rattle.replay.proofs.Effects.{does-line, does-part, does-nothing, does-writes_line, does-writes_part, does-writes, told-at, write_effects-append}
-use Rattle.replay.proofs.Runs.{run_after, commits-with}
+use Rattle.replay.specs.Running.{Running, IsUntouched, ShowsRules, ComesTo, setting_of, progress_of, verdict_of}
+use Rattle.replay.proofs.Effects.{does-line, does-part, does-nothing}
 
 -- nothing was done
 undone : (run new : Running) (journal : List Write) (taken : Option (List ℕ)) → new ≡ run → IsUntouched run new journal journal taken taken
@@ -30,20 +26,19 @@ undone run new journal taken same = record { run = same; journal = refl; report 
 -- a change that joined the batch, or not
 pub push-acts : (result : Result (Unit {0}) RunFault) (slots : ℕ) (run new : Running) (act : Act) (change : Change) (journal : List Write) (taken : Option (List ℕ)) → act ≡ Command change
     → OnOk result (new ≡ record run { pending = run.pending ++ change ∷ [] }) → OnErr result (new ≡ run)
-    → (result ≢ Err fault.Sink) × ((result ≢ Err fault.Device) × (result ≢ Err fault.ProbesFull)) → ComesTo slots run act new result journal journal taken taken
+    → IfErr result (λ why. (why ≡ fault.BatchFull) ⊎ (why ≡ fault.Memory)) → ComesTo slots run act new result journal journal taken taken
 push-acts (Ok done) slots run new act change journal taken is pushed same kind = λ at. record {
   effects = [];
   step = subst (λ one. HasEffects (setting_of run) (progress_of slots run) one [] (progress_of slots new)) (sym is) (refl, ap (progress_of slots) pushed);
   does = does-nothing journal taken;
 }
-push-acts (Err fault.Memory) slots run new act change journal taken is pushed same kind = (
-  record { needs = subst (TakesMemory (setting_of run) (progress_of slots run)) (sym is) tt; does = does-nothing journal taken },
-  undone run new journal taken same,
-)
-push-acts (Err fault.BatchFull) slots run new act change journal taken is pushed same kind = undone run new journal taken same
-push-acts (Err fault.Sink) slots run new act change journal taken is pushed same kind = absurd (kind.0 refl)
-push-acts (Err fault.Device) slots run new act change journal taken is pushed same kind = absurd (kind.1.0 refl)
-push-acts (Err fault.ProbesFull) slots run new act change journal taken is pushed same kind = absurd (kind.1.1 refl)
+push-acts (Err why) slots run new act change journal taken is pushed same (inl full) =
+    subst (λ one. ComesTo slots run act new (Err one) journal journal taken taken) (sym full) (undone run new journal taken same)
+push-acts (Err why) slots run new act change journal taken is pushed same (inr memory) =
+    subst (λ one. ComesTo slots run act new (Err one) journal journal taken taken) (sym memory) (
+      record { needs = subst (TakesMemory (setting_of run) (progress_of slots run)) (sym is) tt; does = does-nothing journal taken },
+      undone run new journal taken same,
+    )
 
 -- a key that is probed from now on, or not
 pub probe-acts : (result : Result (Unit {0}) RunFault) (slots : ℕ) (run new : Running) (act : Act) (key : Key) (journal : List Write) (taken : Option (List ℕ)) → act ≡ Probe key
@@ -141,95 +136,3 @@ refuse-cuts slots run new reason journal_old journal_new old taken judged other 
       };
       does = does-part part.0 journal_old old taken part.3;
     })
-
-module _ (run : Running) (ready : Ready) (is : IsRun run) (holds : Holds (record run.manager { held = None }) run.pending ready run.manager)
-    (slots : ℕ) (within : run.manager.slots ≤ slots) (accepted : verdict_of run ≡ Accepted) where
-  -- the state before the commit
-  abbrev before : State
-  before = on_device slots run.manager.state
-
-  -- the effects of some of its writes, and its line
-  abbrev told : List Write → List Effect
-  told made = write_effects (setting_of run) run.probes 1 before made
-
-  abbrev line : List ℕ
-  line = accepted_line (run.commits + 1) holds.held.counts
-
-  commit-step : (effects : List Effect) → effects ≡ told holds.held.writes ++ Prints line ∷ []
-      → HasEffects (setting_of run) (progress_of slots run) Commit effects (progress_of slots (run_after run holds.held))
-  commit-step effects same =
-      subst (λ verdict. Judged (setting_of run) (progress_of slots run) verdict effects (progress_of slots (run_after run holds.held))) (sym accepted)
-      (commits-with run ready is holds slots within effects same)
-
-  -- a commit that is accepted, with its line
-  pub commit-carries : (new : Running) (journal_old journal_new : List Write) (old mid taken : Option (List ℕ)) → new ≡ run_after run holds.held
-      → journal_new ≡ journal_old ++ holds.held.writes
-      → Appends old mid (printed (write_effects (setting_of run) run.probes 1 (replay slots journal_old) holds.held.writes)) → Appends mid taken line
-      → ComesTo slots run Commit new (Ok tt) journal_old journal_new old taken
-  commit-carries new journal_old journal_new old mid taken same journal made grown =
-      subst (λ after. ComesTo slots run Commit after (Ok tt) journal_old journal_new old taken) (sym same) (λ at. record {
-        effects = told holds.held.writes ++ Prints line ∷ [];
-        step = commit-step (told holds.held.writes ++ Prints line ∷ []) refl;
-        does = does-writes_line (setting_of run) run.probes before holds.held.writes journal_old journal_new old mid taken journal
-            (told-at (setting_of run) run.probes before slots journal_old holds.held.writes old mid at made) line grown;
-      })
-
-  -- with a part of it
-  pub commit-cuts : (new : Running) (journal_old journal_new : List Write) (old mid taken : Option (List ℕ))
-      → journal_new ≡ journal_old ++ holds.held.writes
-      → Appends old mid (printed (write_effects (setting_of run) run.probes 1 (replay slots journal_old) holds.held.writes)) → AppendsPart mid taken line
-      → ComesTo slots run Commit new (Err fault.Sink) journal_old journal_new old taken
-  commit-cuts new journal_old journal_new old mid taken journal made part at = record {
-    front = told holds.held.writes;
-    partial = part.0;
-    rest = part.1;
-    cut = record {
-      back = [];
-      after = progress_of slots (run_after run holds.held);
-      step = commit-step (told holds.held.writes ++ Prints (part.0 ++ part.1) ∷ []) (ap (λ text. told holds.held.writes ++ Prints text ∷ []) (sym part.2));
-    };
-    does = does-writes_part (setting_of run) run.probes before holds.held.writes journal_old journal_new old mid taken journal
-        (told-at (setting_of run) run.probes before slots journal_old holds.held.writes old mid at made) part.0 part.3;
-  }
-
-  -- with a part of the lines of its writes
-  pub commit-halts : (new : Running) (made : List Write) (journal_old journal_new : List Write) (old taken : Option (List ℕ))
-      → journal_new ≡ journal_old ++ made
-      → CutsEffects (write_effects (setting_of run) run.probes 1 (replay slots journal_old) holds.held.writes) journal_old journal_new old taken
-      → ComesTo slots run Commit new (Err fault.Sink) journal_old journal_new old taken
-  commit-halts new made journal_old journal_new old taken journal cuts at = record {
-    front = cuts.front;
-    partial = cuts.partial;
-    rest = cuts.rest;
-    cut = record {
-      back = cuts.back ++ Prints line ∷ [];
-      after = progress_of slots (run_after run holds.held);
-      step = commit-step (cuts.front ++ Prints (cuts.partial ++ cuts.rest) ∷ (cuts.back ++ Prints line ∷ []))
-          (sym (ap (λ effects. effects ++ Prints line ∷ []) (ap (λ state. write_effects (setting_of run) run.probes 1 state holds.held.writes) at ∙ cuts.cut)
-          ∙ append_assoc cuts.front (Prints (cuts.partial ++ cuts.rest) ∷ cuts.back) (Prints line ∷ [])));
-    };
-    does = cuts.does;
-  }
-
-  -- and with a part of its writes
-  pub commit-stops : (new : Running) (made left : List Write) (due : Write) (journal_old journal_new : List Write) (old taken : Option (List ℕ)) → holds.held.writes ≡ made ++ due ∷ left
-      → journal_new ≡ journal_old ++ made
-      → Appends old taken (printed (write_effects (setting_of run) run.probes 1 (replay slots journal_old) made))
-      → ComesTo slots run Commit new (Err fault.Device) journal_old journal_new old taken
-  commit-stops new made left due journal_old journal_new old taken whole journal told_made at =
-      let next = state_after before made in
-      let number = 1 + length made in
-      let lines = lines_of (setting_of run) run.probes number (apply next due) due in
-      let later = write_effects (setting_of run) run.probes (number + 1) (apply next due) left in record {
-        front = told made;
-        write = due;
-        cut = record {
-          back = (lines ++ later) ++ Prints line ∷ [];
-          after = progress_of slots (run_after run holds.held);
-          step = commit-step (told made ++ Writes due ∷ ((lines ++ later) ++ Prints line ∷ []))
-              (sym (ap (λ effects. effects ++ Prints line ∷ []) (ap told whole ∙ write_effects-append (setting_of run) run.probes 1 before made (due ∷ left))
-              ∙ append_assoc (told made) (Writes due ∷ (lines ++ later)) (Prints line ∷ [])));
-        };
-        does = does-writes (setting_of run) run.probes before made journal_old journal_new old taken taken journal
-            (told-at (setting_of run) run.probes before slots journal_old made old taken at told_made);
-      }

@@ -81,37 +81,37 @@ does-part partial journal old new grown = record { journal = sym (append-nil jou
 pub does-nothing : (journal : List Write) (taken : Option (List ℕ)) → Does [] [] journal journal taken taken
 does-nothing journal taken = does-part [] journal taken taken (Appends-nil taken)
 
-module _ (setting : Setting) (probes : List Key) (state : State) (made : List Write) (journal_old journal_new : List Write) (old mid new : Option (List ℕ))
-    (journal : journal_new ≡ journal_old ++ made) (told : Appends old mid (printed (write_effects setting probes 1 state made))) where
+module _ (setting : Setting) (probes : List Key) (number : ℕ) (state : State) (made : List Write) (journal_old journal_new : List Write) (old mid new : Option (List ℕ))
+    (journal : journal_new ≡ journal_old ++ made) (told : Appends old mid (printed (write_effects setting probes number state made))) where
   -- writes, each told
-  pub does-writes : Does (write_effects setting probes 1 state made) [] journal_old journal_new old mid
+  pub does-writes : Does (write_effects setting probes number state made) [] journal_old journal_new old mid
   does-writes = record {
-    journal = journal ∙ ap (λ more. journal_old ++ more) (sym (written-writes setting probes 1 state made));
-    report = subst (Appends old mid) (sym (append-nil (printed (write_effects setting probes 1 state made)))) told;
+    journal = journal ∙ ap (λ more. journal_old ++ more) (sym (written-writes setting probes number state made));
+    report = subst (Appends old mid) (sym (append-nil (printed (write_effects setting probes number state made)))) told;
   }
 
   -- and a part of a line
-  pub does-writes_part : (partial : List ℕ) → Appends mid new partial → Does (write_effects setting probes 1 state made) partial journal_old journal_new old new
+  pub does-writes_part : (partial : List ℕ) → Appends mid new partial → Does (write_effects setting probes number state made) partial journal_old journal_new old new
   does-writes_part partial grown = record {
     journal = does-writes.journal;
-    report = Appends-trans old mid new (printed (write_effects setting probes 1 state made)) partial told grown;
+    report = Appends-trans old mid new (printed (write_effects setting probes number state made)) partial told grown;
   }
 
   -- and a line
-  pub does-writes_line : (line : List ℕ) → Appends mid new line → Does (write_effects setting probes 1 state made ++ Prints line ∷ []) [] journal_old journal_new old new
+  pub does-writes_line : (line : List ℕ) → Appends mid new line → Does (write_effects setting probes number state made ++ Prints line ∷ []) [] journal_old journal_new old new
   does-writes_line line grown = record {
     journal = journal
         ∙ ap (λ more. journal_old ++ more)
-        (sym (written-append (write_effects setting probes 1 state made) (Prints line ∷ []) ∙ append-nil (written (write_effects setting probes 1 state made)) ∙ written-writes setting probes 1 state made));
+        (sym (written-append (write_effects setting probes number state made) (Prints line ∷ []) ∙ append-nil (written (write_effects setting probes number state made)) ∙ written-writes setting probes number state made));
     report = subst (Appends old new)
-        (sym (append-nil (printed (write_effects setting probes 1 state made ++ Prints line ∷ []))
-        ∙ printed-append (write_effects setting probes 1 state made) (Prints line ∷ [])
-        ∙ ap (λ text. printed (write_effects setting probes 1 state made) ++ text) (append-nil line)))
-        (Appends-trans old mid new (printed (write_effects setting probes 1 state made)) line told grown);
+        (sym (append-nil (printed (write_effects setting probes number state made ++ Prints line ∷ []))
+        ∙ printed-append (write_effects setting probes number state made) (Prints line ∷ [])
+        ∙ ap (λ text. printed (write_effects setting probes number state made) ++ text) (append-nil line)))
+        (Appends-trans old mid new (printed (write_effects setting probes number state made)) line told grown);
   }
 
 -- what is told where the device stands is told where the run stands
-pub told-at : (setting : Setting) (probes : List Key) (state : State) (slots : ℕ) (journal : List Write) (made : List Write) (old new : Option (List ℕ))
-    → state ≡ replay slots journal → Appends old new (printed (write_effects setting probes 1 (replay slots journal) made))
-    → Appends old new (printed (write_effects setting probes 1 state made))
-told-at setting probes state slots journal made old new at told = subst (λ one. Appends old new (printed (write_effects setting probes 1 one made))) (sym at) told
+pub told-at : (setting : Setting) (probes : List Key) (number : ℕ) (state : State) (slots : ℕ) (journal : List Write) (made : List Write) (old new : Option (List ℕ))
+    → state ≡ replay slots journal → Appends old new (printed (write_effects setting probes number (replay slots journal) made))
+    → Appends old new (printed (write_effects setting probes number state made))
+told-at setting probes number state slots journal made old new at told = subst (λ one. Appends old new (printed (write_effects setting probes number one made))) (sym at) told

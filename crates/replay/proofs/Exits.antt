@@ -1,7 +1,9 @@
 -- How each call of a run ends, by the values that the code has.
-use Rattle.std.proofs.Common.{refl, ◌≡◌, ◌≢◌, ◌⊎◌, inl, inr, ℕ, ◌+◌, ◌≤◌, List, [], ◌++◌, Option, Some, None, Result, Ok, Err, IfErr, OnOk, OnErr, length, sym, ap, ◌∙◌, subst}
+use Rattle.std.proofs.Common.{refl, ◌≡◌, ◌≢◌, ◌⊎◌, inl, inr, ℕ, ◌+◌, ◌≤◌, false, List, [], ◌++◌, Option, Some, None, IsSome, Result, Ok, Err, IfErr, OnOk, OnErr, length, sym, ap, ◌∙◌, subst}
 use Rattle.std.specs.Io.KnownBytes.{Appends}
-use Rattle.rule_store.specs.Verdict.{Accepted, entries_of}
+use Rattle.std.specs.List.{AllByRecursion}
+use Rattle.rule_model.specs.Routes.{IsIpv4Route}
+use Rattle.rule_store.specs.Verdict.{Verdict, Accepted, Unsound, OutOfBits, OutOfSlots, entries_of}
 use Rattle.tcam_device.specs.declared.Write.{Write}
 use Rattle.commit_writes.specs.declared.Done.{Done}
 use Rattle.batch_order.specs.declared.Ready.{Ready}
@@ -9,134 +11,208 @@ use Rattle.batch_order.specs.declared.Refusal.{Refusal}
 use Rattle.batch_order.specs.declared.Refusal.TheVariants as refusal
 use Rattle.batch_order.specs.Managed.{Managed, HeldCommit, Holds, Judges, Answers}
 use Rattle.replay.specs.declared.Act.TheVariants.{Commit}
+use Rattle.replay.specs.declared.Family.TheVariants.{Route}
 use Rattle.replay.specs.declared.RunFault.{RunFault}
 use Rattle.replay.specs.declared.RunFault.TheVariants as fault
-use Rattle.replay.specs.Run.{Setting, Progress, ending}
+use Rattle.replay.specs.Run.{Progress, Effect, Writes, Prints, HasEffects, IsCutStep, ending}
 use Rattle.replay.specs.Text.{accepted_line, refused_line, end_line}
 use Rattle.replay.specs.Told.{verdict_told}
 use Rattle.replay.specs.Outside.{AppendsPart}
-use Rattle.replay.specs.Carried.{IsAt, Carries, CutsAtLine, CutsAtWrite, CutsEffects}
-use Rattle.replay.specs.Running.{Running, Watching, IsRun, HoldsPending, ComesTo, Makes, MakesAll, MakesSome, Tells, effects_on, watching, setting_of, progress_of, verdict_of}
+use Rattle.replay.specs.Carried.{IsAt}
+use Rattle.replay.specs.Running.{Running, Watching, IsRun, IsHalfway, IsUnfinished, ComesTo, Finishes, StaysUnfinished, BreaksOff, ResumesTo, Makes, MakesAll, MakesSome, Tells, breaks, watching, setting_of, progress_of, verdict_of}
 use Rattle.replay.proofs.Refusals.{told-verdict, told-refused}
-use Rattle.replay.proofs.Runs.{run_after, held-run, made-run, after-run}
-use Rattle.replay.proofs.Acts.{run_refused, refuse-carries, refuse-cuts, commit-carries, commit-cuts, commit-halts, commit-stops}
-
--- the commit that is held is that of the batch
-held-one : (run : Running) (ready : Ready) (held : HeldCommit) (holds : Holds (record run.manager { held = None }) run.pending ready run.manager)
-    → run.manager.held ≡ Some held → held ≡ holds.held
-held-one run ready held holds is =
-    let other : run.manager.held ≡ Some holds.held = ap (λ (manager : Managed). manager.held) holds.new_is in
-    let both : Some held ≡ Some holds.held = sym is ∙ other in cc
-
--- a run whose commit was cut
-pub cut-held : (run : Running) (now : Managed) → IsRun run → MakesSome run.manager now → IsRun (record run { manager = now })
-cut-held run now is some =
-    subst (λ (manager : Managed). IsRun (record run { manager = manager })) (sym some.now_is) (held-run run some.made (record some.held { writes = some.left }) is)
+use Rattle.replay.proofs.Runs.{run_after}
+use Rattle.replay.proofs.Halfway.{run_begun, begun-holds, halfway-none, cut-run, left-same, counts-same, after-writes}
+use Rattle.replay.proofs.Resuming.{stays-unfinished, breaks-off, finishes, breaks-last, as-unfinished}
+use Rattle.replay.proofs.Acts.{run_refused, refuse-carries, refuse-cuts}
 
 -- some of its writes were made, and it was cut at a line or at a write
-pub cut-some : (why : RunFault) (begun now : Managed) (watch : Watching) (slots : ℕ) (journal_old journal_new : List Write) (old taken : Option (List ℕ))
-    → Makes begun now watch slots (Err why) journal_old journal_new old taken → MakesSome begun now × ((why ≡ fault.Sink) ⊎ (why ≡ fault.Device))
-cut-some fault.Sink begun now watch slots journal_old journal_new old taken stops = (stops.some, inl refl)
-cut-some fault.Device begun now watch slots journal_old journal_new old taken stops = (stops.some, inr refl)
-cut-some fault.BatchFull begun now watch slots journal_old journal_new old taken stops = absurd stops
-cut-some fault.ProbesFull begun now watch slots journal_old journal_new old taken stops = absurd stops
-cut-some fault.Memory begun now watch slots journal_old journal_new old taken stops = absurd stops
+pub cut-some : (why : RunFault) (begun now : Managed) (watch : Watching) (slots told told_now : ℕ) (journal_old journal_new : List Write) (old taken : Option (List ℕ))
+    → Makes begun now watch slots told told_now (Err why) journal_old journal_new old taken
+    → (some : MakesSome begun now) × (told_now ≡ told + length some.made) × ((why ≡ fault.Sink) ⊎ (why ≡ fault.Device))
+cut-some fault.Sink begun now watch slots told told_now journal_old journal_new old taken stops = (stops.some, stops.number, inl refl)
+cut-some fault.Device begun now watch slots told told_now journal_old journal_new old taken stops = (stops.some, stops.number, inr refl)
+cut-some fault.BatchFull begun now watch slots told told_now journal_old journal_new old taken stops = absurd stops
+cut-some fault.ProbesFull begun now watch slots told told_now journal_old journal_new old taken stops = absurd stops
+cut-some fault.Memory begun now watch slots told told_now journal_old journal_new old taken stops = absurd stops
+cut-some (fault.Held left) begun now watch slots told told_now journal_old journal_new old taken stops = absurd stops
 
-pub cut-acts : (why : RunFault) (slots : ℕ) (inside run new : Running) (now : Managed) (journal_old journal_new : List Write) (old taken : Option (List ℕ)) → inside ≡ run → IsRun inside
-    → HoldsPending run → run.manager.slots ≤ slots → verdict_of run ≡ Accepted → Makes inside.manager now (watching inside) slots (Err why) journal_old journal_new old taken
-    → ComesTo slots run Commit new (Err why) journal_old journal_new old taken
-cut-acts fault.Device slots inside run new now journal_old journal_new old taken same is pending within accepted stops =
-    let one = held-one run pending.0 stops.some.held pending.1 (ap (λ (r : Running). r.manager.held) (sym same) ∙ stops.some.held_is) in
-    commit-stops run pending.0 (subst IsRun same is) pending.1 slots within accepted new stops.some.made stops.left stops.due journal_old journal_new old taken
-    (ap (λ (held : HeldCommit). held.writes) (sym one) ∙ stops.some.whole ∙ ap (λ left. stops.some.made ++ left) stops.left_is) stops.journal
-    (subst (λ (r : Running). Tells r.manager (watching r) slots journal_old stops.some.made old taken) same stops.report)
-cut-acts fault.Sink slots inside run new now journal_old journal_new old taken same is pending within accepted stops =
-    let one = held-one run pending.0 stops.some.held pending.1 (ap (λ (r : Running). r.manager.held) (sym same) ∙ stops.some.held_is) in
-    commit-halts run pending.0 (subst IsRun same is) pending.1 slots within accepted new stops.some.made journal_old journal_new old taken stops.journal
-    (subst (λ (r : Running). CutsEffects (effects_on r.manager (watching r) slots journal_old pending.1.held.writes) journal_old journal_new old taken) same
-    (subst (λ (held : HeldCommit). CutsEffects (effects_on inside.manager (watching inside) slots journal_old held.writes) journal_old journal_new old taken) one stops.cuts))
-cut-acts fault.BatchFull slots inside run new now journal_old journal_new old taken same is pending within accepted stops = absurd stops
-cut-acts fault.ProbesFull slots inside run new now journal_old journal_new old taken same is pending within accepted stops = absurd stops
-cut-acts fault.Memory slots inside run new now journal_old journal_new old taken same is pending within accepted stops = absurd stops
+-- a run whose commit was cut
+pub cut-held : (why : RunFault) (run : Running) (now : Managed) (watch : Watching) (slots told_now : ℕ) (journal_old journal_new : List Write) (old taken : Option (List ℕ)) → IsRun run → IsSome run.manager.held
+    → Makes run.manager now watch slots run.told told_now (Err why) journal_old journal_new old taken → IsRun (record run { manager = now; told = told_now })
+cut-held why run now watch slots told_now journal_old journal_new old taken is held makes =
+    let cut = cut-some why run.manager now watch slots run.told told_now journal_old journal_new old taken makes in
+    cut-run run now told_now is (is.halfway held) cut.0 cut.1
 
-module _ (slots : ℕ) (inside run : Running) (done : Done) (now : Managed) (journal_old journal_new : List Write) (old mid : Option (List ℕ)) (same : inside ≡ run)
-    (holds : HoldsPending run) (all : MakesAll inside.manager (watching inside) slots done now journal_old journal_new old mid) where
-  one : all.held ≡ holds.1.held
-  one = held-one run holds.0 all.held holds.1 (ap (λ (r : Running). r.manager.held) (sym same) ∙ all.held_is)
+module _ (slots : ℕ) (before : Progress) (front : List Effect) (inside run : Running) (same : inside ≡ run) (is : IsRun inside) (within : run.manager.slots ≤ slots) (journal_old journal_new : List Write)
+    (unfinished : IsUnfinished slots before front run) (at : IsAt slots journal_old (progress_of slots run)) where
+  unfinished-inside : IsUnfinished slots before front inside
+  unfinished-inside = subst (IsUnfinished slots before front) (sym same) unfinished
 
-  -- the manager once the writes of its commit are made
-  made-manager : (record inside { manager = now } ≡ record run { manager = (run_after run holds.1.held).manager }) × (done ≡ holds.1.held.counts)
-  made-manager = (
-    ap (λ (manager : Managed). record inside { manager = manager }) all.now_is
-        ∙ ap (λ held. record inside { manager = (run_after inside held).manager }) one
-        ∙ ap (λ (r : Running). record r { manager = (run_after r holds.1.held).manager }) same,
-    all.done_is ∙ ap (λ (held : HeldCommit). held.counts) one,
-  )
+  at-inside : IsAt slots journal_old (progress_of slots inside)
+  at-inside = subst (λ (r : Running). IsAt slots journal_old (progress_of slots r)) (sym same) at
 
-  pub made-run_held : IsRun inside → IsRun (record inside { manager = now })
-  made-run_held is =
-      let is_run = subst IsRun same is in
-      subst IsRun (sym made-manager.0) (made-run run holds.0 is_run holds.1 run.pending run.commits run.writes is_run.changes is_run.few)
+  within-inside : inside.manager.slots ≤ slots
+  within-inside = subst (λ (r : Running). r.manager.slots ≤ slots) (sym same) within
 
-  all-journal : journal_new ≡ journal_old ++ holds.1.held.writes
-  all-journal = all.journal ∙ ap (λ (held : HeldCommit). journal_old ++ held.writes) one
+  -- what going on comes to where it is cut
+  pub resumes-cut : (why : RunFault) (now : Managed) (told : ℕ) (old taken : Option (List ℕ)) → Makes inside.manager now (watching inside) slots inside.told told (Err why) journal_old journal_new old taken
+      → ResumesTo slots before front (record inside { manager = now; told = told }) (Err why) journal_old journal_new old taken
+  resumes-cut fault.Device now told old taken stops =
+      as-unfinished (λ at effects. StaysUnfinished slots at effects (record inside { manager = now; told = told }) journal_old journal_new old taken) slots before front inside unfinished-inside is within-inside
+      (stays-unfinished slots inside unfinished-inside.halfway is within-inside journal_old journal_new at-inside now told old taken stops)
+  resumes-cut fault.Sink now told old taken stops =
+      as-unfinished (λ at effects. BreaksOff slots at effects (record inside { manager = now; told = told }) journal_old journal_new old taken) slots before front inside unfinished-inside is within-inside
+      (breaks-off slots inside unfinished-inside.halfway is within-inside journal_old journal_new at-inside now told old taken stops)
+  resumes-cut fault.BatchFull now told old taken stops = absurd stops
+  resumes-cut fault.ProbesFull now told old taken stops = absurd stops
+  resumes-cut fault.Memory now told old taken stops = absurd stops
+  resumes-cut (fault.Held left) now told old taken stops = absurd stops
 
-  all-told : Tells run.manager (watching run) slots journal_old holds.1.held.writes old mid
-  all-told =
-      subst (λ (r : Running). Tells r.manager (watching r) slots journal_old holds.1.held.writes old mid) same
-      (subst (λ (held : HeldCommit). Tells inside.manager (watching inside) slots journal_old held.writes old mid) one all.report)
+  module _ (done : Done) (now : Managed) (told : ℕ) (old mid : Option (List ℕ)) (all : MakesAll inside.manager (watching inside) slots inside.told told done now journal_old journal_new old mid)
+      (counted : Running) (closed : counted ≡ record inside { manager = now; told = 0; pending = []; commits = inside.commits + 1 }) where
+    abbrev half : IsHalfway inside
+    half = unfinished-inside.halfway
 
-  -- its batch is dropped
-  module _ (counted : Running) (closed : counted ≡ record inside { manager = now; pending = []; commits = inside.commits + 1 }) where
-    -- the run after a commit whose writes are made and counted
-    after-writes : ◌≡◌ {A = Running} (record counted { writes = counted.writes + done.writes }) (run_after run holds.1.held)
-    after-writes =
-        ap (λ (r : Running). record r { writes = r.writes + done.writes })
-        (closed ∙ ap (λ (r : Running). record r { pending = []; commits = r.commits + 1 }) made-manager.0)
-        ∙ ap (λ (counts : Done). record (run_after run holds.1.held) { writes = run.writes + counts.writes }) made-manager.1
+    abbrev run_now : Running
+    run_now = record counted { writes = counted.writes + done.writes }
 
-    pub after-writes_run : IsRun inside → IsRun (record counted { writes = counted.writes + done.writes })
-    after-writes_run is = subst IsRun (sym after-writes) (after-run run holds.0 (subst IsRun same is) holds.1)
+    grown-left : journal_new ≡ journal_old ++ half.some.left
+    grown-left = all.journal ∙ ap (λ (held : HeldCommit). journal_old ++ held.writes) (left-same inside half (watching inside) slots inside.told told done now journal_old journal_new old mid all)
 
-    line-same : accepted_line counted.commits done ≡ accepted_line (run.commits + 1) holds.1.held.counts
+    told-left : Tells inside.manager (watching inside) slots inside.told journal_old half.some.left old mid
+    told-left =
+        subst (λ (held : HeldCommit). Tells inside.manager (watching inside) slots inside.told journal_old held.writes old mid)
+        (left-same inside half (watching inside) slots inside.told told done now journal_old journal_new old mid all) all.report
+
+    new-is : run_now ≡ run_after (run_begun inside half) (begun-holds inside half).held
+    new-is = after-writes inside half (watching inside) slots inside.told told done now journal_old journal_new old mid all counted closed
+
+    line-same : accepted_line counted.commits done ≡ accepted_line (inside.commits + 1) (begun-holds inside half).held.counts
     line-same =
-        let number : counted.commits ≡ run.commits + 1 = ap (λ (r : Running). r.commits) closed ∙ ap (λ (r : Running). r.commits + 1) same in
-        ap (λ n. accepted_line n done) number ∙ ap (λ (counts : Done). accepted_line (run.commits + 1) counts) made-manager.1
+        ap (λ (r : Running). accepted_line r.commits done) closed
+        ∙ ap (accepted_line (inside.commits + 1)) (counts-same inside half (watching inside) slots inside.told told done now journal_old journal_new old mid all)
 
-    -- its line is written
-    pub all-carries : (taken : Option (List ℕ)) → IsRun inside → run.manager.slots ≤ slots → verdict_of run ≡ Accepted → Appends mid taken (accepted_line counted.commits done)
-        → ComesTo slots run Commit (record counted { writes = counted.writes + done.writes }) (Ok tt) journal_old journal_new old taken
-    all-carries taken is within accepted grown =
-        commit-carries run holds.0 (subst IsRun same is) holds.1 slots within accepted (record counted { writes = counted.writes + done.writes })
-        journal_old journal_new old mid taken after-writes all-journal all-told (subst (Appends mid taken) line-same grown)
+    -- where it is finished, and its line is written
+    pub resumes-all : (taken : Option (List ℕ)) → Appends mid taken (accepted_line counted.commits done) → ResumesTo slots before front run_now (Ok tt) journal_old journal_new old taken
+    resumes-all taken more =
+        as-unfinished (λ at effects. Finishes slots at effects run_now journal_old journal_new old taken) slots before front inside unfinished-inside is within-inside
+        (finishes slots inside half is within-inside journal_old journal_new at-inside run_now old mid taken new-is grown-left told-left (subst (Appends mid taken) line-same more))
 
     -- or a part of it
-    pub all-cuts : (new : Running) (taken : Option (List ℕ)) → IsRun inside → run.manager.slots ≤ slots → verdict_of run ≡ Accepted → AppendsPart mid taken (accepted_line counted.commits done)
-        → ComesTo slots run Commit new (Err fault.Sink) journal_old journal_new old taken
-    all-cuts new taken is within accepted part =
-        commit-cuts run holds.0 (subst IsRun same is) holds.1 slots within accepted new journal_old journal_new old mid taken all-journal all-told
-        (subst (AppendsPart mid taken) line-same part)
+    pub resumes-last : (taken : Option (List ℕ)) → AppendsPart mid taken (accepted_line counted.commits done) → ResumesTo slots before front run_now (Err fault.Sink) journal_old journal_new old taken
+    resumes-last taken part =
+        as-unfinished (λ at effects. BreaksOff slots at effects run_now journal_old journal_new old taken) slots before front inside unfinished-inside is within-inside
+        (breaks-last slots inside half is within-inside journal_old journal_new at-inside run_now old mid taken new-is grown-left told-left (subst (AppendsPart mid taken) line-same part))
 
--- a run stands where it stood while a commit is held
-planned-same : (P : Setting → Progress → Type 0) (slots : ℕ) (run : Running) (ready : Ready) (new : Managed) → Holds run.manager run.pending ready new
-    → P (setting_of (record run { manager = new })) (progress_of slots (record run { manager = new })) → P (setting_of run) (progress_of slots run)
-planned-same P slots run ready new holds = subst (λ (manager : Managed). P (setting_of (record run { manager = manager })) (progress_of slots (record run { manager = manager }))) holds.new_is
+-- a batch that is taken is accepted
+taken-accepted : (verdict : Verdict) (ready : Ready) → Answers verdict (Ok ready) → verdict ≡ Accepted
+taken-accepted Accepted ready taken = refl
+taken-accepted (Unsound fault) ready taken = absurd (cc)
+taken-accepted (OutOfBits field needed free) ready taken = absurd (cc)
+taken-accepted (OutOfSlots needed free) ready taken = absurd (cc)
 
-pub planned-acts : (result : Result (Unit {0}) RunFault) (slots : ℕ) (inside run : Running) (ready : Ready) (manager : Managed) (new : Running) (journal_old journal_new : List Write) (old taken : Option (List ℕ))
-    → inside ≡ run → Holds inside.manager inside.pending ready manager → (result ≢ Err fault.Memory) × ((result ≢ Err fault.BatchFull) × (result ≢ Err fault.ProbesFull))
-    → ComesTo slots (record inside { manager = manager }) Commit new result journal_old journal_new old taken → ComesTo slots run Commit new result journal_old journal_new old taken
-planned-acts result slots inside run ready manager new journal_old journal_new old taken same holds kind comes =
-    subst (λ one. ComesTo slots one Commit new result journal_old journal_new old taken) same (go result kind comes)
-  where
-    go : (result : Result (Unit {0}) RunFault) → (result ≢ Err fault.Memory) × ((result ≢ Err fault.BatchFull) × (result ≢ Err fault.ProbesFull))
-        → ComesTo slots (record inside { manager = manager }) Commit new result journal_old journal_new old taken → ComesTo slots inside Commit new result journal_old journal_new old taken
-    go (Ok done) kind =
-        planned-same (λ setting at. IsAt slots journal_old at → Carries setting at Commit (progress_of slots new) journal_old journal_new old taken) slots inside ready manager holds
-    go (Err fault.Sink) kind = planned-same (λ setting at. IsAt slots journal_old at → CutsAtLine setting at Commit journal_old journal_new old taken) slots inside ready manager holds
-    go (Err fault.Device) kind = planned-same (λ setting at. IsAt slots journal_old at → CutsAtWrite setting at Commit journal_old journal_new old taken) slots inside ready manager holds
-    go (Err fault.Memory) kind = absurd (kind.0 refl)
-    go (Err fault.BatchFull) kind = absurd (kind.1.0 refl)
-    go (Err fault.ProbesFull) kind = absurd (kind.1.1 refl)
+-- where the commit of the pending batch is taken
+module _ (inside : Running) (ready : Ready) (manager : Managed) (is : IsRun inside) (idle : inside.manager.held ≡ None) (holds : Holds inside.manager inside.pending ready manager)
+    (judges : Judges inside.manager inside.manager.held inside.pending (Ok ready)) where
+  abbrev run_taken : Running
+  run_taken = record inside { manager = manager }
+
+  holds-taken : Holds (record manager { held = None }) inside.pending ready manager
+  holds-taken =
+      let same : record manager { held = None } ≡ inside.manager = ap (λ (m : Managed). record m { held = None }) holds.new_is ∙ ap (λ held. record inside.manager { held = held }) (sym idle) in
+      subst (λ (m : Managed). Holds m inside.pending ready manager) (sym same) holds
+
+  accepted-taken : verdict_of run_taken ≡ Accepted
+  accepted-taken =
+      let answers : Answers (verdict_of inside) (Ok ready) = subst (λ held. Judges inside.manager held inside.pending (Ok ready)) idle judges in
+      ap (λ (m : Managed). verdict_of (record inside { manager = m })) holds.new_is ∙ taken-accepted (verdict_of inside) ready answers
+
+  abbrev half-taken : IsHalfway run_taken
+  half-taken = halfway-none run_taken ready holds-taken accepted-taken (is.idle idle)
+
+  pub taken-run : IsRun (record inside { manager = manager })
+  taken-run = record {
+    changes = is.changes;
+    routes = subst (λ (m : Managed). inside.family ≡ Route → AllByRecursion IsIpv4Route m.rules) (sym holds.new_is) is.routes;
+    size = subst (λ (m : Managed). length m.state.slots ≡ m.slots) (sym holds.new_is) is.size;
+    few = is.few;
+    shows = λ none. absurd (let bad : Some holds.held ≡ None = sym (ap (λ (m : Managed). m.held) holds.new_is) ∙ none in cc);
+    halfway = λ some. half-taken;
+    idle = λ none. is.idle idle;
+  }
+
+  taken-unfinished : (slots : ℕ) → IsUnfinished slots (progress_of slots inside) [] (record inside { manager = manager })
+  taken-unfinished slots = record {
+    halfway = half-taken;
+    before_is = ap (λ (m : Managed). progress_of slots (record inside { manager = m })) (sym holds.new_is);
+    front_is = refl;
+  }
+
+  module _ (slots : ℕ) (run new : Running) (same : inside ≡ run) (journal_old journal_new : List Write) (old taken : Option (List ℕ)) where
+    -- it is gone on with from its begin
+    abbrev Goes : Result (Unit {0}) RunFault → Type 0
+    Goes result =
+        (before : Progress) → (front : List Effect) → IsUnfinished slots before front (record inside { manager = manager })
+        → IsAt slots journal_old (progress_of slots (record inside { manager = manager })) → ResumesTo slots before front new result journal_old journal_new old taken
+
+    begins : (result : Result (Unit {0}) RunFault) → Goes result → IsAt slots journal_old (progress_of slots run) → ResumesTo slots (progress_of slots run) [] new result journal_old journal_new old taken
+    begins result goes at =
+        let at_inside = subst (λ (r : Running). IsAt slots journal_old (progress_of slots r)) (sym same) at in
+        subst (λ (r : Running). ResumesTo slots (progress_of slots r) [] new result journal_old journal_new old taken) same
+        (goes (progress_of slots inside) [] (taken-unfinished slots)
+        (subst (λ (m : Managed). IsAt slots journal_old (progress_of slots (record inside { manager = m }))) (sym holds.new_is) at_inside))
+
+    setting-taken : setting_of new ≡ setting_of (record inside { manager = manager }) → setting_of new ≡ setting_of run
+    setting-taken setting = setting ∙ ap (λ (m : Managed). setting_of (record inside { manager = m })) holds.new_is ∙ ap setting_of same
+
+    pub taken-acts : (result : Result (Unit {0}) RunFault) → setting_of new ≡ setting_of (record inside { manager = manager }) → IfErr result (λ why. (why ≡ fault.Sink) ⊎ (why ≡ fault.Device)) → Goes result
+        → ComesTo slots run Commit new result journal_old journal_new old taken
+    taken-acts (Ok done) setting kind goes = λ at.
+        let ends = begins (Ok done) goes at in
+        record { effects = ends.rest; step = subst (λ one. HasEffects one (progress_of slots run) Commit ends.rest (progress_of slots new)) (setting-taken setting) ends.step; does = ends.does }
+    taken-acts (Err why) setting (inl sink) goes =
+        let goes_sink : Goes (Err fault.Sink) = subst (λ one. Goes (Err one)) sink goes in
+        subst (λ one. ComesTo slots run Commit new (Err one) journal_old journal_new old taken) (sym sink) (λ at.
+        let ends = begins (Err fault.Sink) goes_sink at in record {
+          front = ends.more;
+          partial = ends.partial;
+          rest = ends.rest;
+          cut = subst (λ one. IsCutStep one (progress_of slots run) Commit ends.more (Prints (ends.partial ++ ends.rest))) (setting-taken setting) ends.cut;
+          does = ends.does;
+        })
+    taken-acts (Err why) setting (inr device) goes =
+        let goes_device : Goes (Err fault.Device) = subst (λ one. Goes (Err one)) device goes in
+        subst (λ one. ComesTo slots run Commit new (Err one) journal_old journal_new old taken) (sym device) (λ at.
+        let ends = begins (Err fault.Device) goes_device at in record {
+          front = ends.more;
+          write = ends.due;
+          cut = subst (λ one. IsCutStep one (progress_of slots run) Commit ends.more (Writes ends.due)) (setting-taken setting) ends.cut;
+          does = ends.does;
+        })
+
+    pub taken-stays : (result : Result (Unit {0}) RunFault) → Goes result → result ≡ Err fault.Device → IsAt slots journal_old (progress_of slots run)
+        → StaysUnfinished slots (progress_of slots run) [] new journal_old journal_new old taken
+    taken-stays result goes cut at = subst (λ one. ResumesTo slots (progress_of slots run) [] new one journal_old journal_new old taken) cut (begins result goes at)
+
+-- the mark of a sink that failed changes nothing of it
+pub marked-resumes : (result : Result (Unit {0}) RunFault) (slots : ℕ) (before : Progress) (front : List Effect) (mid new : Running) (journal_old journal_new : List Write) (old taken : Option (List ℕ))
+    → new ≡ record mid { broken = breaks result } → mid.broken ≡ false → ResumesTo slots before front mid result journal_old journal_new old taken → ResumesTo slots before front new result journal_old journal_new old taken
+marked-resumes (Ok done) slots before front mid new journal_old journal_new old taken is whole ends =
+    subst (λ (run : Running). ResumesTo slots before front run (Ok done) journal_old journal_new old taken) (sym (is ∙ ap (λ mark. record mid { broken = mark }) (sym whole))) ends
+marked-resumes (Err fault.Device) slots before front mid new journal_old journal_new old taken is whole ends =
+    subst (λ (run : Running). ResumesTo slots before front run (Err fault.Device) journal_old journal_new old taken) (sym (is ∙ ap (λ mark. record mid { broken = mark }) (sym whole))) ends
+marked-resumes (Err fault.Sink) slots before front mid new journal_old journal_new old taken is whole ends = record {
+  more = ends.more;
+  partial = ends.partial;
+  rest = ends.rest;
+  cut = subst (λ setting. IsCutStep setting before Commit (front ++ ends.more) (Prints (ends.partial ++ ends.rest))) (sym (ap setting_of is)) ends.cut;
+  does = ends.does;
+}
+marked-resumes (Err fault.BatchFull) slots before front mid new journal_old journal_new old taken is whole ends = absurd ends
+marked-resumes (Err fault.ProbesFull) slots before front mid new journal_old journal_new old taken is whole ends = absurd ends
+marked-resumes (Err fault.Memory) slots before front mid new journal_old journal_new old taken is whole ends = absurd ends
+marked-resumes (Err (fault.Held left)) slots before front mid new journal_old journal_new old taken is whole ends = absurd ends
 
 -- the refusal of an idle manager tells the verdict, which is against the batch
 judged : (inside run : Running) (reason : Refusal) → inside ≡ run → run.manager.held ≡ None → Judges inside.manager inside.manager.held inside.pending (Err reason)

@@ -1,9 +1,11 @@
 -- What calls leave of a sink and a device, one after the other.
-use Rattle.std.proofs.Common.{◌≡◌, ℕ, List, [], ◌++◌, Option, IsSome, length, refl, sym, ap, ◌∙◌, subst, append_assoc, append-nil, arith}
+use Rattle.std.proofs.Common.{◌≡◌, ◌⊎◌, inl, inr, ℕ, Result, Ok, Err, IfErr, List, [], ◌++◌, Option, IsSome, length, refl, sym, ap, ◌∙◌, subst, append_assoc, append-nil, arith}
 use Rattle.std.proofs.lemmas.List.{length-append}
-use Rattle.call_history.specs.Cause.{IsCounted}
+use Rattle.call_history.specs.Cause.{HasCause, IsCounted}
 use Rattle.tcam_device.specs.declared.Write.{Write}
 use Rattle.batch_order.specs.CarriedOut.{IsTried}
+use Rattle.replay.specs.declared.RunFault.{RunFault}
+use Rattle.replay.specs.declared.RunFault.TheVariants.{BatchFull, Memory, Sink, Device}
 use Rattle.replay.specs.Outside.{Leaves}
 use Rattle.replay.proofs.Tries.{tried-none, tried-then, tried-as}
 
@@ -15,6 +17,21 @@ uncounted A old new never same = record { later = omega (arith, same); once = om
 pub counted-as : (A B : Type 0) (old new : ℕ) → (B → A) → (A → B) → IsCounted A old new → IsCounted B old new
 counted-as A B old new back forth is =
     record { later = is.later; once = is.once; failed = λ b. is.failed (back b); stayed = λ other. is.stayed (λ a. other (forth a)) }
+
+-- a line fails by the sink alone
+pub line-counted : (result : Result (Unit {0}) RunFault) (old new : ℕ) → IfErr result (λ why. why ≡ Sink) → HasCause old new result → IsCounted (result ≡ Err Sink) old new
+line-counted (Ok done) old new kind cause = record { later = cause.later; once = cause.once; failed = λ e. absurd (cc); stayed = λ _. cause.stayed }
+line-counted (Err why) old new kind cause = record { later = cause.later; once = cause.once; failed = λ _. cause.failed; stayed = λ other. absurd (other (ap Err kind)) }
+
+pub no-write : (result : Result (Unit {0}) RunFault) → IfErr result (λ why. why ≡ Sink) → result ≡ Err Device → ⊥
+no-write (Ok done) kind e = absurd (cc)
+no-write (Err why) kind e = absurd (cc)
+
+-- a change fails by neither
+pub no-fault : (result : Result (Unit {0}) RunFault) → IfErr result (λ why. (why ≡ BatchFull) ⊎ (why ≡ Memory)) → (result ≡ Err Sink → ⊥) × (result ≡ Err Device → ⊥)
+no-fault (Ok done) kind = ((λ e. absurd (cc)), (λ e. absurd (cc)))
+no-fault (Err why) (inl full) = ((λ e. absurd (cc)), (λ e. absurd (cc)))
+no-fault (Err why) (inr memory) = ((λ e. absurd (cc)), (λ e. absurd (cc)))
 
 module _ {S D : Type 0} (taken : S → Option (List ℕ)) (sink_faults : S → ℕ) (slots : D → ℕ) (journal : D → List Write) (device_faults : D → ℕ) where
   -- a call that made no write

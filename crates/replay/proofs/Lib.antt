@@ -3,6 +3,7 @@ pub mod Refusals
 pub mod Effects
 pub mod RouteSets
 pub mod Runs
+pub mod Halfway
 pub mod Acts
 pub mod Making
 pub mod Tries
@@ -10,5 +11,6 @@ pub mod Leaving
 pub mod Probing
 pub mod Telling
 pub mod Handing
+pub mod Resuming
 pub mod Exits
 mod Examples

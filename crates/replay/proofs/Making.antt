@@ -1,5 +1,5 @@
 -- The writes of a commit under way, one after the other.
-use Rattle.std.proofs.Common.{◌≡◌, ℕ, ◌+◌, ◌≤◌, true, false, List, [], ◌∷◌, ◌++◌, Option, Some, None, IsSome, IfSome, length, refl, sym, ap, ◌∙◌, subst, append_assoc, length-append, arith}
+use Rattle.std.proofs.Common.{◌≡◌, ℕ, ◌+◌, ◌^◌, ◌≤◌, true, false, List, [], ◌∷◌, ◌++◌, Option, Some, None, IsSome, IfSome, length, refl, sym, ap, ◌∙◌, subst, append_assoc, length-append, arith}
 use Rattle.std.specs.Prelude.{slice_get}
 use Rattle.std.specs.Io.KnownBytes.{Appends}
 use Rattle.std.proofs.KnownBytes.{Appends-nil, Appends-trans}
@@ -9,12 +9,14 @@ use Rattle.tcam_device.specs.State.{State, apply, blank, replay, state_after}
 use Rattle.tcam_device.proofs.Spans.{state_after-append}
 use Rattle.batch_order.specs.declared.Step.{Step}
 use Rattle.batch_order.specs.declared.Step.TheVariants.{Wrote, Finished}
+use Rattle.batch_order.specs.CarriedOut.{HasRoomLeft}
 use Rattle.batch_order.specs.Managed.{Managed, HeldCommit, Steps, StepsOn, next_of, writes_of}
+use Rattle.commit_writes.specs.declared.Done.{Done}
 use Rattle.replay.specs.Run.{Effect, Writes, Prints, printed, written, trace_of, probes_of, lines_of}
 use Rattle.replay.specs.Run as effects
 use Rattle.replay.specs.Outside.{CutsLines}
 use Rattle.replay.specs.Carried.{CutsEffects}
-use Rattle.replay.specs.Running.{Watching, MakesSome, StopsAtLine, StopsAtWrite, Tells, telling, effects_on}
+use Rattle.replay.specs.Running.{Watching, MakesAll, MakesSome, StopsAtLine, StopsAtWrite, Tells, telling, effects_on}
 use Rattle.replay.proofs.Effects.{grown-more, written-append, printed-append, written-lines, written-writes, written-front, write_effects-append}
 
 -- how many writes are left
@@ -22,12 +24,12 @@ abbrev pub left_number : Option HeldCommit → ℕ
 left_number None = 0
 left_number (Some held) = length held.writes
 
--- writes of a commit under way are being made: so many are made, and the device has room for those left
-pub record IsMaking (begun now : Managed) (watch : Watching) (device_slots : ℕ) (journal_begun journal_now : List Write) (taken_begun taken_now : Option (List ℕ)) (number spare : ℕ) : Type 0 where
+-- writes of a commit under way are being made: so many are told, some of them before, and the device has room for those left
+pub record IsMaking (begun now : Managed) (watch : Watching) (device_slots told : ℕ) (journal_begun journal_now : List Write) (taken_begun taken_now : Option (List ℕ)) (number spare : ℕ) : Type 0 where
   pub some : MakesSome begun now
   pub journal : journal_now ≡ journal_begun ++ some.made
-  pub report : Tells begun watch device_slots journal_begun some.made taken_begun taken_now
-  pub count : number ≡ length some.made
+  pub report : Tells begun watch device_slots told journal_begun some.made taken_begun taken_now
+  pub count : number ≡ told + length some.made
   pub room : length some.left ≤ spare
 
 some_held : (held : Option HeldCommit) → IsSome held → (one : HeldCommit) × (held ≡ Some one)
@@ -35,14 +37,14 @@ some_held (Some one) some = (one, refl)
 some_held None some = absurd (cc)
 
 -- none is made yet
-pub making-none : (begun : Managed) (watch : Watching) (slots : ℕ) (journal : List Write) (taken : Option (List ℕ)) (spare : ℕ) → IsSome begun.held
-    → IfSome begun.held (λ held. length held.writes ≤ spare) → IsMaking begun begun watch slots journal journal taken taken 0 spare
-making-none begun watch slots journal taken spare some room =
+pub making-none : (begun : Managed) (watch : Watching) (slots told : ℕ) (journal : List Write) (taken : Option (List ℕ)) (spare : ℕ) → IsSome begun.held
+    → IfSome begun.held (λ held. length held.writes ≤ spare) → IsMaking begun begun watch slots told journal journal taken taken told spare
+making-none begun watch slots told journal taken spare some room =
     let (held, is) = some_held begun.held some in record {
       some = record { held = held; made = []; left = held.writes; held_is = is; whole = refl; now_is = ap (λ one. record begun { held = one }) is };
       journal = sym (append-nil journal);
       report = Appends-nil taken;
-      count = refl;
+      count = omega arith;
       room = subst (λ one. IfSome one (λ (held : HeldCommit). length held.writes ≤ spare)) is room;
     }
 
@@ -58,21 +60,21 @@ stepped now held (due ∷ rest) step new write steps wrote =
     )
 
 -- a write is made, and isn't told yet
-pub record HasWritten (begun now : Managed) (watch : Watching) (device_slots : ℕ) (journal_begun journal_now : List Write) (taken_begun taken_now : Option (List ℕ)) (number spare : ℕ) (write : Write) : Type 0 where
+pub record HasWritten (begun now : Managed) (watch : Watching) (device_slots told : ℕ) (journal_begun journal_now : List Write) (taken_begun taken_now : Option (List ℕ)) (number spare : ℕ) (write : Write) : Type 0 where
   pub some : MakesSome begun now
   pub made : List Write
   pub made_is : some.made ≡ made ++ write ∷ []
   pub journal : journal_now ≡ journal_begun ++ (made ++ write ∷ [])
-  pub report : Tells begun watch device_slots journal_begun made taken_begun taken_now
-  pub count : number ≡ length made
+  pub report : Tells begun watch device_slots told journal_begun made taken_begun taken_now
+  pub count : number ≡ told + length made
   pub room : length some.left ≤ spare
 
 -- one write more
-pub making-more : (begun now new : Managed) (watch : Watching) (slots : ℕ) (journal_begun journal_now journal_new : List Write) (taken_begun taken : Option (List ℕ)) (number spare spare_new : ℕ) (step : Step) (write : Write)
-    → IsMaking begun now watch slots journal_begun journal_now taken_begun taken number spare → Steps now now.held step new → step ≡ Wrote write
+pub making-more : (begun now new : Managed) (watch : Watching) (slots told : ℕ) (journal_begun journal_now journal_new : List Write) (taken_begun taken : Option (List ℕ)) (number spare spare_new : ℕ) (step : Step) (write : Write)
+    → IsMaking begun now watch slots told journal_begun journal_now taken_begun taken number spare → Steps now now.held step new → step ≡ Wrote write
     → journal_new ≡ journal_now ++ writes_of step → spare_new + length (writes_of step) ≡ spare
-    → HasWritten begun new watch slots journal_begun journal_new taken_begun taken number spare_new write
-making-more begun now new watch slots journal_begun journal_now journal_new taken_begun taken number spare spare_new step write making steps wrote journal room =
+    → HasWritten begun new watch slots told journal_begun journal_new taken_begun taken number spare_new write
+making-more begun now new watch slots told journal_begun journal_now journal_new taken_begun taken number spare spare_new step write making steps wrote journal room =
     let was = making.some in
     let held = record was.held { writes = was.left } in
     let on : StepsOn now held was.left step new = subst (λ held. Steps now held step new) (ap (λ (manager : Managed). manager.held) was.now_is) steps in
@@ -105,75 +107,81 @@ abbrev pub lines_on : Watching → ℕ → ℕ → Write → List Write → List
 lines_on watch slots number write writes = trace_of watch.trace number write ++ probes_of watch.family number (replay slots writes) 1 watch.probes
 
 -- the writes with one more, each told
-one-told : (begun : Managed) (watch : Watching) (slots : ℕ) (before made : List Write) (write : Write) (left : List Write)
-    → effects_on begun watch slots before (made ++ write ∷ left)
-    ≡ effects_on begun watch slots before made ++ Writes write ∷ (lines_on watch slots (length made + 1) write (before ++ (made ++ write ∷ []))
-    ++ effects.write_effects (telling begun watch) watch.probes (length made + 2) (replay slots (before ++ (made ++ write ∷ []))) left)
-one-told begun watch slots before made write left =
+one-told : (begun : Managed) (watch : Watching) (slots told : ℕ) (before made : List Write) (write : Write) (left : List Write)
+    → effects_on begun watch slots told before (made ++ write ∷ left)
+    ≡ effects_on begun watch slots told before made ++ Writes write ∷ (lines_on watch slots ((told + length made) + 1) write (before ++ (made ++ write ∷ []))
+    ++ effects.write_effects (telling begun watch) watch.probes ((told + length made) + 2) (replay slots (before ++ (made ++ write ∷ []))) left)
+one-told begun watch slots told before made write left =
     let state = replay slots before in
+    let count = told + length made in
     let at : replay slots (before ++ (made ++ write ∷ [])) ≡ apply (state_after state made) write =
     state_after-append (blank slots) before (made ++ write ∷ []) ∙ state_after-append state made (write ∷ []) in
-    let first : 1 + length made ≡ length made + 1 = omega arith in
-    let second : (length made + 1) + 1 ≡ length made + 2 = omega arith in
-    write_effects-append (telling begun watch) watch.probes 1 state made (write ∷ left)
-    ∙ ap (λ n. effects_on begun watch slots before made ++ effects.write_effects (telling begun watch) watch.probes n (state_after state made) (write ∷ left)) first
-    ∙ ap (λ n. effects_on begun watch slots before made
-    ++ Writes write ∷ (lines_of (telling begun watch) watch.probes (length made + 1) (apply (state_after state made) write) write
+    let first : (told + 1) + length made ≡ count + 1 = omega arith in
+    let second : (count + 1) + 1 ≡ count + 2 = omega arith in
+    write_effects-append (telling begun watch) watch.probes (told + 1) state made (write ∷ left)
+    ∙ ap (λ n. effects_on begun watch slots told before made ++ effects.write_effects (telling begun watch) watch.probes n (state_after state made) (write ∷ left)) first
+    ∙ ap (λ n. effects_on begun watch slots told before made
+    ++ Writes write ∷ (lines_of (telling begun watch) watch.probes (count + 1) (apply (state_after state made) write) write
     ++ effects.write_effects (telling begun watch) watch.probes n (apply (state_after state made) write) left)) second
-    ∙ ap (λ now. effects_on begun watch slots before made
-    ++ Writes write ∷ (lines_of (telling begun watch) watch.probes (length made + 1) now write ++ effects.write_effects (telling begun watch) watch.probes (length made + 2) now left)) (sym at)
+    ∙ ap (λ now. effects_on begun watch slots told before made
+    ++ Writes write ∷ (lines_of (telling begun watch) watch.probes (count + 1) now write ++ effects.write_effects (telling begun watch) watch.probes (count + 2) now left)) (sym at)
 
-told-more : (begun : Managed) (watch : Watching) (slots : ℕ) (journal_begun journal : List Write) (made : List Write) (write : Write) (old mid new : Option (List ℕ)) (number : ℕ)
-    → number ≡ length made → journal ≡ journal_begun ++ (made ++ write ∷ []) → Tells begun watch slots journal_begun made old mid
+told-more : (begun : Managed) (watch : Watching) (slots told : ℕ) (journal_begun journal : List Write) (made : List Write) (write : Write) (old mid new : Option (List ℕ)) (number : ℕ)
+    → number ≡ told + length made → journal ≡ journal_begun ++ (made ++ write ∷ []) → Tells begun watch slots told journal_begun made old mid
     → Appends mid new (printed (lines_on watch slots (number + 1) write journal))
-    → Tells begun watch slots journal_begun (made ++ write ∷ []) old new
-told-more begun watch slots before journal made write old mid new number count same told lines =
-    let at : Appends mid new (printed (lines_on watch slots (length made + 1) write (before ++ (made ++ write ∷ [])))) =
+    → Tells begun watch slots told journal_begun (made ++ write ∷ []) old new
+told-more begun watch slots told before journal made write old mid new number count same front lines =
+    let at : Appends mid new (printed (lines_on watch slots ((told + length made) + 1) write (before ++ (made ++ write ∷ [])))) =
     subst (λ n. Appends mid new (printed (lines_on watch slots (n + 1) write (before ++ (made ++ write ∷ []))))) count
     (subst (λ writes. Appends mid new (printed (lines_on watch slots (number + 1) write writes))) same lines) in
-    let now = lines_on watch slots (length made + 1) write (before ++ (made ++ write ∷ [])) in
+    let now = lines_on watch slots ((told + length made) + 1) write (before ++ (made ++ write ∷ [])) in
     subst (Appends old new)
-    (sym (ap printed (one-told begun watch slots before made write [])
-    ∙ printed-append (effects_on begun watch slots before made) (Writes write ∷ (now ++ []))
-    ∙ ap (λ effects. printed (effects_on begun watch slots before made) ++ printed effects) (append-nil now)))
-    (Appends-trans old mid new (printed (effects_on begun watch slots before made)) (printed now) told at)
+    (sym (ap printed (one-told begun watch slots told before made write [])
+    ∙ printed-append (effects_on begun watch slots told before made) (Writes write ∷ (now ++ []))
+    ∙ ap (λ effects. printed (effects_on begun watch slots told before made) ++ printed effects) (append-nil now)))
+    (Appends-trans old mid new (printed (effects_on begun watch slots told before made)) (printed now) front at)
 
--- it is told
-pub making-told : (begun now : Managed) (watch : Watching) (slots : ℕ) (journal_begun journal : List Write) (taken_begun taken taken_new : Option (List ℕ)) (number spare : ℕ) (write : Write)
-    → HasWritten begun now watch slots journal_begun journal taken_begun taken number spare write
-    → Appends taken taken_new (printed (lines_on watch slots (number + 1) write journal))
-    → IsMaking begun now watch slots journal_begun journal taken_begun taken_new (number + 1) spare
-making-told begun now watch slots journal_begun journal taken_begun taken taken_new number spare write has lines =
+count-more : (begun now : Managed) (watch : Watching) (slots told : ℕ) (journal_begun journal : List Write) (taken_begun taken : Option (List ℕ)) (number spare : ℕ) (write : Write)
+    → (has : HasWritten begun now watch slots told journal_begun journal taken_begun taken number spare write) → number + 1 ≡ told + length has.some.made
+count-more begun now watch slots told journal_begun journal taken_begun taken number spare write has =
     let count = has.count in
     let lengths = length-append has.made (write ∷ []) in
-    let longer : length has.some.made ≡ length (has.made ++ write ∷ []) = ap length has.made_is in record {
-      some = has.some;
-      journal = has.journal ∙ ap (λ made. journal_begun ++ made) (sym has.made_is);
-      report = subst (λ made. Tells begun watch slots journal_begun made taken_begun taken_new) (sym has.made_is)
-          (told-more begun watch slots journal_begun journal has.made write taken_begun taken taken_new number has.count has.journal has.report lines);
-      count = omega arith;
-      room = has.room;
-    }
+    let longer : length has.some.made ≡ length (has.made ++ write ∷ []) = ap length has.made_is in
+    omega arith
 
-cut-more : (begun : Managed) (watch : Watching) (slots : ℕ) (journal_begun journal : List Write) (made : List Write) (write : Write) (left all : List Write) (old mid new : Option (List ℕ)) (number : ℕ)
-    → number ≡ length made → all ≡ made ++ write ∷ left → journal ≡ journal_begun ++ (made ++ write ∷ []) → Tells begun watch slots journal_begun made old mid
+-- it is told
+pub making-told : (begun now : Managed) (watch : Watching) (slots told : ℕ) (journal_begun journal : List Write) (taken_begun taken taken_new : Option (List ℕ)) (number spare : ℕ) (write : Write)
+    → HasWritten begun now watch slots told journal_begun journal taken_begun taken number spare write
+    → Appends taken taken_new (printed (lines_on watch slots (number + 1) write journal))
+    → IsMaking begun now watch slots told journal_begun journal taken_begun taken_new (number + 1) spare
+making-told begun now watch slots told journal_begun journal taken_begun taken taken_new number spare write has lines = record {
+  some = has.some;
+  journal = has.journal ∙ ap (λ made. journal_begun ++ made) (sym has.made_is);
+  report = subst (λ made. Tells begun watch slots told journal_begun made taken_begun taken_new) (sym has.made_is)
+      (told-more begun watch slots told journal_begun journal has.made write taken_begun taken taken_new number has.count has.journal has.report lines);
+  count = count-more begun now watch slots told journal_begun journal taken_begun taken number spare write has;
+  room = has.room;
+}
+
+cut-more : (begun : Managed) (watch : Watching) (slots told : ℕ) (journal_begun journal : List Write) (made : List Write) (write : Write) (left all : List Write) (old mid new : Option (List ℕ)) (number : ℕ)
+    → number ≡ told + length made → all ≡ made ++ write ∷ left → journal ≡ journal_begun ++ (made ++ write ∷ []) → Tells begun watch slots told journal_begun made old mid
     → CutsLines (lines_on watch slots (number + 1) write journal) mid new
-    → CutsEffects (effects_on begun watch slots journal_begun all) journal_begun journal old new
-cut-more begun watch slots before journal made write left all old mid new number count whole same told cuts =
-    let now = lines_on watch slots (length made + 1) write (before ++ (made ++ write ∷ [])) in
+    → CutsEffects (effects_on begun watch slots told journal_begun all) journal_begun journal old new
+cut-more begun watch slots told before journal made write left all old mid new number count whole same front cuts =
+    let now = lines_on watch slots ((told + length made) + 1) write (before ++ (made ++ write ∷ [])) in
     let cut : CutsLines now mid new =
     subst (λ n. CutsLines (lines_on watch slots (n + 1) write (before ++ (made ++ write ∷ []))) mid new) count
     (subst (λ writes. CutsLines (lines_on watch slots (number + 1) write writes) mid new) same cuts) in
-    let later = effects.write_effects (telling begun watch) watch.probes (length made + 2) (replay slots (before ++ (made ++ write ∷ []))) left in
-    let ahead = effects_on begun watch slots before made in
+    let later = effects.write_effects (telling begun watch) watch.probes ((told + length made) + 2) (replay slots (before ++ (made ++ write ∷ []))) left in
+    let ahead = effects_on begun watch slots told before made in
     let none : written cut.front ≡ [] = written-front cut.front (cut.partial ++ cut.rest) cut.back
-    (sym (ap written cut.cut) ∙ written-lines (telling begun watch) watch.probes (length made + 1) (replay slots (before ++ (made ++ write ∷ []))) write) in record {
+    (sym (ap written cut.cut) ∙ written-lines (telling begun watch) watch.probes ((told + length made) + 1) (replay slots (before ++ (made ++ write ∷ []))) write) in record {
       front = ahead ++ Writes write ∷ cut.front;
       partial = cut.partial;
       rest = cut.rest;
       back = cut.back ++ later;
-      cut = ap (effects_on begun watch slots before) whole
-          ∙ one-told begun watch slots before made write left
+      cut = ap (effects_on begun watch slots told before) whole
+          ∙ one-told begun watch slots told before made write left
           ∙ ap (λ lines. ahead ++ Writes write ∷ (lines ++ later)) cut.cut
           ∙ ap (λ effects. ahead ++ Writes write ∷ effects) (append_assoc cut.front (Prints (cut.partial ++ cut.rest) ∷ cut.back) later)
           ∙ sym (append_assoc ahead (Writes write ∷ cut.front) (Prints (cut.partial ++ cut.rest) ∷ (cut.back ++ later)));
@@ -181,23 +189,24 @@ cut-more begun watch slots before journal made write left all old mid new number
         journal = same
             ∙ ap (λ more. before ++ more)
             (sym (written-append ahead (Writes write ∷ cut.front)
-            ∙ ap (λ writes. writes ++ write ∷ written cut.front) (written-writes (telling begun watch) watch.probes 1 (replay slots before) made)
+            ∙ ap (λ writes. writes ++ write ∷ written cut.front) (written-writes (telling begun watch) watch.probes (told + 1) (replay slots before) made)
             ∙ ap (λ writes. made ++ write ∷ writes) none));
         report = subst (Appends old new)
             (sym (ap (λ text. text ++ cut.partial) (printed-append ahead (Writes write ∷ cut.front)) ∙ append_assoc (printed ahead) (printed cut.front) cut.partial))
-            (Appends-trans old mid new (printed ahead) (printed cut.front ++ cut.partial) told cut.grown);
+            (Appends-trans old mid new (printed ahead) (printed cut.front ++ cut.partial) front cut.grown);
       };
     }
 
 -- it isn't told whole
-pub making-stops : (begun now : Managed) (watch : Watching) (slots : ℕ) (journal_begun journal : List Write) (taken_begun taken taken_new : Option (List ℕ)) (number spare : ℕ) (write : Write)
-    → HasWritten begun now watch slots journal_begun journal taken_begun taken number spare write
+pub making-stops : (begun now : Managed) (watch : Watching) (slots told : ℕ) (journal_begun journal : List Write) (taken_begun taken taken_new : Option (List ℕ)) (number spare : ℕ) (write : Write)
+    → HasWritten begun now watch slots told journal_begun journal taken_begun taken number spare write
     → CutsLines (lines_on watch slots (number + 1) write journal) taken taken_new
-    → StopsAtLine begun now watch slots journal_begun journal taken_begun taken_new
-making-stops begun now watch slots journal_begun journal taken_begun taken taken_new number spare write has cuts = record {
+    → StopsAtLine begun now watch slots told (number + 1) journal_begun journal taken_begun taken_new
+making-stops begun now watch slots told journal_begun journal taken_begun taken taken_new number spare write has cuts = record {
   some = has.some;
+  number = count-more begun now watch slots told journal_begun journal taken_begun taken number spare write has;
   journal = has.journal ∙ ap (λ made. journal_begun ++ made) (sym has.made_is);
-  cuts = cut-more begun watch slots journal_begun journal has.made write has.some.left has.some.held.writes taken_begun taken taken_new number has.count
+  cuts = cut-more begun watch slots told journal_begun journal has.made write has.some.left has.some.held.writes taken_begun taken taken_new number has.count
       (has.some.whole ∙ ap (λ made. made ++ has.some.left) has.made_is ∙ append_assoc has.made (write ∷ []) has.some.left) has.journal has.report cuts;
 }
 
@@ -206,16 +215,35 @@ some_left [] some = absurd (let none : false ≡ true = some in cc)
 some_left (due ∷ rest) some = (due, rest, refl)
 
 -- where one is left, and isn't made
-pub making-cut : (begun now new : Managed) (watch : Watching) (slots : ℕ) (journal_begun journal_now journal_new : List Write) (taken_begun taken : Option (List ℕ)) (number spare : ℕ)
-    → IsMaking begun now watch slots journal_begun journal_now taken_begun taken number spare → new ≡ now → journal_new ≡ journal_now → IsSome (next_of now.held)
-    → StopsAtWrite begun new watch slots journal_begun journal_new taken_begun taken
-making-cut begun now new watch slots journal_begun journal_now journal_new taken_begun taken number spare making same journal next =
+pub making-cut : (begun now new : Managed) (watch : Watching) (slots told : ℕ) (journal_begun journal_now journal_new : List Write) (taken_begun taken : Option (List ℕ)) (number spare : ℕ)
+    → IsMaking begun now watch slots told journal_begun journal_now taken_begun taken number spare → new ≡ now → journal_new ≡ journal_now → IsSome (next_of now.held)
+    → StopsAtWrite begun new watch slots told number journal_begun journal_new taken_begun taken
+making-cut begun now new watch slots told journal_begun journal_now journal_new taken_begun taken number spare making same journal next =
     let was = making.some in
     let some = some_left was.left (subst (λ held. IsSome (next_of held)) (ap (λ (manager : Managed). manager.held) was.now_is) next) in record {
       some = record { held = was.held; made = was.made; left = was.left; held_is = was.held_is; whole = was.whole; now_is = same ∙ was.now_is };
       due = some.0;
       left = some.1;
       left_is = some.2;
+      number = making.count;
       journal = journal ∙ making.journal;
       report = making.report;
     }
+
+-- few writes are told
+pub few-number : (begun now : Managed) (watch : Watching) (slots told : ℕ) (journal_begun journal_now : List Write) (taken_begun taken : Option (List ℕ)) (number spare : ℕ)
+    → IsMaking begun now watch slots told journal_begun journal_now taken_begun taken number spare → IfSome begun.held (λ held. told + length held.writes ≤ 2 ^ 39) → number ≤ 2 ^ 39
+few-number begun now watch slots told journal_begun journal_now taken_begun taken number spare making all =
+    let was = making.some in
+    let few : told + length was.held.writes ≤ 2 ^ 39 = subst (λ held. IfSome held (λ (one : HeldCommit). told + length one.writes ≤ 2 ^ 39)) was.held_is all in
+    let lengths : length was.held.writes ≡ length was.made + length was.left = ap length was.whole ∙ length-append was.made was.left in
+    let count = making.count in
+    omega arith
+
+-- the room that is left is room for the writes that are left
+pub some-room : (begun now : Managed) (spare : ℕ) (some : MakesSome begun now) → length some.left ≤ spare → HasRoomLeft now.held spare
+some-room begun now spare some room = subst (λ (manager : Managed). HasRoomLeft manager.held spare) (sym some.now_is) room
+
+pub all-room : (begun now : Managed) (watch : Watching) (slots told told_now spare : ℕ) (done : Done) (journal journal_now : List Write) (taken taken_now : Option (List ℕ))
+    → MakesAll begun watch slots told told_now done now journal journal_now taken taken_now → HasRoomLeft now.held spare
+all-room begun now watch slots told told_now spare done journal journal_now taken taken_now all = subst (λ (manager : Managed). HasRoomLeft manager.held spare) (sym all.now_is) tt

@@ -1,14 +1,14 @@
 -- What a run is between two calls, and after an accepted commit.
-use Rattle.std.proofs.Common.{Bool, ◌≡◌, ℕ, ◌+◌, ◌-◌, ◌*◌, ◌^◌, ◌≤◌, length, List, [], ◌∷◌, ◌++◌, Option, Some, None, replicate, take, Result, Ok, Err, OnOk, OnErr, refl, sym, ap, ◌∙◌, subst, arith}
+use Rattle.std.proofs.Common.{Bool, true, false, ◌≡◌, ℕ, ◌+◌, ◌-◌, ◌*◌, ◌^◌, ◌≤◌, length, List, [], ◌∷◌, ◌++◌, Option, None, IsSome, replicate, take, Result, Ok, Err, OnOk, OnErr, refl, sym, ap, ◌∙◌, subst, arith}
 use Rattle.std.proofs.Math.Seq.{take-append_seam}
 use Rattle.std.specs.List.{AllByRecursion}
+use Rattle.rule_model.specs.declared.Key.{Key}
 use Rattle.rule_model.specs.declared.Rule.{Rule}
 use Rattle.rule_model.specs.Routes.{IsIpv4Route}
 use Rattle.rule_store.specs.Batch.{set_after}
 use Rattle.rule_store.specs.declared.Mode.{Mode}
 use Rattle.rule_store.specs.declared.Command.{Command as Change}
 use Rattle.ternary_word.specs.declared.Entry.{Entry}
-use Rattle.tcam_device.specs.declared.Write.{Write}
 use Rattle.tcam_device.specs.State.{State, Shows, IsInUse, blank, state_after, on_device}
 use Rattle.tcam_device.specs.Insertion.{Insertion, IsUncrossed}
 use Rattle.commit_writes.specs.Bits.{FieldBits, bits_with, bits_left}
@@ -20,7 +20,7 @@ use Rattle.replay.specs.declared.Family.{Family}
 use Rattle.replay.specs.declared.Family.TheVariants.{Route, Acl}
 use Rattle.replay.specs.Run.{Setting, Progress, Effect, Prints, Commits, OfFamily, slots_in_use, write_effects, after_segment}
 use Rattle.replay.specs.Text.{accepted_line}
-use Rattle.replay.specs.Running.{Running, IsRun, setting_of, progress_of, begun, IsChangeOf}
+use Rattle.replay.specs.Running.{Running, IsHalfway, IsRun, setting_of, progress_of, begun, IsChangeOf}
 use Rattle.replay.proofs.RouteSets.{routes_after, changes_more}
 use Rattle.tcam_device.proofs.Wider.{slots-after, state_after-on_device, Shows-padded, blank_shows}
 use Rattle.std.proofs.lemmas.List.{length-replicate}
@@ -33,29 +33,50 @@ begun-run slots mode placement family trace = record {
   size = length-replicate slots None;
   few = omega arith;
   shows = λ idle device_slots within. Shows-padded (device_slots - length (blank slots).slots) (blank slots) [] (blank_shows slots);
+  halfway = λ some. absurd (let none : false ≡ true = some in cc);
+  idle = λ none. refl;
 }
 
+-- where no commit is under way none is unfinished
+pub never-halfway : (run new : Running) → run.manager.held ≡ None → IsSome run.manager.held → IsHalfway new
+never-halfway run new idle some = absurd (let none : false ≡ true = subst (λ (held : Option HeldCommit). IsSome held) idle some in cc)
+
 -- a change joined the pending batch, or it stayed as it was
-pub pushed-run : {E : Type 0} (result : Result (Unit {0}) E) (run : Running) (change : Change) (pending : List Change) → IsRun run → IsChangeOf run.family change
+pub pushed-run : {E : Type 0} (result : Result (Unit {0}) E) (run : Running) (change : Change) (pending : List Change) → IsRun run → run.manager.held ≡ None → IsChangeOf run.family change
     → OnOk result (pending ≡ run.pending ++ change ∷ []) → OnErr result (pending ≡ run.pending) → IsRun (record run { pending = pending })
-pushed-run (Ok done) run change pending is change_is pushed same = subst (λ batch. IsRun (record run { pending = batch })) (sym pushed) (record {
+pushed-run (Ok done) run change pending is none change_is pushed same = subst (λ batch. IsRun (record run { pending = batch })) (sym pushed) (record {
   changes = changes_more run.family run.pending change is.changes change_is;
   routes = is.routes;
   size = is.size;
   few = is.few;
   shows = is.shows;
+  halfway = never-halfway run (record run { pending = run.pending ++ change ∷ [] }) none;
+  idle = is.idle;
 })
-pushed-run (Err fault) run change pending is change_is pushed same = subst (λ batch. IsRun (record run { pending = batch })) (sym same) is
+pushed-run (Err fault) run change pending is none change_is pushed same = subst (λ batch. IsRun (record run { pending = batch })) (sym same) is
 
--- while a commit is under way, after some of its writes
-pub held-run : (run : Running) (made : List Write) (held : HeldCommit) → IsRun run
-    → IsRun (record run { manager = record run.manager { state = state_after run.manager.state made; held = Some held } })
-held-run run made held is = record {
+-- a key is probed
+pub probed-run : (run : Running) (probes : List Key) → IsRun run → run.manager.held ≡ None → IsRun (record run { probes = probes })
+probed-run run probes is none = record {
   changes = is.changes;
   routes = is.routes;
-  size = slots-after run.manager.state made ∙ is.size;
+  size = is.size;
   few = is.few;
-  shows = λ idle. absurd (let none : Some held ≡ None = idle in cc);
+  shows = is.shows;
+  halfway = never-halfway run (record run { probes = probes }) none;
+  idle = is.idle;
+}
+
+-- whether the sink failed makes no difference
+pub marked-run : (run : Running) (broken : Bool) → IsRun run → IsRun (record run { broken = broken })
+marked-run run broken is = record {
+  changes = is.changes;
+  routes = is.routes;
+  size = is.size;
+  few = is.few;
+  shows = is.shows;
+  halfway = λ some. (let half = is.halfway some in record { begun = half.begun; holds = half.holds; accepted = half.accepted; some = half.some; told = half.told });
+  idle = is.idle;
 }
 
 -- the run after its commit
@@ -66,6 +87,7 @@ run_after run held =
       pending = [];
       commits = run.commits + 1;
       writes = run.writes + held.counts.writes;
+      told = 0;
     }
 
 -- the slots in use of a device are those of the manager
@@ -95,6 +117,8 @@ module _ (run : Running) (ready : Ready) (is : IsRun run) (holds : Holds (record
     shows = λ idle slots within.
         subst (λ rules. Shows (on_device slots (state_after run.manager.state holds.held.writes)) rules) (sym holds.rules)
         (subst (λ state. Shows state (set_after run.manager.rules run.pending)) (sym (after-state slots)) (holds.segment slots within).hitless.after);
+    halfway = λ some. absurd (let none : false ≡ true = some in cc);
+    idle = λ none. refl;
   }
 
   pub after-run : IsRun (run_after run holds.held)

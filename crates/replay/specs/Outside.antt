@@ -41,8 +41,8 @@ WritesLines taken accepted faults old new lines result =
 
 -- What a call leaves of a sink and a device, whatever comes of it: what was told stays told, the slots stay, and the
 -- journal only grows. A sink's failure has this cause: its count rises, by one, exactly where the call ended by it. A
--- device's has this: one write failed at each of four tries; beside them its count rises by at most three for each write
--- that was made.
+-- device's has this: its count rises by four where the call ended by it, as by four tries of one write, and beside them
+-- by at most three for each write that was made.
 pub record Leaves {S D : Type 0} (taken : S → Option (List ℕ)) (sink_faults : S → ℕ) (sink_old sink_new : S) (slots : D → ℕ) (journal : D → List Write) (device_faults : D → ℕ) (device_old device_new : D) (SinkFailed DeviceFailed : Type 0) : Type 0 where
   pub told : IsSome (taken sink_old) → IsSome (taken sink_new)
   pub slot_count : slots device_new ≡ slots device_old

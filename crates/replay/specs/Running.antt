@@ -1,26 +1,26 @@
 -- What a run keeps, and where it stands by that.
-use Rattle.std.specs.Prelude.{◌≡◌, ℕ, ◌*◌, ◌^◌, ◌≤◌, ◌++◌, ◌∷◌, Bool, false, Option, None, Some, Result, Ok, Err, List, [], length, codes}
+use Rattle.std.specs.Prelude.{◌≡◌, ◌≢◌, ℕ, ◌+◌, ◌*◌, ◌^◌, ◌≤◌, ◌++◌, ◌∷◌, Bool, true, false, Option, None, Some, IsSome, Result, Ok, Err, List, [], length, codes}
 use Rattle.std.specs.Io.KnownBytes.{Appends}
 use Rattle.std.specs.List.{AllByRecursion}
 use Rattle.rule_model.specs.declared.Key.{Key}
 use Rattle.rule_model.specs.Routes.{IsIpv4Route}
 use Rattle.rule_store.specs.declared.Mode.{Mode}
 use Rattle.rule_store.specs.declared.Command.{Command as Change}
-use Rattle.rule_store.specs.Verdict.{Verdict, verdict}
+use Rattle.rule_store.specs.Verdict.{Verdict, Accepted, verdict}
 use Rattle.tcam_device.specs.declared.Write.{Write}
 use Rattle.tcam_device.specs.State.{Shows, replay, state_after, on_device}
 use Rattle.commit_writes.specs.declared.Done.{Done}
 use Rattle.batch_order.specs.declared.Placement.{Placement}
 use Rattle.batch_order.specs.declared.Ready.{Ready}
-use Rattle.batch_order.specs.Managed.{Managed, HeldCommit, Holds, OnlyChangesRoutes, fresh}
+use Rattle.batch_order.specs.Managed.{Managed, HeldCommit, Holds, OnlyChangesRoutes, fresh, next_of}
 use Rattle.replay.specs.declared.Act.{Act}
 use Rattle.replay.specs.declared.Act.TheVariants.{Command, Probe, Packet, Commit}
 use Rattle.replay.specs.declared.Family.{Family}
 use Rattle.replay.specs.declared.Family.TheVariants.{Route, Acl}
-use Rattle.replay.specs.Run.{Setting, Effect, Progress, printed, write_effects}
+use Rattle.replay.specs.Run.{Setting, Effect, Writes, Prints, Progress, HasEffects, IsCutStep, printed, write_effects}
 use Rattle.replay.specs.declared.RunFault.{RunFault}
-use Rattle.replay.specs.declared.RunFault.TheVariants.{BatchFull, ProbesFull, Sink, Device, Memory}
-use Rattle.replay.specs.Carried.{IsAt, Carries, CutsAtLine, CutsAtWrite, CutsEffects, Wants}
+use Rattle.replay.specs.declared.RunFault.TheVariants.{BatchFull, ProbesFull, Sink, Device, Memory, Held}
+use Rattle.replay.specs.Carried.{IsAt, Does, Carries, CutsAtLine, CutsAtWrite, CutsEffects, Wants}
 
 -- what is told of each write: how rules are named, whether a trace is wanted, and the keys that are probed
 pub record Watching : Type 0 where
@@ -28,7 +28,8 @@ pub record Watching : Type 0 where
   pub trace : Bool
   pub probes : List Key
 
--- the manager, what is told of each write, the pending batch, and what the report counts
+-- The manager, what is told of each write, the pending batch, and what the report counts; how many writes of an unfinished
+-- commit were made, each of them told, and whether the sink failed.
 pub record Running : Type 0 where
   pub manager : Managed
   pub family : Family
@@ -38,6 +39,8 @@ pub record Running : Type 0 where
   pub commits : ℕ
   pub writes : ℕ
   pub refused : Bool
+  pub told : ℕ
+  pub broken : Bool
 
 -- what a run tells of each write
 abbrev pub watching : Running → Watching
@@ -80,21 +83,14 @@ begun slots mode placement family trace =
       commits = 0;
       writes = 0;
       refused = false;
+      told = 0;
+      broken = false;
     }
 
 -- while no commit is under way the slots show the rules, whatever more slots the device has
 abbrev pub ShowsRules : Managed → Type 0
 ShowsRules manager =
     manager.held ≡ None → (device_slots : ℕ) → manager.slots ≤ device_slots → Shows (on_device device_slots manager.state) manager.rules
-
--- A run between two calls: each commit made few writes. In a script of routes the rules are routes, and the pending
--- changes are changes of routes.
-pub record IsRun (run : Running) : Type 0 where
-  pub changes : run.family ≡ Route → OnlyChangesRoutes run.pending
-  pub routes : run.family ≡ Route → AllByRecursion IsIpv4Route run.manager.rules
-  pub size : length run.manager.state.slots ≡ run.manager.slots
-  pub few : run.writes ≤ run.commits * 2 ^ 39
-  pub shows : ShowsRules run.manager
 
 -- the verdict on the pending batch
 abbrev pub verdict_of : Running → Verdict
@@ -103,6 +99,34 @@ verdict_of run = verdict run.manager.slots run.manager.mode run.manager.rules ru
 -- the commit under way is that of the pending batch
 abbrev pub HoldsPending : Running → Type 0
 HoldsPending run = (ready : Ready) × Holds (record run.manager { held = None }) run.pending ready run.manager
+
+-- some of the writes of a commit under way are made
+pub record MakesSome (begun now : Managed) : Type 0 where
+  pub held : HeldCommit
+  pub made : List Write
+  pub left : List Write
+  pub held_is : begun.held ≡ Some held
+  pub whole : held.writes ≡ made ++ left
+  pub now_is : now ≡ record begun { state = state_after begun.state made; held = Some (record held { writes = left }) }
+
+-- A commit is unfinished: it was accepted, some of its writes were made, and the rest of them is held.
+pub record IsHalfway (run : Running) : Type 0 where
+  pub begun : Managed
+  pub holds : HoldsPending (record run { manager = begun })
+  pub accepted : verdict_of (record run { manager = begun }) ≡ Accepted
+  pub some : MakesSome begun run.manager
+  pub told : run.told ≡ length some.made
+
+-- A run between two calls: each commit made few writes. In a script of routes the rules are routes, and the pending
+-- changes are changes of routes. A commit under way is that of the pending batch.
+pub record IsRun (run : Running) : Type 0 where
+  pub changes : run.family ≡ Route → OnlyChangesRoutes run.pending
+  pub routes : run.family ≡ Route → AllByRecursion IsIpv4Route run.manager.rules
+  pub size : length run.manager.state.slots ≡ run.manager.slots
+  pub few : run.writes ≤ run.commits * 2 ^ 39
+  pub shows : ShowsRules run.manager
+  pub halfway : IsSome run.manager.held → IsHalfway run
+  pub idle : run.manager.held ≡ None → run.told ≡ 0
 
 -- a change in a script of the family: a route that is added is one of IPv4, and an access list takes any rule
 abbrev pub IsChangeOf : Family → Change → Type 0
@@ -141,8 +165,25 @@ ComesTo device_slots old act new (Err BatchFull) journal_old journal_new taken_o
     IsUntouched old new journal_old journal_new taken_old taken_new
 ComesTo device_slots old act new (Err ProbesFull) journal_old journal_new taken_old taken_new =
     IsUntouched old new journal_old journal_new taken_old taken_new
+ComesTo device_slots old act new (Err (Held left)) journal_old journal_new taken_old taken_new =
+    IsUntouched old new journal_old journal_new taken_old taken_new
 
--- the text of an answer that an act has no room
+-- An act is taken only while no commit is unfinished. Else the answer has the number of the writes that are left.
+abbrev pub AnswersHeld : Option HeldCommit → Result (Unit {0}) RunFault → Type 0
+AnswersHeld (Some held) result = result ≡ Err (Held (length held.writes))
+AnswersHeld None result = (left : ℕ) → result ≢ Err (Held left)
+
+-- the sink failed, and no call may follow
+abbrev pub breaks : Result (Unit {0}) RunFault → Bool
+breaks (Ok done) = false
+breaks (Err Sink) = true
+breaks (Err Device) = false
+breaks (Err Memory) = false
+breaks (Err BatchFull) = false
+breaks (Err ProbesFull) = false
+breaks (Err (Held left)) = false
+
+-- The text of an answer that an act isn't taken, in a script whose commits come to their end: that there is no room.
 abbrev pub limit_text : Result (Unit {0}) RunFault → Option (List ℕ)
 limit_text (Ok done) = None
 limit_text (Err BatchFull) = Some (codes "batch full")
@@ -150,6 +191,7 @@ limit_text (Err ProbesFull) = Some (codes "too many probes")
 limit_text (Err Sink) = None
 limit_text (Err Device) = None
 limit_text (Err Memory) = None
+limit_text (Err (Held left)) = Some (codes "a commit is unfinished")
 
 -- what is told while a manager makes the writes of its commit
 abbrev pub telling : Managed → Watching → Setting
@@ -162,57 +204,99 @@ telling manager watch =
       trace = watch.trace;
     }
 
--- the effects of a commit's writes over a device of so many slots that these writes were made to
-abbrev pub effects_on : Managed → Watching → ℕ → List Write → List Write → List Effect
-effects_on manager watch device_slots before made =
-    write_effects (telling manager watch) watch.probes 1 (replay device_slots before) made
+-- the effects of a commit's writes, so many of them told before, over a device of so many slots that those of the journal
+-- were made to
+abbrev pub effects_on : Managed → Watching → ℕ → ℕ → List Write → List Write → List Effect
+effects_on manager watch device_slots told before made =
+    write_effects (telling manager watch) watch.probes (told + 1) (replay device_slots before) made
 
 -- these writes are told, behind those of the journal
-abbrev pub Tells : Managed → Watching → ℕ → List Write → List Write → Option (List ℕ) → Option (List ℕ) → Type 0
-Tells manager watch device_slots journal made taken_old taken_new =
-    Appends taken_old taken_new (printed (effects_on manager watch device_slots journal made))
+abbrev pub Tells : Managed → Watching → ℕ → ℕ → List Write → List Write → Option (List ℕ) → Option (List ℕ) → Type 0
+Tells manager watch device_slots told journal made taken_old taken_new =
+    Appends taken_old taken_new (printed (effects_on manager watch device_slots told journal made))
 
 -- all of them are made
-pub record MakesAll (begun : Managed) (watch : Watching) (device_slots : ℕ) (done : Done) (now : Managed) (journal_begun journal_now : List Write) (taken_begun taken_now : Option (List ℕ)) : Type 0 where
+pub record MakesAll (begun : Managed) (watch : Watching) (device_slots told told_now : ℕ) (done : Done) (now : Managed) (journal_begun journal_now : List Write) (taken_begun taken_now : Option (List ℕ)) : Type 0 where
   pub held : HeldCommit
   pub held_is : begun.held ≡ Some held
   pub done_is : done ≡ held.counts
   pub now_is : now ≡ record begun { state = state_after begun.state held.writes; rules = held.rules; bits = held.bits; held = None }
+  pub number : told_now ≡ told + length held.writes
   pub journal : journal_now ≡ journal_begun ++ held.writes
-  pub report : Tells begun watch device_slots journal_begun held.writes taken_begun taken_now
-
--- some of them are made
-pub record MakesSome (begun now : Managed) : Type 0 where
-  pub held : HeldCommit
-  pub made : List Write
-  pub left : List Write
-  pub held_is : begun.held ≡ Some held
-  pub whole : held.writes ≡ made ++ left
-  pub now_is : now ≡ record begun { state = state_after begun.state made; held = Some (record held { writes = left }) }
+  pub report : Tells begun watch device_slots told journal_begun held.writes taken_begun taken_now
 
 -- some of them are made and told, and the next one isn't made
-pub record StopsAtWrite (begun now : Managed) (watch : Watching) (device_slots : ℕ) (journal_begun journal_now : List Write) (taken_begun taken_now : Option (List ℕ)) : Type 0 where
+pub record StopsAtWrite (begun now : Managed) (watch : Watching) (device_slots told told_now : ℕ) (journal_begun journal_now : List Write) (taken_begun taken_now : Option (List ℕ)) : Type 0 where
   pub some : MakesSome begun now
   pub due : Write
   pub left : List Write
   pub left_is : some.left ≡ due ∷ left
+  pub number : told_now ≡ told + length some.made
   pub journal : journal_now ≡ journal_begun ++ some.made
-  pub report : Tells begun watch device_slots journal_begun some.made taken_begun taken_now
+  pub report : Tells begun watch device_slots told journal_begun some.made taken_begun taken_now
 
 -- some of them are made, and the last one of these isn't told whole
-pub record StopsAtLine (begun now : Managed) (watch : Watching) (device_slots : ℕ) (journal_begun journal_now : List Write) (taken_begun taken_now : Option (List ℕ)) : Type 0 where
+pub record StopsAtLine (begun now : Managed) (watch : Watching) (device_slots told told_now : ℕ) (journal_begun journal_now : List Write) (taken_begun taken_now : Option (List ℕ)) : Type 0 where
   pub some : MakesSome begun now
+  pub number : told_now ≡ told + length some.made
   pub journal : journal_now ≡ journal_begun ++ some.made
-  pub cuts : CutsEffects (effects_on begun watch device_slots journal_begun some.held.writes) journal_begun journal_now taken_begun taken_now
+  pub cuts : CutsEffects (effects_on begun watch device_slots told journal_begun some.held.writes) journal_begun journal_now taken_begun taken_now
 
--- what comes of the writes of a commit under way, by the answer
-abbrev pub Makes : Managed → Managed → Watching → ℕ → Result Done RunFault → List Write → List Write → Option (List ℕ) → Option (List ℕ) → Type 0
-Makes begun now watch device_slots (Ok done) journal_begun journal_now taken_begun taken_now =
-    MakesAll begun watch device_slots done now journal_begun journal_now taken_begun taken_now
-Makes begun now watch device_slots (Err Sink) journal_begun journal_now taken_begun taken_now =
-    StopsAtLine begun now watch device_slots journal_begun journal_now taken_begun taken_now
-Makes begun now watch device_slots (Err Device) journal_begun journal_now taken_begun taken_now =
-    StopsAtWrite begun now watch device_slots journal_begun journal_now taken_begun taken_now
-Makes begun now watch device_slots (Err BatchFull) journal_begun journal_now taken_begun taken_now = ⊥
-Makes begun now watch device_slots (Err ProbesFull) journal_begun journal_now taken_begun taken_now = ⊥
-Makes begun now watch device_slots (Err Memory) journal_begun journal_now taken_begun taken_now = ⊥
+-- what comes of the writes that are left of a commit under way, by the answer
+abbrev pub Makes : Managed → Managed → Watching → ℕ → ℕ → ℕ → Result Done RunFault → List Write → List Write → Option (List ℕ) → Option (List ℕ) → Type 0
+Makes begun now watch device_slots told told_now (Ok done) journal_begun journal_now taken_begun taken_now =
+    MakesAll begun watch device_slots told told_now done now journal_begun journal_now taken_begun taken_now
+Makes begun now watch device_slots told told_now (Err Sink) journal_begun journal_now taken_begun taken_now =
+    StopsAtLine begun now watch device_slots told told_now journal_begun journal_now taken_begun taken_now
+Makes begun now watch device_slots told told_now (Err Device) journal_begun journal_now taken_begun taken_now =
+    StopsAtWrite begun now watch device_slots told told_now journal_begun journal_now taken_begun taken_now
+Makes begun now watch device_slots told told_now (Err BatchFull) journal_begun journal_now taken_begun taken_now = ⊥
+Makes begun now watch device_slots told told_now (Err ProbesFull) journal_begun journal_now taken_begun taken_now = ⊥
+Makes begun now watch device_slots told told_now (Err Memory) journal_begun journal_now taken_begun taken_now = ⊥
+Makes begun now watch device_slots told told_now (Err (Held left)) journal_begun journal_now taken_begun taken_now = ⊥
+
+-- A commit that began where `before` says is unfinished: these are its effects so far, each of its writes told, and the
+-- rest of its writes is held.
+pub record IsUnfinished (device_slots : ℕ) (before : Progress) (front : List Effect) (run : Running) : Type 0 where
+  pub halfway : IsHalfway run
+  pub before_is : before ≡ progress_of device_slots (record run { manager = halfway.begun })
+  pub front_is : front ≡ write_effects (setting_of run) run.probes 1 before.state halfway.some.made
+
+-- Some effects more of it came about, each write told, and it is cut at the write that is next. The device is where the
+-- run stands then.
+pub record StaysUnfinished (device_slots : ℕ) (before : Progress) (front : List Effect) (new : Running) (journal_old journal_new : List Write) (taken_old taken_new : Option (List ℕ)) : Type 0 where
+  pub more : List Effect
+  pub due : Write
+  pub unfinished : IsUnfinished device_slots before (front ++ more) new
+  pub next : next_of new.manager.held ≡ Some due
+  pub cut : IsCutStep (setting_of new) before Commit (front ++ more) (Writes due)
+  pub does : Does more [] journal_old journal_new taken_old taken_new
+  pub stands : IsAt device_slots journal_new (progress_of device_slots new)
+
+-- The rest of them came about, and it is finished. The device is where the run stands then.
+pub record Finishes (device_slots : ℕ) (before : Progress) (front : List Effect) (new : Running) (journal_old journal_new : List Write) (taken_old taken_new : Option (List ℕ)) : Type 0 where
+  pub rest : List Effect
+  pub step : HasEffects (setting_of new) before Commit (front ++ rest) (progress_of device_slots new)
+  pub does : Does rest [] journal_old journal_new taken_old taken_new
+  pub stands : IsAt device_slots journal_new (progress_of device_slots new)
+
+-- Some effects more of it came about, up to a line that the sink didn't take whole.
+pub record BreaksOff (device_slots : ℕ) (before : Progress) (front : List Effect) (new : Running) (journal_old journal_new : List Write) (taken_old taken_new : Option (List ℕ)) : Type 0 where
+  pub more : List Effect
+  pub partial : List ℕ
+  pub rest : List ℕ
+  pub cut : IsCutStep (setting_of new) before Commit (front ++ more) (Prints (partial ++ rest))
+  pub does : Does more partial journal_old journal_new taken_old taken_new
+
+-- what going on with it comes to: it is finished, or cut at the write or at the line that failed
+abbrev pub ResumesTo : ℕ → Progress → List Effect → Running → Result (Unit {0}) RunFault → List Write → List Write → Option (List ℕ) → Option (List ℕ) → Type 0
+ResumesTo device_slots before front new (Ok done) journal_old journal_new taken_old taken_new =
+    Finishes device_slots before front new journal_old journal_new taken_old taken_new
+ResumesTo device_slots before front new (Err Device) journal_old journal_new taken_old taken_new =
+    StaysUnfinished device_slots before front new journal_old journal_new taken_old taken_new
+ResumesTo device_slots before front new (Err Sink) journal_old journal_new taken_old taken_new =
+    BreaksOff device_slots before front new journal_old journal_new taken_old taken_new
+ResumesTo device_slots before front new (Err BatchFull) journal_old journal_new taken_old taken_new = ⊥
+ResumesTo device_slots before front new (Err ProbesFull) journal_old journal_new taken_old taken_new = ⊥
+ResumesTo device_slots before front new (Err Memory) journal_old journal_new taken_old taken_new = ⊥
+ResumesTo device_slots before front new (Err (Held left)) journal_old journal_new taken_old taken_new = ⊥

@@ -19,9 +19,14 @@
 //! A line is written as soon as it is known, so a trace takes a call of the sink for each line. A failed line of a
 //! trace or a probe may stand within a commit; the commit is then still under way, as where a write fails.
 //!
+//! # A device that fails
+//! Where a write failed at all of its tries the rest of its commit is held, and [`Run::resume`] goes on with it: the writes
+//! and lines of both calls are those of the commit, each once. Until then no act is taken.
+//!
 //! # What isn't promised
-//! That a run can go on after a failed line or write: after a fault of sink or device no further act is taken. That no
-//! write is tried a fifth time where its act has made others before it: a device has one count for all of its failures.
+//! That a run can go on after a failed line: a part of it may stand in the report, so no call may follow a fault of the
+//! sink. That no write is tried a fifth time where its act has made others before it: a device has one count for all of
+//! its failures.
 #![tactic(auto)]
 
 mod report;
@@ -81,4 +86,10 @@ pub enum RunFault {
     /// Want of memory.
     #[error("out of memory")]
     Memory,
+    /// A commit is unfinished, since the device failed.
+    #[error("a commit is unfinished, with {left} writes to make")]
+    Held {
+        /// The writes that are left to make.
+        left: u64,
+    },
 }

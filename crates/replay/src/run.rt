@@ -1,6 +1,6 @@
 //! A run of acts over one device.
 
-ghost use Rattle.std.specs.Prelude.{Bool, true, ⊤, ◌≡◌, ◌≢◌, ◌+◌, ◌<◌, ◌≤◌, ◌^◌, ◌++◌, ◌∷◌, [], ℕ, Ok, Err, None, Some, IsSome, IfOk, IfErr, IfSome, OnOk, OnErr, length};
+ghost use Rattle.std.specs.Prelude.{Bool, true, false, ⊤, ◌≡◌, ◌≢◌, ◌⊎◌, ◌+◌, ◌<◌, ◌≤◌, ◌^◌, ◌++◌, ◌∷◌, [], ℕ, List, Ok, Err, None, Some, IsSome, IfOk, IfErr, IfSome, OnOk, OnErr, length};
 ghost use Rattle.script_lines.specs.Given.{counted};
 ghost use Rattle.call_history.specs.Cause.{HasCause};
 ghost use Rattle.rule_store.specs.Verdict.{Accepted};
@@ -8,10 +8,11 @@ ghost use Rattle.batch_order.specs.CarriedOut.{HasRoomLeft, IsTried};
 ghost use Rattle.batch_order.specs.Managed.{Steps, next_of, writes_of};
 ghost use Rattle.replay.specs.Text.{refused_line};
 ghost use Rattle.replay.specs.Told.{verdict_told};
-ghost use Rattle.replay.specs.Run.{ending};
+ghost use Rattle.replay.specs.Run.{Effect, Progress, ending};
 ghost use Rattle.replay.specs.Script.{limit_fault};
 ghost use Rattle.replay.specs.Outside.{Leaves, WritesLine};
-ghost use Rattle.replay.specs.Running.{HoldsPending, ComesTo, Makes, begun, limit_text, progress_of, setting_of, verdict_of, IsActOf, IsChangeOf};
+ghost use Rattle.replay.specs.Carried.{IsAt};
+ghost use Rattle.replay.specs.Running.{AnswersHeld, ComesTo, IsUnfinished, IsUntouched, Makes, ResumesTo, StaysUnfinished, breaks, begun, limit_text, progress_of, setting_of, IsActOf, IsChangeOf};
 
 use crate::report::{Totals, write_accepted, write_end, write_packet, write_refused};
 use crate::watch::Watch;
@@ -33,6 +34,10 @@ pub struct Run {
     commits: u32,
     writes: u64,
     refused: bool,
+    /// How many writes of the unfinished commit were made and told, 0 where none is unfinished.
+    told: u64,
+    /// Whether the sink failed.
+    broken: bool,
 }
 
 impl Model for Run {
@@ -40,9 +45,9 @@ impl Model for Run {
 
     ghost Value = { Running };
 
-    ghost view = { λ r. record { manager = r.manager; family = r.watch.family; trace = r.watch.trace; probes = r.watch.probes; pending = r.pending; commits = r.commits; writes = r.writes; refused = r.refused } };
+    ghost view = { λ r. record { manager = r.manager; family = r.watch.family; trace = r.watch.trace; probes = r.watch.probes; pending = r.pending; commits = r.commits; writes = r.writes; refused = r.refused; told = r.told; broken = r.broken } };
 
-    ghost invariant = { λ r. IsRun (record { manager = r.manager; family = r.watch.family; trace = r.watch.trace; probes = r.watch.probes; pending = r.pending; commits = r.commits; writes = r.writes; refused = r.refused }) };
+    ghost invariant = { λ r. IsRun (record { manager = r.manager; family = r.watch.family; trace = r.watch.trace; probes = r.watch.probes; pending = r.pending; commits = r.commits; writes = r.writes; refused = r.refused; told = r.told; broken = r.broken }) };
 }
 
 impl Run {
@@ -68,6 +73,8 @@ impl Run {
             commits: 0,
             writes: 0,
             refused: false,
+            told: 0,
+            broken: false,
         })
     }
 
@@ -95,13 +102,92 @@ impl Run {
     /// Then the set is the one after the batch, and the commit's line is written, with its numbers. Either is counted,
     /// and drops the batch.
     ///
-    /// `Memory` comes at a change, or at a commit that would be accepted. Nothing was done then, and the run is as
-    /// before. `Sink` comes exactly where the sink's count of failures rose: all that comes before the line was done,
-    /// and a part of the line was taken, perhaps none or all of it. `Device` comes where one write failed four times, and
-    /// the device's count of failures rose by that: the writes of the commit before the failed one were made and told,
-    /// and its line wasn't written. A write that fails less often is made, once, and nothing tells of its failures.
-    /// No act may follow one that answered `Device` or `Sink`, since its commit may still be under way.
+    /// `Held` comes exactly where a commit is unfinished after `Device`, before any other answer, with the writes that are
+    /// left; nothing has changed. `Memory` comes at a change, or at a commit that would be accepted. Nothing was done then,
+    /// and the run is as before. `Sink` comes exactly where the sink's count of failures rose: all that comes before the
+    /// line was done, and a part of the line was taken, perhaps none or all of it. No call may follow it. `Device` comes
+    /// where one write failed four times, and the device's count of failures rose by that: the writes of the commit before
+    /// the failed one were made and told, and its line wasn't written. The rest of it is held, and `resume` goes on with it.
+    /// A write that fails less often is made, once, and nothing tells of its failures.
     pub fn apply<K: Sink, D: Device>(
+        &mut self,
+        act: &Act,
+        sink: &mut K,
+        device: &mut D,
+    ) -> Result<(), RunFault>
+        requires slots { self.old.manager.slots ≤ D.slot_count device.old }
+        requires act { IsActOf self.old.family act.now }
+        requires whole { self.old.broken ≡ false }
+        requires commits { self.old.commits < 2 ^ 24 }
+        ensures acts { (which : Bool) → ComesTo (D.slot_count device.old) self.old act.now self.new result
+            (D.journal device.old) (D.journal device.new) (counted which (K.taken sink.old) (K.accepted sink.old)) (counted which (K.taken sink.new) (K.accepted sink.new)) }
+        ensures held { AnswersHeld self.old.manager.held result }
+        ensures limit { self.old.manager.held ≡ None → limit_text result ≡ limit_fault act.now (length self.old.pending) (length self.old.probes) }
+        ensures idle { OnOk result (self.new.manager.held ≡ None) }
+        ensures unfinished { (which : Bool) → result ≡ Err RunFault.Device → IsAt (D.slot_count device.old) (D.journal device.old) (progress_of (D.slot_count device.old) self.old)
+            → StaysUnfinished (D.slot_count device.old) (progress_of (D.slot_count device.old) self.old) [] self.new
+            (D.journal device.old) (D.journal device.new) (counted which (K.taken sink.old) (K.accepted sink.old)) (counted which (K.taken sink.new) (K.accepted sink.new)) }
+        ensures broken { self.new.broken ≡ breaks result }
+        ensures room { HasRoomLeft self.old.manager.held (D.spare device.old) → HasRoomLeft self.new.manager.held (D.spare device.new) }
+        ensures setting { setting_of self.new ≡ setting_of self.old }
+        ensures commits { self.new.commits ≤ self.old.commits + 1 }
+        ensures leaves { Leaves K.taken K.faults sink.old sink.new D.slot_count D.journal D.faults device.old device.new (result ≡ Err RunFault.Sink) (result ≡ Err RunFault.Device) }
+    {
+        if let Some(left) = self.manager.left() {
+            return Err(RunFault::Held { left });
+        }
+        let result = self.perform(act, sink, device);
+        self.mark(&result);
+        result
+    }
+
+    /// Goes on with a commit that is unfinished after `Device`, from the write that failed, which has four tries again,
+    /// through the commit's line. Its writes keep their numbers, and no write and no line comes twice. `Ok` says that no
+    /// commit is unfinished, and where none was, nothing is done. It asks for the device as `apply` left it.
+    ///
+    /// `Device` comes as in `apply`, and then `resume` may be called again: the caller says how often, and how long it
+    /// waits between. `Sink` comes as there, too, and no call may follow it. Nothing else comes, since all memory for the
+    /// commit was taken before its first write.
+    pub fn resume<K: Sink, D: Device>(
+        &mut self,
+        sink: &mut K,
+        device: &mut D,
+    ) -> Result<(), RunFault>
+        requires slots { self.old.manager.slots ≤ D.slot_count device.old }
+        requires whole { self.old.broken ≡ false }
+        requires room { HasRoomLeft self.old.manager.held (D.spare device.old) }
+        requires commits { self.old.commits < 2 ^ 24 }
+        ensures resumes { (which : Bool) → (before : Progress) → (front : List Effect) → IsUnfinished (D.slot_count device.old) before front self.old
+            → IsAt (D.slot_count device.old) (D.journal device.old) (progress_of (D.slot_count device.old) self.old)
+            → ResumesTo (D.slot_count device.old) before front self.new result
+            (D.journal device.old) (D.journal device.new) (counted which (K.taken sink.old) (K.accepted sink.old)) (counted which (K.taken sink.new) (K.accepted sink.new)) }
+        ensures nothing { (which : Bool) → self.old.manager.held ≡ None → (result ≡ Ok tt) × IsUntouched self.old self.new
+            (D.journal device.old) (D.journal device.new) (counted which (K.taken sink.old) (K.accepted sink.old)) (counted which (K.taken sink.new) (K.accepted sink.new)) }
+        ensures kind { IfErr result (λ fault. (fault ≡ RunFault.Sink) ⊎ (fault ≡ RunFault.Device)) }
+        ensures idle { OnOk result (self.new.manager.held ≡ None) }
+        ensures broken { self.new.broken ≡ breaks result }
+        ensures room { HasRoomLeft self.new.manager.held (D.spare device.new) }
+        ensures setting { setting_of self.new ≡ setting_of self.old }
+        ensures commits { self.new.commits ≤ self.old.commits + 1 }
+        ensures leaves { Leaves K.taken K.faults sink.old sink.new D.slot_count D.journal D.faults device.old device.new (result ≡ Err RunFault.Sink) (result ≡ Err RunFault.Device) }
+    {
+        if self.manager.left().is_none() {
+            return Ok(());
+        }
+        let result = self.carry_out(sink, device);
+        self.mark(&result);
+        result
+    }
+
+    // Remembers whether the sink failed.
+    fn mark(&mut self, outcome: &Result<(), RunFault>)
+        ensures { self.new ≡ record self.old { broken = breaks outcome.now } }
+    {
+        self.broken = matches!(outcome, Err(RunFault::Sink));
+    }
+
+    // Carries out an act while no commit is unfinished.
+    fn perform<K: Sink, D: Device>(
         &mut self,
         act: &Act,
         sink: &mut K,
@@ -113,8 +199,14 @@ impl Run {
         requires commits { self.old.commits < 2 ^ 24 }
         ensures acts { (which : Bool) → ComesTo (D.slot_count device.old) self.old act.now self.new result
             (D.journal device.old) (D.journal device.new) (counted which (K.taken sink.old) (K.accepted sink.old)) (counted which (K.taken sink.new) (K.accepted sink.new)) }
+        ensures taken { AnswersHeld None result }
         ensures limit { limit_text result ≡ limit_fault act.now (length self.old.pending) (length self.old.probes) }
         ensures idle { OnOk result (self.new.manager.held ≡ None) }
+        ensures unfinished { (which : Bool) → result ≡ Err RunFault.Device → IsAt (D.slot_count device.old) (D.journal device.old) (progress_of (D.slot_count device.old) self.old)
+            → StaysUnfinished (D.slot_count device.old) (progress_of (D.slot_count device.old) self.old) [] self.new
+            (D.journal device.old) (D.journal device.new) (counted which (K.taken sink.old) (K.accepted sink.old)) (counted which (K.taken sink.new) (K.accepted sink.new)) }
+        ensures broken { self.new.broken ≡ self.old.broken }
+        ensures room { HasRoomLeft self.new.manager.held (D.spare device.new) }
         ensures setting { setting_of self.new ≡ setting_of self.old }
         ensures commits { self.new.commits ≤ self.old.commits + 1 }
         ensures leaves { Leaves K.taken K.faults sink.old sink.new D.slot_count D.journal D.faults device.old device.new (result ≡ Err RunFault.Sink) (result ≡ Err RunFault.Device) }
@@ -129,11 +221,12 @@ impl Run {
 
     // A change joins the pending batch.
     fn push(&mut self, command: Command) -> Result<(), RunFault>
-        requires { IsChangeOf self.old.family command }
+        requires change { IsChangeOf self.old.family command }
+        requires idle { self.old.manager.held ≡ None }
         ensures pushed { OnOk result (self.new ≡ record self.old { pending = self.old.pending ++ command ∷ [] }) }
         ensures limit { limit_text result ≡ limit_fault (Act.Command command) (length self.old.pending) (length self.old.probes) }
         ensures unchanged { OnErr result (self.new ≡ self.old) }
-        ensures kind { (result ≢ Err RunFault.Sink) × ((result ≢ Err RunFault.Device) × (result ≢ Err RunFault.ProbesFull)) }
+        ensures kind { IfErr result (λ fault. (fault ≡ RunFault.BatchFull) ⊎ (fault ≡ RunFault.Memory)) }
     {
         match self.pending.push(command) {
             Ok(()) => Ok(()),
@@ -144,6 +237,7 @@ impl Run {
 
     // A key is probed from now on.
     fn probe(&mut self, key: Key) -> Result<(), RunFault>
+        requires idle { self.old.manager.held ≡ None }
         ensures probed { OnOk result (self.new ≡ record self.old { probes = self.old.probes ++ key ∷ [] }) }
         ensures limit { limit_text result ≡ limit_fault (Act.Probe key) (length self.old.pending) (length self.old.probes) }
         ensures unchanged { OnErr result (self.new ≡ self.old) }
@@ -185,8 +279,14 @@ impl Run {
         requires commits { self.old.commits < 2 ^ 24 }
         ensures acts { (which : Bool) → ComesTo (D.slot_count device.old) self.old Act.Commit self.new result
             (D.journal device.old) (D.journal device.new) (counted which (K.taken sink.old) (K.accepted sink.old)) (counted which (K.taken sink.new) (K.accepted sink.new)) }
-        ensures room { limit_text result ≡ None }
+        ensures taken { AnswersHeld None result }
+        ensures limit { limit_text result ≡ None }
         ensures idle { OnOk result (self.new.manager.held ≡ None) }
+        ensures unfinished { (which : Bool) → result ≡ Err RunFault.Device → IsAt (D.slot_count device.old) (D.journal device.old) (progress_of (D.slot_count device.old) self.old)
+            → StaysUnfinished (D.slot_count device.old) (progress_of (D.slot_count device.old) self.old) [] self.new
+            (D.journal device.old) (D.journal device.new) (counted which (K.taken sink.old) (K.accepted sink.old)) (counted which (K.taken sink.new) (K.accepted sink.new)) }
+        ensures broken { self.new.broken ≡ self.old.broken }
+        ensures room { HasRoomLeft self.new.manager.held (D.spare device.new) }
         ensures setting { setting_of self.new ≡ setting_of self.old }
         ensures commits { self.new.commits ≤ self.old.commits + 1 }
         ensures leaves { Leaves K.taken K.faults sink.old sink.new D.slot_count D.journal D.faults device.old device.new (result ≡ Err RunFault.Sink) (result ≡ Err RunFault.Device) }
@@ -200,7 +300,8 @@ impl Run {
 
     // Counts a commit, and drops its batch.
     fn count_commit(&mut self)
-        requires { self.old.commits < 2 ^ 24 }
+        requires idle { self.old.manager.held ≡ None }
+        requires commits { self.old.commits < 2 ^ 24 }
         ensures { self.new ≡ record self.old { pending = []; commits = self.old.commits + 1 } }
     {
         self.pending.clear();
@@ -210,6 +311,7 @@ impl Run {
     // Counts a commit that is refused, drops its batch, and writes its line.
     fn refuse<K: Sink>(&mut self, refusal: &Refusal, sink: &mut K) -> Result<(), RunFault>
         requires judged { verdict_told refusal.now ≢ Accepted }
+        requires idle { self.old.manager.held ≡ None }
         requires commits { self.old.commits < 2 ^ 24 }
         ensures refused { self.new ≡ record self.old { pending = []; commits = self.old.commits + 1; refused = true } }
         ensures line { WritesLine K.taken K.accepted K.faults sink.old sink.new (refused_line self.old.family (self.old.commits + 1) (verdict_told refusal.now)) result }
@@ -223,29 +325,33 @@ impl Run {
         }
     }
 
-    // Makes and tells the writes of the commit under way, counts it, drops its batch, and writes its line.
+    // Makes and tells the writes that are left of the commit under way, counts it, drops its batch, and writes its line.
     fn carry_out<K: Sink, D: Device>(
         &mut self,
         sink: &mut K,
         device: &mut D,
     ) -> Result<(), RunFault>
         requires slots { self.old.manager.slots ≤ D.slot_count device.old }
-        requires holds { HoldsPending self.old }
-        requires room { IfSome self.old.manager.held (λ held. length held.writes ≤ D.spare device.old) }
-        requires accepted { verdict_of self.old ≡ Accepted }
+        requires held { IsSome self.old.manager.held }
+        requires room { HasRoomLeft self.old.manager.held (D.spare device.old) }
         requires commits { self.old.commits < 2 ^ 24 }
-        ensures acts { (which : Bool) → ComesTo (D.slot_count device.old) self.old Act.Commit self.new result
+        ensures resumes { (which : Bool) → (before : Progress) → (front : List Effect) → IsUnfinished (D.slot_count device.old) before front self.old
+            → IsAt (D.slot_count device.old) (D.journal device.old) (progress_of (D.slot_count device.old) self.old)
+            → ResumesTo (D.slot_count device.old) before front self.new result
             (D.journal device.old) (D.journal device.new) (counted which (K.taken sink.old) (K.accepted sink.old)) (counted which (K.taken sink.new) (K.accepted sink.new)) }
-        ensures kind { (result ≢ Err RunFault.Memory) × ((result ≢ Err RunFault.BatchFull) × (result ≢ Err RunFault.ProbesFull)) }
+        ensures kind { IfErr result (λ fault. (fault ≡ RunFault.Sink) ⊎ (fault ≡ RunFault.Device)) }
         ensures idle { OnOk result (self.new.manager.held ≡ None) }
+        ensures broken { self.new.broken ≡ self.old.broken }
+        ensures room { HasRoomLeft self.new.manager.held (D.spare device.new) }
         ensures setting { setting_of self.new ≡ setting_of self.old }
         ensures commits { self.new.commits ≤ self.old.commits + 1 }
         ensures leaves { Leaves K.taken K.faults sink.old sink.new D.slot_count D.journal D.faults device.old device.new (result ≡ Err RunFault.Sink) (result ≡ Err RunFault.Device) }
     {
-        let done = match make_writes(&mut self.manager, &self.watch, sink, device) {
+        let done = match make_writes(&mut self.manager, &self.watch, &mut self.told, sink, device) {
             Ok(done) => done,
             Err(fault) => return Err(fault),
         };
+        self.told = 0;
         self.count_commit();
         self.writes += done.writes;
         match write_accepted(sink, self.commits, &done) {
@@ -255,10 +361,11 @@ impl Run {
     }
 
     /// Writes the last line of a run that came to its end: the rules of the set, their entries, the device writes of
-    /// its finished commits, and the changes that are pending. The writes of a commit that `apply` left under way aren't
-    /// among them. Answers whether a commit was refused. Where the sink fails, a part of the line was taken, perhaps
-    /// none or all of it. The run stays as it was.
+    /// its commits, none of which is unfinished, and the changes that are pending. Answers whether a commit was refused.
+    /// Where the sink fails, a part of the line was taken, perhaps none or all of it. The run stays as it was.
     pub fn finish<K: Sink>(&mut self, sink: &mut K) -> Result<bool, Failed>
+        requires whole { self.old.broken ≡ false }
+        requires idle { self.old.manager.held ≡ None }
         ensures refused { IfOk result (λ refused. refused ≡ self.old.refused) }
         ensures unchanged { self.new ≡ self.old }
         ensures line { (device_slots : ℕ) → WritesLine K.taken K.accepted K.faults sink.old sink.new (ending (setting_of self.old) (progress_of device_slots self.old)) result }
@@ -276,28 +383,30 @@ impl Run {
     }
 }
 
-// Makes the writes of the commit under way, one at a time, and tells each of them. `Sink` comes where the lines of a
-// write can't be written, and `Device` where a write failed each time it was tried.
+// Makes the writes that are left of the commit under way, one at a time, and tells each of them, with the number behind
+// those that were told before. `Sink` comes where the lines of a write can't be written, and `Device` where a write
+// failed each time it was tried.
 fn make_writes<K: Sink, D: Device>(
     manager: &mut Manager,
     watch: &Watch,
+    told: &mut u64,
     sink: &mut K,
     device: &mut D,
 ) -> Result<Done, RunFault>
     requires slots { manager.old.slots ≤ D.slot_count device.old }
     requires held { IsSome manager.old.held }
-    requires room { IfSome manager.old.held (λ held. length held.writes ≤ D.spare device.old) }
-    requires few { IfSome manager.old.held (λ held. length held.writes ≤ 2 ^ 39) }
-    ensures makes { (which : Bool) → Makes manager.old manager.new watch.now (D.slot_count device.old) result
+    requires room { HasRoomLeft manager.old.held (D.spare device.old) }
+    requires few { IfSome manager.old.held (λ held. told.old + length held.writes ≤ 2 ^ 39) }
+    ensures makes { (which : Bool) → Makes manager.old manager.new watch.now (D.slot_count device.old) told.old told.new result
         (D.journal device.old) (D.journal device.new) (counted which (K.taken sink.old) (K.accepted sink.old)) (counted which (K.taken sink.new) (K.accepted sink.new)) }
+    ensures room { HasRoomLeft manager.new.held (D.spare device.new) }
     ensures leaves { Leaves K.taken K.faults sink.old sink.new D.slot_count D.journal D.faults device.old device.new (result ≡ Err RunFault.Sink) (result ≡ Err RunFault.Device) }
 {
-    let mut number = 0u64;
     'making: loop {
         match step_tried(manager, device) {
             Ok(Step::Wrote(write)) => {
-                number += 1;
-                match watch.tell(number, &write, sink, device) {
+                *told += 1;
+                match watch.tell(*told, &write, sink, device) {
                     Ok(()) => {}
                     Err(Failed) => return Err(RunFault::Sink),
                 }
@@ -319,6 +428,7 @@ fn step_tried<D: Writable>(manager: &mut Manager, device: &mut D) -> Result<Step
     ensures spare { IfOk result (λ step. D.spare device.new + length (writes_of step) ≡ D.spare device.old) }
     ensures failed { OnErr result (manager.new ≡ manager.old) }
     ensures journal_err { OnErr result (D.journal device.new ≡ D.journal device.old) }
+    ensures spare_err { OnErr result (D.spare device.new ≡ D.spare device.old) }
     ensures due { OnErr result (IsSome (next_of manager.old.held)) }
     ensures slot_count { D.slot_count device.new ≡ D.slot_count device.old }
     ensures tried { IfOk result (λ step. IsTried 4 (length (writes_of step)) ⊥ (D.faults device.old) (D.faults device.new)) }

@@ -52,6 +52,7 @@ not-whole run_fault.Memory room (inl e) = absurd (cc)
 not-whole run_fault.Memory room (inr e) = absurd (cc)
 not-whole run_fault.BatchFull room e = absurd (cc)
 not-whole run_fault.ProbesFull room e = absurd (cc)
+not-whole (run_fault.Held left) room e = absurd (cc)
 
 module _ (setting : Setting) (slots : ℕ) (bytes : List ℕ) (old : HeldBytes) (left : List ℕ) (last : Progress) (journal : List Write) (start before : Option (List ℕ)) (s : SoFar setting slots bytes old left last journal start before) where
   ends-by : (taken now : List ℕ) (result : Status) (journal_new : List Write) (after : Option (List ℕ))

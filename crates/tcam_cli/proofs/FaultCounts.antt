@@ -17,6 +17,7 @@ sink-fault fault.Device room e = absurd (cc)
 sink-fault fault.Memory room e = absurd (cc)
 sink-fault fault.BatchFull room e = absurd (cc)
 sink-fault fault.ProbesFull room e = absurd (cc)
+sink-fault (fault.Held left) room e = absurd (cc)
 
 device-fault : (why : RunFault) → limit_text (Err why) ≡ None → status_of_fault why ≡ DeviceFault → why ≡ fault.Device
 device-fault fault.Device room e = refl
@@ -24,6 +25,7 @@ device-fault fault.Sink room e = absurd (cc)
 device-fault fault.Memory room e = absurd (cc)
 device-fault fault.BatchFull room e = absurd (cc)
 device-fault fault.ProbesFull room e = absurd (cc)
+device-fault (fault.Held left) room e = absurd (cc)
 
 -- the answer of an act
 abbrev failed : RunFault → Result (Unit {0}) RunFault

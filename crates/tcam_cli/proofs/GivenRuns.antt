@@ -39,6 +39,7 @@ turns-stopped setting slots old before pieces answer held why new after journal_
     is-memory run_fault.Device room e = absurd (cc)
     is-memory run_fault.BatchFull room e = absurd (cc)
     is-memory run_fault.ProbesFull room e = absurd (cc)
+    is-memory (run_fault.Held left) room e = absurd (cc)
 
 -- for another reason
 pub turns-some : (setting : Setting) (slots : ℕ) (old : HeldBytes) (before : Progress) (pieces : List (List ℕ)) (answer : Result (Option Line) LineFault) (held : HeldBytes) (status : Status) (new : HeldBytes) (after : Progress) (journal_old journal_new : List Write) (taken_old taken_new : Option (List ℕ))

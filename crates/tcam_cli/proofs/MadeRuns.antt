@@ -119,6 +119,7 @@ no-read run_fault.Device room e = absurd (cc)
 no-read run_fault.Memory room e = absurd (cc)
 no-read run_fault.BatchFull room e = absurd (cc)
 no-read run_fault.ProbesFull room e = absurd (cc)
+no-read (run_fault.Held left) room e = absurd (cc)
 
 pub made-stopped : (setting : Setting) (slots seed rules batches : ℕ) (left : List Made) (command : Made) (last : Progress) (journal journal_new : List Write) (start before after : Option (List ℕ)) (why : RunFault)
     → MadeSoFar setting slots (made_commands seed rules batches) (command ∷ left) last journal start before → limit_text (Err why) ≡ None

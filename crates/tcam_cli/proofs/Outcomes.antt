@@ -24,6 +24,7 @@ Stops slots setting last act fault.Device journal journal_new before after = IsA
 Stops slots setting last act fault.Memory journal journal_new before after = Wants setting last act journal journal_new before after
 Stops slots setting last act fault.BatchFull journal journal_new before after = Unit {0}
 Stops slots setting last act fault.ProbesFull journal journal_new before after = Unit {0}
+Stops slots setting last act (fault.Held left) journal journal_new before after = Unit {0}
 
 pub stops : (slots : ℕ) (old : Running) (act : Act) (new : Running) (why : RunFault) (journal journal_new : List Write) (before after : Option (List ℕ))
     → ComesTo slots old act new (Err why) journal journal_new before after → Stops slots (setting_of old) (progress_of slots old) act why journal journal_new before after
@@ -32,6 +33,7 @@ stops slots old act new fault.Device journal journal_new before after comes = co
 stops slots old act new fault.Memory journal journal_new before after comes = comes.0
 stops slots old act new fault.BatchFull journal journal_new before after comes = tt
 stops slots old act new fault.ProbesFull journal journal_new before after comes = tt
+stops slots old act new (fault.Held left) journal journal_new before after comes = tt
 
 pub stops-memory : (slots : ℕ) (setting : Setting) (last : Progress) (act : Act) (why : RunFault) (journal journal_new : List Write) (before after : Option (List ℕ))
     → why ≡ fault.Memory → Stops slots setting last act why journal journal_new before after → Wants setting last act journal journal_new before after
@@ -45,6 +47,7 @@ stops-grows slots setting last act fault.Device journal journal_new before after
 stops-grows slots setting last act fault.Memory journal journal_new before after room at is = does-grows _ _ journal journal_new before after is.does
 stops-grows slots setting last act fault.BatchFull journal journal_new before after room at is = absurd (cc)
 stops-grows slots setting last act fault.ProbesFull journal journal_new before after room at is = absurd (cc)
+stops-grows slots setting last act (fault.Held left) journal journal_new before after room at is = absurd (cc)
 
 -- these acts were carried out, with these effects
 module _ (setting : Setting) (slots : ℕ) (script came : Script) (done : List Act) (effects : List Effect) (last : Progress) (journal : List Write) (start before : Option (List ℕ))
@@ -119,3 +122,4 @@ module _ (setting : Setting) (slots : ℕ) (script came : Script) (done : List A
     }
     stopped-outcome fault.BatchFull room is = absurd (cc)
     stopped-outcome fault.ProbesFull room is = absurd (cc)
+    stopped-outcome (fault.Held left) room is = absurd (cc)

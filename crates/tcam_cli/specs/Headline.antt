@@ -237,9 +237,9 @@ MayEnd Done job left = IsDecided Done job left
 MayEnd Refused job left = IsDecided Refused job left
 MayEnd ScriptFault job left = ReadsSource job × IsDecided ScriptFault job left
 
--- A fault of source or sink exactly where its count rose, by one; of the device by four tries of one write, and its count
--- rose beside them by at most three for each write that was made. Else it is want of memory, or the status that words and
--- script decide.
+-- A fault of source or sink exactly where its count rose, by one; of the device where its count rose by four, as by four
+-- tries of one write, and beside them by at most three for each write that was made. Else it is want of memory, or the
+-- status that words and script decide.
 pub record HasCauses (job : Job) (left : Option (List ℕ)) (status : Status) (made source_old source_new sink_old sink_new device_old device_new : ℕ) : Type 0 where
   pub read : IsCounted (status ≡ ReadFault) source_old source_new
   pub write : IsCounted (status ≡ WriteFault) sink_old sink_new

@@ -1,5 +1,5 @@
 -- Where a run over a script stands between two lines, what a turn comes to, how a run ends, and what a command of it has.
-use Rattle.std.specs.Prelude.{◌≡◌, ◌≢◌, ◌⊎◌, ℕ, ◌≤◌, ◌++◌, ◌∷◌, Bool, Option, None, Some, IsSome, IfNone, IfSome, List, [], length, map}
+use Rattle.std.specs.Prelude.{◌≡◌, ◌≢◌, ◌⊎◌, ℕ, ◌≤◌, ◌++◌, ◌∷◌, Bool, false, Option, None, Some, IsSome, IfNone, IfSome, List, [], length, map}
 use Rattle.std.specs.Io.KnownBytes.{Appends}
 use Rattle.call_history.specs.Cause.{IsCounted}
 use Rattle.script_lines.specs.Given.{HasEnd, MayGive, counted}
@@ -51,13 +51,15 @@ pub record IsGoing (reading : Reading) (bytes : List ℕ) (held : HeldBytes) (le
 abbrev pub IsAllRead : Reading → List ℕ → List ℕ → List NumberedAct → Type 0
 IsAllRead reading bytes left acts = (script_of reading bytes ≡ record { acts = acts; last = Whole }) × (left ≡ [])
 
--- the status of a run at an act that isn't carried out; a full batch and too many probes are at fault at a line
+-- The status of a run at an act that isn't carried out. A full batch and too many probes are at fault at a line; and no act
+-- comes while a commit is unfinished, since a run ends at the device's failure.
 abbrev pub status_of_fault : RunFault → Status
 status_of_fault fault.Sink = WriteFault
 status_of_fault fault.Device = DeviceFault
 status_of_fault fault.Memory = Memory
 status_of_fault fault.BatchFull = ScriptFault
 status_of_fault fault.ProbesFull = ScriptFault
+status_of_fault (fault.Held left) = DeviceFault
 
 -- what of the script is read
 abbrev pub IsRead : Over → Reading → List ℕ → HeldBytes → List ℕ → List NumberedAct → ℕ → ℕ → Type 0
@@ -99,9 +101,11 @@ pub record ClosesReport {S : Type 0} (taken : S → Option (List ℕ)) (accepted
   pub told : IsSome (taken old) → IsSome (taken new)
   pub cause : IsCounted (status ≡ WriteFault) (faults old) (faults new)
 
--- A run between two lines: no commit is under way, and there are no more commits than bytes taken, since a line takes one.
+-- A run between two lines: no commit is under way, the sink hasn't failed, and there are no more commits than bytes
+-- taken, since a line takes one.
 pub record IsBetweenLines (held : HeldBytes) (run : Running) : Type 0 where
   pub idle : run.manager.held ≡ None
+  pub whole : run.broken ≡ false
   pub commits : run.commits ≤ held.before
   pub within : held.before ≤ 16777216
 

@@ -1,6 +1,6 @@
 //! The top call: a command line, a source, a sink and a device.
 
-ghost use Rattle.std.specs.Prelude.{Bool, ◌≡◌, ◌≢◌, ◌⊎◌, ◌<◌, ◌≤◌, ◌++◌, ℕ, List, Option, [], Ok, Err, Some, None, IsSome, IfNone, IfSome, IfOk, IfErr, length, map, string_bytes};
+ghost use Rattle.std.specs.Prelude.{Bool, false, ◌≡◌, ◌≢◌, ◌⊎◌, ◌<◌, ◌≤◌, ◌++◌, ℕ, List, Option, [], Ok, Err, Some, None, IsSome, IfNone, IfSome, IfOk, IfErr, length, map, string_bytes};
 ghost use Rattle.std.specs.Io.KnownBytes.{Consumes};
 ghost use Rattle.call_history.specs.Cause.{IsCounted};
 ghost use Rattle.script_lines.specs.Lines.{numbered};
@@ -113,6 +113,7 @@ fn run_script<S: Source, K: Sink, D: Device>(
 ) -> Status
     requires slots { run.old.manager.slots ≤ D.slot_count device.old }
     requires idle { run.old.manager.held ≡ None }
+    requires whole { run.old.broken ≡ false }
     requires begun { progress_of (D.slot_count device.old) run.old ≡ start (D.slot_count device.old) }
     requires blank { D.journal device.old ≡ [] }
     ensures carried_out { IsCarriedOut (Reads (setting_of run.old)) (D.slot_count device.old) result
@@ -196,6 +197,7 @@ fn run_made<K: Sink, D: Device>(
     requires family { run.old.family ≡ Family.Acl }
     requires slots { run.old.manager.slots ≤ D.slot_count device.old }
     requires idle { run.old.manager.held ≡ None }
+    requires whole { run.old.broken ≡ false }
     requires begun { progress_of (D.slot_count device.old) run.old ≡ start (D.slot_count device.old) }
     requires blank { D.journal device.old ≡ [] }
     ensures carried_out { (which : Bool) → (left : Option (List ℕ)) → IsCarriedOut (Makes (setting_of run.old) seed rules batches) (D.slot_count device.old) result
@@ -225,7 +227,8 @@ fn act_of_made(made: &Made) -> Act
     }
 }
 
-/// How a run ends at an act that wasn't carried out, for another cause than want of room.
+/// How a run ends at an act that wasn't carried out, for another cause than want of room. No act comes while a commit
+/// is unfinished.
 fn status_of_fault(fault: &RunFault) -> Status
     requires { limit_text (Err fault.now) ≡ None }
     ensures status { result ≡ status_of_fault fault.now }
@@ -235,7 +238,7 @@ fn status_of_fault(fault: &RunFault) -> Status
         RunFault::Sink => Status::WriteFault,
         RunFault::Device => Status::DeviceFault,
         RunFault::Memory => Status::Memory,
-        RunFault::BatchFull | RunFault::ProbesFull => unreachable!(),
+        RunFault::BatchFull | RunFault::ProbesFull | RunFault::Held { .. } => unreachable!(),
     }
 }
 
@@ -342,6 +345,8 @@ fn fault_text(fault: &WordFault) -> &'static str
 
 /// Writes the end line of a script that was read to its end.
 fn finish<K: Sink>(run: &mut Run, sink: &mut K) -> Status
+    requires idle { run.old.manager.held ≡ None }
+    requires whole { run.old.broken ≡ false }
     ensures run { run.new ≡ run.old }
     ensures closes { (device_slots : ℕ) → ClosesReport K.taken K.accepted K.faults sink.old sink.new (ending (setting_of run.old) (progress_of device_slots run.old)) (status_of (progress_of device_slots run.old) Whole) result }
     ensures kind { (result ≢ Status.Usage) × (result ≢ Status.ReadFault) × (result ≢ Status.DeviceFault) × (result ≢ Status.Memory) }

@@ -24,6 +24,7 @@ acts-init g c =
     record {
       setting = refl;
       idle = c.requires.idle;
+      whole = c.requires.whole;
       commits = omega (arith, none, few, most);
       room = subst (λ come. AreBatches (2 * c.args.rules) come c.new-maker.result) (sym empty) c.new-maker.ensures.batches;
       made = λ which. made-first _ _ _ _ _ _ _ c.new-maker.ensures.commands c.requires.begun c.requires.blank;
@@ -41,7 +42,7 @@ apply-requires g c =
     record {
       slots = omega (arith, slots, count, within);
       act = subst (λ (family : Family). IsActOf family c.act_of_made.result) (sym family) c.act_of_made.ensures.list;
-      idle = i.idle;
+      whole = i.whole;
       commits = omega (arith, few);
     }
 
@@ -53,7 +54,7 @@ acts-smaller g c =
 pub status_of_fault-requires : goal.status_of_fault-requires
 status_of_fault-requires g c =
     let most = c.requires.most_rules in
-    made-fits (2 * c.args.rules) _ _ c.in-Some.made _ _ _ (Err c.in-Err.fault) c.in-Some.ensures.next c.act_of_made.ensures.act c.acts.invariant.room (omega (arith, most)) c.in-Err.ensures.limit
+    made-fits (2 * c.args.rules) _ _ c.in-Some.made _ _ _ (Err c.in-Err.fault) c.in-Some.ensures.next c.act_of_made.ensures.act c.acts.invariant.room (omega (arith, most)) (c.in-Err.ensures.limit c.acts.invariant.idle)
 
 pub acts-preserved : goal.acts-preserved
 acts-preserved g c =
@@ -73,6 +74,7 @@ acts-preserved g c =
     record {
       setting = a.setting ∙ i.setting;
       idle = a.idle;
+      whole = a.broken;
       commits = omega (arith, one, few, more);
       room = subst (λ come. AreBatches (2 * c.args.rules) come c.next.new.self) (sym (step-pending (setting_of c.acts.run) (progress_of (g.D.Writable.slot_count c.acts.device) c.acts.run) (made_act c.in-Some.made) (carried true).effects (progress_of (g.D.Writable.slot_count c.acts.device) c.apply.new.self) (carried true).step)) (made-pending (2 * c.args.rules) c.in-Some.made c.next.new.self (length c.acts.run.pending) are);
       made = λ which. rw (← i.setting, ← i.leaves.slot_count) (made-more _ _ _ _ c.in-Some.made _ _ _ _ _ _ _ (here which) (carried which));
@@ -98,7 +100,7 @@ returns-in-Err-clause-carried_out g c = λ which source.
     let most = c.requires.most_rules in
     let why = c.in-Err.fault in
     let next = c.in-Some.ensures.next in
-    let none = made-fits (2 * c.args.rules) _ _ c.in-Some.made _ _ _ (Err why) next c.act_of_made.ensures.act i.room (omega (arith, most)) c.in-Err.ensures.limit in
+    let none = made-fits (2 * c.args.rules) _ _ c.in-Some.made _ _ _ (Err why) next c.act_of_made.ensures.act i.room (omega (arith, most)) (c.in-Err.ensures.limit c.acts.invariant.idle) in
     let slots = g.D.Writable.slot_count c.acts.device in
     let here : MadeSoFar (setting_of c.acts.run) slots (made_commands c.args.seed c.args.rules c.args.batches) (c.in-Some.made ∷ c.next.new.self) (progress_of slots c.acts.run) (g.D.Writable.journal c.acts.device)
     (counted which (g.K.Sink.taken c.args.sink.now) (g.K.Sink.accepted c.args.sink.now)) (counted which (g.K.Sink.taken c.acts.sink) (g.K.Sink.accepted c.acts.sink)) = rw (i.setting, i.leaves.slot_count, ← next) (i.made which) in
@@ -113,5 +115,5 @@ returns-in-Err-clause-leaves g c =
     let i = c.acts.invariant in
     let most = c.requires.most_rules in
     let why = c.in-Err.fault in
-    let none = made-fits (2 * c.args.rules) _ _ c.in-Some.made _ _ _ (Err why) c.in-Some.ensures.next c.act_of_made.ensures.act i.room (omega (arith, most)) c.in-Err.ensures.limit in
+    let none = made-fits (2 * c.args.rules) _ _ c.in-Some.made _ _ _ (Err why) c.in-Some.ensures.next c.act_of_made.ensures.act i.room (omega (arith, most)) (c.in-Err.ensures.limit c.acts.invariant.idle) in
     rw c.status_of_fault.ensures.status (leaves-then _ _ _ _ _ _ _ _ _ _ _ ⊥ ⊥ _ _ (λ e. e) (λ e. e) i.leaves (stopped-leaves _ _ _ _ _ _ _ _ _ why none c.in-Err.ensures.leaves))

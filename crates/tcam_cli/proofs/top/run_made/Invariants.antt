@@ -1,4 +1,4 @@
-use Rattle.std.proofs.Common.{◌≡◌, ◌+◌, ◌*◌, ◌≤◌, Bool, None, length}
+use Rattle.std.proofs.Common.{◌≡◌, ◌+◌, ◌*◌, ◌≤◌, Bool, false, None, length}
 use Rattle.script_lines.specs.Given.{counted}
 use Rattle.rule_gen.specs.Batches.{AreBatches}
 use Rattle.rule_gen.specs.Made.{made_commands}
@@ -11,6 +11,7 @@ abbrev pub invariant-acts : goal.invariant-acts
 invariant-acts g l = record {
   setting : setting_of l.run ≡ setting_of l.fn.run;
   idle : l.run.manager.held ≡ None;
+  whole : l.run.broken ≡ false;
   commits : l.run.commits + length l.maker ≤ 513 * 64;
   room : AreBatches (2 * l.rules) (length l.run.pending) l.maker;
   made : (which : Bool) → MadeSoFar (setting_of l.fn.run) (g.D.Writable.slot_count l.fn.device) (made_commands l.seed l.rules l.batches) l.maker (progress_of (g.D.Writable.slot_count l.fn.device) l.run)

@@ -18,6 +18,7 @@ acts-init g c = record {
   setting = refl;
   stands = record {
     idle = c.requires.idle;
+    whole = c.requires.whole;
     commits = let none : c.args.run.now.commits ≡ 0 = ap (λ (p : Progress). p.commits) c.requires.begun in omega (arith, none);
     within = let none = ap (λ (h : HeldBytes). h.before) c.new-lines.ensures in omega (arith, none);
   };

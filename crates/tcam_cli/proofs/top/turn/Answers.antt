@@ -88,7 +88,7 @@ returns-in-Ok-clause-gives g c =
       λ which. turns-none _ _ _ _ _ _ _ _ _ _ _ _ h.ensures.gives.2 (λ bytes left now start may s. does-grows _ _ _ _ _ _ (c.in-Ok.ensures.acts which (so-far-at _ _ _ _ _ _ _ _ _ s)).does)
           (λ bytes begun now start may s.
           goes-on _ _ bytes _ begun _ _ start _ s h.line c.next.new.self now (rw h.field-0-is at h.ensures.again) (λ going. rw h.field-0-is at (h.ensures.gives.2.hands going begun now may))
-          _ (c.in-Ok-Some-read_act.ensures.ok ∙ ap Ok c.in-Ok-Some-read_act.field-0-is) (sym c.in-Ok.ensures.limit) _ _ _ (c.in-Ok.ensures.acts which)),
+          _ (c.in-Ok-Some-read_act.ensures.ok ∙ ap Ok c.in-Ok-Some-read_act.field-0-is) (sym (c.in-Ok.ensures.limit c.requires.stands.idle)) _ _ _ (c.in-Ok.ensures.acts which)),
     )
 
 pub returns-in-Err-BatchFull-clause-gives : goal.returns-in-Err-BatchFull-clause-gives
@@ -102,7 +102,7 @@ returns-in-Err-BatchFull-clause-gives g c =
           (λ bytes taken begun now start may parts s.
           let same = rw c.in-Err-BatchFull.field-0-is at (c.in-Err-BatchFull.ensures.acts which) in
           rw same.journal (exit-full _ _ bytes _ begun _ _ start _ s h.line c.next.new.self now (rw h.field-0-is at h.ensures.again) (λ going. rw h.field-0-is at (h.ensures.gives.2.hands going begun now may))
-          taken _ _ _ _ (c.in-Ok-Some-read_act.ensures.ok ∙ ap Ok c.in-Ok-Some-read_act.field-0-is) (sym (rw c.in-Err-BatchFull.field-0-is at c.in-Err-BatchFull.ensures.limit)) (rw same.report at (c.fault-in-Err-BatchFull.ensures.closes.closes which)))),
+          taken _ _ _ _ (c.in-Ok-Some-read_act.ensures.ok ∙ ap Ok c.in-Ok-Some-read_act.field-0-is) (sym (rw c.in-Err-BatchFull.field-0-is at (c.in-Err-BatchFull.ensures.limit c.requires.stands.idle))) (rw same.report at (c.fault-in-Err-BatchFull.ensures.closes.closes which)))),
     )
 
 pub returns-in-Err-ProbesFull-clause-gives : goal.returns-in-Err-ProbesFull-clause-gives
@@ -116,15 +116,16 @@ returns-in-Err-ProbesFull-clause-gives g c =
           (λ bytes taken begun now start may parts s.
           let same = rw c.in-Err-ProbesFull.field-0-is at (c.in-Err-ProbesFull.ensures.acts which) in
           rw same.journal (exit-full _ _ bytes _ begun _ _ start _ s h.line c.next.new.self now (rw h.field-0-is at h.ensures.again) (λ going. rw h.field-0-is at (h.ensures.gives.2.hands going begun now may))
-          taken _ _ _ _ (c.in-Ok-Some-read_act.ensures.ok ∙ ap Ok c.in-Ok-Some-read_act.field-0-is) (sym (rw c.in-Err-ProbesFull.field-0-is at c.in-Err-ProbesFull.ensures.limit)) (rw same.report at (c.fault-in-Err-ProbesFull.ensures.closes.closes which)))),
+          taken _ _ _ _ (c.in-Ok-Some-read_act.ensures.ok ∙ ap Ok c.in-Ok-Some-read_act.field-0-is) (sym (rw c.in-Err-ProbesFull.field-0-is at (c.in-Err-ProbesFull.ensures.limit c.requires.stands.idle))) (rw same.report at (c.fault-in-Err-ProbesFull.ensures.closes.closes which)))),
     )
 
 pub returns-in-Err-apply-clause-gives : goal.returns-in-Err-apply-clause-gives
 returns-in-Err-apply-clause-gives g c =
     let h = c.in-Ok-Some in
     let why = c.in-Err-apply.fault in
+    let taken = rw c.requires.stands.idle at c.in-Err-apply.ensures.held in
     let none : limit_text (Err why) ≡ None = search rules in
-    let full = sym c.in-Err-apply.ensures.limit ∙ none in (
+    let full = sym (c.in-Err-apply.ensures.limit c.requires.stands.idle) ∙ none in (
       h.ensures.gives.0,
       h.ensures.gives.1,
       λ which.
@@ -143,6 +144,7 @@ returns-in-Err-apply-clause-gives g c =
 pub returns-in-Err-apply-clause-leaves : goal.returns-in-Err-apply-clause-leaves
 returns-in-Err-apply-clause-leaves g c =
     let why = c.in-Err-apply.fault in
+    let taken = rw c.requires.stands.idle at c.in-Err-apply.ensures.held in
     let none : limit_text (Err why) ≡ None = search rules in
     some-leaves _ _ _ _ _ _ _ _ _ _ (rw c.status_of_fault.ensures.status (stopped-leaves _ _ _ _ _ _ _ _ _ why none c.in-Err-apply.ensures.leaves))
 

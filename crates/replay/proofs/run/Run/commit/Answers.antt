@@ -1,30 +1,31 @@
 -- What the manager holds is the commit of the batch, and what it refuses is refused by the verdict.
-use Rattle.std.proofs.Common.{rules, ◌≡◌, ℕ, Result, Ok, Err, IfErr, ap}
-use Rattle.call_history.specs.Cause.{HasCause, IsCounted}
-use Rattle.replay.specs.declared.RunFault.{RunFault}
-use Rattle.replay.specs.declared.RunFault.TheVariants.{Sink, Device}
-use Rattle.replay.proofs.Exits.{planned-acts, refused-acts}
-use Rattle.replay.proofs.Leaving.{leaves-line}
+use Rattle.std.proofs.Common.{◌≡◌, None, rules, sym, subst}
+use Rattle.replay.specs.Running.{Running}
+use Rattle.replay.proofs.Exits.{refused-acts, taken-acts, taken-run, taken-stays}
+use Rattle.replay.proofs.Leaving.{leaves-line, line-counted, no-write}
 use Rattle.replay.proofs.run.Run.commit.Goals as goal
+
+pub invariant_of-self : goal.invariant_of-self
+invariant_of-self g c =
+    let idle = subst (λ (run : Running). run.manager.held ≡ None) (sym c.self.view_is) c.requires.idle in
+    taken-run _ c.in-Ok.field-0 c.prepare.new.self c.self.invariant idle c.in-Ok.ensures.ready c.in-Ok.ensures.judged
 
 pub returns-in-Ok-clause-acts : goal.returns-in-Ok-clause-acts
 returns-in-Ok-clause-acts g c = λ which.
-    planned-acts c.carry_out.result _ _ c.args.self.now c.in-Ok.field-0 c.prepare.new.self _ _ _ _ _ c.self.view_is c.in-Ok.ensures.ready c.carry_out.ensures.kind
-    (rw (c.prepare.ensures.slot_count, c.prepare.ensures.journal) at (c.carry_out.ensures.acts which))
+    let idle = subst (λ (run : Running). run.manager.held ≡ None) (sym c.self.view_is) c.requires.idle in
+    taken-acts _ c.in-Ok.field-0 c.prepare.new.self c.self.invariant idle c.in-Ok.ensures.ready c.in-Ok.ensures.judged _ c.args.self.now _ c.self.view_is _ _ _ _ c.carry_out.result c.carry_out.ensures.setting
+    c.carry_out.ensures.kind (rw (c.prepare.ensures.slot_count, c.prepare.ensures.journal) at (c.carry_out.ensures.resumes which))
+
+pub returns-in-Ok-clause-unfinished : goal.returns-in-Ok-clause-unfinished
+returns-in-Ok-clause-unfinished g c = λ which.
+    let idle = subst (λ (run : Running). run.manager.held ≡ None) (sym c.self.view_is) c.requires.idle in
+    taken-stays _ c.in-Ok.field-0 c.prepare.new.self c.self.invariant idle c.in-Ok.ensures.ready c.in-Ok.ensures.judged _ c.args.self.now _ c.self.view_is _ _ _ _ c.carry_out.result
+    (rw (c.prepare.ensures.slot_count, c.prepare.ensures.journal) at (c.carry_out.ensures.resumes which))
 
 pub returns-in-Err-clause-acts : goal.returns-in-Err-clause-acts
 returns-in-Err-clause-acts g c = λ which.
     refused-acts c.refuse.result _ _ c.args.self.now c.refuse.new.self c.in-Err.refusal c.prepare.new.self _ _ _ _ c.self.view_is c.requires.idle c.in-Err.ensures.judged
     (search rules) c.in-Err.ensures.refused c.prepare.ensures.journal c.refuse.ensures.refused c.refuse.ensures.kind (c.refuse.ensures.line.whole which) (c.refuse.ensures.line.part which)
-
--- a line fails by the sink alone
-line-counted : (result : Result (Unit {0}) RunFault) (old new : ℕ) → IfErr result (λ why. why ≡ Sink) → HasCause old new result → IsCounted (result ≡ Err Sink) old new
-line-counted (Ok done) old new kind cause = record { later = cause.later; once = cause.once; failed = λ e. absurd (cc); stayed = λ _. cause.stayed }
-line-counted (Err why) old new kind cause = record { later = cause.later; once = cause.once; failed = λ _. cause.failed; stayed = λ other. absurd (other (ap Err kind)) }
-
-no-write : (result : Result (Unit {0}) RunFault) → IfErr result (λ why. why ≡ Sink) → result ≡ Err Device → ⊥
-no-write (Ok done) kind e = absurd (cc)
-no-write (Err why) kind e = absurd (cc)
 
 pub returns-in-Err-clause-leaves : goal.returns-in-Err-clause-leaves
 returns-in-Err-clause-leaves g c =

@@ -1,6 +1,8 @@
 -- A change that joins the batch, and a key that is probed.
+use Rattle.std.proofs.Common.{refl}
 use Rattle.replay.proofs.Acts.{push-acts, probe-acts}
-use Rattle.replay.proofs.run.Run.apply.Goals as goal
+use Rattle.replay.proofs.Leaving.{leaves-line, line-counted, no-fault, no-write, uncounted}
+use Rattle.replay.proofs.run.Run.perform.Goals as goal
 
 pub returns-in-Command-clause-acts : goal.returns-in-Command-clause-acts
 returns-in-Command-clause-acts g c = λ which.
@@ -9,3 +11,12 @@ returns-in-Command-clause-acts g c = λ which.
 pub returns-in-Probe-clause-acts : goal.returns-in-Probe-clause-acts
 returns-in-Probe-clause-acts g c = λ which.
     probe-acts c.probe.result _ c.args.self.now c.probe.new.self c.args.act.now c.in-Probe.key (g.D.Writable.journal c.args.device.now) _ c.in-Probe.is c.probe.ensures.probed c.probe.ensures.unchanged c.probe.ensures.kind
+
+pub returns-in-Command-clause-leaves : goal.returns-in-Command-clause-leaves
+returns-in-Command-clause-leaves g c =
+    let never = no-fault c.push.result c.push.ensures.kind in
+    leaves-line _ _ _ _ _ _ _ _ _ _ _ (λ some. some) refl refl refl (uncounted _ _ _ never.0 refl) never.1
+
+pub returns-in-Packet-clause-leaves : goal.returns-in-Packet-clause-leaves
+returns-in-Packet-clause-leaves g c =
+    leaves-line _ _ _ _ _ _ _ _ _ _ _ c.packet.ensures.told refl refl refl (line-counted c.packet.result _ _ c.packet.ensures.kind c.packet.ensures.cause) (no-write c.packet.result c.packet.ensures.kind)

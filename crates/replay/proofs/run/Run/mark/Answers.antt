@@ -1,0 +1,6 @@
+-- Whether the sink failed makes no difference to what a run is.
+use Rattle.replay.proofs.Runs.{marked-run}
+use Rattle.replay.proofs.run.Run.mark.Goals as goal
+
+pub invariant_of-self : goal.invariant_of-self
+invariant_of-self c = marked-run _ c.match-matches.self c.self.invariant
