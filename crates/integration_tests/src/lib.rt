@@ -13,4 +13,8 @@ mod commits;
 #[cfg(test)]
 mod devices;
 #[cfg(test)]
+mod resumed;
+#[cfg(test)]
 mod silent;
+#[cfg(test)]
+mod stuck;

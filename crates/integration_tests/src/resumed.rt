@@ -1,0 +1,143 @@
+// A run whose device failed four times at one write, and that goes on.
+ghost use Rattle.std.specs.Prelude.{◌≡◌, ◌≢◌, ℕ, ◌+◌, ◌<◌, ◌≤◌, Err, IfOk, OnOk};
+ghost use Rattle.integration_tests.specs.Going.{CanGoOn};
+
+use crate::commits::packet;
+use crate::stuck::{add, apply, change_of, commit, finish, route};
+use memory_tcam::FlakyTcam;
+use replay::{Act, Family, Mode, Placement, Run, RunFault};
+use script_lines::MemSink;
+use std::alloc::Global;
+use std::process::Abort;
+use std::test::Fail;
+use tcam_device::{Device, Writable};
+
+/// Commits the route of an IPv4 prefix, and tells whether the device cut that.
+fn commit_route<D: Device>(
+    run: &mut Run,
+    addr: u32,
+    len: u8,
+    sink: &mut MemSink,
+    device: &mut D,
+) -> Result<bool, Fail>
+    requires going { CanGoOn run.old (D.slot_count device.old) (D.spare device.old) }
+    requires few { run.old.commits < 98 }
+    ensures going { OnOk result (CanGoOn run.new (D.slot_count device.new) (D.spare device.new)) }
+    ensures few { run.new.commits ≤ run.old.commits + 2 }
+{
+    add(run, &route(addr, len, [None; 4]), sink, device)?;
+    commit(run, sink, device)
+}
+
+const FRONT: &str = "\
+commit 1 ok writes 1 words 0 most 1 span 0
+commit 2 ok writes 1 words 0 most 1 span 0
+commit 3 ok writes 1 words 0 most 1 span 0
+w 1 p 1 10.1.2.0/24 24
+";
+
+const WHOLE: &str = "\
+commit 1 ok writes 1 words 0 most 1 span 0
+commit 2 ok writes 1 words 0 most 1 span 0
+commit 3 ok writes 1 words 0 most 1 span 0
+w 1 p 1 10.1.2.0/24 24
+w 2 p 1 10.1.2.0/24 24
+commit 4 ok writes 2 words 0 most 2 span 0
+";
+
+/// Three commits of a route each, and a probe.
+fn begin<D: Device>(run: &mut Run, sink: &mut MemSink, device: &mut D) -> Result<(), Fail>
+    requires going { CanGoOn run.old (D.slot_count device.old) (D.spare device.old) }
+    requires few { run.old.commits < 50 }
+    ensures going { OnOk result (CanGoOn run.new (D.slot_count device.new) (D.spare device.new)) }
+    ensures few { run.new.commits ≤ run.old.commits + 7 }
+{
+    commit_route(run, 0x0a00_0000, 8, sink, device)?;
+    commit_route(run, 0x0a01_0200, 24, sink, device)?;
+    commit_route(run, 0x0a01_0000, 16, sink, device)?;
+    apply(run, &Act::Probe(packet()), sink, device)?;
+    Ok(())
+}
+
+/// The change that came to this isn't taken, since one write of a commit is left.
+fn see_held(outcome: &Result<(), RunFault>) -> Result<(), Fail>
+    ensures { OnOk result (outcome.now ≢ Err RunFault.Sink) }
+{
+    match outcome {
+        Err(RunFault::Held { left: 1 }) => Ok(()),
+        other => Err(Fail::new(format_args!("{other:?}"))),
+    }
+}
+
+/// A change isn't taken.
+fn is_held<D: Device>(run: &mut Run, sink: &mut MemSink, device: &mut D) -> Result<(), Fail>
+    requires going { CanGoOn run.old (D.slot_count device.old) (D.spare device.old) }
+    requires few { run.old.commits < 100 }
+    ensures going { OnOk result (CanGoOn run.new (D.slot_count device.new) (D.spare device.new)) }
+    ensures few { run.new.commits ≤ run.old.commits + 1 }
+{
+    let change = change_of(run.family(), &route(0x0a01_0000, 20, [None; 4]))?;
+    let held = apply(run, &change, sink, device);
+    see_held(&held)
+}
+
+/// The report of a commit that is cut, and then of its end.
+fn goes_on<D: Device>(
+    rt: &impl Abort,
+    run: &mut Run,
+    sink: &mut MemSink,
+    device: &mut D,
+) -> Result<(), Fail>
+    requires going { CanGoOn run.old (D.slot_count device.old) (D.spare device.old) }
+    requires few { run.old.commits < 50 }
+{
+    begin(run, sink, device)?;
+    let cut = commit_route(run, 0x0a01_0000, 20, sink, device)?;
+    assert!(rt; cut);
+    is_held(run, sink, device)?;
+    assert_eq!(rt; sink.bytes(), FRONT.as_bytes());
+    finish(run, sink, device)?;
+    assert_eq!(rt; sink.bytes(), WHOLE.as_bytes());
+    finish(run, sink, device)?;
+    assert_eq!(rt; sink.bytes().len(), WHOLE.len());
+    Ok(())
+}
+
+/// A run of routes, for a device of eight slots or more.
+fn run_of_routes(alloc: Global) -> Result<Run, Fail>
+    ensures going { IfOk result (λ run. (slots spare : ℕ) → 8 ≤ slots → CanGoOn run slots spare) }
+    ensures begins { IfOk result (λ run. run.commits ≡ 0) }
+{
+    Ok(Run::new(
+        alloc,
+        8,
+        Mode::Cover,
+        Placement::Middle,
+        Family::Route,
+        false,
+    )?)
+}
+
+/// A whole run over a blank device.
+fn goes_on_over<D: Device>(
+    rt: &(impl Abort + AllocGlobal),
+    sink: &mut MemSink,
+    device: &mut D,
+) -> Result<(), Fail>
+    requires { 8 ≤ D.slot_count device.old }
+{
+    let mut run = run_of_routes(rt.alloc())?;
+    goes_on(rt, &mut run, sink, device)
+}
+
+/// The write calls 5 to 8 fail, all tries of a commit's second write. What is left of the commit comes once.
+#[test]
+fn a_run_that_goes_on(rt: HostRuntime) -> Result<(), Fail> {
+    let alloc = rt.alloc();
+    let mut device = FlakyTcam::new(alloc, 4096, &[5, 6, 7, 8])?;
+    let mut sink = MemSink::new(alloc)?;
+    sink.reserve(4096)?;
+    goes_on_over(&rt, &mut sink, &mut device)?;
+    assert_eq!(rt; device.journal().len(), 5);
+    Ok(())
+}
