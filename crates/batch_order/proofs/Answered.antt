@@ -24,7 +24,7 @@ use Rattle.commit_writes.proofs.WholeBatch.{slot_writes}
 use Rattle.batch_order.specs.declared.manager.Held.{Held}
 use Rattle.batch_order.specs.declared.translation.Translation.{Translation}
 use Rattle.batch_order.specs.Entries.{Entries}
-use Rattle.batch_order.specs.Kept.{IsManaged, bits_of, mode_of, settled_state, state_of, tables_of}
+use Rattle.batch_order.specs.Kept.{IsManaged, bits_of, held_writes, mode_of, settled_state, state_of, tables_of}
 use Rattle.batch_order.proofs.Taken.{are_arranged}
 use Rattle.batch_order.proofs.Translated.{bits_same, serving_of, settled_is}
 
@@ -77,7 +77,7 @@ pub held_answers : (translation : Option Translation) (rules : StoredRules) (kep
 held_answers translation rules kept slots held managed device_slots wide =
     let begun : State = settled_state translation kept.entries slots in
     let size : length begun.slots ≡ length slots = length-map slots (held_entry kept.entries) in
-    let used : AllByRecursion (IsInUse (length begun.slots)) (take held.made held.writes.items) =
-    all_take (IsInUse (length begun.slots)) held.made held.writes.items (subst (λ (n : ℕ). AllByRecursion (IsInUse n) held.writes.items) (sym size) managed.carried.in_use) in
-    subst (λ (state : State). ShowsOldOrNew state rules.rules (set_after rules.rules held.batch)) (state_after-on_device device_slots begun (take held.made held.writes.items) used)
+    let used : AllByRecursion (IsInUse (length begun.slots)) (take held.made (held_writes kept.entries held)) =
+    all_take (IsInUse (length begun.slots)) held.made (held_writes kept.entries held) (subst (λ (n : ℕ). AllByRecursion (IsInUse n) (held_writes kept.entries held)) (sym size) managed.carried.in_use) in
+    subst (λ (state : State). ShowsOldOrNew state rules.rules (set_after rules.rules held.batch)) (state_after-on_device device_slots begun (take held.made (held_writes kept.entries held)) used)
     ((managed.carried.hitless device_slots wide).during held.made)

@@ -2,7 +2,7 @@
 use Rattle.std.proofs.Common.{◌≡◌, ℕ, ◌+◌, ◌-◌, ◌<◌, ◌≤◌, List, [], ◌∷◌, ◌++◌, length, take, drop, slice_get, replicate, Option, Some, None, IfSome, refl, sym, ap, ap₂, subst, ◌∙◌, arith, length-drop, length-set, get_or, add-one, zero, suc}
 use Rattle.std.specs.List.{AllByRecursion}
 use Rattle.std.proofs.lemmas.List.{set-append_left, length-map, length-replicate, replicate-append-replicate}
-use Rattle.std.proofs.lemmas.Option.{slice_get-get_or}
+use Rattle.std.proofs.lemmas.Option.{get_or_from_slice_get, slice_get_within}
 use Rattle.std.proofs.Math.Seq.{drop-cons}
 use Rattle.std.proofs.lemmas.List.Sums.{fold-append}
 use Rattle.std.proofs.lemmas.List.{take_all}
@@ -31,7 +31,8 @@ use Rattle.batch_order.specs.declared.manager.Held.{Held}
 use Rattle.batch_order.specs.declared.translation.Translation.{Translation}
 use Rattle.batch_order.specs.declared.Placement.{Placement}
 use Rattle.batch_order.specs.Entries.{Entries, KeepEntries}
-use Rattle.batch_order.specs.Kept.{IsManaged, IsArranged, bits_after, bits_of, changed_by, held_of, mode_of, settled_state, state_of, tables_of, translation_after}
+use Rattle.batch_order.specs.Kept.{IsManaged, IsArranged, bits_after, bits_of, changed_by, held_of, held_writes, mode_of, settled_state, state_of, tables_of, translation_after}
+use Rattle.batch_order.specs.Planning.{as_write}
 use Rattle.batch_order.specs.Managed.{Managed, HeldCommit, StepsOn, IsOn, fresh, next_of}
 use Rattle.batch_order.proofs.Entered.{contents_kept}
 use Rattle.batch_order.proofs.Translated.{bits_kept, mode_kept}
@@ -46,7 +47,7 @@ view_of placement translation rules kept slots held = record {
   rules = rules.rules;
   bits = bits_of translation;
   state = state_of translation kept.entries slots held;
-  held = elim held [ None ↦ None | Some one ↦ Some (held_of rules.rules one) ];
+  held = elim held [ None ↦ None | Some one ↦ Some (held_of rules.rules kept.entries one) ];
 }
 
 -- what stands in empty slots
@@ -95,12 +96,12 @@ finished_arranged mode bits rules kept kept' held finished after =
 
 -- with the batch applied, no commit is under way
 module _ (translation translation' : Option Translation) (rules rules' : StoredRules) (kept kept' : Entries) (slots : Slots) (held : Held) (managed : IsManaged translation rules kept slots (Some held))
-    (turned : translation' ≡ translation_after translation rules.rules held) (is : rules'.rules ≡ set_after rules.rules held.batch) (finished : IsFinished kept kept' held) where
+    (turned : translation' ≡ translation_after translation rules.rules kept.entries held) (is : rules'.rules ≡ set_after rules.rules held.batch) (finished : IsFinished kept kept' held) where
   mode_is : mode_of translation' ≡ mode_of translation
-  mode_is = ap mode_of turned ∙ mode_kept translation held.bits (set_after rules.rules held.batch) held.writes.items
+  mode_is = ap mode_of turned ∙ mode_kept translation held.bits (set_after rules.rules held.batch) (held_writes kept.entries held)
 
   bits_is : bits_of translation' ≡ bits_after rules.rules held
-  bits_is = ap bits_of turned ∙ bits_kept translation held.bits (set_after rules.rules held.batch) held.writes.items managed.carried.coded
+  bits_is = ap bits_of turned ∙ bits_kept translation held.bits (set_after rules.rules held.batch) (held_writes kept.entries held) managed.carried.coded
 
   pub managed_after : IsManaged translation' rules' kept' held.arrangement None
   managed_after = record {
@@ -118,8 +119,8 @@ module _ (translation translation' : Option Translation) (rules rules' : StoredR
   }
 
   -- the state stays where the last write was made, and is that of the entries as they are arranged then
-  pub finish_steps : (placement : Placement) → drop held.made held.writes.items ≡ []
-      → StepsOn (view_of placement translation rules kept slots (Some held)) (held_of rules.rules held) (drop held.made held.writes.items) (Finished held.counts) (view_of placement translation' rules' kept' held.arrangement None)
+  pub finish_steps : (placement : Placement) → drop held.made (held_writes kept.entries held) ≡ []
+      → StepsOn (view_of placement translation rules kept slots (Some held)) (held_of rules.rules kept.entries held) (drop held.made (held_writes kept.entries held)) (Finished held.counts) (view_of placement translation' rules' kept' held.arrangement None)
   finish_steps placement none =
       let carried = managed.carried in
       let size : length held.arrangement ≡ length slots = carried.after.settled.size ∙ sym carried.old.settled.size in
@@ -127,8 +128,8 @@ module _ (translation translation' : Option Translation) (rules rules' : StoredR
       ap₂ (λ (t : Option Translation) (e : List (Option Entry)). with_slots (tables_of t) e) turned
       (contents_kept kept'.live (rewritten_entries kept.entries held.rewrites.items) kept'.entries held.arrangement finished.entries
       (settled_live kept' held.arrangement (finished_arranged (mode_of translation) (bits_after rules.rules held) (set_after rules.rules held.batch) kept kept' held finished carried.after).settled))
-      ∙ (sym carried.leads ∙ ap (state_after (settled_state translation kept.entries slots)) (sym (all_made held.writes.items held.made none))) in
-      subst (λ (left : List Write). StepsOn (view_of placement translation rules kept slots (Some held)) (held_of rules.rules held) left (Finished held.counts) (view_of placement translation' rules' kept' held.arrangement None)) (sym none) (
+      ∙ (sym carried.leads ∙ ap (state_after (settled_state translation kept.entries slots)) (sym (all_made (held_writes kept.entries held) held.made none))) in
+      subst (λ (left : List Write). StepsOn (view_of placement translation rules kept slots (Some held)) (held_of rules.rules kept.entries held) left (Finished held.counts) (view_of placement translation' rules' kept' held.arrangement None)) (sym none) (
         refl,
         ap₂ (λ (n : ℕ) (m : Mode). now n m (bits_of translation') rules'.rules (settled_state translation' kept'.entries held.arrangement)) size mode_is
             ∙ (ap₂ (λ (b : FieldBits) (r : List Rule). now (length slots) (mode_of translation) b r (settled_state translation' kept'.entries held.arrangement)) bits_is is
@@ -138,13 +139,20 @@ module _ (translation translation' : Option Translation) (rules rules' : StoredR
       now : ℕ → Mode → FieldBits → List Rule → State → Managed
       now n m b r s = record { slots = n; mode = m; placement = placement; rules = r; bits = b; state = s; held = None }
 
--- a write of a plan that is read
-read_at : (writes : List Write) (place : ℕ) (write : Write) → place < length writes → write ≡ get_or writes place write → slice_get writes place ≡ Some write
-read_at writes place write inside read = slice_get-get_or writes place write inside ∙ ap (λ (w : Write). Some w) (sym read)
+-- the next write is the first of those that are left
+pub get-drop : (writes : List Write) (n : ℕ) → slice_get (drop n writes) 0 ≡ slice_get writes n
+get-drop [] zero = refl
+get-drop [] (suc n) = refl
+get-drop (write ∷ writes) zero = refl
+get-drop (write ∷ writes) (suc n) = get-drop writes n
 
 drop-read : (writes : List Write) (place : ℕ) (write : Write) → place < length writes → write ≡ get_or writes place write → drop place writes ≡ write ∷ drop (place + 1) writes
 drop-read writes place write inside read =
     drop-cons writes place write inside ∙ ap₂ (λ (w : Write) (n : ℕ). w ∷ drop n writes) (sym read) (sym (add-one place))
+
+-- the writes of a commit under way are as many as the planned ones
+pub held_size : (entries : List (Option Entry)) (held : Held) → length (held_writes entries held) ≡ length held.writes.items
+held_size entries held = length-map held.writes.items (as_write entries held.rewrites.items)
 
 -- with one write more made, the commit can be carried out still
 pub managed_made : (translation : Option Translation) (rules : StoredRules) (kept : Entries) (slots : Slots) (held : Held) → IsManaged translation rules kept slots (Some held) → held.made < length held.writes.items
@@ -177,21 +185,26 @@ managed_made translation rules kept slots held managed less =
       };
     }
 
--- a write is left to make
-pub some_left : (writes : List Write) (made : ℕ) → 0 < length (drop made writes) → made < length writes
-some_left writes made left = (let size : length (drop made writes) ≡ length writes - made = length-drop made writes in omega arith)
+-- with a next write not all were made
+pub made_inside : (entries : List (Option Entry)) (held : Held) (write : Write) → slice_get (drop held.made (held_writes entries held)) 0 ≡ Some write → held.made < length held.writes.items
+made_inside entries held write next =
+    let inside : held.made < length (held_writes entries held) = slice_get_within (held_writes entries held) held.made write (sym (get-drop (held_writes entries held) held.made) ∙ next) in
+    let size : length (held_writes entries held) ≡ length held.writes.items = held_size entries held in
+    omega arith
 
 -- the first of the writes that are left was made
 pub advance_steps : (placement : Placement) (translation : Option Translation) (rules : StoredRules) (kept : Entries) (slots : Slots) (held : Held) (write : Write)
-    → held.made < length held.writes.items → write ≡ get_or held.writes.items held.made write
-    → StepsOn (view_of placement translation rules kept slots (Some held)) (held_of rules.rules held) (drop held.made held.writes.items) (Wrote write)
+    → slice_get (drop held.made (held_writes kept.entries held)) 0 ≡ Some write
+    → StepsOn (view_of placement translation rules kept slots (Some held)) (held_of rules.rules kept.entries held) (drop held.made (held_writes kept.entries held)) (Wrote write)
     (view_of placement translation rules kept slots (Some (record held { made = held.made + 1 })))
-advance_steps placement translation rules kept slots held write inside read =
+advance_steps placement translation rules kept slots held write next =
+    let writes : List Write = held_writes kept.entries held in
+    let read : slice_get writes held.made ≡ Some write = sym (get-drop writes held.made) ∙ next in
     let state : state_of translation kept.entries slots (Some (record held { made = held.made + 1 })) ≡ apply (state_of translation kept.entries slots (Some held)) write =
-    ap (state_after (settled_state translation kept.entries slots)) (take-read held.writes.items held.made write (read_at held.writes.items held.made write inside read))
-    ∙ fold-append apply (settled_state translation kept.entries slots) (take held.made held.writes.items) (write ∷ []) in
-    subst (λ (w : List Write). StepsOn (view_of placement translation rules kept slots (Some held)) (held_of rules.rules held) w (Wrote write)
-    (view_of placement translation rules kept slots (Some (record held { made = held.made + 1 })))) (sym (drop-read held.writes.items held.made write inside read)) (
+    ap (state_after (settled_state translation kept.entries slots)) (take-read writes held.made write read)
+    ∙ fold-append apply (settled_state translation kept.entries slots) (take held.made writes) (write ∷ []) in
+    subst (λ (w : List Write). StepsOn (view_of placement translation rules kept slots (Some held)) (held_of rules.rules kept.entries held) w (Wrote write)
+    (view_of placement translation rules kept slots (Some (record held { made = held.made + 1 })))) (sym (drop-read writes held.made write (slice_get_within writes held.made write read) (sym (get_or_from_slice_get writes held.made write write read)))) (
       refl,
       ap (λ (s : State). record {
         slots = length slots;
@@ -200,14 +213,14 @@ advance_steps placement translation rules kept slots held write inside read =
         rules = rules.rules;
         bits = bits_of translation;
         state = s;
-        held = Some (held_of rules.rules (record held { made = held.made + 1 }));
+        held = Some (held_of rules.rules kept.entries (record held { made = held.made + 1 }));
       }) state,
     )
 
 -- as many slots as are in use
 pub state_size : (translation : Option Translation) (kept : Entries) (slots : Slots) (held : Option Held) → length (state_of translation kept.entries slots held).slots ≡ length slots
 state_size translation kept slots None = length-map slots (held_entry kept.entries)
-state_size translation kept slots (Some held) = slots-after (settled_state translation kept.entries slots) (take held.made held.writes.items) ∙ length-map slots (held_entry kept.entries)
+state_size translation kept slots (Some held) = slots-after (settled_state translation kept.entries slots) (take held.made (held_writes kept.entries held)) ∙ length-map slots (held_entry kept.entries)
 
 -- a write to a slot in use is the same on a device with more slots
 pub on_device-apply : (device_slots : ℕ) (state : State) (write : Write) → IsInUse (length state.slots) write → on_device device_slots (apply state write) ≡ apply (on_device device_slots state) write

@@ -12,7 +12,6 @@ use Rattle.overlap_index.proofs.Above.{is_live_from}
 use Rattle.commit_writes.specs.Planned.{AreEntriesOf, contents}
 use Rattle.batch_order.specs.Entries.{KeepEntries}
 use Rattle.batch_order.proofs.Ids.{gone}
-use Rattle.batch_order.proofs.Puts.{AllLive}
 use Rattle.batch_order.proofs.Since.{live_more}
 
 -- an id that isn't one of these gets another entry, or none
@@ -27,6 +26,10 @@ pub gone_first : (live : List LivePiece) (id count : ℕ) → IsFalse (is_live (
 gone_first live id count = false_from_ne_true _ (λ now.
     let all : is_live (without_id live id) id ≡ true = subst (λ (l : List LivePiece). is_live l id ≡ true) (take-append-drop count (without_id live id)) (live_more (take count (without_id live id)) (drop count (without_id live id)) id now) in
     let bad : true ≡ false = sym all ∙ gone live id in cc)
+
+-- each id that stands is live
+pub record AllLive (live : List LivePiece) (slots : Slots) : Type 0 where
+  pub at : (place id : ℕ) → slot slots place ≡ Some id → IsTrue (is_live live id)
 
 -- what stands in slots of live ids
 pub contents_kept : (live : List LivePiece) (before now : List (Option Entry)) (slots : Slots) → KeepEntries live before now → AllLive live slots → contents now slots ≡ contents before slots

@@ -23,7 +23,7 @@ use Rattle.batch_order.specs.declared.translation.Translation.{Translation}
 use Rattle.batch_order.specs.declared.Ready.{Ready}
 use Rattle.batch_order.specs.declared.Placement.{Placement}
 use Rattle.batch_order.specs.Entries.{Entries}
-use Rattle.batch_order.specs.Kept.{IsManaged, IsArranged, bits_of, changed_by, coded_by, during_of, held_of, mode_of, settled_state, tables_of, translation_after}
+use Rattle.batch_order.specs.Kept.{IsManaged, IsArranged, bits_of, changed_by, held_of, held_writes, mode_of, settled_state, tables_of, translation_after}
 use Rattle.batch_order.specs.Kept as kept
 use Rattle.batch_order.specs.Managed.{Holds, ready_of}
 use Rattle.batch_order.proofs.Unchanged.{arranged_same}
@@ -33,7 +33,7 @@ use Rattle.batch_order.proofs.Leading.{parts_of, arranged_then, same_contents, s
 
 -- a commit whose plan is held
 pub record IsHeldPlan (placement : Placement) (translation : Option Translation) (rules rules' : StoredRules) (old new : Entries) (slots middle : Slots) (batch : List Command) (held : Held) : Type 0 where
-  pub plan : IsPlanOf placement translation rules old new slots middle batch held.rewrites.items held.erased.items held.writes.items held.counts
+  pub plan : IsPlanOf placement translation rules old new slots middle batch held.rewrites.items held.erased.items (held_writes new.entries held) held.counts
   pub same : rules'.rules ≡ rules.rules
   pub made : held.made ≡ 0
   pub batch_is : held.batch ≡ batch
@@ -54,7 +54,7 @@ module _ (placement : Placement) (translation : Option Translation) (rules rules
   begun = settled_state translation new.entries slots
 
   abbrev writes : List Write
-  writes = held.writes.items
+  writes = held_writes new.entries held
 
   sets : set_after rules'.rules held.batch ≡ set_after rules.rules batch
   sets = ap₂ (λ (r : List Rule) (b : List Command). set_after r b) holds.same holds.batch_is
@@ -94,9 +94,9 @@ module _ (placement : Placement) (translation : Option Translation) (rules rules
               (subst (λ (s : Slots). IsArranged mode (bits_left (set_after rules.rules batch) (during_by translation rules batch)) (set_after rules.rules batch) (changed_by new held.rewrites.items held.erased.items) s) (sym arrangement)
               (arranged_then placement translation rules old new slots middle batch held.rewrites.items held.erased.items writes held.counts plan));
           leads = plan_leads placement translation rules old new slots middle batch held.rewrites.items held.erased.items writes held.counts plan held.bits (set_after rules'.rules held.batch) holds.coded.coded
-              ∙ ap (settled_state (translation_after translation rules'.rules held) (rewritten_entries new.entries held.rewrites.items)) (sym arrangement);
+              ∙ ap (settled_state (translation_after translation rules'.rules new.entries held) (rewritten_entries new.entries held.rewrites.items)) (sym arrangement);
           tables = plan_tables placement translation rules old new slots middle batch held.rewrites.items held.erased.items writes held.counts plan held.bits (set_after rules'.rules held.batch) holds.coded.coded;
-          translated = of_left (λ b set. AreBitsOf mode b set (tables_of (translation_after translation rules'.rules held)))
+          translated = of_left (λ b set. AreBitsOf mode b set (tables_of (translation_after translation rules'.rules new.entries held)))
               (plan_bits placement translation rules old new slots middle batch held.rewrites.items held.erased.items writes held.counts plan held.bits (set_after rules'.rules held.batch) holds.coded.coded);
           hitless = λ device_slots wide.
               subst (λ (old_set : List Rule). KeepsOldOrNew old_set (set_after rules'.rules held.batch) (on_device device_slots begun) writes) (sym holds.same)
@@ -118,8 +118,8 @@ module _ (placement : Placement) (translation : Option Translation) (rules rules
   holds_plan ready counts =
       let plan = holds.plan in
       record {
-        held = held_of rules'.rules held;
-        new_is = ap₂ (λ (r : List Rule) (s : State). record { slots = length slots; mode = mode; placement = placement; rules = r; bits = bits; state = s; held = Some (held_of rules'.rules held) }) holds.same
+        held = held_of rules'.rules new.entries held;
+        new_is = ap₂ (λ (r : List Rule) (s : State). record { slots = length slots; mode = mode; placement = placement; rules = r; bits = bits; state = s; held = Some (held_of rules'.rules new.entries held) }) holds.same
             (ap (λ (n : ℕ). state_after begun (take n writes)) holds.made ∙ same_begun);
         rules = sets;
         bits = left;

@@ -177,9 +177,9 @@ idle_count translation rules kept slots managed =
     omega arith
 
 module _ (translation : Option Translation) (rules : StoredRules) (kept : Entries) (slots : Slots) (held : Option Held) (batch : List Command) (managed : IsManaged translation rules kept slots held)
-    (none : option_map (held_of rules.rules) held ≡ None) where
+    (none : option_map (held_of rules.rules kept.entries) held ≡ None) where
   idle : IsManaged translation rules kept slots None
-  idle = subst (IsManaged translation rules kept slots) (idle_held (held_of rules.rules) held none) managed
+  idle = subst (IsManaged translation rules kept slots) (idle_held (held_of rules.rules kept.entries) held none) managed
 
   -- the answer of an idle manager whose free slots are too few
   pub short_answer : free_slots slots < entries_added (mode_of translation) rules.rules batch

@@ -95,6 +95,16 @@ rewritten_ids live [] (rewrite ∷ rewrites) are = absurd are
 rewritten_ids live (ranked ∷ pieces) [] are = absurd are
 rewritten_ids live (ranked ∷ pieces) (rewrite ∷ rewrites) are = (are.0.0, rewritten_ids live pieces rewrites are.1)
 
+-- no more ids get a new entry than are live
+pub few_rewrites : (mode : Mode) (bits : FieldBits) (rules : List Rule) (batch : List Command) (slots : ℕ) (live : List LivePiece) (rewrites : List Rewrite) (erased : List ℕ) → AreApart slots live → IsSoundChange rules batch
+    → ArePartsOf mode bits rules batch live rewrites erased → length rewrites ≤ length live
+few_rewrites mode bits rules batch slots live rewrites erased apart change parts =
+    let ids : List ℕ = map (λ (rewrite : Rewrite). rewrite.id) rewrites in
+    let number : length ids ≡ length rewrites = length-map rewrites (λ (rewrite : Rewrite). rewrite.id) in
+    let fewer : length ids ≤ length live =
+    ids_few slots live (rewritten_pieces mode bits rules batch) ids apart (rewritten_once mode bits rules batch change) (rewritten_ids live (rewritten_pieces mode bits rules batch) rewrites parts.rewrites_are) in
+    omega arith
+
 module _ (placement : Placement) (translation : Option Translation) (rules : StoredRules) (old new : Entries) (slots middle : Slots) (batch : List Command) (rewrites : List Rewrite) (erased : List ℕ) (writes : List Write) (counts : Done)
     (plan : IsPlanOf placement translation rules old new slots middle batch rewrites erased writes counts) where
   abbrev mode : Mode
@@ -204,9 +214,6 @@ module _ (placement : Placement) (translation : Option Translation) (rules : Sto
       let live : length new.live ≡ length old.live + length ones = ap length plan.live_is ∙ length-append old.live ones in
       let count : free_slots middle + length new.live ≡ new.slots = plan.settled.count in
       let most : new.slots ≤ 4096 = plan.settled.few in
-      let ids : length (map (λ (rewrite : Rewrite). rewrite.id) rewrites) ≡ length rewrites = length-map rewrites (λ (rewrite : Rewrite). rewrite.id) in
-      let results : length (map (λ (rewrite : Rewrite). rewrite.id) rewrites) ≤ length old.live =
-      ids_few old.slots old.live (rewritten_pieces mode during rules.rules batch) (map (λ (rewrite : Rewrite). rewrite.id) rewrites) apart (rewritten_once mode during rules.rules batch plan.taken.change)
-      (rewritten_ids old.live (rewritten_pieces mode during rules.rules batch) rewrites plan.parts.rewrites_are) in
+      let results : length rewrites ≤ length old.live = few_rewrites mode during rules.rules batch old.slots old.live rewrites erased apart plan.taken.change plan.parts in
       let gone : length erased ≤ length old.live = ids_few old.slots old.live (erased_pieces mode during rules.rules batch) erased apart (erased_once mode during rules.rules batch plan.taken.change) plan.parts.erased_are in
       omega arith

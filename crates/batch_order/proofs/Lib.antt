@@ -1,7 +1,7 @@
 pub mod Ids
 pub mod Inside
 pub mod Settled
-pub mod Puts
+pub mod Meant
 pub mod Since
 pub mod Entered
 pub mod Walked

@@ -1,5 +1,5 @@
 -- Insertions that were planned one after the other: one of them, and some after others.
-use Rattle.std.proofs.Common.{◌≡◌, ℕ, IsTrue, IsFalse, Option, Some, None, List, [], ◌∷◌, ◌++◌, length, map, fold, refl, sym, ◌∙◌, subst, ap, ap₂, append_assoc, max}
+use Rattle.std.proofs.Common.{◌≡◌, ℕ, IsTrue, IsFalse, Option, Some, List, [], ◌∷◌, ◌++◌, length, map, fold, refl, sym, ◌∙◌, subst, ap, ap₂, append_assoc, max}
 use Rattle.std.specs.Prelude.{◌==◌}
 use Rattle.std.specs.List.{AllByRecursion}
 use Rattle.std.proofs.lemmas.List.{map-append, append-nil}
@@ -13,18 +13,14 @@ use Rattle.ternary_word.specs.Entry.{RankedPiece, entry_for}
 use Rattle.overlap_index.specs.declared.LivePiece.{LivePiece}
 use Rattle.overlap_index.specs.Live.{is_live, is_above}
 use Rattle.move_planner.specs.declared.Aim.{Aim}
-use Rattle.move_planner.specs.declared.Move.{Move}
-use Rattle.move_planner.specs.declared.Move.TheVariants.{Put, Erase}
 use Rattle.move_planner.specs.Placement.{IsPlacement, after_moves, span_of}
-use Rattle.move_planner.specs.Insertion.{IsLive, StandOnce}
-use Rattle.tcam_device.specs.declared.Write.{Write}
-use Rattle.tcam_device.specs.declared.Write.TheVariants.{Slot}
-use Rattle.commit_writes.specs.Planned.{Planned, ArePlanned, ranked_of, live_after, slots_after, planned_writes, write_for, entry_at}
+use Rattle.commit_writes.specs.Planned.{Planned, ArePlanned, ranked_of, live_after, slots_after, entry_at}
 use Rattle.batch_order.specs.declared.plan.Plan.{Plan}
+use Rattle.batch_order.specs.declared.planned_writes.PlannedWrite.{PlannedWrite}
+use Rattle.batch_order.specs.declared.planned_writes.PlannedWrite.TheVariants.{Moved}
 use Rattle.batch_order.specs.Entries.{Entries, KeepEntries}
-use Rattle.batch_order.specs.Planning.{PutsLive, IsInserted, ArePlannedSince}
-use Rattle.batch_order.proofs.Puts.{placement_puts}
-use Rattle.batch_order.proofs.Settled.{live_new, live_still}
+use Rattle.batch_order.specs.Planning.{IsInserted, ArePlannedSince, planned_moves}
+use Rattle.batch_order.proofs.Settled.{live_new}
 
 -- who was live is live still, with more
 pub live_more : (live more : List LivePiece) (id : ℕ) → IsTrue (is_live live id) → IsTrue (is_live (live ++ more) id)
@@ -34,9 +30,9 @@ live_more live more id now = list_any-append (λ one. one.id == id) live more �
 pub planned_one : (old new : Entries) (slots slots' : Slots) (one : LivePiece) (answer : ℕ) (aim : Aim) (plan plan' : Plan)
     → IsFalse (is_live old.live one.id) → new.live ≡ old.live ++ one ∷ []
     → entry_at new.entries one.id ≡ Some (entry_for (record { piece = one.piece; rank = one.rank; result = answer }))
-    → KeepEntries old.live old.entries new.entries → StandOnce (IsLive old.live) slots → IsInserted new slots slots' aim one.id plan plan'
+    → KeepEntries old.live old.entries new.entries → IsInserted new slots slots' aim one.id plan plan'
     → ArePlannedSince old new slots slots' plan plan' (record { piece = one.piece; rank = one.rank; result = answer } ∷ []) (aim ∷ [])
-planned_one old new slots slots' one answer aim plan plan' absent live_is entry kept standing inserted = record {
+planned_one old new slots slots' one answer aim plan plan' absent live_is entry kept inserted = record {
   planned = record { one = one; result = answer; aim = aim; moves = inserted.moves; span = span_of (is_above (old.live ++ one ∷ [])) slots one.id } ∷ [];
   are_planned = (absent, subst (λ (l : List LivePiece). IsPlacement (is_above l) aim one.id slots inserted.moves) live_is inserted.placement, refl, tt);
   pieces_are = refl;
@@ -45,15 +41,11 @@ planned_one old new slots slots' one answer aim plan plan' absent live_is entry 
   slots_are = inserted.slots_are;
   have_entries = (entry, tt);
   kept = kept;
-  puts = (placement_puts new.live (is_above new.live) one.id slots inserted.moves now (record { at = λ place id is. subst (λ (l : List LivePiece). IsTrue (is_live l id)) (sym live_is) (live_still old.live one id (standing.within place id is)) }) inserted.placement, tt);
-  writes = inserted.writes ∙ ap (λ (w : List Write). plan.writes.items ++ w) (sym (append-nil (map (write_for new.entries) inserted.moves)));
+  writes = inserted.writes ∙ ap (λ (w : List PlannedWrite). plan.writes.items ++ w) (sym (append-nil (map Moved inserted.moves)));
   words = inserted.words;
   most = inserted.most;
   span = subst (λ (l : List LivePiece). plan'.span ≡ max plan.span (span_of (is_above l) slots one.id)) live_is inserted.span;
 }
-  where
-    now : IsTrue (is_live new.live one.id)
-    now = subst (λ (l : List LivePiece). IsTrue (is_live l one.id)) (sym live_is) (live_new old.live one)
 
 -- insertions after others
 planned_after : (live : List LivePiece) (slots : Slots) (first second : List Planned) → ArePlanned live slots first
@@ -75,38 +67,13 @@ each_live live (planned ∷ rest) =
     subst (λ (l : List LivePiece). AllByRecursion (λ (insertion : Planned). IsTrue (is_live l insertion.one.id)) (planned ∷ rest)) (sym split)
     (live_more (live ++ planned.one ∷ []) (map (λ (insertion : Planned). insertion.one) rest) planned.one.id (live_new live planned.one), each_live (live ++ planned.one ∷ []) rest)
 
--- what live ids' writes are doesn't change with the entries of others
-moves_same : (live : List LivePiece) (before now : List (Option Entry)) (moves : List Move) → KeepEntries live before now → AllByRecursion (PutsLive live) moves
-    → map (write_for now) moves ≡ map (write_for before) moves
-moves_same live before now [] kept puts = refl
-moves_same live before now (Put at id ∷ moves) kept puts = ap₂ (λ (entry : Option Entry) (rest : List Write). Slot at entry ∷ rest) (kept id puts.0) (moves_same live before now moves kept puts.1)
-moves_same live before now (Erase at ∷ moves) kept puts = ap (λ (rest : List Write). Slot at None ∷ rest) (moves_same live before now moves kept puts.1)
-
-writes_same : (live : List LivePiece) (before now : List (Option Entry)) (planned : List Planned) → KeepEntries live before now
-    → AllByRecursion (λ insertion. AllByRecursion (PutsLive live) insertion.moves) planned → planned_writes now planned ≡ planned_writes before planned
-writes_same live before now [] kept puts = refl
-writes_same live before now (planned ∷ rest) kept puts = ap₂ (λ (a b : List Write). a ++ b) (moves_same live before now planned.moves kept puts.0) (writes_same live before now rest kept puts.1)
-
+-- what live ids have doesn't change with the entries of others
 entries_same : (live : List LivePiece) (before now : List (Option Entry)) (planned : List Planned) → KeepEntries live before now
     → AllByRecursion (λ insertion. IsTrue (is_live live insertion.one.id)) planned
     → AllByRecursion (λ insertion. entry_at before insertion.one.id ≡ Some (entry_for (ranked_of insertion))) planned
     → AllByRecursion (λ insertion. entry_at now insertion.one.id ≡ Some (entry_for (ranked_of insertion))) planned
 entries_same live before now [] kept lives have = tt
 entries_same live before now (planned ∷ rest) kept lives have = (kept planned.one.id lives.0 ∙ have.0, entries_same live before now rest kept lives.1 have.1)
-
--- live ids that are put are live with more
-move_more : (live more : List LivePiece) (move : Move) → PutsLive live move → PutsLive (live ++ more) move
-move_more live more (Put at id) puts = live_more live more id puts
-move_more live more (Erase at) puts = tt
-
-moves_more : (live more : List LivePiece) (moves : List Move) → AllByRecursion (PutsLive live) moves → AllByRecursion (PutsLive (live ++ more)) moves
-moves_more live more [] puts = tt
-moves_more live more (move ∷ moves) puts = (move_more live more move puts.0, moves_more live more moves puts.1)
-
-puts_more : (live more : List LivePiece) (planned : List Planned) → AllByRecursion (λ insertion. AllByRecursion (PutsLive live) insertion.moves) planned
-    → AllByRecursion (λ insertion. AllByRecursion (PutsLive (live ++ more)) insertion.moves) planned
-puts_more live more [] puts = tt
-puts_more live more (planned ∷ rest) puts = (moves_more live more planned.moves puts.0, puts_more live more rest puts.1)
 
 -- some insertions after others
 pub planned_then : (old mid new : Entries) (slots slots' slots'' : Slots) (plan plan' plan'' : Plan) (first second : List RankedPiece) (first_aims second_aims : List Aim)
@@ -128,15 +95,10 @@ planned_then old mid new slots slots' slots'' plan plan' plan'' first second fir
       (subst (λ (l : List LivePiece). AllByRecursion (λ (insertion : Planned). IsTrue (is_live l insertion.one.id)) one.planned) (sym one.live_is) (each_live old.live one.planned)) one.have_entries)
       two.have_entries;
   kept = λ id now. two.kept id (subst (λ (l : List LivePiece). IsTrue (is_live l id)) (sym one.live_is) (live_more old.live (map (λ (insertion : Planned). insertion.one) one.planned) id now)) ∙ one.kept id now;
-  puts = all_append (λ (insertion : Planned). AllByRecursion (PutsLive new.live) insertion.moves) one.planned two.planned
-      (subst (λ (l : List LivePiece). AllByRecursion (λ (insertion : Planned). AllByRecursion (PutsLive l) insertion.moves) one.planned) (sym two.live_is) (puts_more mid.live (map (λ (insertion : Planned). insertion.one) two.planned) one.planned one.puts))
-      two.puts;
   writes = two.writes
-      ∙ (ap (λ (w : List Write). w ++ planned_writes new.entries two.planned) one.writes
-      ∙ (append_assoc plan.writes.items (planned_writes mid.entries one.planned) (planned_writes new.entries two.planned)
-      ∙ ap (λ (w : List Write). plan.writes.items ++ w)
-      (ap (λ (w : List Write). w ++ planned_writes new.entries two.planned) (sym (writes_same mid.live mid.entries new.entries one.planned two.kept one.puts))
-      ∙ sym (flat_map-append (λ (insertion : Planned). map (write_for new.entries) insertion.moves) one.planned two.planned))));
+      ∙ (ap (λ (w : List PlannedWrite). w ++ planned_moves two.planned) one.writes
+      ∙ (append_assoc plan.writes.items (planned_moves one.planned) (planned_moves two.planned)
+      ∙ ap (λ (w : List PlannedWrite). plan.writes.items ++ w) (sym (flat_map-append (λ (insertion : Planned). map Moved insertion.moves) one.planned two.planned))));
   words = two.words ∙ one.words;
   most = two.most ∙ (ap (λ (m : ℕ). fold max m (map (λ (insertion : Planned). length insertion.moves) two.planned)) one.most
       ∙ (sym (fold-append max plan.most (map (λ (insertion : Planned). length insertion.moves) one.planned) (map (λ (insertion : Planned). length insertion.moves) two.planned))

@@ -1,6 +1,7 @@
 -- Taking a batch: what its plan needs of a manager without a commit under way, and what was planned.
 use Rattle.std.proofs.Common.{◌≡◌, ℕ, ◌+◌, ◌*◌, ◌^◌, ◌≤◌, fold, List, ◌++◌, length, map, Option, None, max, append_assoc, refl, sym, ap, ap₂, subst, ◌∙◌, arith}
 use Rattle.std.specs.Prelude.{IsTrue}
+use Rattle.std.proofs.lemmas.List.{length-map}
 use Rattle.std.specs.List.{AllByRecursion, AllZip}
 use Rattle.slot_pool.specs.Arrangement.{Slots}
 use Rattle.rule_model.specs.declared.Rule.{Rule}
@@ -22,7 +23,7 @@ use Rattle.commit_writes.specs.declared.Rewrite.{Rewrite}
 use Rattle.commit_writes.specs.Bits.{FieldBits, bits_with, new_bits}
 use Rattle.commit_writes.specs.Serving.{AreServing}
 use Rattle.commit_writes.specs.Shape.{set_pieces, inserted_pieces, rewritten_pieces, erased_pieces}
-use Rattle.commit_writes.specs.Planned.{Planned, AreArranged, AreEntriesOf, contents, planned_writes, live_after, slots_after}
+use Rattle.commit_writes.specs.Planned.{IdEntries, Planned, AreArranged, AreEntriesOf, contents, planned_writes, live_after, slots_after}
 use Rattle.commit_writes.specs.PlannedBatch.{AreNumbersOf, IsIdOf, IsPlannedBatch, IsRewriteOf, batch_writes, erase_write, rewrite_write}
 use Rattle.commit_writes.proofs.Filters.{all_members}
 use Rattle.commit_writes.proofs.BatchRules.{IsSoundChange}
@@ -34,15 +35,18 @@ use Rattle.commit_writes.proofs.TableWrites.{all_tables, bit_writes-tables}
 use Rattle.commit_writes.proofs.Zips.{zip_right}
 use Rattle.batch_order.specs.declared.Placement.{Placement}
 use Rattle.batch_order.specs.declared.plan.Plan.{Plan}
+use Rattle.batch_order.specs.declared.planned_writes.PlannedWrite.{PlannedWrite}
+use Rattle.batch_order.specs.declared.planned_writes.PlannedWrite.TheVariants.{Tabled}
 use Rattle.batch_order.specs.declared.translation.Translation.{Translation}
 use Rattle.batch_order.specs.Entries.{Entries, KeepEntries}
-use Rattle.batch_order.specs.Planning.{IsSettled, IsPlannable, ArePlannedSince}
+use Rattle.batch_order.specs.Planning.{IsSettled, IsPlannable, IsWithin, ArePlannedSince, as_write, as_writes, planned_moves}
 use Rattle.batch_order.specs.Entries.{HasId, HaveIds}
 use Rattle.batch_order.specs.Kept.{IsManaged, bits_of, coded_by, during_of, mode_of, settled_state, tables_of}
 use Rattle.batch_order.specs.Placing.{aims_of, words_of}
 use Rattle.batch_order.proofs.Numbered.{arranged_number}
 use Rattle.batch_order.proofs.Judged.{HasRoom}
 use Rattle.batch_order.proofs.Entered.{contents_kept, entries_of_kept}
+use Rattle.batch_order.proofs.Meant.{as_append, as_planned, as_words, used_within, words_within}
 use Rattle.batch_order.proofs.Translated.{bits_same, settled_is}
 use Rattle.batch_order.proofs.Unchanged.{settled_live}
 
@@ -133,9 +137,9 @@ pub rewrites_live : (live : List LivePiece) (pieces : List RankedPiece) (rewrite
 rewrites_live live pieces rewrites are = all_members (λ (rewrite : Rewrite). IsTrue (is_live live rewrite.id)) rewrites (λ rewrite member.
     let one = zip_right (IsRewriteOf live) pieces rewrites rewrite are member in is_live_from live (record { id = rewrite.id; piece = one.0.piece; rank = one.0.rank }) one.2.0)
 
--- writes that are in use are so in a plan of them
-pub plan_words : (kept : Entries) (slots : Slots) (writes : List Write) → IsSettled kept slots → AllByRecursion (IsInUse kept.slots) writes → IsPlannable kept slots writes
-plan_words kept slots writes settled in_use = record { settled = settled; in_use = in_use }
+-- words are within the slots in use in a plan of them
+pub plan_words : (kept : Entries) (slots : Slots) (words : List Write) → IsSettled kept slots → AllByRecursion (IsInUse kept.slots) words → IsPlannable kept slots (map Tabled words)
+plan_words kept slots words settled in_use = record { settled = settled; within = words_within kept.slots words in_use }
 
 -- a settled manager is arranged as plans need it
 pub are_arranged : (kept : Entries) (slots : Slots) → IsSettled kept slots → AreArranged kept.live slots
@@ -172,33 +176,35 @@ pub record IsPlanOf (placement : Placement) (translation : Option Translation) (
 
 -- what the words of a plan are
 pub record AreWordsPlanned (words : List Write) (plan : Plan) : Type 0 where
-  pub writes : plan.writes.items ≡ words
+  pub writes : plan.writes.items ≡ map Tabled words
   pub number : plan.words ≡ length words
   pub few : length words ≤ 2 * 2 ^ 16
   pub most : plan.most ≡ 0
   pub span : plan.span ≡ 0
 
 -- what was planned behind the insertions
-pub record AreRestPlanned (middle : Slots) (rewrites : List Rewrite) (erased : List ℕ) (plan : Plan) (writes : List Write) (counts : Done) : Type 0 where
-  pub in_use : AllByRecursion (IsInUse (length middle)) writes
-  pub made : writes ≡ plan.writes.items ++ (map (rewrite_write middle) rewrites ++ map (erase_write middle) erased)
+pub record AreRestPlanned (middle : Slots) (rewrites : List Rewrite) (erased : List ℕ) (plan : Plan) (writes : List PlannedWrite) (counts : Done) : Type 0 where
+  pub within : AllByRecursion (IsWithin (length middle)) writes
+  pub made : (entries : IdEntries) → as_writes entries rewrites writes
+      ≡ as_writes entries rewrites plan.writes.items ++ (map (rewrite_write middle) rewrites ++ map (erase_write middle) erased)
   pub number : counts.writes ≡ length writes
   pub words : counts.words ≡ plan.words
   pub most : counts.most ≡ plan.most
   pub span : counts.span ≡ plan.span
 
-pub plan_made : (placement : Placement) (translation : Option Translation) (rules : StoredRules) (old new : Entries) (slots middle : Slots) (batch : List Command) (rewrites : List Rewrite) (erased : List ℕ) (plan plan' : Plan) (writes : List Write) (counts : Done)
+pub plan_made : (placement : Placement) (translation : Option Translation) (rules : StoredRules) (old new : Entries) (slots middle : Slots) (batch : List Command) (rewrites : List Rewrite) (erased : List ℕ) (plan plan' : Plan) (planned : List PlannedWrite) (counts : Done)
     → IsTaken translation rules old slots batch → ArePartsOf (mode_of translation) (during_by translation rules batch) rules.rules batch old.live rewrites erased → new.slots ≡ old.slots → IsSettled new middle
     → ArePlannedSince old new slots middle plan plan' (inserted_pieces (mode_of translation) (during_by translation rules batch) rules.rules batch)
     (aims_of placement (mode_of translation) (length slots) rules.rules (inserted_pieces (mode_of translation) (during_by translation rules batch) rules.rules batch))
-    → AreWordsPlanned (words_by translation rules old slots batch) plan → AreRestPlanned middle rewrites erased plan' writes counts
-    → IsPlanOf placement translation rules old new slots middle batch rewrites erased writes counts
-plan_made placement translation rules old new slots middle batch rewrites erased plan plan' writes counts taken parts size settled since words rest = record {
+    → AreWordsPlanned (words_by translation rules old slots batch) plan → AreRestPlanned middle rewrites erased plan' planned counts
+    → IsPlanOf placement translation rules old new slots middle batch rewrites erased (as_writes new.entries rewrites planned) counts
+plan_made placement translation rules old new slots middle batch rewrites erased plan plan' planned counts taken parts size settled since words rest = record {
   taken = taken;
   parts = parts;
   settled = settled;
   size = size;
-  in_use = subst (λ (n : ℕ). AllByRecursion (IsInUse n) writes) (settled.size ∙ (size ∙ sym taken.managed.carried.settled.size)) rest.in_use;
+  in_use = subst (λ (n : ℕ). AllByRecursion (IsInUse n) writes) (settled.size ∙ (size ∙ sym taken.managed.carried.settled.size))
+      (used_within (length middle) new.entries rewrites planned rest.within);
   kept = since.kept;
   planned = since.planned;
   commit = record {
@@ -224,7 +230,7 @@ plan_made placement translation rules old new slots middle batch rewrites erased
   writes_are = are;
   words_few = words.few;
   numbers = record {
-    writes_are = rest.number;
+    writes_are = rest.number ∙ sym (length-map planned (as_write new.entries rewrites));
     words = rest.words ∙ (since.words ∙ (words.number ∙ sym tables));
     most = rest.most ∙ (since.most ∙ ap (λ (m : ℕ). fold max m (map (λ (insertion : Planned). length insertion.moves) since.planned)) words.most);
     span = rest.span ∙ (since.span ∙ ap (λ (m : ℕ). fold max m (map (λ (insertion : Planned). insertion.span) since.planned)) words.span);
@@ -237,16 +243,24 @@ plan_made placement translation rules old new slots middle batch rewrites erased
     during : FieldBits
     during = during_by translation rules batch
 
+    writes : List Write
+    writes = as_writes new.entries rewrites planned
+
     front : List Write
     front = words_by translation rules old slots batch
 
     behind : List Write
     behind = batch_writes new.entries slots since.planned rewrites erased
 
+    planned_first : as_writes new.entries rewrites plan'.writes.items ≡ front ++ planned_writes new.entries since.planned
+    planned_first =
+        ap (as_writes new.entries rewrites) (since.writes ∙ ap (λ (w : List PlannedWrite). w ++ planned_moves since.planned) words.writes)
+        ∙ (as_append new.entries rewrites (map Tabled front) (planned_moves since.planned)
+        ∙ ap₂ (λ (a b : List Write). a ++ b) (as_words new.entries rewrites front) (as_planned new.entries rewrites since.planned))
+
     are : writes ≡ front ++ behind
-    are = rest.made
-        ∙ (ap₂ (λ (first : List Write) (at : Slots). first ++ (map (rewrite_write at) rewrites ++ map (erase_write at) erased))
-        (since.writes ∙ ap (λ (w : List Write). w ++ planned_writes new.entries since.planned) words.writes) since.slots_are
+    are = rest.made new.entries
+        ∙ (ap₂ (λ (first : List Write) (at : Slots). first ++ (map (rewrite_write at) rewrites ++ map (erase_write at) erased)) planned_first since.slots_are
         ∙ append_assoc front (planned_writes new.entries since.planned) (map (rewrite_write (slots_after slots since.planned)) rewrites ++ map (erase_write (slots_after slots since.planned)) erased))
 
     tables : table_writes writes ≡ length front

@@ -13,8 +13,7 @@ use Rattle.commit_writes.specs.Planned.{AreEntriesOf}
 use Rattle.batch_order.specs.Entries.{Entries, KeepEntries}
 use Rattle.batch_order.specs.Planning.{IsSettled}
 use Rattle.batch_order.specs.Kept.{IsArranged}
-use Rattle.batch_order.proofs.Puts.{AllLive}
-use Rattle.batch_order.proofs.Entered.{entries_of_kept}
+use Rattle.batch_order.proofs.Entered.{AllLive, entries_of_kept}
 
 -- with the same live ids all is settled still
 pub settled_same : (old new : Entries) (slots : Slots) → IsSettled old slots → new.live ≡ old.live → new.slots ≡ old.slots → IsSettled new slots

@@ -24,7 +24,7 @@ use Rattle.commit_writes.specs.PlannedBatch.{rewritten_entries, erased_live}
 use Rattle.batch_order.specs.declared.manager.Held.{Held}
 use Rattle.batch_order.specs.declared.translation.Translation.{Translation}
 use Rattle.batch_order.specs.Entries.{Entries}
-use Rattle.batch_order.specs.Planning.{IsSettled}
+use Rattle.batch_order.specs.Planning.{IsSettled, as_writes}
 use Rattle.batch_order.specs.Managed.{HeldCommit}
 
 -- What a manager keeps of its device's translation: by covers nothing, and by bits the live ranges and both tables.
@@ -58,20 +58,24 @@ translated_by (Some kept) None rules writes = Some kept
 translated_by (Some kept) (Some bits) rules writes =
     Some (record { bits = bits_left rules bits; tables = state_after kept.tables writes })
 
--- so is it after a commit under way
-abbrev pub translation_after : Option Translation → List Rule → Held → Option Translation
-translation_after translation rules held =
-    translated_by translation held.bits (set_after rules held.batch) held.writes.items
+-- the device writes of a commit under way, while the ids have these entries
+abbrev pub held_writes : List (Option Entry) → Held → List Write
+held_writes entries held = as_writes entries held.rewrites.items held.writes.items
+
+-- what is kept after a commit under way
+abbrev pub translation_after : Option Translation → List Rule → List (Option Entry) → Held → Option Translation
+translation_after translation rules entries held =
+    translated_by translation held.bits (set_after rules held.batch) (held_writes entries held)
 
 -- the live ranges once a commit has finished
 abbrev pub bits_after : List Rule → Held → FieldBits
 bits_after rules held = bits_left (set_after rules held.batch) (during_of held.bits)
 
 -- the commit under way, as callers see it
-abbrev pub held_of : List Rule → Held → HeldCommit
-held_of rules held =
+abbrev pub held_of : List Rule → List (Option Entry) → Held → HeldCommit
+held_of rules entries held =
     record {
-      writes = drop held.made held.writes.items;
+      writes = drop held.made (held_writes entries held);
       counts = held.counts;
       rules = set_after rules held.batch;
       bits = bits_after rules held;
@@ -85,7 +89,7 @@ settled_state translation entries slots = with_slots (tables_of translation) (co
 abbrev pub state_of : Option Translation → List (Option Entry) → Slots → Option Held → State
 state_of translation entries slots None = settled_state translation entries slots
 state_of translation entries slots (Some held) =
-    state_after (settled_state translation entries slots) (take held.made held.writes.items)
+    state_after (settled_state translation entries slots) (take held.made (held_writes entries held))
 
 -- the pieces of a set have an entry each, and these stand in order
 pub record IsArranged (mode : Mode) (bits : FieldBits) (rules : List Rule) (kept : Entries) (slots : Slots) : Type 0 where
@@ -106,15 +110,15 @@ pub record IsHeld (translation : Option Translation) (rules : StoredRules) (kept
   pub during : during_of held.bits ≡ bits_with (mode_of translation) rules.rules held.batch (bits_of translation)
   pub old : IsArranged (mode_of translation) (bits_of translation) rules.rules (record kept { live = before }) slots
   pub after : IsArranged (mode_of translation) (bits_after rules.rules held) (set_after rules.rules held.batch) (changed_by kept held.rewrites.items held.erased.items) held.arrangement
-  pub leads : state_after (settled_state translation kept.entries slots) held.writes.items
-      ≡ settled_state (translation_after translation rules.rules held) (rewritten_entries kept.entries held.rewrites.items) held.arrangement
-  pub tables : IsState 0 (tables_of (translation_after translation rules.rules held))
-  pub translated : AreBitsOf (mode_of translation) (bits_after rules.rules held) (set_after rules.rules held.batch) (tables_of (translation_after translation rules.rules held))
+  pub leads : state_after (settled_state translation kept.entries slots) (held_writes kept.entries held)
+      ≡ settled_state (translation_after translation rules.rules kept.entries held) (rewritten_entries kept.entries held.rewrites.items) held.arrangement
+  pub tables : IsState 0 (tables_of (translation_after translation rules.rules kept.entries held))
+  pub translated : AreBitsOf (mode_of translation) (bits_after rules.rules held) (set_after rules.rules held.batch) (tables_of (translation_after translation rules.rules kept.entries held))
   -- and on the way each key has the old or the new answer, on a device with so many slots or more
   pub hitless : (device_slots : ℕ) → length slots ≤ device_slots
-      → KeepsOldOrNew rules.rules (set_after rules.rules held.batch) (on_device device_slots (settled_state translation kept.entries slots)) held.writes.items
+      → KeepsOldOrNew rules.rules (set_after rules.rules held.batch) (on_device device_slots (settled_state translation kept.entries slots)) (held_writes kept.entries held)
   pub made : held.made ≤ length held.writes.items
-  pub in_use : AllByRecursion (IsInUse (length slots)) held.writes.items
+  pub in_use : AllByRecursion (IsInUse (length slots)) (held_writes kept.entries held)
   -- the batch can be applied to the set, without memory
   pub right : AllByRecursion HasConditions (set_after rules.rules held.batch)
   pub sound : IsSound rules.rules held.batch

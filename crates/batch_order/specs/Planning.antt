@@ -1,9 +1,8 @@
 -- What a plan needs and keeps: entries that stand once and in order, and writes within the slots in use.
-use Rattle.std.specs.Prelude.{◌≡◌, ℕ, ◌+◌, ◌<◌, ◌≤◌, IsTrue, IsSome, Some, List, ◌++◌, length, fold, map, max}
+use Rattle.std.specs.Prelude.{◌≡◌, ℕ, ◌+◌, ◌<◌, ◌≤◌, IsTrue, IsSome, Some, List, ◌++◌, length, flat_map, fold, map, max, option_map, slice_get}
 use Rattle.std.specs.List.{AllByRecursion}
 use Rattle.slot_pool.specs.Arrangement.{Slots, home_of}
 use Rattle.ternary_word.specs.Entry.{RankedPiece, entry_for}
-use Rattle.overlap_index.specs.declared.LivePiece.{LivePiece}
 use Rattle.overlap_index.specs.Live.{AreApart, is_live, is_above}
 use Rattle.move_planner.specs.declared.Aim.{Aim}
 use Rattle.move_planner.specs.declared.Move.{Move}
@@ -11,9 +10,13 @@ use Rattle.move_planner.specs.declared.Move.TheVariants.{Put, Erase}
 use Rattle.move_planner.specs.Placement.{IsPlacement, IsInOrder, after_moves, span_of}
 use Rattle.move_planner.specs.Insertion.{IsLive, IsOther, StandOnce, free_slots}
 use Rattle.tcam_device.specs.declared.Write.{Write}
+use Rattle.tcam_device.specs.declared.Write.TheVariants.{Slot}
 use Rattle.tcam_device.specs.State.{IsInUse}
-use Rattle.commit_writes.specs.Planned.{Planned, ArePlanned, ranked_of, live_after, slots_after, planned_writes, write_for, entry_at}
+use Rattle.commit_writes.specs.declared.Rewrite.{Rewrite}
+use Rattle.commit_writes.specs.Planned.{IdEntries, Planned, ArePlanned, ranked_of, live_after, slots_after, write_for, entry_at}
 use Rattle.batch_order.specs.declared.plan.Plan.{Plan}
+use Rattle.batch_order.specs.declared.planned_writes.PlannedWrite.{PlannedWrite}
+use Rattle.batch_order.specs.declared.planned_writes.PlannedWrite.TheVariants.{Tabled, Moved, Rewritten}
 use Rattle.batch_order.specs.Entries.{Entries, KeepEntries}
 
 -- the id stands in a slot
@@ -25,6 +28,25 @@ abbrev pub IsInside : ℕ → Move → Type 0
 IsInside slots (Put slot id) = slot < slots
 IsInside slots (Erase slot) = slot < slots
 
+-- the device write that a planned one is, by the entries of the ids and the new entries of the commit
+abbrev pub as_write : IdEntries → List Rewrite → PlannedWrite → Write
+as_write entries rewrites (Tabled word) = word
+as_write entries rewrites (Moved move) = write_for entries move
+as_write entries rewrites (Rewritten slot place) = Slot slot (option_map (λ rewrite. rewrite.entry) (slice_get rewrites place))
+
+abbrev pub as_writes : IdEntries → List Rewrite → List PlannedWrite → List Write
+as_writes entries rewrites writes = map (as_write entries rewrites) writes
+
+-- a planned write is to a slot that is one of so many, or to a table
+abbrev pub IsWithin : ℕ → PlannedWrite → Type 0
+IsWithin slots (Tabled word) = IsInUse slots word
+IsWithin slots (Moved move) = IsInside slots move
+IsWithin slots (Rewritten slot place) = slot < slots
+
+-- the planned writes of insertions
+abbrev pub planned_moves : List Planned → List PlannedWrite
+planned_moves planned = flat_map (λ insertion. map Moved insertion.moves) planned
+
 -- each live id stands in one slot, in order, and the other slots are free
 pub record IsSettled (kept : Entries) (slots : Slots) : Type 0 where
   pub size : length slots ≡ kept.slots
@@ -35,9 +57,9 @@ pub record IsSettled (kept : Entries) (slots : Slots) : Type 0 where
   pub count : free_slots slots + length kept.live ≡ kept.slots
 
 -- and the writes that lead there are within the slots in use
-pub record IsPlannable (kept : Entries) (slots : Slots) (writes : List Write) : Type 0 where
+pub record IsPlannable (kept : Entries) (slots : Slots) (writes : List PlannedWrite) : Type 0 where
   pub settled : IsSettled kept slots
-  pub in_use : AllByRecursion (IsInUse kept.slots) writes
+  pub within : AllByRecursion (IsWithin kept.slots) writes
 
 -- the others are settled, and this live id is still to be placed
 pub record IsLastLive (kept : Entries) (slots : Slots) (id : ℕ) : Type 0 where
@@ -50,18 +72,13 @@ pub record IsLastLive (kept : Entries) (slots : Slots) (id : ℕ) : Type 0 where
   pub count : free_slots slots + length kept.live ≡ kept.slots + 1
   pub room : length kept.live ≤ kept.slots
 
--- a move that puts an id puts a live one
-abbrev pub PutsLive : List LivePiece → Move → Type 0
-PutsLive live (Put slot id) = IsTrue (is_live live id)
-PutsLive live (Erase slot) = Unit {0}
-
--- the insertion of a live id was planned: its moves are those of a placement with its aim, and their writes stand behind
--- the others
+-- the insertion of a live id was planned: its moves are those of a placement with its aim, and stand behind the other
+-- writes
 pub record IsInserted (kept : Entries) (slots slots' : Slots) (aim : Aim) (id : ℕ) (plan plan' : Plan) : Type 0 where
   pub moves : List Move
   pub placement : IsPlacement (is_above kept.live) aim id slots moves
   pub slots_are : slots' ≡ after_moves slots moves
-  pub writes : plan'.writes.items ≡ plan.writes.items ++ map (write_for kept.entries) moves
+  pub writes : plan'.writes.items ≡ plan.writes.items ++ map Moved moves
   pub words : plan'.words ≡ plan.words
   pub most : plan'.most ≡ max plan.most (length moves)
   pub span : plan'.span ≡ max plan.span (span_of (is_above kept.live) slots id)
@@ -76,9 +93,7 @@ pub record ArePlannedSince (old new : Entries) (slots slots' : Slots) (plan plan
   pub slots_are : slots' ≡ slots_after slots planned
   pub have_entries : AllByRecursion (λ insertion. entry_at new.entries insertion.one.id ≡ Some (entry_for (ranked_of insertion))) planned
   pub kept : KeepEntries old.live old.entries new.entries
-  -- their writes mean the same under any later entries, since they put live ids alone
-  pub puts : AllByRecursion (λ insertion. AllByRecursion (PutsLive new.live) insertion.moves) planned
-  pub writes : plan'.writes.items ≡ plan.writes.items ++ planned_writes new.entries planned
+  pub writes : plan'.writes.items ≡ plan.writes.items ++ planned_moves planned
   pub words : plan'.words ≡ plan.words
   pub most : plan'.most ≡ fold max plan.most (map (λ insertion. length insertion.moves) planned)
   pub span : plan'.span ≡ fold max plan.span (map (λ insertion. insertion.span) planned)

@@ -1,26 +1,24 @@
-//! The insertions of a plan: one piece after the other, the moves of each as device writes.
+//! The insertions of a plan: one piece after the other, the moves of each as its writes.
 
 ghost use Rattle.std.specs.Prelude.{◌≡◌, ◌+◌, ◌-◌, ◌<◌, ◌≤◌, ◌^◌, ◌++◌, ◌∷◌, [], IfOk, OnOk, OnErr, IsTrue, IsFalse, length, map, take, drop};
 ghost use Rattle.std.specs.List.{AllByRecursion};
 ghost use Rattle.rule_store.specs.Verdict.{entries_of};
 ghost use Rattle.ternary_word.specs.Entry.{IsEncodable};
 ghost use Rattle.overlap_index.specs.Live.{is_live};
-ghost use Rattle.tcam_device.specs.State.{IsInUse};
-ghost use Rattle.commit_writes.specs.Planned.{write_for};
 ghost use Rattle.batch_order.specs.Entries.{AddsIds, AreLast, KeepEntries};
 ghost use Rattle.batch_order.specs.Placing.{aims_of};
-ghost use Rattle.batch_order.specs.Planning.{IsPlannable, IsLastLive, IsInside, IsInserted, ArePlannedSince};
+ghost use Rattle.batch_order.specs.Planning.{IsPlannable, IsLastLive, IsWithin, IsInserted, ArePlannedSince};
 
 use crate::Placement;
 use crate::aims::aim_of;
 use crate::entries::LiveEntries;
 use crate::pieces::Ranked;
 use crate::plan::Plan;
-use move_planner::{Aim, Move, Moves, plan_insert};
+use crate::planned_writes::PlannedWrite;
+use move_planner::{Aim, Moves, plan_insert};
 use rule_store::{Mode, Store};
 use slot_pool::Arrangement;
 use std::alloc::{AllocError, Global};
-use tcam_device::Write;
 
 /// Plans an insertion for each piece that a commit puts into a set, in their order and with the aims of the placement,
 /// and answers the ids of their entries. On want of memory the live entries are as they were.
@@ -104,7 +102,7 @@ fn plan_piece(
     }
 }
 
-/// Plans the insertion of a live id with an aim, each of its moves a device write.
+/// Plans the insertion of a live id with an aim, each of its moves a write.
 fn plan_moves(
     alloc: Global,
     id: u32,
@@ -114,29 +112,23 @@ fn plan_moves(
     plan: &mut Plan,
 ) -> Result<(), AllocError>
     requires new { IsLastLive live.now arrangement.old id }
-    requires in_use { AllByRecursion (IsInUse live.now.slots) plan.old.writes.items }
+    requires within { AllByRecursion (IsWithin live.now.slots) plan.old.writes.items }
     ensures plannable { OnOk result (IsPlannable live.now arrangement.new plan.new.writes.items) }
     ensures inserted { OnOk result (IsInserted live.now arrangement.old arrangement.new aim id plan.old plan.new) }
 {
     let mut moves = Moves::new(alloc);
     let insert = plan_insert(alloc, arrangement, live.index(), id, aim, &mut moves)?;
-    push_all(live, &moves, &mut plan.writes)?;
+    push_all(&moves, &mut plan.writes)?;
     plan.count(insert);
     Ok(())
 }
 
-/// Puts the device writes that some moves are behind others.
-fn push_all(live: &LiveEntries, moves: &Moves, writes: &mut Vec<Write>) -> Result<(), AllocError>
-    requires inside { AllByRecursion (IsInside live.now.slots) moves.now }
-    requires in_use { AllByRecursion (IsInUse live.now.slots) writes.old.items }
-    ensures in_use { OnOk result (AllByRecursion (IsInUse live.now.slots) writes.new.items) }
-    ensures writes { OnOk result (writes.new.items ≡ writes.old.items ++ map (write_for live.now.entries) moves.now) }
+/// Puts some moves behind planned writes.
+fn push_all(moves: &Moves, writes: &mut Vec<PlannedWrite>) -> Result<(), AllocError>
+    ensures { OnOk result (writes.new.items ≡ writes.old.items ++ map PlannedWrite.Moved moves.now) }
 {
     for place in 0..moves.len() {
-        match moves.at(place) {
-            Move::Put(slot, id) => writes.push(Write::Slot(slot, live.at(id)))?,
-            Move::Erase(slot) => writes.push(Write::Slot(slot, None))?,
-        }
+        writes.push(PlannedWrite::Moved(moves.at(place)))?;
     }
     Ok(())
 }

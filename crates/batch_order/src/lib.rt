@@ -23,6 +23,10 @@
 //! the new rule alone go in, those of both get the new result, those of the old rule alone go; `parts` has the ids of the
 //! latter two. `insertions` plans the first, each where `aims` says, and `plan` the writes of the others.
 //!
+//! **A plan is small.** A device write has a whole entry, and a commit may take millions of them. So a plan names the entry
+//! of each by its id, and `planned_writes` makes the device write when its turn comes. It is the write that was planned:
+//! what stands at a live id changes only once the commit has finished, and the new entries of ids wait beside the plan.
+//!
 //! **Port ranges.** By covers a rule takes an entry for each pair of blocks of its ranges' covers. A rule that replaces
 //! another keeps the entries that both have, and only the others are put in and erased. By bits a rule takes one entry: a
 //! range that isn't one block is tested by a bit of its field's translation table. A commit that brings new ranges first
@@ -44,12 +48,16 @@ mod manager;
 mod parts;
 mod pieces;
 mod plan;
+mod planned_writes;
+mod rule_name;
 mod translation;
 
 pub use commit_writes::Done;
 pub use manager::Manager;
 pub use rule_model::Field;
 use rule_model::Rank;
+pub use rule_name::RuleName;
+use rule_name::field_name;
 use rule_store::BatchFault;
 pub use rule_store::Mode;
 use tcam_device::Write;
@@ -62,16 +70,16 @@ pub enum Refusal {
     #[error("a plan is held with {left} writes to make")]
     Busy { left: u64 },
     /// An earlier command of the batch names the priority.
-    #[error("priority named twice")]
+    #[error("rule {} is named twice", RuleName(*.0))]
     Twice(Rank),
     /// A rule that is to be added has a priority of the set.
-    #[error("priority taken")]
+    #[error("rule {} is taken", RuleName(*.0))]
     Taken(Rank),
     /// The set has no rule of the priority that is to be changed or removed.
-    #[error("priority absent")]
+    #[error("rule {} is absent", RuleName(*.0))]
     Absent(Rank),
     /// The additions need more bits for their port ranges than a field has free.
-    #[error("{need} bits needed and {free} free")]
+    #[error("{need} {} bits needed and {free} free", field_name(*.field))]
     Bits { field: Field, need: u32, free: u32 },
     /// The additions need more entries than there are free slots.
     #[error("{need} slots needed and {free} free")]

@@ -1,6 +1,6 @@
 //! The manager of one device.
 
-ghost use Rattle.std.specs.Prelude.{◌≡◌, ◌+◌, ◌-◌, ◌*◌, ◌^◌, ◌++◌, ◌∷◌, [], ◌≤◌, ◌<◌, ◌↔◌, ℕ, List, Option, Some, None, Err, IfSome, IsSome, IfOk, IfErr, IsErr, OnOk, OnErr, length, option_map, fold};
+ghost use Rattle.std.specs.Prelude.{◌≡◌, ◌+◌, ◌-◌, ◌*◌, ◌^◌, ◌++◌, ◌∷◌, [], ◌≤◌, ◌<◌, ◌↔◌, ℕ, List, Option, Some, None, Err, IfSome, IsSome, IfOk, IfErr, IsErr, OnOk, OnErr, length, map, option_map, fold};
 ghost use Rattle.std.specs.List.{AllByRecursion};
 ghost use Rattle.call_history.specs.Cause.{HasCause};
 ghost use Rattle.tcam_device.specs.declared.Write.{Write};
@@ -19,6 +19,7 @@ use crate::entries::LiveEntries;
 use crate::insertions::{forget_all, plan_additions};
 use crate::parts::parts_of;
 use crate::plan::{Plan, erase_all, plan_changes, ready};
+use crate::planned_writes::{PlannedWrite, write_of};
 use crate::translation::{Translation, blank_translation, check_field, encoding, translate};
 use crate::{Done, Field, Placement, Ready, Refusal, Step, Stuck, refusal_of};
 use commit_writes::Rewrite;
@@ -37,12 +38,12 @@ const NOTHING_DONE: Done = Done {
     span: 0,
 };
 
-/// A commit under way: its writes and how many of them were made, its numbers, and what is to be done once its writes
-/// are made: the batch that takes the rules to the new set, the ids that get another entry, the ids that go, by
+/// A commit under way: its planned writes and how many of them were made, its numbers, and what is to be done once its
+/// writes are made: the batch that takes the rules to the new set, the ids that get another entry, the ids that go, by
 /// rising priority, and where the entries stand then.
 #[derive(Drop)]
 pub(crate) struct Held {
-    pub(crate) writes: Vec<Write>,
+    pub(crate) writes: Vec<PlannedWrite>,
     pub(crate) made: usize,
     pub(crate) counts: Done,
     /// The live ranges meanwhile, those of the old set and of the new one: none by covers.
@@ -81,7 +82,7 @@ impl Model for Manager {
       rules = m.rules.rules;
       bits = bits_of m.translation;
       state = state_of m.translation m.live.entries m.arrangement m.held;
-      held = option_map (held_of m.rules.rules) m.held;
+      held = option_map (held_of m.rules.rules m.live.entries) m.held;
     } };
 
     ghost invariant = { λ m. IsManaged m.translation m.rules m.live m.arrangement m.held };
@@ -292,7 +293,7 @@ impl Manager {
         requires empty { plan.old.writes.items ≡ [] }
         requires none { plan.old.words ≡ 0 }
         ensures bits { IfOk result (λ bits. (coded_by bits ≡ self.now.mode) × (during_of bits ≡ bits_with self.now.mode self.now.rules batch.now self.now.bits)) }
-        ensures writes { OnOk result (plan.new.writes.items ≡ words_of self.now.mode self.now.bits self.now.rules batch.now self.now.state) }
+        ensures writes { OnOk result (plan.new.writes.items ≡ map PlannedWrite.Tabled (words_of self.now.mode self.now.bits self.now.rules batch.now self.now.state)) }
         ensures words { OnOk result (plan.new.words ≡ length plan.new.writes.items) }
         ensures few { OnOk result (length plan.new.writes.items ≤ 2 * 2 ^ 16) }
         ensures most { plan.new.most ≡ plan.old.most }
@@ -303,8 +304,9 @@ impl Manager {
         };
         let bits = translation.bits.with_new(batch);
         let new = bits.new_since(&translation.bits);
-        translation.tables.plan_words(&new, &mut plan.writes)?;
-        plan.words = plan.writes.len() as u32;
+        let mut words = Vec::new(self.alloc);
+        translation.tables.plan_words(&new, &mut words)?;
+        plan.push_words(&words)?;
         Ok(Some(bits))
     }
 
@@ -343,8 +345,10 @@ impl Manager {
                 Ok(step)
             }
             Some(write) => {
+                // The borrow checker doesn't cover a struct that is handed on by value and used again.
+                let made = write;
                 device.write(write)?;
-                let step = self.advance();
+                let step = self.advance(made);
                 self.serving();
                 Ok(step)
             }
@@ -416,20 +420,23 @@ impl Manager {
     {
         match &self.held {
             None => None,
-            Some(held) => held.writes.get(held.made).copied(),
+            Some(held) => match held.writes.get(held.made) {
+                None => None,
+                Some(planned) => Some(write_of(planned, &self.live, &held.rewrites)),
+            },
         }
     }
 
-    /// The next write was made.
-    fn advance(&mut self) -> Step
-        requires { IfSome self.old.held (λ held. 0 < length held.writes) }
+    /// The next write, this one, was made.
+    fn advance(&mut self, write: Write) -> Step
+        requires { next_of self.old.held ≡ Some write }
         ensures { Steps self.old self.old.held result self.new }
     {
         match &mut self.held {
             None => Step::Idle,
             Some(held) => {
                 held.made += 1;
-                Step::Wrote(held.writes[held.made - 1])
+                Step::Wrote(write)
             }
         }
     }

@@ -1,25 +1,28 @@
-//! The plan of a commit: its writes, made before the first of them goes out.
+//! The plan of a commit: its writes, planned before the first of them goes out.
 
-ghost use Rattle.std.specs.Prelude.{◌≡◌, ◌≤◌, ◌++◌, [], OnOk, length, map, max, nat_eq};
+ghost use Rattle.std.specs.Prelude.{◌≡◌, ◌≤◌, ◌*◌, ◌^◌, ◌++◌, [], OnOk, List, length, map, max, nat_eq};
 ghost use Rattle.std.specs.List.{AllByRecursion, IsDistinct};
-ghost use Rattle.tcam_device.specs.State.{IsInUse};
+ghost use Rattle.commit_writes.specs.declared.Rewrite.{Rewrite};
+ghost use Rattle.commit_writes.specs.Planned.{IdEntries};
 ghost use Rattle.commit_writes.specs.PlannedBatch.{erase_write, erased_slots, rewrite_write};
 ghost use Rattle.batch_order.specs.Managed.{ready_of};
-ghost use Rattle.batch_order.specs.Planning.{IsStanding};
+ghost use Rattle.batch_order.specs.Planning.{IsStanding, IsWithin, as_writes};
 
 use crate::parts::Parts;
+use crate::planned_writes::PlannedWrite;
 use crate::{Done, Ready};
 use commit_writes::Rewrite;
-use move_planner::Insert;
+use move_planner::{Insert, Move};
 use slot_pool::Arrangement;
 use std::alloc::{AllocError, Global};
-use tcam_device::{Writable, Write};
+use tcam_device::Writable;
+use translation_tables::TableWord;
 
 /// The writes of a commit still to make, how many of them are words of the tables, the writes of its longest insertion, and
 /// the greatest span of one.
 #[derive(Drop)]
 pub(crate) struct Plan {
-    pub(crate) writes: Vec<Write>,
+    pub(crate) writes: Vec<PlannedWrite>,
     pub(crate) words: u32,
     pub(crate) most: u32,
     pub(crate) span: u32,
@@ -39,6 +42,18 @@ impl Plan {
             most: 0,
             span: 0,
         }
+    }
+
+    /// Puts the words of the tables into a plan of no writes.
+    pub(crate) fn push_words(&mut self, words: &[TableWord]) -> Result<(), AllocError>
+        requires few { length words.now ≤ 2 * 2 ^ 16 }
+        ensures writes { OnOk result (self.new.writes.items ≡ self.old.writes.items ++ map PlannedWrite.Tabled words.now) }
+        ensures words { OnOk result (self.new.words ≡ length words.now) }
+        ensures most { self.new.most ≡ self.old.most }
+        ensures span { self.new.span ≡ self.old.span }
+    {
+        self.words = words.len() as u32;
+        push_all(words, &mut self.writes)
     }
 
     /// Counts an insertion whose writes were pushed.
@@ -68,6 +83,16 @@ impl Plan {
     }
 }
 
+/// Puts some words behind planned writes.
+fn push_all(words: &[TableWord], writes: &mut Vec<PlannedWrite>) -> Result<(), AllocError>
+    ensures { OnOk result (writes.new.items ≡ writes.old.items ++ map PlannedWrite.Tabled words.now) }
+{
+    for word in words {
+        writes.push(PlannedWrite::Tabled(*word))?;
+    }
+    Ok(())
+}
+
 /// The numbers of a commit before its first write, which are those after its last.
 pub(crate) fn ready(counts: &Done) -> Ready
     ensures { result ≡ ready_of counts.now }
@@ -87,11 +112,13 @@ pub(crate) fn plan_changes<D: Writable>(
     plan: &mut Plan,
     device: &mut D,
 ) -> Result<(), AllocError>
+    requires few { length parts.now.rewrites.items ≤ 4096 }
     requires rewritten { AllByRecursion (λ rewrite. IsStanding arrangement.now rewrite.id) parts.now.rewrites.items }
     requires erased { AllByRecursion (IsStanding arrangement.now) parts.now.erased.items }
-    requires in_use { AllByRecursion (IsInUse (length arrangement.now)) plan.old.writes.items }
-    ensures in_use { OnOk result (AllByRecursion (IsInUse (length arrangement.now)) plan.new.writes.items) }
-    ensures writes { OnOk result (plan.new.writes.items ≡ plan.old.writes.items ++ (map (rewrite_write arrangement.now) parts.now.rewrites.items ++ map (erase_write arrangement.now) parts.now.erased.items)) }
+    requires within { AllByRecursion (IsWithin (length arrangement.now)) plan.old.writes.items }
+    ensures within { OnOk result (AllByRecursion (IsWithin (length arrangement.now)) plan.new.writes.items) }
+    ensures writes { OnOk result ((entries : IdEntries) → as_writes entries parts.now.rewrites.items plan.new.writes.items
+        ≡ as_writes entries parts.now.rewrites.items plan.old.writes.items ++ (map (rewrite_write arrangement.now) parts.now.rewrites.items ++ map (erase_write arrangement.now) parts.now.erased.items)) }
     ensures words { OnOk result (plan.new.words ≡ plan.old.words) }
     ensures most { OnOk result (plan.new.most ≡ plan.old.most) }
     ensures span { OnOk result (plan.new.span ≡ plan.old.span) }
@@ -110,16 +137,17 @@ pub(crate) fn plan_changes<D: Writable>(
 fn plan_rewrites(
     rewrites: &[Rewrite],
     arrangement: &Arrangement,
-    writes: &mut Vec<Write>,
+    writes: &mut Vec<PlannedWrite>,
 ) -> Result<(), AllocError>
+    requires few { length rewrites.now ≤ 4096 }
     requires standing { AllByRecursion (λ rewrite. IsStanding arrangement.now rewrite.id) rewrites.now }
-    requires in_use { AllByRecursion (IsInUse (length arrangement.now)) writes.old.items }
-    ensures writes { OnOk result (writes.new.items ≡ writes.old.items ++ map (rewrite_write arrangement.now) rewrites.now) }
-    ensures in_use { OnOk result (AllByRecursion (IsInUse (length arrangement.now)) writes.new.items) }
+    requires within { AllByRecursion (IsWithin (length arrangement.now)) writes.old.items }
+    ensures writes { OnOk result ((entries : IdEntries) → as_writes entries rewrites.now writes.new.items ≡ as_writes entries rewrites.now writes.old.items ++ map (rewrite_write arrangement.now) rewrites.now) }
+    ensures within { OnOk result (AllByRecursion (IsWithin (length arrangement.now)) writes.new.items) }
 {
-    for rewrite in rewrites {
+    for (place, rewrite) in rewrites.iter().enumerate() {
         let slot = arrangement.home(rewrite.id).unwrap();
-        writes.push(Write::Slot(slot, Some(rewrite.entry)))?;
+        writes.push(PlannedWrite::Rewritten(slot, place as u32))?;
     }
     Ok(())
 }
@@ -128,16 +156,16 @@ fn plan_rewrites(
 fn plan_erases(
     ids: &[u32],
     arrangement: &Arrangement,
-    writes: &mut Vec<Write>,
+    writes: &mut Vec<PlannedWrite>,
 ) -> Result<(), AllocError>
     requires standing { AllByRecursion (IsStanding arrangement.now) ids.now }
-    requires in_use { AllByRecursion (IsInUse (length arrangement.now)) writes.old.items }
-    ensures writes { OnOk result (writes.new.items ≡ writes.old.items ++ map (erase_write arrangement.now) ids.now) }
-    ensures in_use { OnOk result (AllByRecursion (IsInUse (length arrangement.now)) writes.new.items) }
+    requires within { AllByRecursion (IsWithin (length arrangement.now)) writes.old.items }
+    ensures writes { OnOk result ((entries : IdEntries) → (rewrites : List Rewrite) → as_writes entries rewrites writes.new.items ≡ as_writes entries rewrites writes.old.items ++ map (erase_write arrangement.now) ids.now) }
+    ensures within { OnOk result (AllByRecursion (IsWithin (length arrangement.now)) writes.new.items) }
 {
     for id in ids {
         let slot = arrangement.home(*id).unwrap();
-        writes.push(Write::Slot(slot, None))?;
+        writes.push(PlannedWrite::Moved(Move::Erase(slot)))?;
     }
     Ok(())
 }

@@ -1,17 +1,20 @@
 //! What a manager keeps of the translation of port ranges: by covers nothing.
 
-ghost use Rattle.std.specs.Prelude.{◌≡◌, ◌+◌, ◌-◌, ◌<◌, ◌≤◌, IfOk, IfErr, OnOk, length};
+ghost use Rattle.std.specs.Prelude.{◌≡◌, ◌+◌, ◌-◌, ◌<◌, ◌≤◌, IfOk, IfErr, OnOk, List, length};
 ghost use Rattle.rule_store.specs.Verdict.{field_bits};
 ghost use Rattle.range_bits.specs.FieldMap.{live_count};
-ghost use Rattle.tcam_device.specs.State.{blank};
+ghost use Rattle.tcam_device.specs.State.{IsState, apply, blank, state_after};
+ghost use Rattle.commit_writes.specs.declared.Rewrite.{Rewrite};
 ghost use Rattle.commit_writes.specs.Bits.{no_bits};
+ghost use Rattle.commit_writes.specs.Planned.{IdEntries};
 ghost use Rattle.translation_tables.specs.Needed.{ranges_in, ranges_needed};
 ghost use Rattle.batch_order.specs.Kept.{bits_of, mode_of, tables_of, translated_by};
+ghost use Rattle.batch_order.specs.Planning.{as_write, as_writes};
 
+use crate::planned_writes::PlannedWrite;
 use crate::{Field, Refusal};
 use rule_store::{Batch, Mode, Store};
 use std::alloc::{AllocError, Global};
-use tcam_device::Write;
 use translation_tables::{FieldBits, Tables};
 
 /// The live port ranges by their bits, and both translation tables as they stand in the device.
@@ -69,15 +72,38 @@ pub(crate) fn translate(
     translation: &mut Option<Translation>,
     bits: &Option<FieldBits>,
     rules: &Store,
-    writes: &[Write],
+    writes: &[PlannedWrite],
 )
-    ensures { translation.new ≡ translated_by translation.old bits.now rules.now.rules writes.now }
+    requires { IsState 0 (tables_of translation.old) }
+    ensures { (entries : IdEntries) → (rewrites : List Rewrite) → translation.new ≡ translated_by translation.old bits.now rules.now.rules (as_writes entries rewrites writes.now) }
 {
     match (translation, bits) {
         (Some(kept), Some(bits)) => {
-            kept.tables.make(writes);
+            set_words(&mut kept.tables, writes);
             kept.bits = bits.released(rules);
         }
         _ => {}
+    }
+}
+
+/// The tables get the words that are among some writes, in their order.
+fn set_words(tables: &mut Tables, writes: &[PlannedWrite])
+    requires { IsState 0 tables.old }
+    ensures { (entries : IdEntries) → (rewrites : List Rewrite) → tables.new ≡ state_after tables.old (as_writes entries rewrites writes.now) }
+{
+    for write in writes {
+        set_word(tables, *write);
+    }
+}
+
+/// The tables get a word, if a write is one; a write of a slot changes nothing here.
+fn set_word(tables: &mut Tables, write: PlannedWrite)
+    requires { length tables.old.slots ≡ 0 }
+    ensures { (entries : IdEntries) → (rewrites : List Rewrite) → tables.new ≡ apply tables.old (as_write entries rewrites write) }
+{
+    match write {
+        PlannedWrite::Tabled(word) => tables.set(word),
+        PlannedWrite::Moved(_) => {}
+        PlannedWrite::Rewritten(..) => {}
     }
 }

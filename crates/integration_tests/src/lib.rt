@@ -13,6 +13,8 @@ mod commits;
 #[cfg(test)]
 mod devices;
 #[cfg(test)]
+mod refusals;
+#[cfg(test)]
 mod resumed;
 #[cfg(test)]
 mod silent;

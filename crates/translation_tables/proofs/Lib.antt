@@ -1,4 +1,3 @@
-pub mod Apart
 pub mod Coded
 pub mod Kept
 pub mod NewRanges

@@ -20,4 +20,4 @@ mod tables;
 mod tests;
 
 pub use ranges::FieldBits;
-pub use tables::Tables;
+pub use tables::{TableWord, Tables};

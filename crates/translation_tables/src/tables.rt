@@ -1,7 +1,7 @@
 //! The words of both translation tables.
 
 ghost use Rattle.std.specs.Prelude.{◌≡◌, ◌+◌, ◌≤◌, ◌^◌, ◌*◌, ◌++◌, IfOk, OnOk, length};
-ghost use Rattle.tcam_device.specs.State.{blank, state_after};
+ghost use Rattle.tcam_device.specs.State.{apply, blank};
 ghost use Rattle.commit_writes.specs.Shape as shape;
 ghost use Rattle.commit_writes.specs.Shape.{bit_writes, field_writes};
 
@@ -11,10 +11,38 @@ use rule_model::Field;
 use std::alloc::{AllocError, Global};
 use std::marker::Model;
 use tcam_device::Write;
-use ternary_word::Entry;
 
 /// How many words a translation table has, one a port.
 const PORTS: usize = 65_536;
+
+/// The word that a port gets in a field's table, in fewer bytes than a device write. Contracts see it as that write.
+#[derive(Clone, Copy, Debug, PartialEq, Eq)]
+pub struct TableWord {
+    field: Field,
+    port: u16,
+    word: u16,
+}
+
+impl Model for TableWord {
+    ghost use Rattle.tcam_device.specs.declared.Write.{Write};
+    ghost use Rattle.tcam_device.specs.declared.Write.TheVariants.{Table};
+    ghost use Rattle.translation_tables.specs.Words.{field_in, port_in, word_in};
+
+    ghost Value = { Write };
+
+    ghost view = { λ w. Table w.field w.port w.word };
+
+    ghost inverse = { λ w. record { field = field_in w; port = port_in w; word = word_in w } };
+}
+
+impl TableWord {
+    /// The device write.
+    pub fn write(&self) -> Write
+        ensures { result ≡ self.now }
+    {
+        Write::Table(self.field, self.port, self.word)
+    }
+}
 
 /// Both translation tables of a device, a word of 16 bits for each port.
 #[derive(Drop)]
@@ -44,37 +72,34 @@ impl Tables {
         Ok(Tables { src, dst })
     }
 
-    /// Puts behind some writes those of each word that differs once new bits are set exactly at their ranges' ports: the
-    /// source table's, then the destination table's, ports rising, at most one for each word. Nothing is pushed where no
-    /// bit is new. It fails only for want of memory, and then some of them may be pushed.
-    pub fn plan_words(&self, new: &FieldBits, writes: &mut Vec<Write>) -> Result<(), AllocError>
-        ensures writes { OnOk result (writes.new.items ≡ writes.old.items ++ bit_writes self.now new.now) }
-        ensures most { OnOk result (length writes.new.items ≤ length writes.old.items + 2 * 2 ^ 16) }
+    /// Puts behind some words each that differs once new bits are set exactly at their ranges' ports: the source table's,
+    /// then the destination table's, ports rising, at most one for each port. Nothing is pushed where no bit is new. It
+    /// fails only for want of memory, and then some of them may be pushed.
+    pub fn plan_words(&self, new: &FieldBits, words: &mut Vec<TableWord>) -> Result<(), AllocError>
+        ensures writes { OnOk result (words.new.items ≡ words.old.items ++ bit_writes self.now new.now) }
+        ensures most { OnOk result (length words.new.items ≤ length words.old.items + 2 * 2 ^ 16) }
     {
-        plan_field(Field::Src, new.of(Field::Src), &self.src, writes)?;
-        plan_field(Field::Dst, new.of(Field::Dst), &self.dst, writes)
+        plan_field(Field::Src, new.of(Field::Src), &self.src, words)?;
+        plan_field(Field::Dst, new.of(Field::Dst), &self.dst, words)
     }
 
-    /// Makes the table words among some writes of a device, in their order; writes of slots change nothing here.
-    pub fn make(&mut self, writes: &[Write])
-        ensures { self.new ≡ state_after self.old writes.now }
+    /// A word was written to the device.
+    pub fn set(&mut self, word: TableWord)
+        ensures { self.new ≡ apply self.old word }
     {
-        for write in writes {
-            match write {
-                Write::Slot(..) => {}
-                Write::Table(Field::Src, port, word) => self.src[*port as usize] = *word,
-                Write::Table(Field::Dst, port, word) => self.dst[*port as usize] = *word,
-            }
+        match word.field {
+            Field::Src => self.src[word.port as usize] = word.word,
+            Field::Dst => self.dst[word.port as usize] = word.word,
         }
     }
 }
 
-/// The writes of one table's words.
+/// The words of one table that differ.
 fn plan_field(
     field: Field,
     new: &BitMap,
     words: &[u16],
-    writes: &mut Vec<Write>,
+    writes: &mut Vec<TableWord>,
 ) -> Result<(), AllocError>
     requires { length words.now ≡ 2 ^ 16 }
     ensures { OnOk result (writes.new.items ≡ writes.old.items ++ field_writes field new.now words.now) }
@@ -82,8 +107,6 @@ fn plan_field(
     if new.live() == 0 {
         return Ok(());
     }
-    // No proof is generated where `writes` goes round a loop and no value has the type of what they hold.
-    let _none: Option<Entry> = None;
     for (port, old) in words.iter().enumerate() {
         if let Some(write) = word_write(field, new, port as u16, *old) {
             writes.push(write)?;
@@ -92,14 +115,14 @@ fn plan_field(
     Ok(())
 }
 
-/// The write of a port's word, if the word changes.
-fn word_write(field: Field, new: &BitMap, port: u16, old: u16) -> Option<Write>
+/// A port's word, if it changes.
+fn word_write(field: Field, new: &BitMap, port: u16, old: u16) -> Option<TableWord>
     ensures { result ≡ shape.word_write field new.now (port, old) }
 {
     let word = new.word_for(port, old);
     if word == old {
         None
     } else {
-        Some(Write::Table(field, port, word))
+        Some(TableWord { field, port, word })
     }
 }

@@ -126,18 +126,21 @@ fn each_word_that_differs_is_written_once(rt: HostRuntime) -> Result<(), Fail> {
     batch.push(Command::Add(rule(1, two, two)))?;
     let new = with_new(&rt, &FieldBits::new(), &batch).new_since(&FieldBits::new());
     let mut tables = Tables::new(rt.alloc())?;
-    let mut writes = Vec::new(rt.alloc());
-    tables.plan_words(&new, &mut writes)?;
+    let mut words = Vec::new(rt.alloc());
+    tables.plan_words(&new, &mut words)?;
     let wanted = [
         Write::Table(Field::Src, 1, 1),
         Write::Table(Field::Src, 2, 1),
         Write::Table(Field::Dst, 1, 1),
         Write::Table(Field::Dst, 2, 1),
     ];
-    assert_eq!(rt; writes.as_slice(), &wanted[..]);
-    tables.make(&writes);
-    writes.clear();
-    tables.plan_words(&new, &mut writes)?;
-    assert!(rt; writes.is_empty());
+    assert_eq!(rt; words.len(), wanted.len());
+    for (word, write) in words.iter().zip(wanted) {
+        assert_eq!(rt; word.write(), write);
+        tables.set(*word);
+    }
+    words.clear();
+    tables.plan_words(&new, &mut words)?;
+    assert!(rt; words.is_empty());
     Ok(())
 }

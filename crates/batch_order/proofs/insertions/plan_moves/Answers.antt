@@ -1,16 +1,19 @@
 use Rattle.std.proofs.Common.{◌≡◌, ◌<◌, ◌∙◌, ◌++◌, List, ℕ, length, map, max, arith, subst, sym, ap}
 use Rattle.std.specs.List.{AllByRecursion}
 use Rattle.std.proofs.lemmas.List.{take_all}
+use Rattle.slot_order.proofs.Lists.{all_append}
 use Rattle.overlap_index.specs.Live.{is_above}
 use Rattle.slot_pool.specs.Arrangement.{Slots}
+use Rattle.move_planner.specs.declared.Aim.{Aim}
 use Rattle.move_planner.specs.declared.Move.{Move}
 use Rattle.move_planner.specs.Placement.{IsPlacement, IsInOrder, after_moves, span_of}
 use Rattle.move_planner.specs.Insertion.{IsLive, StandOnce, free_slots, moves_since}
 use Rattle.move_planner.specs.Steps.{IsReady}
-use Rattle.commit_writes.specs.Planned.{write_for}
 use Rattle.batch_order.specs.Entries.{Entries}
-use Rattle.batch_order.specs.Planning.{IsInside, IsLastLive}
+use Rattle.batch_order.specs.declared.planned_writes.PlannedWrite.TheVariants.{Moved}
+use Rattle.batch_order.specs.Planning.{IsInside, IsLastLive, IsWithin}
 use Rattle.batch_order.proofs.Inside.{moves_inside}
+use Rattle.batch_order.proofs.Meant.{moves_within}
 use Rattle.batch_order.proofs.Settled.{settled_again, size_after}
 use Rattle.batch_order.proofs.insertions.plan_moves.Goals as goal
 
@@ -31,16 +34,10 @@ ready kept slots id new = record {
 pub plan_insert-requires-clause-free : goal.plan_insert-requires-clause-free
 plan_insert-requires-clause-free c = free_one c.args.live.now c.args.arrangement.now c.args.id c.requires.new
 
-pub push_all-requires-clause-inside : goal.push_all-requires-clause-inside
-push_all-requires-clause-inside c =
-    let kept = c.args.live.now in
-    let slots = c.args.arrangement.now in
-    let m = moves_since c.new-moves.result c.plan_insert.new.plan in
-    let all : c.plan_insert.new.plan ≡ m = c.plan_insert.ensures.plan ∙ ap (λ p. p ++ m) c.new-moves.ensures in
-    let placement : IsPlacement (is_above kept.live) c.args.aim c.args.id slots m =
-    subst (λ l. IsPlacement (is_above l) c.args.aim c.args.id slots m) c.index.ensures.live c.in_ok-insert.ensures.placement in
-    let inside = moves_inside (record { slots = kept.slots; live = kept.live }) c.args.id slots m (ready kept slots c.args.id c.requires.new) placement in
-    subst (λ n. AllByRecursion (IsInside n) c.plan_insert.new.plan) c.requires.new.size (subst (AllByRecursion (IsInside (length slots))) (sym all) inside)
+-- its moves stay inside
+inside : (kept : Entries) (slots : Slots) (aim : Aim) (id : ℕ) (moves : List Move) → IsLastLive kept slots id → IsPlacement (is_above kept.live) aim id slots moves → AllByRecursion (IsInside kept.slots) moves
+inside kept slots aim id moves new placement =
+    subst (λ n. AllByRecursion (IsInside n) moves) new.size (moves_inside (record { slots = kept.slots; live = kept.live }) id slots moves (ready kept slots id new) placement)
 
 pub returns : goal.returns
 returns c =
@@ -49,6 +46,9 @@ returns c =
     let m = moves_since c.new-moves.result c.plan_insert.new.plan in
     let all : c.plan_insert.new.plan ≡ m = c.plan_insert.ensures.plan ∙ ap (λ p. p ++ m) c.new-moves.ensures in
     let live = c.index.ensures.live in
+    let placement : IsPlacement (is_above kept.live) c.args.aim c.args.id slots m = subst (λ l. IsPlacement (is_above l) c.args.aim c.args.id slots m) live c.in_ok-insert.ensures.placement in
+    let pushed : c.count.new.self.writes.items ≡ c.args.plan.now.writes.items ++ map Moved m =
+    c.count.ensures.writes ∙ (c.in_ok-push_all.ensures ∙ ap (λ (p : List Move). c.args.plan.now.writes.items ++ map Moved p) all) in
     let after : c.plan_insert.new.slots ≡ after_moves slots m = c.plan_insert.ensures.slots in
     let order : IsInOrder (is_above kept.live) c.plan_insert.new.slots =
     subst (λ l. IsInOrder (is_above l) c.plan_insert.new.slots) live
@@ -57,13 +57,14 @@ returns c =
       plannable = record {
         settled = settled_again kept slots c.plan_insert.new.slots c.args.id c.requires.new (ap length after ∙ size_after slots m)
             (subst (λ l. StandOnce (IsLive l) c.plan_insert.new.slots) live c.in_ok-insert.ensures.standing) order c.in_ok-insert.ensures.free;
-        in_use = rw c.count.ensures.writes c.in_ok-push_all.ensures.in_use;
+        within = subst (AllByRecursion (IsWithin kept.slots)) (sym pushed)
+            (all_append (IsWithin kept.slots) c.args.plan.now.writes.items (map Moved m) c.requires.within (moves_within kept.slots m (inside kept slots c.args.aim c.args.id m c.requires.new placement)));
       };
       inserted = record {
         moves = m;
-        placement = subst (λ l. IsPlacement (is_above l) c.args.aim c.args.id slots m) live c.in_ok-insert.ensures.placement;
+        placement = placement;
         slots_are = after;
-        writes = c.count.ensures.writes ∙ (c.in_ok-push_all.ensures.writes ∙ ap (λ (p : List Move). c.args.plan.now.writes.items ++ map (write_for kept.entries) p) all);
+        writes = pushed;
         words = c.count.ensures.words;
         most = c.count.ensures.most ∙ ap (max c.args.plan.now.most) c.in_ok-insert.ensures.writes;
         span = c.count.ensures.span ∙ ap (max c.args.plan.now.span) (subst (λ l. c.in_ok-insert.insert.span ≡ span_of (is_above l) slots c.args.id) live c.in_ok-insert.ensures.span);

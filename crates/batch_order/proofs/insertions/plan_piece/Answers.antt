@@ -13,8 +13,8 @@ plan_moves-requires-clause-new c =
     let one : LivePiece = record { id = c.in_ok-id.id; piece = c.ranked.inside.piece; rank = c.ranked.inside.rank } in
     last_live c.args.live.now c.add.new.self c.args.arrangement.now one c.requires.plannable.settled c.requires.room c.in_ok-id.ensures.id c.in_ok-id.ensures.absent c.in_ok-id.ensures.live c.add.ensures.slots
 
-pub plan_moves-requires-clause-in_use : goal.plan_moves-requires-clause-in_use
-plan_moves-requires-clause-in_use c = rw c.add.ensures.slots c.requires.plannable.in_use
+pub plan_moves-requires-clause-within : goal.plan_moves-requires-clause-within
+plan_moves-requires-clause-within c = rw c.add.ensures.slots c.requires.plannable.within
 
 pub forget-requires : goal.forget-requires
 forget-requires c =
@@ -33,4 +33,4 @@ returns-in-Ok-clause-planned c =
     let kept = kept_set c.args.live.now.live c.args.live.now.entries c.args.live.now.entries c.in_ok-id.id _ c.in_ok-id.ensures.absent (λ id now. refl) in
     subst (λ (ranked : RankedPiece). ArePlannedSince c.args.live.now c.add.new.self c.args.arrangement.now c.plan_moves.new.arrangement c.args.plan.now c.plan_moves.new.plan (ranked ∷ []) (c.args.aim ∷ [])) c.ranked.view_is
     (planned_one c.args.live.now c.add.new.self c.args.arrangement.now c.plan_moves.new.arrangement one c.ranked.inside.result c.args.aim c.args.plan.now c.plan_moves.new.plan c.in_ok-id.ensures.absent c.in_ok-id.ensures.live
-    c.in_ok-id.ensures.entry (rw c.in_ok-id.ensures.entries kept) c.requires.plannable.settled.standing c.in-Ok.ensures.inserted)
+    c.in_ok-id.ensures.entry (rw c.in_ok-id.ensures.entries kept) c.in-Ok.ensures.inserted)

@@ -1,6 +1,8 @@
 use Rattle.std.proofs.Common.{◌≡◌, ◌++◌, List, Ok, Err, OnOk, Result, map, ap, append_assoc, ◌∙◌}
 use Rattle.tcam_device.specs.declared.Write.{Write}
+use Rattle.commit_writes.specs.Planned.{IdEntries}
 use Rattle.commit_writes.specs.PlannedBatch.{erase_write, rewrite_write}
+use Rattle.batch_order.specs.Planning.{as_writes}
 use Rattle.batch_order.proofs.plan.plan_changes.Goals as goal
 
 -- what holds of an answer wherever it comes
@@ -10,11 +12,13 @@ at_ok (Err fault) P holds = tt
 
 pub returns-clause-writes : goal.returns-clause-writes
 returns-clause-writes g c =
+    let rewrites = c.args.parts.now.rewrites.items in
     let first = c.in_ok-plan_rewrites.ensures.writes in
     let second = c.in_ok-plan_erases.ensures.writes in
     let before = c.args.plan.now.writes.items in
-    let results = map (rewrite_write c.args.arrangement.now) c.args.parts.now.rewrites.items in
+    let results = map (rewrite_write c.args.arrangement.now) rewrites in
     let erases = map (erase_write c.args.arrangement.now) c.args.parts.now.erased.items in
-    let all : c.plan_erases.new.writes.items ≡ before ++ (results ++ erases) =
-    rw c.deref-2.ensures.value at second ∙ (ap (λ (w : List Write). w ++ erases) (rw c.deref.ensures.value at first) ∙ append_assoc before results erases) in
+    let all : (entries : IdEntries) → as_writes entries rewrites c.plan_erases.new.writes.items ≡ as_writes entries rewrites before ++ (results ++ erases) = λ entries.
+    (rw c.deref-2.ensures.value at second) entries rewrites
+    ∙ (ap (λ (w : List Write). w ++ erases) ((rw c.deref.ensures.value at first) entries) ∙ append_assoc (as_writes entries rewrites before) results erases) in
     at_ok c.reserve.result _ all

@@ -1,11 +1,14 @@
-use Rattle.std.proofs.Common.{◌≡◌, ◌<◌, ◌∙◌, [], ◌∷◌, Some, None, IsSome, length, get_or, arith, subst, sym, ap}
+use Rattle.std.proofs.Common.{◌≡◌, ◌<◌, ◌∙◌, [], ◌∷◌, ◌++◌, List, ℕ, map, Some, None, IsSome, length, get_or, arith, subst, sym, ap}
 use Rattle.std.specs.List.{AllByRecursion}
+use Rattle.std.proofs.lemmas.List.{take_all}
 use Rattle.slot_order.proofs.Lists.{all_append}
 use Rattle.slot_pool.specs.Arrangement.{home_of}
 use Rattle.tcam_device.specs.declared.Write.TheVariants.{Slot}
-use Rattle.tcam_device.specs.State.{IsInUse}
+use Rattle.move_planner.specs.declared.Move.TheVariants.{Erase}
 use Rattle.commit_writes.specs.PlannedBatch.{erase_write}
-use Rattle.batch_order.specs.Planning.{IsStanding}
+use Rattle.batch_order.specs.declared.planned_writes.PlannedWrite.TheVariants.{Moved}
+use Rattle.batch_order.specs.Planning.{IsStanding, IsWithin, as_writes}
+use Rattle.batch_order.proofs.Meant.{as_append}
 use Rattle.batch_order.proofs.Walked.{all_at, number_is}
 use Rattle.batch_order.proofs.Standing.{home_inside, home_is, write_next}
 use Rattle.batch_order.proofs.plan.plan_erases.Goals as goal
@@ -24,8 +27,15 @@ loop-id-preserved c =
     let within : c.loop-id.id-index < length c.args.ids.now = omega arith in
     let found : home_of slots one ≡ Some at = sym c.home.ensures ∙ c.unwrap-slot.ensures in
     record {
-      writes = write_next (erase_write slots) c.args.ids.now c.loop-id.id-index one (Slot at None) c.args.writes.now.items c.loop-id.writes.items _ within (number_is c.args.ids.now c.loop-id.id-index within) (ap (λ n. Slot n None) (home_is slots one at found))
-          c.loop-id.invariant.writes c.in_ok-push.ensures.items;
-      in_use = subst (AllByRecursion (IsInUse (length slots))) (sym c.in_ok-push.ensures.items)
-          (all_append (IsInUse (length slots)) c.loop-id.writes.items (Slot at None ∷ []) c.loop-id.invariant.in_use (home_inside slots one at found, tt));
+      writes = λ entries rewrites.
+          write_next (erase_write slots) c.args.ids.now c.loop-id.id-index one (Slot at None) (as_writes entries rewrites c.args.writes.now.items) (as_writes entries rewrites c.loop-id.writes.items) _ within
+          (number_is c.args.ids.now c.loop-id.id-index within) (ap (λ n. Slot n None) (home_is slots one at found)) (c.loop-id.invariant.writes entries rewrites)
+          (ap (as_writes entries rewrites) c.in_ok-push.ensures.items ∙ as_append entries rewrites c.loop-id.writes.items (Moved (Erase at) ∷ []));
+      within = subst (AllByRecursion (IsWithin (length slots))) (sym c.in_ok-push.ensures.items)
+          (all_append (IsWithin (length slots)) c.loop-id.writes.items (Moved (Erase at) ∷ []) c.loop-id.invariant.within (home_inside slots one at found, tt));
     }
+
+pub returns-clause-writes : goal.returns-clause-writes
+returns-clause-writes c = λ entries rewrites.
+    c.loop-id.invariant.writes entries rewrites
+    ∙ ap (λ (some : List ℕ). as_writes entries rewrites c.args.writes.now.items ++ map (erase_write c.args.arrangement.now) some) (take_all c.loop-id.id-index c.args.ids.now (omega arith))

@@ -1,11 +1,13 @@
-use Rattle.std.proofs.Common.{◌≡◌, ◌++◌, length, map, take}
+use Rattle.std.proofs.Common.{◌≡◌, ◌++◌, List, length, map, take}
 use Rattle.std.specs.List.{AllByRecursion}
-use Rattle.tcam_device.specs.State.{IsInUse}
+use Rattle.commit_writes.specs.declared.Rewrite.{Rewrite}
+use Rattle.commit_writes.specs.Planned.{IdEntries}
 use Rattle.commit_writes.specs.PlannedBatch.{erase_write}
+use Rattle.batch_order.specs.Planning.{IsWithin, as_writes}
 use Rattle.batch_order.proofs.plan.plan_erases.Given as goal
 
 abbrev pub invariant-loop-id : goal.invariant-loop-id
 invariant-loop-id l = record {
-  writes : l.writes.items ≡ l.fn.writes.items ++ map (erase_write l.arrangement) (take l.id-index l.ids);
-  in_use : AllByRecursion (IsInUse (length l.arrangement)) l.writes.items;
+  writes : (entries : IdEntries) (rewrites : List Rewrite) → as_writes entries rewrites l.writes.items ≡ as_writes entries rewrites l.fn.writes.items ++ map (erase_write l.arrangement) (take l.id-index l.ids);
+  within : AllByRecursion (IsWithin (length l.arrangement)) l.writes.items;
 }

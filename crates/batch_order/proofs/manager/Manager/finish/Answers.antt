@@ -1,9 +1,10 @@
 use Rattle.std.proofs.Common.{◌≡◌, [], List, Option, Some, None, IfSome, drop, sym, ap₂, subst, ◌∙◌}
 use Rattle.rule_model.specs.declared.Rule.{Rule}
-use Rattle.tcam_device.specs.declared.Write.{Write}
 use Rattle.batch_order.specs.declared.Step.TheVariants.{Finished}
 use Rattle.batch_order.specs.declared.manager.Held.{Held}
-use Rattle.batch_order.specs.Kept.{IsManaged, translated_by, translation_after}
+use Rattle.batch_order.specs.declared.planned_writes.PlannedWrite.{PlannedWrite}
+use Rattle.batch_order.specs.Kept.{IsManaged, held_writes, translated_by, translation_after}
+use Rattle.batch_order.specs.Planning.{as_writes}
 use Rattle.batch_order.specs.Managed.{Managed, Steps}
 use Rattle.batch_order.proofs.Carried.{view_of, managed_after, finish_steps, IsFinished}
 use Rattle.batch_order.proofs.manager.Manager.finish.Goals as goal
@@ -49,8 +50,9 @@ invariant_of-self-in-Some c =
       entries = rw (← c.deref-in-Some.ensures.value, ← c.rewrite_all.ensures.entries) c.forget_each.ensures.kept;
       slots = c.forget_each.ensures.slots ∙ c.rewrite_all.ensures.slots;
     } in
-    let turned : c.translate.new.translation ≡ translation_after i.translation i.rules.rules held =
-    c.translate.ensures ∙ ap₂ (λ (rules : List Rule) (writes : List Write). translated_by i.translation held.bits rules writes) c.apply.ensures.rules c.deref.ensures.value in
+    let turned : c.translate.new.translation ≡ translation_after i.translation i.rules.rules i.live.entries held =
+    c.translate.ensures i.live.entries held.rewrites.items
+    ∙ ap₂ (λ (rules : List Rule) (writes : List PlannedWrite). translated_by i.translation held.bits rules (as_writes i.live.entries held.rewrites.items writes)) c.apply.ensures.rules c.deref.ensures.value in
     rw c.take.ensures.after (managed_after i.translation c.translate.new.translation i.rules c.apply.new.self i.live c.forget_each.new.self i.arrangement held before turned c.apply.ensures.rules finished)
 
 pub returns-in-Some : goal.returns-in-Some
@@ -64,11 +66,12 @@ returns-in-Some c =
       entries = rw (← c.deref-in-Some.ensures.value, ← c.rewrite_all.ensures.entries) c.forget_each.ensures.kept;
       slots = c.forget_each.ensures.slots ∙ c.rewrite_all.ensures.slots;
     } in
-    let turned : c.translate.new.translation ≡ translation_after i.translation i.rules.rules held =
-    c.translate.ensures ∙ ap₂ (λ (rules : List Rule) (writes : List Write). translated_by i.translation held.bits rules writes) c.apply.ensures.rules c.deref.ensures.value in
+    let turned : c.translate.new.translation ≡ translation_after i.translation i.rules.rules i.live.entries held =
+    c.translate.ensures i.live.entries held.rewrites.items
+    ∙ ap₂ (λ (rules : List Rule) (writes : List PlannedWrite). translated_by i.translation held.bits rules (as_writes i.live.entries held.rewrites.items writes)) c.apply.ensures.rules c.deref.ensures.value in
     let view : view_of i.placement i.translation i.rules i.live i.arrangement i.held ≡ c.args.self.now = c.self.view_is in
     let requires : IfSome (view_of i.placement i.translation i.rules i.live i.arrangement i.held).held (λ one. one.writes ≡ []) = rw (← c.self.view_is) at c.requires in
-    let none : drop held.made held.writes.items ≡ [] = subst (λ (h : Option Held). IfSome (view_of i.placement i.translation i.rules i.live i.arrangement h).held (λ one. one.writes ≡ [])) was requires in
+    let none : drop held.made (held_writes i.live.entries held) ≡ [] = subst (λ (h : Option Held). IfSome (view_of i.placement i.translation i.rules i.live i.arrangement h).held (λ one. one.writes ≡ [])) was requires in
     let new = view_of i.placement c.translate.new.translation c.apply.new.self c.forget_each.new.self held.arrangement None in
     let steps : Steps (view_of i.placement i.translation i.rules i.live i.arrangement i.held) (view_of i.placement i.translation i.rules i.live i.arrangement i.held).held (Finished held.counts) new =
     subst (λ (h : Option Held). Steps (view_of i.placement i.translation i.rules i.live i.arrangement h) (view_of i.placement i.translation i.rules i.live i.arrangement h).held (Finished held.counts) new) (sym was)

@@ -1,5 +1,6 @@
-use Rattle.std.proofs.Common.{◌≡◌, ℕ, ◌≤◌, ◌+◌, ◌*◌, ◌^◌, ◌∙◌, List, length, IsTrue, Option, Some, None, Ok, Err, OnErr, Result, refl, sym, ap, subst, arith}
+use Rattle.std.proofs.Common.{◌≡◌, ℕ, ◌≤◌, ◌+◌, ◌*◌, ◌^◌, ◌∙◌, List, length, map, IsTrue, Option, Some, None, Ok, Err, OnErr, Result, refl, sym, ap, subst, arith}
 use Rattle.std.specs.List.{AllByRecursion, AllZip}
+use Rattle.std.proofs.lemmas.List.{length-map}
 use Rattle.slot_pool.specs.Arrangement.{Slots}
 use Rattle.rule_model.specs.declared.Rule.{Rule}
 use Rattle.overlap_index.specs.declared.LivePiece.{LivePiece}
@@ -10,8 +11,6 @@ use Rattle.rule_store.specs.Store.{StoredRules}
 use Rattle.rule_store.specs.Batch.{ChangesRules, batch_fault}
 use Rattle.rule_store.specs.Verdict.{verdict, Accepted, entries_of}
 use Rattle.ternary_word.specs.Entry.{RankedPiece, IsEncodable}
-use Rattle.tcam_device.specs.declared.Write.{Write}
-use Rattle.tcam_device.specs.State.{IsInUse}
 use Rattle.commit_writes.specs.declared.Rewrite.{Rewrite}
 use Rattle.commit_writes.specs.Bits.{FieldBits, bits_with, new_bits}
 use Rattle.commit_writes.specs.Shape.{set_pieces, inserted_pieces, rewritten_pieces, erased_pieces}
@@ -20,11 +19,13 @@ use Rattle.commit_writes.proofs.TableWrites.{bit_writes-tables, tables_in_use}
 use Rattle.batch_order.specs.declared.Placement.{Placement}
 use Rattle.batch_order.specs.declared.manager.Held.{Held}
 use Rattle.batch_order.specs.declared.plan.Plan.{Plan}
+use Rattle.batch_order.specs.declared.planned_writes.PlannedWrite.{PlannedWrite}
+use Rattle.batch_order.specs.declared.planned_writes.PlannedWrite.TheVariants.{Tabled}
 use Rattle.batch_order.specs.declared.translation.Translation.{Translation}
 use Rattle.batch_order.specs.Entries.{AddsIds, Entries, HaveIds, KeepEntries}
 use Rattle.batch_order.specs.Kept.{IsManaged, bits_of, coded_by, during_of, held_of, mode_of, settled_state}
 use Rattle.batch_order.specs.Placing.{aims_of, words_of}
-use Rattle.batch_order.specs.Planning.{ArePlannedSince}
+use Rattle.batch_order.specs.Planning.{ArePlannedSince, IsWithin}
 use Rattle.batch_order.specs.Managed.{Managed, Holds}
 use Rattle.batch_order.proofs.Parted.{inserted_encodable, rewritten_encodable}
 use Rattle.batch_order.proofs.Numbered.{arranged_number}
@@ -34,7 +35,7 @@ use Rattle.batch_order.proofs.Cleared.{all_stand}
 use Rattle.batch_order.proofs.Carried.{view_of}
 use Rattle.batch_order.proofs.Refused.{adds_first, managed_same, view_same}
 use Rattle.batch_order.proofs.Taken.{ArePartsOf, IsCoded, IsTaken, behind_by, behind_serves, during_by, inserted_room, kept_so, pieces_have_ids, plan_made, plan_words, said_so, words_by}
-use Rattle.batch_order.proofs.Leading.{AreLiveParts, changed_stand, live_parts}
+use Rattle.batch_order.proofs.Leading.{AreLiveParts, changed_stand, few_rewrites, live_parts}
 use Rattle.batch_order.proofs.Holding.{IsHeldPlan, holds_plan, managed_held}
 use Rattle.batch_order.proofs.manager.Manager.plan.Given.{Over}
 use Rattle.batch_order.proofs.manager.Manager.plan.Goals as goal
@@ -44,7 +45,7 @@ taken_as : (placement : Placement) (translation : Option Translation) (rules : S
     → view_of placement translation rules kept slots held ≡ now → now.held ≡ None → AllByRecursion ChangesRules batch → batch_fault now.rules batch ≡ None → verdict now.slots now.mode now.rules batch ≡ Accepted
     → IsTaken translation rules kept slots batch
 taken_as placement translation rules kept slots held now batch is view idle changes sound fits =
-    let none : held ≡ None = idle_held (held_of rules.rules) held (rw (← view) at idle) in
+    let none : held ≡ None = idle_held (held_of rules.rules kept.entries) held (rw (← view) at idle) in
     let sound_so : batch_fault rules.rules batch ≡ None = rw (← view) at sound in
     let fits_so : verdict (length slots) (mode_of translation) rules.rules batch ≡ Accepted = rw (← view) at fits in
     record {
@@ -60,12 +61,12 @@ coded_as placement translation rules kept slots held now batch bits view are =
     let said : (coded_by bits ≡ mode_of translation) × (during_of bits ≡ during_by translation rules batch) = rw (← view) at are in record { coded = said.0; during = said.1 }
 
 -- and the words
-words_as : (placement : Placement) (translation : Option Translation) (rules : StoredRules) (kept : Entries) (slots : Slots) (held : Option Held) (now : Managed) (batch : List Command) (writes : List Write)
-    → view_of placement translation rules kept slots held ≡ now → now.held ≡ None → writes ≡ words_of now.mode now.bits now.rules batch now.state → writes ≡ words_by translation rules kept slots batch
+words_as : (placement : Placement) (translation : Option Translation) (rules : StoredRules) (kept : Entries) (slots : Slots) (held : Option Held) (now : Managed) (batch : List Command) (writes : List PlannedWrite)
+    → view_of placement translation rules kept slots held ≡ now → now.held ≡ None → writes ≡ map Tabled (words_of now.mode now.bits now.rules batch now.state) → writes ≡ map Tabled (words_by translation rules kept slots batch)
 words_as placement translation rules kept slots held now batch writes view idle are =
-    let none : held ≡ None = idle_held (held_of rules.rules) held (rw (← view) at idle) in
-    let said : writes ≡ words_of (mode_of translation) (bits_of translation) rules.rules batch (view_of placement translation rules kept slots held).state = rw (← view) at are in
-    subst (λ (h : Option Held). writes ≡ words_of (mode_of translation) (bits_of translation) rules.rules batch (view_of placement translation rules kept slots h).state) none said
+    let none : held ≡ None = idle_held (held_of rules.rules kept.entries) held (rw (← view) at idle) in
+    let said : writes ≡ map Tabled (words_of (mode_of translation) (bits_of translation) rules.rules batch (view_of placement translation rules kept slots held).state) = rw (← view) at are in
+    subst (λ (h : Option Held). writes ≡ map Tabled (words_of (mode_of translation) (bits_of translation) rules.rules batch (view_of placement translation rules kept slots h).state)) none said
 
 pub parts_of-requires : goal.parts_of-requires
 parts_of-requires g c =
@@ -135,13 +136,18 @@ plan_changes-requires g c =
     let coded = coded_as i.placement i.translation i.rules i.live i.arrangement i.held c.args.self.now batch c.in_ok-bits.bits c.self.view_is c.in_ok-bits.ensures.bits in
     let rewrites = c.in_ok-parts.parts.rewrites.items in
     let erased = c.in_ok-parts.parts.erased.items in
-    let parts = parts_live i.translation i.rules i.live c.plan_additions.new.live i.arrangement batch c.in_ok-ids.ids.items rewrites erased t c.in_ok-ids.ensures.adds
-    (parts_as i.translation i.rules batch c.in_ok-bits.bits i.live.live rewrites erased coded c.in_ok-parts.ensures.rewrites c.in_ok-parts.ensures.erased) in
+    let of_batch = parts_as i.translation i.rules batch c.in_ok-bits.bits i.live.live rewrites erased coded c.in_ok-parts.ensures.rewrites c.in_ok-parts.ensures.erased in
+    let parts = parts_live i.translation i.rules i.live c.plan_additions.new.live i.arrangement batch c.in_ok-ids.ids.items rewrites erased t c.in_ok-ids.ensures.adds of_batch in
     let plannable = c.in_ok-ids.ensures.plannable in
     record {
+      few =
+          let fewer = few_rewrites (mode_of i.translation) (during_by i.translation i.rules batch) i.rules.rules batch i.live.slots i.live.live rewrites erased t.managed.carried.settled.apart t.change of_batch in
+          let count = t.managed.carried.settled.count in
+          let most = t.managed.carried.settled.few in
+          omega arith;
       rewritten = changed_stand c.plan_additions.new.live c.plan_additions.new.arrangement rewrites plannable.settled parts.changed;
       erased = all_stand c.plan_additions.new.live c.plan_additions.new.arrangement erased plannable.settled parts.gone;
-      in_use = subst (λ (n : ℕ). AllByRecursion (IsInUse n) c.plan_additions.new.plan.writes.items) (sym plannable.settled.size) plannable.in_use;
+      within = subst (λ (n : ℕ). AllByRecursion (IsWithin n) c.plan_additions.new.plan.writes.items) (sym plannable.settled.size) plannable.within;
     }
 
 pub erase_all-requires : goal.erase_all-requires
@@ -166,7 +172,7 @@ kept_back old mid new one two back id now = two id (subst (λ (l : List LivePiec
 pub invariant_of-self-in-Err : goal.invariant_of-self-in-Err
 invariant_of-self-in-Err g c =
     let i = c.self.inside in
-    let none = idle_held (held_of i.rules.rules) i.held (rw (← c.self.view_is) at c.requires.idle) in
+    let none = idle_held (held_of i.rules.rules i.live.entries) i.held (rw (← c.self.view_is) at c.requires.idle) in
     let managed : IsManaged i.translation i.rules i.live i.arrangement None = subst (IsManaged i.translation i.rules i.live i.arrangement) none c.self.invariant in
     let back = c.forget_all.ensures.live ∙ adds_first i.live c.plan_additions.new.live c.in_ok-ids.ids.items c.in_ok-ids.ensures.adds in
     let size = c.forget_all.ensures.slots ∙ c.plan_additions.ensures.slots in
@@ -182,7 +188,7 @@ at_err (Err fault) P holds = holds
 pub invariant_of-self-in_err-ids : goal.invariant_of-self-in_err-ids
 invariant_of-self-in_err-ids g c =
     let i = c.self.inside in
-    let none = idle_held (held_of i.rules.rules) i.held (rw (← c.self.view_is) at c.requires.idle) in
+    let none = idle_held (held_of i.rules.rules i.live.entries) i.held (rw (← c.self.view_is) at c.requires.idle) in
     let managed : IsManaged i.translation i.rules i.live i.arrangement None = subst (IsManaged i.translation i.rules i.live i.arrangement) none c.self.invariant in
     subst (IsManaged i.translation c.reserve.new.self c.plan_additions.new.live i.arrangement) (sym none)
     (managed_same i.translation i.rules c.reserve.new.self i.live c.plan_additions.new.live i.arrangement managed c.reserve.ensures.rules c.in_err-ids.ensures.refused c.plan_additions.ensures.slots c.plan_additions.ensures.kept)
@@ -190,7 +196,7 @@ invariant_of-self-in_err-ids g c =
 pub returns-in_err-ids-clause-refused : goal.returns-in_err-ids-clause-refused
 returns-in_err-ids-clause-refused g c =
     let i = c.self.inside in
-    let none = idle_held (held_of i.rules.rules) i.held (rw (← c.self.view_is) at c.requires.idle) in
+    let none = idle_held (held_of i.rules.rules i.live.entries) i.held (rw (← c.self.view_is) at c.requires.idle) in
     let managed : IsManaged i.translation i.rules i.live i.arrangement None = subst (IsManaged i.translation i.rules i.live i.arrangement) none c.self.invariant in
     let view : view_of i.placement i.translation i.rules i.live i.arrangement i.held ≡ c.args.self.now = c.self.view_is in
     let same : view_of i.placement i.translation c.reserve.new.self c.plan_additions.new.live i.arrangement i.held ≡ view_of i.placement i.translation i.rules i.live i.arrangement i.held =
@@ -201,7 +207,7 @@ returns-in_err-ids-clause-refused g c =
 pub returns-in-Err-clause-refused : goal.returns-in-Err-clause-refused
 returns-in-Err-clause-refused g c =
     let i = c.self.inside in
-    let none = idle_held (held_of i.rules.rules) i.held (rw (← c.self.view_is) at c.requires.idle) in
+    let none = idle_held (held_of i.rules.rules i.live.entries) i.held (rw (← c.self.view_is) at c.requires.idle) in
     let managed : IsManaged i.translation i.rules i.live i.arrangement None = subst (IsManaged i.translation i.rules i.live i.arrangement) none c.self.invariant in
     let view : view_of i.placement i.translation i.rules i.live i.arrangement i.held ≡ c.args.self.now = c.self.view_is in
     let back = c.forget_all.ensures.live ∙ adds_first i.live c.plan_additions.new.live c.in_ok-ids.ids.items c.in_ok-ids.ensures.adds in
@@ -244,6 +250,7 @@ plan_now g c =
     let t = taken_as i.placement i.translation i.rules i.live i.arrangement i.held c.args.self.now batch c.self.invariant c.self.view_is c.requires.idle c.requires.changes c.requires.sound c.requires.fits in
     let coded = coded_as i.placement i.translation i.rules i.live i.arrangement i.held c.args.self.now batch bits c.self.view_is c.in_ok-bits.ensures.bits in
     let words = words_as i.placement i.translation i.rules i.live i.arrangement i.held c.args.self.now batch c.plan_words.new.plan.writes.items c.self.view_is c.requires.idle c.in_ok-bits.ensures.writes in
+    let size = length-map (words_by i.translation i.rules i.live i.arrangement batch) Tabled in
     let pieces = said_so i.translation i.rules batch bits coded (λ m b. c.deref.result.now ≡ inserted_pieces m b i.rules.rules batch) (c.deref.ensures.value ∙ c.in_ok-parts.ensures.inserted) in
     let since = planned_from i.live c.plan_additions.new.live i.arrangement c.in_ok-arrangement.arrangement c.plan_additions.new.arrangement c.plan_words.new.plan c.plan_additions.new.plan i.placement (mode_of i.translation) c.encoding.result
     i.rules.rules c.reserve.new.self.rules (inserted_pieces (mode_of i.translation) (during_by i.translation i.rules batch) i.rules.rules batch) c.deref.result.now c.in_ok-arrangement.ensures c.encoding.ensures c.reserve.ensures.rules pieces c.in_ok-ids.ensures.planned in
@@ -254,13 +261,13 @@ plan_now g c =
           c.plan_additions.ensures.slots c.in_ok-ids.ensures.plannable.settled since
           record {
             writes = words;
-            number = c.in_ok-bits.ensures.words ∙ ap length words;
-            few = subst (λ (w : List Write). length w ≤ 2 * 2 ^ 16) words c.in_ok-bits.ensures.few;
+            number = c.in_ok-bits.ensures.words ∙ (ap length words ∙ size);
+            few = subst (λ (n : ℕ). n ≤ 2 * 2 ^ 16) (ap length words ∙ size) c.in_ok-bits.ensures.few;
             most = c.plan_words.ensures.most ∙ c.new-plan.ensures.most;
             span = c.plan_words.ensures.span ∙ c.new-plan.ensures.span;
           }
           record {
-            in_use = c.in-Ok.ensures.in_use;
+            within = c.in-Ok.ensures.within;
             made = c.in-Ok.ensures.writes;
             number = c.counts-counts.ensures.writes;
             words = c.counts-counts.ensures.words ∙ c.in-Ok.ensures.words;
@@ -284,7 +291,7 @@ pub returns-clause-ready : goal.returns-clause-ready
 returns-clause-ready g c =
     let i = c.self.inside in
     let batch = c.args.batch.now in
-    let none = idle_held (held_of i.rules.rules) i.held (rw (← c.self.view_is) at c.requires.idle) in
+    let none = idle_held (held_of i.rules.rules i.live.entries) i.held (rw (← c.self.view_is) at c.requires.idle) in
     let view : view_of i.placement i.translation i.rules i.live i.arrangement i.held ≡ c.args.self.now = c.self.view_is in
     let new = view_of i.placement i.translation c.reserve.new.self c.plan_additions.new.live i.arrangement (Some (held_now g c)) in
     let holds : Holds (view_of i.placement i.translation i.rules i.live i.arrangement None) batch c.ready.result new =
