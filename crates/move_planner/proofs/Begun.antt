@@ -105,28 +105,28 @@ module _ (index : LivePieces) (id : ℕ) (slots : Slots) (sides : Sides) (w : Is
   marked_from : (marks : List Bool) (at : ℕ) → sides.start ≤ at → mark_at marks sides.start at ≡ true → is_marked at sides.start marks ≡ true
   marked_from marks at low e = and_from (nat_le sides.start at) (slice_index_or marks (at - sides.start) false) (le-leb sides.start at low) e
 
-  pub say_behind : SayMarks (is_behind (is_above index.live) slots id) slots sides.start sides.end sides.behind.items
+  pub say_behind : SayMarks (is_behind (is_above index.live) slots id) slots sides.start sides.end sides.behind
   say_behind = record {
     order = let a = w.found.start_is in let b = w.found.end_is in let c = w.crossed in omega arith;
     inside = let b = w.found.end_is in let k = start_inside (is_above index.live) slots id in omega arith;
     many = w.found.led.many;
-    say = λ at low high. same_bool (mark_at sides.behind.items sides.start at) (holds (is_behind (is_above index.live) slots id) (slot slots at))
-        (λ e. let l = (w.found.led.say at low high).0 (marked_from sides.behind.items at low e) in
+    say = λ at low high. same_bool (mark_at sides.behind sides.start at) (holds (is_behind (is_above index.live) slots id) (slot slots at))
+        (λ e. let l = (w.found.led.say at low high).0 (marked_from sides.behind at low e) in
         ap (holds (is_behind (is_above index.live) slots id)) l.1 ∙ (are.after_it at l.0 l.1).1 l.2)
         (λ e. let h = holding (is_behind (is_above index.live) slots id) (slot slots at) e in
-        marked_is sides.behind.items at low ((w.found.led.say at low high).1 (h.0, h.1, (are.after_it at h.0 h.1).0 h.2)));
+        marked_is sides.behind at low ((w.found.led.say at low high).1 (h.0, h.1, (are.after_it at h.0 h.1).0 h.2)));
   }
 
-  pub say_before : SayMarks (is_before (is_above index.live) slots id) slots sides.start sides.end sides.before.items
+  pub say_before : SayMarks (is_before (is_above index.live) slots id) slots sides.start sides.end sides.before
   say_before = record {
     order = let a = w.found.start_is in let b = w.found.end_is in let c = w.crossed in omega arith;
     inside = let b = w.found.end_is in let k = start_inside (is_above index.live) slots id in omega arith;
     many = w.found.lead.many;
-    say = λ at low high. same_bool (mark_at sides.before.items sides.start at) (holds (is_before (is_above index.live) slots id) (slot slots at))
-        (λ e. let l = (w.found.lead.say at low high).0 (marked_from sides.before.items at low e) in
+    say = λ at low high. same_bool (mark_at sides.before sides.start at) (holds (is_before (is_above index.live) slots id) (slot slots at))
+        (λ e. let l = (w.found.lead.say at low high).0 (marked_from sides.before at low e) in
         ap (holds (is_before (is_above index.live) slots id)) l.1 ∙ (are.before_it at l.0 l.1).1 l.2)
         (λ e. let h = holding (is_before (is_above index.live) slots id) (slot slots at) e in
-        marked_is sides.before.items at low ((w.found.lead.say at low high).1 (h.0, h.1, (are.before_it at h.0 h.1).0 h.2)));
+        marked_is sides.before at low ((w.found.lead.say at low high).1 (h.0, h.1, (are.before_it at h.0 h.1).0 h.2)));
   }
 
   none_early : (at : ℕ) → at < sides.start → holds (is_behind (is_above index.live) slots id) (slot slots at) ≡ false
@@ -136,10 +136,10 @@ module _ (index : LivePieces) (id : ℕ) (slots : Slots) (sides : Sides) (w : Is
   none_late at l = let a = w.found.end_is in stretch.none_late at (omega arith)
 
   early_is : (cut : ℕ) → sides.start ≤ cut → cut ≤ sides.end → early (is_behind (is_above index.live) slots id) cut slots ≡ marked_early sides cut
-  early_is cut low high = early_marked (is_behind (is_above index.live) slots id) slots sides.start sides.end cut sides.behind.items say_behind none_early low high
+  early_is cut low high = early_marked (is_behind (is_above index.live) slots id) slots sides.start sides.end cut sides.behind say_behind none_early low high
 
   late_is : (cut : ℕ) → sides.start ≤ cut → cut ≤ sides.end → late (is_before (is_above index.live) slots id) cut slots ≡ marked_late sides cut
-  late_is cut low high = late_marked (is_before (is_above index.live) slots id) slots sides.start sides.end cut sides.before.items say_before none_late low high
+  late_is cut low high = late_marked (is_before (is_above index.live) slots id) slots sides.start sides.end cut sides.before say_before none_late low high
 
   room_marked : (cut : ℕ) → sides.start ≤ cut → cut ≤ sides.end → HasRoomNear (is_behind (is_above index.live) slots id) (is_before (is_above index.live) slots id) sides.start sides.end cut slots → HasMarkedRoom slots sides cut
   room_marked cut low high r =

@@ -25,5 +25,6 @@ pub mod Tallied
 pub mod Turned
 pub mod Uncrossing
 pub mod Underway
+pub mod Unmarked
 pub mod Walked
 pub mod Ways

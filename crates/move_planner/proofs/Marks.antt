@@ -1,9 +1,8 @@
 -- Marks of the slots of some ids.
-use Rattle.std.proofs.Common.{◌≡◌, ℕ, ◌-◌, ◌<◌, ◌≤◌, Bool, true, false, Option, None, Some, List, [], ◌++◌, length, take, drop, replicate, ◌↔◌, Contains, inl, inr, arith, refl, sym, ◌∙◌, ap}
+use Rattle.std.proofs.Common.{◌≡◌, ℕ, ◌-◌, ◌≤◌, Bool, true, false, Option, None, Some, List, [], ◌++◌, length, replicate, ◌↔◌, Contains, inl, inr, arith, refl, ◌∙◌, ap}
 use Rattle.std.specs.Prelude.{◌==◌, nat_le, slice_index_or}
 use Rattle.std.proofs.lemmas.Bool.{and_parts, and_from, le-leb, eqb-true, eq-eqb, leb-true, both_ways, cases_lt}
-use Rattle.std.proofs.lemmas.List.{get_or-replicate, get_or_past, get_or_default, length-replicate}
-use Rattle.std.proofs.Math.Seq.{take-append_seam}
+use Rattle.std.proofs.lemmas.List.{get_or-replicate, get_or_past, length-replicate}
 use Rattle.std.proofs.lemmas.List.Elements.{Contains-append_cases, Contains-append_left, Contains-append_right}
 use Rattle.slot_order.specs.Order.{slot}
 use Rattle.slot_order.proofs.Writes.{slot_inside}
@@ -48,14 +47,6 @@ hit_is marks start at e = (and_parts (nat_le start at) (slice_index_or marks (at
 pub hit_from : (marks : List Bool) (start at : ℕ) → start ≤ at → slice_index_or marks (at - start) false ≡ true → Hit marks start at
 hit_from marks start at low e = and_from (nat_le start at) (slice_index_or marks (at - start) false) (le-leb start at low) e
 
--- a mark that was read
-pub hit_read : (marks : List Bool) (start at : ℕ) (mark : Bool) → start ≤ at → at - start < length marks → mark ≡ slice_index_or marks (at - start) mark → mark ≡ true → Hit marks start at
-hit_read marks start at mark low inside read is = hit_from marks start at low (get_or_default marks (at - start) false mark inside ∙ (sym read ∙ is))
-
-pub clear_read : (marks : List Bool) (start at : ℕ) (mark : Bool) → at - start < length marks → mark ≡ slice_index_or marks (at - start) mark → mark ≡ false → Hit marks start at → ⊥
-clear_read marks start at mark inside read is hit =
-    both_ways _ (get_or_default marks (at - start) false mark inside ∙ (sym read ∙ is)) (hit_is marks start at hit)
-
 -- no mark yet
 pub no_hit : (count start at : ℕ) → Hit (replicate count false) start at → ⊥
 no_hit count start at e = both_ways _ unset (hit_is (replicate count false) start at e)
@@ -65,11 +56,6 @@ no_hit count start at e = both_ways _ unset (hit_is (replicate count false) star
       | inl inside ↦ get_or-replicate count (at - start) false false inside
       | inr past ↦ let n = length-replicate count false in get_or_past (replicate count false) (at - start) false (omega arith)
     ]
-
--- marks that were written as a slice of all of them
-pub written_back : (marks marks' : List Bool) (len : ℕ) → len ≡ length marks → length marks' ≡ length marks → take len (marks' ++ drop (length marks') marks) ≡ marks'
-written_back marks marks' len is same =
-    ap (λ n. take n (marks' ++ drop (length marks') marks)) (is ∙ sym same) ∙ take-append_seam marks' (drop (length marks') marks)
 
 -- nothing to mark
 pub marked_none : (slots : Slots) (start : ℕ) (marks : List Bool) → AreMarked slots start [] marks marks

@@ -3,7 +3,7 @@ use Rattle.std.proofs.Common.{◌≡◌, ℕ, zero, suc, ◌+◌, ◌-◌, ◌<�
 use Rattle.std.specs.Prelude.{min, is_none, is_some, nat_lt}
 use Rattle.std.proofs.lemmas.Bool.{false_from_ne_true, and_parts, and_from, lt-ltb, both_ways}
 use Rattle.slot_order.specs.Cuts.{free_before, free_behind}
-use Rattle.slot_order.proofs.BestCut.{take_none, drop_none}
+use Rattle.slot_order.proofs.BestCut.{take_none, drop_none, behind_falls}
 use Rattle.slot_pool.specs.Arrangement.{Slots, is_free, next_free_above, last_free_below}
 use Rattle.slot_pool.proofs.Places.{find_range, find_range_none}
 use Rattle.slot_pool.proofs.Scan.{find_back, find_back_none, next_free_is, last_free_is}
@@ -57,6 +57,21 @@ one_behind slots from place at on is =
     not_free (nat_lt place k) slots k (found.none_before k (omega arith) (omega arith)) (lt-ltb place k (omega arith))) in
     let same : free_behind (from + (at - from)) slots ≡ free_behind at slots = ap (λ n. free_behind n slots) (let z : from + (at - from) ≡ at = omega arith in z) in
     let here = free_step slots at inside in omega arith
+
+-- none before another slot
+pub none_up_to : (slots : Slots) (place end : ℕ) → place < end → end ≤ length slots → next_free_above slots place ≡ None → free_behind (place + 1) slots ≡ free_behind end slots
+none_up_to slots place end less inside none =
+    let a = none_behind slots (place + 1) place (omega arith) (omega arith) none in
+    let b = behind_falls slots (place + 1) end (omega arith) inside in omega arith
+
+pub next_past : (slots : Slots) (place end at : ℕ) → place < end → end ≤ at → next_free_above slots place ≡ Some at → free_behind (place + 1) slots ≡ free_behind end slots
+next_past slots place end at less past is =
+    let found = find_range (λ other. nat_lt place other && is_free slots other) 0 (length slots) at is in
+    let inside = (next_free_is slots place at is).1.inside in
+    let taken = taken_between slots (place + 1) (end - (place + 1)) (omega arith) (λ k low high.
+    not_free (nat_lt place k) slots k (found.none_before k (omega arith) (omega arith)) (lt-ltb place k (omega arith))) in
+    let same : free_behind (place + 1 + (end - (place + 1))) slots ≡ free_behind end slots = ap (λ n. free_behind n slots) (let z : place + 1 + (end - (place + 1)) ≡ end = omega arith in z) in
+    omega arith
 
 -- two at most
 pub two_before : (slots : Slots) (place at : ℕ) (found : Option ℕ) → place ≤ length slots → last_free_below slots place ≡ Some at → last_free_below slots at ≡ found

@@ -48,30 +48,26 @@ module _ (above : Above) (slots : Slots) (id start end : ℕ) where
     closed = λ i held at other from to hit here there on low high. absurd (omega arith);
   }
 
-  -- a slot that is empty or not marked
-  pub led_skip : (at : ℕ) (marks : List Bool) → ((held : ℕ) → Hit marks start at → slot slots at ≡ Some held → ⊥) → LedSoFar above slots id start end at marks → LedSoFar above slots id start end (at + 1) marks
-  led_skip at marks clear s = record {
+  -- slots with no mark
+  pub led_skip : (from to : ℕ) (marks : List Bool) → ((at : ℕ) → from ≤ at → at < to → Hit marks start at → ⊥) → LedSoFar above slots id start end from marks → LedSoFar above slots id start end to marks
+  led_skip from to marks clear s = record {
     many = s.many;
     sound = s.sound;
     first = s.first;
-    closed = λ i held j other less hit here there on low high. elim (cases_lt i at) [
+    closed = λ i held j other less hit here there on low high. elim (cases_lt i from) [
       | inl before ↦ s.closed i held j other before hit here there on low high
-      | inr not ↦
-          let same : i ≡ at = omega arith in
-          absurd (clear held (subst (Hit marks start) same hit) (subst (λ x. slot slots x ≡ Some held) same here))
+      | inr not ↦ absurd (clear i (omega arith) less hit)
     ];
   }
 
-  pub lead_skip : (at : ℕ) (marks : List Bool) → ((held : ℕ) → Hit marks start at → slot slots at ≡ Some held → ⊥) → LeadSoFar above slots id start end (at + 1) marks → LeadSoFar above slots id start end at marks
-  lead_skip at marks clear s = record {
+  pub lead_skip : (from to : ℕ) (marks : List Bool) → ((at : ℕ) → from ≤ at → at < to → Hit marks start at → ⊥) → LeadSoFar above slots id start end to marks → LeadSoFar above slots id start end from marks
+  lead_skip from to marks clear s = record {
     many = s.many;
     sound = s.sound;
     first = s.first;
-    closed = λ i held j other from to hit here there on low high. elim (cases_lt at i) [
-      | inl past ↦ s.closed i held j other (omega arith) to hit here there on low high
-      | inr not ↦
-          let same : i ≡ at = omega arith in
-          absurd (clear held (subst (Hit marks start) same hit) (subst (λ x. slot slots x ≡ Some held) same here))
+    closed = λ i held j other past less hit here there on low high. elim (cases_lt i to) [
+      | inl before ↦ absurd (clear i past before hit)
+      | inr not ↦ s.closed i held j other (omega arith) less hit here there on low high
     ];
   }
 

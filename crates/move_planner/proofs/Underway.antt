@@ -34,7 +34,7 @@ module _ (index : LivePieces) (id : ℕ) (behind before : ℕ → Bool) (slots :
   inside = cut_inside index id behind before slots sides cut w
 
   -- no slot before the boundary is marked any more, or none from it on is free
-  pub no_early : ((at : ℕ) → sides.start ≤ at → at < cut.low → mark_at sides.behind.items sides.start at ≡ false) → early behind cut.boundary slots ≡ 0
+  pub no_early : ((at : ℕ) → sides.start ≤ at → at < cut.low → mark_at sides.behind sides.start at ≡ false) → early behind cut.boundary slots ≡ 0
   no_early none = take_none (λ (h : Option ℕ). holds behind h) slots cut.boundary inside (λ at l. elim (cases_lt at sides.start) [
     | inl a ↦ w.clear_start at a
     | inr a ↦ elim (cases_lt at cut.low) [
@@ -43,7 +43,7 @@ module _ (index : LivePieces) (id : ℕ) (behind before : ℕ → Bool) (slots :
     ]
   ])
 
-  pub no_late : ((at : ℕ) → cut.high ≤ at → at < sides.end → mark_at sides.before.items sides.start at ≡ false) → late before cut.boundary slots ≡ 0
+  pub no_late : ((at : ℕ) → cut.high ≤ at → at < sides.end → mark_at sides.before sides.start at ≡ false) → late before cut.boundary slots ≡ 0
   no_late none = drop_none (λ (h : Option ℕ). holds before h) slots cut.boundary inside (λ at l m. elim (cases_lt at cut.high) [
     | inl a ↦ w.clear_high at l a
     | inr a ↦ elim (cases_lt at sides.end) [
@@ -60,7 +60,7 @@ module _ (index : LivePieces) (id : ℕ) (behind before : ℕ → Bool) (slots :
       record { early_none = omega arith; late_none = omega arith }
 
   -- the ends that were looked for
-  pub early_unmarked : IsLastMarked sides.behind.items sides.start cut.low None → NoEarlyEnds behind slots cut
+  pub early_unmarked : IsLastMarked sides.behind sides.start cut.low None → NoEarlyEnds behind slots cut
   early_unmarked none =
       let e = no_early none in
       record {
@@ -68,12 +68,12 @@ module _ (index : LivePieces) (id : ℕ) (behind before : ℕ → Bool) (slots :
         done = inl e;
       }
 
-  pub early_blocked : (lower : ℕ) → IsLastMarked sides.behind.items sides.start cut.low (Some lower) → next_free_above slots (cut.boundary - 1) ≡ None
+  pub early_blocked : (lower : ℕ) → IsLastMarked sides.behind sides.start cut.low (Some lower) → next_free_above slots (cut.boundary - 1) ≡ None
       → NoEarlyEnds behind slots cut
   early_blocked lower m none = let l = w.low_cut in let a = m.1 in let i = inside in
       record { none = λ other last. none; done = inr (none_behind slots cut.boundary (cut.boundary - 1) (omega arith) (omega arith) none) }
 
-  pub late_unmarked : IsFirstMarked sides.before.items sides.start cut.high sides.end None → NoLateEnds before slots cut
+  pub late_unmarked : IsFirstMarked sides.before sides.start cut.high sides.end None → NoLateEnds before slots cut
   late_unmarked none =
       let e = no_late none in
       record {

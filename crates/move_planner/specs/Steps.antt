@@ -187,8 +187,8 @@ pub record LeadFrom (above : Above) (slots : Slots) (id start end : ℕ) (marks 
 pub record AreFoundSides (above : Above) (slots : Slots) (id : ℕ) (sides : Sides) : Type 0 where
   pub start_is : sides.start ≡ gap_end above slots id
   pub end_is : sides.end ≡ gap_start above slots id
-  pub led : AreLedTo above slots id sides.start sides.end sides.behind.items
-  pub lead : LeadFrom above slots id sides.start sides.end sides.before.items
+  pub led : AreLedTo above slots id sides.start sides.end sides.behind
+  pub lead : LeadFrom above slots id sides.start sides.end sides.before
 
 -- a cut under way: which slots are clear, and what the marks of the others say
 pub record IsUnderway (index : LivePieces) (id : ℕ) (behind before : ℕ → Bool) (slots : Slots) (sides : Sides) (cut : Cut) : Type 0 where
@@ -200,12 +200,12 @@ pub record IsUnderway (index : LivePieces) (id : ℕ) (behind before : ℕ → B
   pub cut_high : cut.boundary ≤ cut.high
   pub high_end : cut.high ≤ sides.end
   pub inside : sides.end ≤ length slots
-  pub many_behind : length sides.behind.items ≡ sides.end - sides.start
-  pub many_before : length sides.before.items ≡ sides.end - sides.start
-  pub marks_behind : (at : ℕ) → sides.start ≤ at → at < cut.low → mark_at sides.behind.items sides.start at ≡ holds behind (slot slots at)
+  pub many_behind : length sides.behind ≡ sides.end - sides.start
+  pub many_before : length sides.before ≡ sides.end - sides.start
+  pub marks_behind : (at : ℕ) → sides.start ≤ at → at < cut.low → mark_at sides.behind sides.start at ≡ holds behind (slot slots at)
   pub clear_low : (at : ℕ) → cut.low ≤ at → at < cut.boundary → holds behind (slot slots at) ≡ false
   pub clear_start : (at : ℕ) → at < sides.start → holds behind (slot slots at) ≡ false
-  pub marks_before : (at : ℕ) → cut.high ≤ at → at < sides.end → mark_at sides.before.items sides.start at ≡ holds before (slot slots at)
+  pub marks_before : (at : ℕ) → cut.high ≤ at → at < sides.end → mark_at sides.before sides.start at ≡ holds before (slot slots at)
   pub clear_high : (at : ℕ) → cut.boundary ≤ at → at < cut.high → holds before (slot slots at) ≡ false
   pub clear_end : (at : ℕ) → sides.end ≤ at → holds before (slot slots at) ≡ false
 

@@ -1,10 +1,10 @@
 //! The best boundary of a crossed stretch: the fewest entries on its wrong side.
 ghost use Rattle.std.specs.Prelude.{◌≡◌, ℕ, ◌+◌, ◌-◌, ◌<◌, ◌≤◌, length, min};
 ghost use Rattle.slot_order.specs.Cuts.{free_before, free_behind};
-ghost use Rattle.move_planner.specs.Boundary.{HasMarkedRoom, IsBestTo, IsTallied, one, count_marks, has_room, with_better};
+ghost use Rattle.move_planner.specs.Boundary.{AreQuiet, HasMarkedRoom, IsBestTo, IsNextFree, IsTallied, one, count_marks, has_room, with_better};
 
-use crate::sides::Sides;
-use slot_pool::Arrangement;
+use crate::sides::{Sides, first_marked};
+use slot_pool::{Arrangement, Marks};
 
 /// What stands on the wrong side of a boundary, and the free slots near it, before it and behind it.
 #[derive(Clone, Copy, Debug)]
@@ -27,21 +27,47 @@ pub(crate) fn best_boundary(slots: &Arrangement, sides: &Sides) -> u32
     requires few { length slots.now ≤ 4096 }
     requires order { sides.now.start < sides.now.end }
     requires inside { sides.now.end ≤ length slots.now }
-    requires behind { length sides.now.behind.items ≡ sides.now.end - sides.now.start }
-    requires before { length sides.now.before.items ≡ sides.now.end - sides.now.start }
+    requires behind { length sides.now.behind ≡ sides.now.end - sides.now.start }
+    requires before { length sides.now.before ≡ sides.now.end - sides.now.start }
     requires some { (cut : ℕ) × (sides.now.start ≤ cut) × (cut ≤ sides.now.end) × HasMarkedRoom slots.now sides.now cut }
     ensures { IsBestTo slots.now sides.now sides.now.end result }
 {
     let mut tally = tally_at_start(slots, sides);
-    let mut choice = better(None, tally, sides.start);
-    for slot in sides.start..sides.end {
+    let mut choice = None;
+    let mut cut = sides.start;
+    while cut < sides.end {
+        let slot = next_change(slots, sides, cut);
+        choice = better(choice, tally, slot);
         tally = tally_past(slots, sides, tally, slot);
-        choice = better(choice, tally, slot + 1);
+        cut = slot + 1;
     }
-    match choice {
+    match better(choice, tally, cut) {
         Some(choice) => choice.boundary,
         None => unreachable!(),
     }
+}
+
+/// The first slot from one on that is marked or free. All boundaries from that one up to it have one
+/// tally, so that only the last of them is judged. The search goes no further than a word: where nothing
+/// changes it answers a slot at its end. Where many slots are free most need no search.
+fn next_change(slots: &Arrangement, sides: &Sides, from: u32) -> u32
+    requires low { sides.now.start ≤ from }
+    requires order { from < sides.now.end }
+    requires inside { sides.now.end ≤ length slots.now }
+    requires few { length slots.now ≤ 4096 }
+    requires behind { length sides.now.behind ≡ sides.now.end - sides.now.start }
+    requires before { length sides.now.before ≡ sides.now.end - sides.now.start }
+    ensures low { from ≤ result }
+    ensures high { result < sides.now.end }
+    ensures quiet { AreQuiet slots.now sides.now from result }
+{
+    if slots.at(from).is_none() {
+        return from;
+    }
+    let last = (sides.end - 1).min(from + 64);
+    let marked = first_marked(&sides.behind, sides.start, from, last).unwrap_or(last);
+    let marked = first_marked(&sides.before, sides.start, from, marked).unwrap_or(marked);
+    slots.first_free(from, marked).unwrap_or(marked)
 }
 
 /// The tally of the first boundary.
@@ -49,13 +75,13 @@ fn tally_at_start(slots: &Arrangement, sides: &Sides) -> Tally
     requires few { length slots.now ≤ 4096 }
     requires order { sides.now.start < sides.now.end }
     requires inside { sides.now.end ≤ length slots.now }
-    requires before { length sides.now.before.items ≡ sides.now.end - sides.now.start }
+    requires before { length sides.now.before ≡ sides.now.end - sides.now.start }
     ensures { IsTallied slots.now sides.now result sides.now.start }
 {
     let between = free_within(slots, sides.start, sides.end);
     Tally {
         early: 0,
-        late: count(sides.before.as_slice()),
+        late: count(&sides.before),
         free_before: free_just_before(slots, sides.start),
         free_behind: between + free_just_behind(slots, sides.end),
     }
@@ -67,16 +93,16 @@ fn tally_past(slots: &Arrangement, sides: &Sides, tally: Tally, slot: u32) -> Ta
     requires low { sides.now.start ≤ slot }
     requires high { slot < sides.now.end }
     requires inside { sides.now.end ≤ length slots.now }
-    requires behind { length sides.now.behind.items ≡ sides.now.end - sides.now.start }
-    requires before { length sides.now.before.items ≡ sides.now.end - sides.now.start }
+    requires behind { length sides.now.behind ≡ sides.now.end - sides.now.start }
+    requires before { length sides.now.before ≡ sides.now.end - sides.now.start }
     requires tallied { IsTallied slots.now sides.now tally slot }
     ensures { IsTallied slots.now sides.now result (slot + 1) }
 {
-    let i = (slot - sides.start) as usize;
+    let i = slot - sides.start;
     let free = one_if(slots.at(slot).is_none());
     Tally {
-        early: tally.early + one_if(sides.behind[i]),
-        late: tally.late - one_if(sides.before[i]),
+        early: tally.early + one_if(sides.behind.is_marked(i)),
+        late: tally.late - one_if(sides.before.is_marked(i)),
         free_before: tally.free_before + free,
         free_behind: tally.free_behind - free,
     }
@@ -126,13 +152,15 @@ fn one_if(so: bool) -> u32
 }
 
 /// How many marks are set.
-fn count(marks: &[bool]) -> u32
+fn count(marks: &Marks) -> u32
     requires { length marks.now ≤ 4096 }
     ensures { result ≡ count_marks marks.now }
 {
     let mut count = 0;
-    for mark in marks {
-        count += one_if(*mark);
+    let mut from = 0;
+    while let Some(at) = marks.next_marked(from, marks.places()) {
+        count += 1;
+        from = at + 1;
     }
     count
 }
@@ -163,13 +191,27 @@ fn free_just_behind(slots: &Arrangement, end: u32) -> u32
 /// How many slots from one on and before another are free.
 fn free_within(slots: &Arrangement, start: u32, end: u32) -> u32
     requires few { length slots.now ≤ 4096 }
-    requires order { start ≤ end }
+    requires order { start < end }
     requires inside { end ≤ length slots.now }
     ensures { result + free_behind end slots.now ≡ free_behind start slots.now }
 {
-    let mut count = 0;
-    for slot in start..end {
-        count += one_if(slots.at(slot).is_none());
+    let mut count = one_if(slots.at(start).is_none());
+    let mut last = start;
+    while let Some(next) = next_free_within(slots, last, end) {
+        count += 1;
+        last = next;
     }
     count
+}
+
+/// The least free slot above one and before another: a search passes 64 taken slots at a step.
+fn next_free_within(slots: &Arrangement, slot: u32, end: u32) -> Option<u32>
+    requires order { slot < end }
+    requires inside { end ≤ length slots.now }
+    ensures { IsNextFree slots.now slot end result }
+{
+    match slots.next_free_above(slot) {
+        Some(next) => { if next < end { Some(next) } else { None } }
+        None => None,
+    }
 }

@@ -102,7 +102,7 @@ fn early_ends(slots: &Arrangement, sides: &Sides, cut: Cut) -> Option<Ends>
     ensures { (index : LivePieces) (id : ℕ) (behind before : ℕ → Bool) → IsUnderway index id behind before slots.now sides.now cut
         → FindsEarly behind slots.now sides.now cut result }
 {
-    let from = last_marked(sides.behind.as_slice(), sides.start, cut.low)?;
+    let from = last_marked(&sides.behind, sides.start, cut.low)?;
     let free = slots.next_free_above(cut.boundary - 1)?;
     Some(Ends { from, free })
 }
@@ -114,7 +114,7 @@ fn late_ends(slots: &Arrangement, sides: &Sides, cut: Cut) -> Option<Ends>
     ensures { (index : LivePieces) (id : ℕ) (behind before : ℕ → Bool) → IsUnderway index id behind before slots.now sides.now cut
         → FindsLate before slots.now sides.now cut result }
 {
-    let from = first_marked(sides.before.as_slice(), sides.start, cut.high, sides.end)?;
+    let from = first_marked(&sides.before, sides.start, cut.high, sides.end)?;
     let free = slots.last_free_below(cut.boundary)?;
     Some(Ends { from, free })
 }

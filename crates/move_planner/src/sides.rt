@@ -7,7 +7,7 @@ ghost use Rattle.move_planner.specs.Steps.{IsReady, IsLastMarked, IsFirstMarked,
 
 use crate::places::Gap;
 use overlap_index::{Index, Overlaps};
-use slot_pool::Arrangement;
+use slot_pool::{Arrangement, Marks};
 use std::alloc::{AllocError, Global};
 
 /// Of the slots from `start` on and before `end`: which hold an entry that must stand behind a new
@@ -16,8 +16,8 @@ use std::alloc::{AllocError, Global};
 pub(crate) struct Sides {
     pub(crate) start: u32,
     pub(crate) end: u32,
-    pub(crate) behind: Vec<bool>,
-    pub(crate) before: Vec<bool>,
+    pub(crate) behind: Marks,
+    pub(crate) before: Marks,
 }
 
 /// The sides of the slots between the first lower and the last upper entry of an id, these two
@@ -56,21 +56,21 @@ fn mark_behind(
     id: u32,
     start: u32,
     end: u32,
-) -> Result<Vec<bool>, AllocError>
+) -> Result<Marks, AllocError>
     requires ready { IsReady index.now id slots.now }
     requires from { start ≡ gap_end (is_above index.now.live) slots.now id }
     requires order { start ≤ end }
     requires inside { end ≤ length slots.now }
-    ensures { IfOk result (λ marks. AreLedTo (is_above index.now.live) slots.now id start end marks.items) }
+    ensures { IfOk result (AreLedTo (is_above index.now.live) slots.now id start end) }
 {
-    let mut marks = vec![in alloc; false; (end - start) as usize]?;
-    mark_below(slots, index, id, start, marks.as_mut_slice());
-    for slot in start..end {
-        if marks[(slot - start) as usize] {
-            if let Some(held) = slots.at(slot) {
-                mark_below(slots, index, held, start, marks.as_mut_slice());
-            }
+    let mut marks = Marks::new(alloc, end - start)?;
+    mark_below(slots, index, id, start, &mut marks);
+    let mut from = start;
+    while let Some(slot) = first_marked(&marks, start, from, end) {
+        if let Some(held) = slots.at(slot) {
+            mark_below(slots, index, held, start, &mut marks);
         }
+        from = slot + 1;
     }
     Ok(marks)
 }
@@ -83,27 +83,27 @@ fn mark_before(
     id: u32,
     start: u32,
     end: u32,
-) -> Result<Vec<bool>, AllocError>
+) -> Result<Marks, AllocError>
     requires ready { IsReady index.now id slots.now }
     requires to { end ≡ gap_start (is_above index.now.live) slots.now id }
     requires order { start ≤ end }
     requires inside { end ≤ length slots.now }
-    ensures { IfOk result (λ marks. LeadFrom (is_above index.now.live) slots.now id start end marks.items) }
+    ensures { IfOk result (LeadFrom (is_above index.now.live) slots.now id start end) }
 {
-    let mut marks = vec![in alloc; false; (end - start) as usize]?;
-    mark_above(slots, index, id, start, marks.as_mut_slice());
-    for slot in (start..end).rev() {
-        if marks[(slot - start) as usize] {
-            if let Some(held) = slots.at(slot) {
-                mark_above(slots, index, held, start, marks.as_mut_slice());
-            }
+    let mut marks = Marks::new(alloc, end - start)?;
+    mark_above(slots, index, id, start, &mut marks);
+    let mut to = end;
+    while let Some(slot) = last_marked(&marks, start, to) {
+        if let Some(held) = slots.at(slot) {
+            mark_above(slots, index, held, start, &mut marks);
         }
+        to = slot;
     }
     Ok(marks)
 }
 
 /// Marks the slots of what is below an id.
-fn mark_below(slots: &Arrangement, index: &Index, id: u32, start: u32, marks: &mut [bool])
+fn mark_below(slots: &Arrangement, index: &Index, id: u32, start: u32, marks: &mut Marks)
     requires live { IsTrue (is_live index.now.live id) }
     requires once { (i j other : ℕ) → slot slots.now i ≡ Some other → slot slots.now j ≡ Some other → i ≡ j }
     ensures { AreReached (λ other. is_above index.now.live id other) slots.now start marks.old marks.new }
@@ -112,7 +112,7 @@ fn mark_below(slots: &Arrangement, index: &Index, id: u32, start: u32, marks: &m
 }
 
 /// Marks the slots of what is above an id.
-fn mark_above(slots: &Arrangement, index: &Index, id: u32, start: u32, marks: &mut [bool])
+fn mark_above(slots: &Arrangement, index: &Index, id: u32, start: u32, marks: &mut Marks)
     requires live { IsTrue (is_live index.now.live id) }
     requires once { (i j other : ℕ) → slot slots.now i ≡ Some other → slot slots.now j ≡ Some other → i ≡ j }
     ensures { AreReached (λ other. is_above index.now.live other id) slots.now start marks.old marks.new }
@@ -121,7 +121,7 @@ fn mark_above(slots: &Arrangement, index: &Index, id: u32, start: u32, marks: &m
 }
 
 /// Marks the slots of some ids, of those that the marks are of.
-fn mark_all(slots: &Arrangement, start: u32, marks: &mut [bool], others: Overlaps<'_>)
+fn mark_all(slots: &Arrangement, start: u32, marks: &mut Marks, others: Overlaps<'_>)
     ensures { AreMarked slots.now start others.entry marks.old marks.new }
 {
     for other in others {
@@ -130,41 +130,38 @@ fn mark_all(slots: &Arrangement, start: u32, marks: &mut [bool], others: Overlap
 }
 
 /// Marks the slot of an id, if it is one of those that the marks are of.
-fn mark(slots: &Arrangement, start: u32, marks: &mut [bool], id: u32)
+fn mark(slots: &Arrangement, start: u32, marks: &mut Marks, id: u32)
     ensures { AreMarked slots.now start (id ∷ []) marks.old marks.new }
 {
     let Some(slot) = slots.home(id) else {
         return;
     };
-    if slot >= start && ((slot - start) as usize) < marks.len() {
-        marks[(slot - start) as usize] = true;
+    if slot >= start && slot - start < marks.places() {
+        marks.mark(slot - start);
     }
 }
 
 /// The last marked slot from `start` on and before another, where the marks begin with `start`.
-pub(crate) fn last_marked(marks: &[bool], start: u32, end: u32) -> Option<u32>
+pub(crate) fn last_marked(marks: &Marks, start: u32, end: u32) -> Option<u32>
     requires order { start ≤ end }
     requires inside { end ≤ start + length marks.now }
     ensures { IsLastMarked marks.now start end result }
 {
-    for slot in (start..end).rev() {
-        if marks[(slot - start) as usize] {
-            return Some(slot);
-        }
+    match marks.last_marked(0, end - start) {
+        Some(at) => Some(start + at),
+        None => None,
     }
-    None
 }
 
 /// The first marked slot from one on and before another, where the marks begin with `start`.
-pub(crate) fn first_marked(marks: &[bool], start: u32, from: u32, end: u32) -> Option<u32>
+pub(crate) fn first_marked(marks: &Marks, start: u32, from: u32, end: u32) -> Option<u32>
     requires low { start ≤ from }
+    requires order { from ≤ end }
     requires inside { end ≤ start + length marks.now }
     ensures { IsFirstMarked marks.now start from end result }
 {
-    for slot in from..end {
-        if marks[(slot - start) as usize] {
-            return Some(slot);
-        }
+    match marks.next_marked(from - start, end - start) {
+        Some(at) => Some(start + at),
+        None => None,
     }
-    None
 }

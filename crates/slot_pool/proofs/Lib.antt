@@ -3,7 +3,8 @@ pub mod CopyCounts
 mod Examples
 pub mod Finds
 pub mod LeastSlots
-pub mod Marks
 pub mod Places
+pub mod Rows
 pub mod Scan
 pub mod Searches
+pub mod WordSearch

@@ -1,5 +1,5 @@
 -- Arrangements of ids in slots: a list of slots, each empty or an id.
-use Rattle.std.specs.Prelude.{◌≡◌, ◌≢◌, ℕ, Bool, false, ◌==◌, ◌&&◌, nat_lt, nat_le, Option, Some, None, List, [], ◌∷◌, length, filter, reverse, is_none, if◌then◌else◌}
+use Rattle.std.specs.Prelude.{◌≡◌, ◌≢◌, ◌<◌, ◌≤◌, ℕ, Bool, true, false, ◌==◌, ◌&&◌, nat_lt, nat_le, Option, Some, None, List, [], ◌∷◌, length, filter, reverse, is_none, if◌then◌else◌}
 use Rattle.std.specs.List.{find, range_with_len}
 use Rattle.std.specs.Int.{abs_diff}
 use Rattle.slot_order.specs.Order.{slot}
@@ -47,6 +47,12 @@ nearest mid (at ∷ slots) = nearer mid at (nearest mid slots)
 abbrev pub nearest_free : Slots → ℕ → ℕ → ℕ → Option ℕ
 nearest_free slots from to mid =
     nearest mid (filter (λ at. is_free_within slots from to at) (slot_numbers slots))
+
+-- what was found is the least free slot from one place on and before another
+abbrev pub IsFirstFree : Slots → ℕ → ℕ → Option ℕ → Type 0
+IsFirstFree slots from to None = (at : ℕ) → from ≤ at → at < to → is_free slots at ≡ false
+IsFirstFree slots from to (Some found) =
+    (from ≤ found) × (found < to) × (is_free slots found ≡ true) × ((at : ℕ) → from ≤ at → at < found → is_free slots at ≡ false)
 
 -- the least free slot above a place
 abbrev pub next_free_above : Slots → ℕ → Option ℕ

@@ -6,7 +6,7 @@
 //!
 //! Beside the slots stand words of bits, one bit a slot that is 1 where the slot is empty, and the
 //! number of empty slots. Most slots are taken where a free one is far, so a search passes
-//! 64 taken slots at a step.
+//! 64 taken slots at a step. `Marks` is a row of such bits by itself, for whoever marks slots.
 //!
 //! A table of homes stands beside them too: for each id below the number of slots the least slot
 //! that holds it, and how many slots do. A planner asks for the homes of all entries that overlap
@@ -18,14 +18,16 @@
 ghost use Rattle.std.specs.Prelude.{◌≡◌, ◌==◌, ℕ, ◌+◌, ◌<◌, ◌≤◌, None, Some, IfOk, length, replicate, slice_set, count_by, is_none};
 ghost use Rattle.slot_order.specs.Order.{slot as held_in};
 ghost use Rattle.slot_pool.specs.Free.{IsBelow, IsFrom, nearer_of};
-ghost use Rattle.slot_pool.specs.Arrangement.{home_of, nearest_free, next_free_above, last_free_below, HasTwin};
+ghost use Rattle.slot_pool.specs.Arrangement.{IsFirstFree, home_of, nearest_free, next_free_above, last_free_below, HasTwin};
 
 mod copies;
 mod free;
 mod homes;
+mod mark_row;
 #[cfg(test)]
 mod tests;
 
+pub use mark_row::Marks;
 use std::alloc::{AllocError, Global};
 use std::marker::Model;
 
@@ -126,6 +128,15 @@ impl Arrangement {
         let above = free::next_marked(&self.free, mid.max(from), to);
         let below = free::last_marked(&self.free, from, mid.min(to));
         nearer(mid, below, above)
+    }
+
+    /// The least empty slot from `from` on and before `to`, or `None` exactly where no slot there is
+    /// empty. It looks no further than `to`.
+    pub fn first_free(&self, from: u32, to: u32) -> Option<u32>
+        requires { to ≤ length self.now }
+        ensures { IsFirstFree self.now from to result }
+    {
+        free::next_marked(&self.free, from, to)
     }
 
     /// The least empty slot above a slot, or `None` exactly where there is none.

@@ -1,4 +1,4 @@
-use crate::Arrangement;
+use crate::{Arrangement, Marks};
 use std::test::Fail;
 
 // The least slot that holds an id, by a look at each slot.
@@ -99,6 +99,10 @@ fn free_slots(rt: HostRuntime) -> Result<(), Fail> {
     assert_eq!(rt; three.last_free_below(0), None);
     three.put(2, 0);
     assert_eq!(rt; three.next_free_above(1), None);
+    assert_eq!(rt;
+        (three.first_free(1, 3), three.first_free(2, 3)),
+        (Some(1), None)
+    );
     Ok(())
 }
 
@@ -120,5 +124,34 @@ fn moves(rt: HostRuntime) -> Result<(), Fail> {
     for id in 0..5 {
         assert_eq!(rt; copy.home(id), plain_home(&copy, id));
     }
+    Ok(())
+}
+
+// The least marked place of a range, by a look at each place.
+fn plain_marked(marks: &Marks, from: u32, to: u32) -> Option<u32> {
+    for at in from..to {
+        if at < marks.places() && marks.is_marked(at) {
+            return Some(at);
+        }
+    }
+    None
+}
+
+#[test]
+fn marks_by_words(rt: HostRuntime) -> Result<(), Fail> {
+    let mut marks = Marks::new(rt.alloc(), 150)?;
+    assert_eq!(rt; marks.next_marked(0, 150), None);
+    marks.mark(0);
+    marks.mark(63);
+    marks.mark(64);
+    marks.mark(149);
+    for from in 0..150 {
+        assert_eq!(rt;
+            marks.next_marked(from, 150),
+            plain_marked(&marks, from, 150)
+        );
+    }
+    assert_eq!(rt; marks.last_marked(0, 149), Some(64));
+    assert_eq!(rt; marks.last_marked(65, 149), None);
     Ok(())
 }

@@ -1,13 +1,12 @@
-use Rattle.std.proofs.Common.{None, sym, subst}
-use Rattle.move_planner.specs.Steps.{FindsLate, IsFirstMarked}
+use Rattle.std.proofs.Common.{sym, subst}
+use Rattle.move_planner.specs.Steps.{FindsLate}
 use Rattle.move_planner.proofs.Underway.{late_unmarked, late_blocked}
 use Rattle.move_planner.proofs.crossings.late_ends.Goals as goal
 
 pub returns-in_err-from : goal.returns-in_err-from
 returns-in_err-from c = λ index id behind before w.
     subst (FindsLate before c.args.slots.now c.args.sides.now c.args.cut) (sym c.from_residual.ensures)
-    (late_unmarked index id behind before c.args.slots.now c.args.sides.now c.args.cut w
-    (subst (λ marks. IsFirstMarked marks c.args.sides.now.start c.args.cut.high c.args.sides.now.end None) c.as_slice.ensures.value c.in_err-from.ensures))
+    (late_unmarked index id behind before c.args.slots.now c.args.sides.now c.args.cut w c.in_err-from.ensures)
 
 pub returns-in_err-free : goal.returns-in_err-free
 returns-in_err-free c = λ index id behind before w.

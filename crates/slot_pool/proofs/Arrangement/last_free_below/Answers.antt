@@ -1,5 +1,5 @@
 use Rattle.std.proofs.Common.{sym, rules}
-use Rattle.slot_pool.proofs.Marks.{last_is}
+use Rattle.slot_pool.proofs.WordSearch.{last_is}
 use Rattle.slot_pool.proofs.Arrangement.last_free_below.Goals as goal
 
 pub returns : goal.returns

@@ -1,6 +1,6 @@
 use Rattle.std.proofs.Common.{◌≡◌, min, max, sym, ◌∙◌, length, arith, ap}
 use Rattle.slot_pool.specs.Free.{IsLastMarked, IsNextMarked}
-use Rattle.slot_pool.proofs.Marks.{nearest_is}
+use Rattle.slot_pool.proofs.WordSearch.{nearest_is}
 use Rattle.slot_pool.proofs.Arrangement.nearest_free.Goals as goal
 
 pub returns : goal.returns

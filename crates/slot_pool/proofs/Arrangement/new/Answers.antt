@@ -3,7 +3,7 @@ use Rattle.std.proofs.lemmas.List.{length-replicate}
 use Rattle.std.proofs.lemmas.Grind.{common_steps}
 use Rattle.slot_pool.proofs.LeastSlots.{homes_none}
 use Rattle.slot_pool.proofs.CopyCounts.{copies_none}
-use Rattle.slot_pool.proofs.Marks.{all_free, count_all}
+use Rattle.slot_pool.proofs.WordSearch.{all_free, count_all}
 use Rattle.slot_pool.proofs.Arrangement.new.Goals as goal
 
 pub invariant_of-result : goal.invariant_of-result

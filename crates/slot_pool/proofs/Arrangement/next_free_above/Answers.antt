@@ -1,5 +1,5 @@
 use Rattle.std.proofs.Common.{sym, rules}
-use Rattle.slot_pool.proofs.Marks.{next_is}
+use Rattle.slot_pool.proofs.WordSearch.{next_is}
 use Rattle.slot_pool.proofs.Arrangement.next_free_above.Goals as goal
 
 pub returns : goal.returns

@@ -1,5 +1,5 @@
 use Rattle.std.proofs.Common.{arith, ◌-◌}
-use Rattle.slot_pool.proofs.Marks.{down_none, down_some}
+use Rattle.slot_pool.proofs.WordSearch.{down_none, down_some}
 use Rattle.slot_pool.proofs.free.last_marked.Goals as goal
 
 pub returns-then-from-at : goal.returns-then-from-at

@@ -1,5 +1,5 @@
 use Rattle.std.proofs.Common.{arith}
-use Rattle.slot_pool.proofs.Marks.{up_none, up_some}
+use Rattle.slot_pool.proofs.WordSearch.{up_none, up_some}
 use Rattle.slot_pool.proofs.free.next_marked.Goals as goal
 
 pub returns-then-at-to : goal.returns-then-at-to

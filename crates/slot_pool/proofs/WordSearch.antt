@@ -7,7 +7,7 @@ use Rattle.std.proofs.lemmas.Bool.{cases_lt, and_from, and_parts, lt-ltb, le-leb
 use Rattle.std.proofs.lemmas.List.{length-replicate}
 use Rattle.std.proofs.lemmas.List.Folds.{sum_by-replicate}
 use Rattle.slot_order.specs.Order.{slot}
-use Rattle.slot_pool.specs.Arrangement.{Slots, is_free, is_free_within, nearest_free, next_free_above, last_free_below}
+use Rattle.slot_pool.specs.Arrangement.{Slots, is_free, is_free_within, IsFirstFree, nearest_free, next_free_above, last_free_below}
 use Rattle.slot_pool.specs.Free.{bit_of, IsLowest, IsHighest, IsNextMarked, IsLastMarked, AreFree, nearer_of}
 use Rattle.slot_pool.proofs.Bits.{bit_in_word}
 use Rattle.slot_pool.proofs.LeastSlots.{empty}
@@ -70,6 +70,12 @@ next_is slots words place (Some at) are is =
     let high : at < length slots = is.1 in
     next_found slots place at (omega arith) high (free_from_bit slots words at are is.2)
     (λ k above below. taken_from_bit slots words k are (omega arith) (is.3 k (omega arith) below))
+
+pub first_is : (slots : Slots) (words : List ℕ) (from to : ℕ) (found : Option ℕ) → AreFree slots words → to ≤ length slots → IsNextMarked words from to found → IsFirstFree slots from to found
+first_is slots words from to None are inside none = λ k low high. taken_from_bit slots words k are (omega arith) (none k low high)
+first_is slots words from to (Some at) are inside is =
+    let high : at < to = is.1 in
+    (is.0, high, free_from_bit slots words at are is.2, λ k above below. taken_from_bit slots words k are (omega arith) (is.3 k above below))
 
 pub last_is : (slots : Slots) (words : List ℕ) (place : ℕ) (found : Option ℕ) → AreFree slots words → place < length slots → IsLastMarked words 0 place found → last_free_below slots place ≡ found
 last_is slots words place None are inside none = last_none slots place (λ k high. taken_from_bit slots words k are (omega arith) (none k (omega arith) high))

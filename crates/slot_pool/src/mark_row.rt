@@ -1,0 +1,78 @@
+//! Rows of marks, 64 a word, in which a search passes 64 places with no mark at a step.
+ghost use Rattle.std.specs.Prelude.{◌≡◌, ◌<◌, ◌≤◌, true, false, IfOk, length, replicate, slice_set, slice_index_or};
+ghost use Rattle.slot_pool.specs.Rows.{IsNextSet, IsLastSet};
+
+use crate::{MOST_SLOTS, free};
+use std::alloc::{AllocError, Global};
+use std::marker::Model;
+
+/// A row of places, each marked or not.
+#[derive(Debug, Drop)]
+pub struct Marks {
+    // The bit of each place, 64 places a word, 1 where it is marked.
+    words: Vec<u64>,
+    // How many places there are.
+    places: u32,
+}
+
+impl Model for Marks {
+    ghost use Rattle.std.specs.Prelude.{ℕ, ◌*◌, ◌≤◌, Bool, List, length};
+    ghost use Rattle.slot_pool.specs.Rows.{marks_of};
+
+    ghost Value = { List Bool };
+
+    ghost view = { λ m. marks_of m.words.items m.places };
+
+    ghost invariant = { λ m. (m.places ≤ 65536) × (m.places ≤ length m.words.items * 64) × (length m.words.items ≤ 1024) };
+}
+
+impl Marks {
+    /// Makes a row of `places` places, up to `MOST_SLOTS`, none of them marked.
+    pub fn new(alloc: Global, places: u32) -> Result<Marks, AllocError>
+        requires { places ≤ MOST_SLOTS }
+        ensures { IfOk result (λ marks. marks ≡ replicate places false) }
+    {
+        let words = vec![in alloc; 0; places.div_ceil(64) as usize]?;
+        Ok(Marks { words, places })
+    }
+
+    /// The number of places, up to `MOST_SLOTS`.
+    pub fn places(&self) -> u32
+        ensures number { result ≡ length self.now }
+        ensures most { result ≤ MOST_SLOTS }
+    {
+        self.places
+    }
+
+    /// Marks a place, and no other one.
+    pub fn mark(&mut self, at: u32)
+        requires { at < length self.old }
+        ensures { self.new ≡ slice_set self.old at true }
+    {
+        free::mark(&mut self.words, at);
+    }
+
+    /// Whether a place is marked.
+    pub fn is_marked(&self, at: u32) -> bool
+        requires { at < length self.now }
+        ensures { result ≡ slice_index_or self.now at false }
+    {
+        (self.words[(at / 64) as usize] >> (at % 64)) % 2 == 1
+    }
+
+    /// The least marked place from `from` on and before `to`, or `None` exactly where none there is.
+    pub fn next_marked(&self, from: u32, to: u32) -> Option<u32>
+        requires { to ≤ length self.now }
+        ensures { IsNextSet self.now from to result }
+    {
+        free::next_marked(&self.words, from, to)
+    }
+
+    /// The greatest marked place from `from` on and before `to`, or `None` exactly where none there is.
+    pub fn last_marked(&self, from: u32, to: u32) -> Option<u32>
+        requires { to ≤ length self.now }
+        ensures { IsLastSet self.now from to result }
+    {
+        free::last_marked(&self.words, from, to)
+    }
+}
