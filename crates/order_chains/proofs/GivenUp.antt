@@ -100,8 +100,8 @@ module _ (ids : ℕ) (ns : List Node) (below above : List ℕ) (a : AreChains id
   out1 : length below ≤ owner1 at
   out1 = let h = a.heads.0 in let e = but_at at (ids + 1) (upper_at ns) in omega arith
 
-  D1 : AreLists (next_at Below ns1) (back_at Below ns1) owner1 below1 len
-  D1 = lists_unlink (next_at Below ns) (back_at Below ns) (upper_at ns) (next_at Below ns1) (back_at Below ns1) owner1 below len at upper a.downs owned
+  downs1 : AreLists (next_at Below ns1) (back_at Below ns1) owner1 below1 len
+  downs1 = lists_unlink (next_at Below ns) (back_at Below ns) (upper_at ns) (next_at Below ns1) (back_at Below ns1) owner1 below len at upper a.downs owned
       inside refl out1 (but_off at (ids + 1) (upper_at ns)) is_unlinked
 
   size_below1 : length below1 ≡ ids + 1
@@ -109,15 +109,15 @@ module _ (ids : ℕ) (ns : List Node) (below above : List ℕ) (a : AreChains id
       inside refl out1 (but_off at (ids + 1) (upper_at ns)) is_unlinked ∙ a.heads.0
 
   -- out of the above list
-  U1 : AreLists (next_at Above ns1) (back_at Above ns1) (lower_at ns) above len
-  U1 = AreLists_same (next_at Above ns) (back_at Above ns) (lower_at ns) (next_at Above ns1) (back_at Above ns1) (lower_at ns) above len
+  ups1 : AreLists (next_at Above ns1) (back_at Above ns1) (lower_at ns) above len
+  ups1 = AreLists_same (next_at Above ns) (back_at Above ns) (lower_at ns) (next_at Above ns1) (back_at Above ns1) (lower_at ns) above len
       (λ y. unlinked_field (λ n. n.above.next) Below (λ n l. refl) ns at y) (λ y. unlinked_field (λ n. n.above.back) Below (λ n l. refl) ns at y) (λ y. refl) a.ups
 
   pub owned_up : lower < length above
   owned_up = let h = a.heads.1 in let l = low in omega arith
 
   beside : HasNeighbours (next_at Above ns1) (back_at Above ns1) len at
-  beside = neighbours (next_at Above ns1) (back_at Above ns1) (lower_at ns) above len U1 at inside owned_up
+  beside = neighbours (next_at Above ns1) (back_at Above ns1) (lower_at ns) above len ups1 at inside owned_up
 
   pub beside_up : HasNeighbours (next_at Above ns1) (back_at Above ns1) (length ns1) at
   beside_up = subst (λ z. HasNeighbours (next_at Above ns1) (back_at Above ns1) z at) (sym size1) beside
@@ -128,24 +128,24 @@ module _ (ids : ℕ) (ns : List Node) (below above : List ℕ) (a : AreChains id
   out2 : length above ≤ lower_at ns4 at
   out2 = let h = a.heads.1 in let e = lower_here in omega arith
 
-  U2 : AreLists (next_at Above ns2) (back_at Above ns2) (lower_at ns4) above2 len
-  U2 = lists_unlink (next_at Above ns1) (back_at Above ns1) (lower_at ns) (next_at Above ns2) (back_at Above ns2) (lower_at ns4) above len at lower U1 owned_up
+  ups2 : AreLists (next_at Above ns2) (back_at Above ns2) (lower_at ns4) above2 len
+  ups2 = lists_unlink (next_at Above ns1) (back_at Above ns1) (lower_at ns) (next_at Above ns2) (back_at Above ns2) (lower_at ns4) above len at lower ups1 owned_up
       inside refl out2 lower_off is_unlinked2
 
   size_above2 : length above2 ≡ ids
-  size_above2 = heads'_size (next_at Above ns1) (back_at Above ns1) (lower_at ns) (next_at Above ns2) (back_at Above ns2) (lower_at ns4) above len at lower U1 owned_up
+  size_above2 = heads'_size (next_at Above ns1) (back_at Above ns1) (lower_at ns) (next_at Above ns2) (back_at Above ns2) (lower_at ns4) above len at lower ups1 owned_up
       inside refl out2 lower_off is_unlinked2 ∙ a.heads.1
 
-  U4 : AreLists (next_at Above ns4) (back_at Above ns4) (lower_at ns4) above2 len
-  U4 = AreLists_same (next_at Above ns2) (back_at Above ns2) (lower_at ns4) (next_at Above ns4) (back_at Above ns4) (lower_at ns4) above2 len
+  ups4 : AreLists (next_at Above ns4) (back_at Above ns4) (lower_at ns4) above2 len
+  ups4 = AreLists_same (next_at Above ns2) (back_at Above ns2) (lower_at ns4) (next_at Above ns4) (back_at Above ns4) (lower_at ns4) above2 len
       (λ y. pushed_field (λ n. n.above.next) Below (λ n l. refl) ns3 at _ y ∙ set_field (λ n. n.above.next) ns2 at _ y refl)
-      (λ y. pushed_field (λ n. n.above.back) Below (λ n l. refl) ns3 at _ y ∙ set_field (λ n. n.above.back) ns2 at _ y refl) (λ y. refl) U2
+      (λ y. pushed_field (λ n. n.above.back) Below (λ n l. refl) ns3 at _ y ∙ set_field (λ n. n.above.back) ns2 at _ y refl) (λ y. refl) ups2
 
   -- into the list of free ones
-  D3 : AreLists (next_at Below ns3) (back_at Below ns3) owner1 below1 len
-  D3 = AreLists_same (next_at Below ns1) (back_at Below ns1) owner1 (next_at Below ns3) (back_at Below ns3) owner1 below1 len
+  downs3 : AreLists (next_at Below ns3) (back_at Below ns3) owner1 below1 len
+  downs3 = AreLists_same (next_at Below ns1) (back_at Below ns1) owner1 (next_at Below ns3) (back_at Below ns3) owner1 below1 len
       (λ y. set_field (λ n. n.below.next) ns2 at _ y refl ∙ unlinked_field (λ n. n.below.next) Above (λ n l. refl) ns1 at y)
-      (λ y. set_field (λ n. n.below.back) ns2 at _ y refl ∙ unlinked_field (λ n. n.below.back) Above (λ n l. refl) ns1 at y) (λ y. refl) D1
+      (λ y. set_field (λ n. n.below.back) ns2 at _ y refl ∙ unlinked_field (λ n. n.below.back) Above (λ n l. refl) ns1 at y) (λ y. refl) downs1
 
   nobody : at < len → length below1 ≤ owner1 at
   nobody l = let h = size_below1 in let e = but_at at (ids + 1) (upper_at ns) in omega arith
@@ -157,14 +157,14 @@ module _ (ids : ℕ) (ns : List Node) (below above : List ℕ) (a : AreChains id
   first_free = (
     subst (λ z. at < z) (sym size3) inside,
     fits,
-    λ n. subst (λ z. get_or below1 ids nil < z) (sym size3) (head_in (next_at Below ns3) (back_at Below ns3) owner1 below1 len D3 ids fits n).0,
+    λ n. subst (λ z. get_or below1 ids nil < z) (sym size3) (head_in (next_at Below ns3) (back_at Below ns3) owner1 below1 len downs3 ids fits n).0,
   )
 
-  D4 : AreLists (next_at Below ns4) (back_at Below ns4) (upper_at ns4) below4 len
-  D4 = lists_push (next_at Below ns3) (back_at Below ns3) owner1 (next_at Below ns4) (back_at Below ns4) (upper_at ns4) below1 len at ids D3 fits
+  downs4 : AreLists (next_at Below ns4) (back_at Below ns4) (upper_at ns4) below4 len
+  downs4 = lists_push (next_at Below ns3) (back_at Below ns3) owner1 (next_at Below ns4) (back_at Below ns4) (upper_at ns4) below1 len at ids downs3 fits
       len place inside (le_refl len) (λ y l n. l) nobody upper_here (λ y n. upper_off y n ∙ sym (but_off at (ids + 1) (upper_at ns) y n))
       (push_is Below ns3 at (get_or below1 ids nil) first_free.0 first_free.2
-      (head_off (next_at Below ns3) (back_at Below ns3) owner1 below1 len D3 ids at fits place nobody))
+      (head_off (next_at Below ns3) (back_at Below ns3) owner1 below1 len downs3 ids at fits place nobody))
 
   -- a node with an upper id is another one
   off : (p : ℕ) → upper_at ns4 p < ids → p ≢ at
@@ -174,8 +174,8 @@ module _ (ids : ℕ) (ns : List Node) (below above : List ℕ) (a : AreChains id
   chains_given_up = record {
     size = (a.size.0, a.size.1, (let s = size4 in let z = a.size.2 in omega arith));
     heads = (length-set below1 ids at ∙ size_below1, size_above2);
-    downs = subst (λ z. AreLists (next_at Below ns4) (back_at Below ns4) (upper_at ns4) below4 z) (sym size4) D4;
-    ups = subst (λ z. AreLists (next_at Above ns4) (back_at Above ns4) (lower_at ns4) above2 z) (sym size4) U4;
+    downs = subst (λ z. AreLists (next_at Below ns4) (back_at Below ns4) (upper_at ns4) below4 z) (sym size4) downs4;
+    ups = subst (λ z. AreLists (next_at Above ns4) (back_at Above ns4) (lower_at ns4) above2 z) (sym size4) ups4;
     ends = λ p l. elim (cases_eq p at) [
       | inl e ↦ inl (ap (upper_at ns4) e ∙ upper_here, ap (lower_at ns4) e ∙ lower_here)
       | inr n ↦ subst (λ z. AreEnds ids z (lower_at ns4 p)) (sym (upper_off p n)) (subst (λ z. AreEnds ids (upper_at ns p) z) (sym (lower_off p n)) (a.ends p (let s = size4 in omega arith)))

@@ -123,8 +123,8 @@ module _ (ids : ℕ) (ns : List Node) (below above : List ℕ) (a : AreChains id
     owned : upper_at ns at < length below
     owned = let h = a.heads.0 in let e = free.upper in omega arith
 
-    D1 : AreLists (next_at Below ns1) (back_at Below ns1) owner1 below1 len
-    D1 = lists_unlink (next_at Below ns) (back_at Below ns) (upper_at ns) (next_at Below ns1) (back_at Below ns1) owner1 below len at ids a.downs small
+    downs1 : AreLists (next_at Below ns1) (back_at Below ns1) owner1 below1 len
+    downs1 = lists_unlink (next_at Below ns) (back_at Below ns) (upper_at ns) (next_at Below ns1) (back_at Below ns1) owner1 below len at ids a.downs small
         free.inside free.upper (let h = a.heads.0 in let e = but_at at (ids + 1) (upper_at ns) in omega arith) (but_off at (ids + 1) (upper_at ns))
         (unlink_is Below ns at (back_in_list (next_at Below ns) (back_at Below ns) (upper_at ns) below len a.downs at free.inside owned) (next_in (next_at Below ns) (back_at Below ns) (upper_at ns) below len a.downs at free.inside owned))
 
@@ -134,9 +134,9 @@ module _ (ids : ℕ) (ns : List Node) (below above : List ℕ) (a : AreChains id
         (unlink_is Below ns at (back_in_list (next_at Below ns) (back_at Below ns) (upper_at ns) below len a.downs at free.inside owned) (next_in (next_at Below ns) (back_at Below ns) (upper_at ns) below len a.downs at free.inside owned))
         ∙ a.heads.0
 
-    D2 : AreLists (next_at Below ns2) (back_at Below ns2) owner1 below1 len
-    D2 = AreLists_same (next_at Below ns1) (back_at Below ns1) owner1 (next_at Below ns2) (back_at Below ns2) owner1 below1 len
-        (λ y. set_field (λ n. n.below.next) ns1 at _ y refl) (λ y. set_field (λ n. n.below.back) ns1 at _ y refl) (λ y. refl) D1
+    downs2 : AreLists (next_at Below ns2) (back_at Below ns2) owner1 below1 len
+    downs2 = AreLists_same (next_at Below ns1) (back_at Below ns1) owner1 (next_at Below ns2) (back_at Below ns2) owner1 below1 len
+        (λ y. set_field (λ n. n.below.next) ns1 at _ y refl) (λ y. set_field (λ n. n.below.back) ns1 at _ y refl) (λ y. refl) downs1
 
     nobody : at < len → length below1 ≤ owner1 at
     nobody l = let h = size_below1 in let e = but_at at (ids + 1) (upper_at ns) in omega arith
@@ -148,21 +148,21 @@ module _ (ids : ℕ) (ns : List Node) (below above : List ℕ) (a : AreChains id
     first_down = (
       subst (λ z. at < z) (sym size2) free.inside,
       fits1,
-      λ n. subst (λ z. get_or below1 upper nil < z) (sym size2) (head_in (next_at Below ns2) (back_at Below ns2) owner1 below1 len D2 upper fits1 n).0,
+      λ n. subst (λ z. get_or below1 upper nil < z) (sym size2) (head_in (next_at Below ns2) (back_at Below ns2) owner1 below1 len downs2 upper fits1 n).0,
     )
 
-    D3 : AreLists (next_at Below ns3) (back_at Below ns3) (upper_at ns4) below3 len
-    D3 = lists_push (next_at Below ns2) (back_at Below ns2) owner1 (next_at Below ns3) (back_at Below ns3) (upper_at ns4) below1 len at upper D2 fits1
+    downs3 : AreLists (next_at Below ns3) (back_at Below ns3) (upper_at ns4) below3 len
+    downs3 = lists_push (next_at Below ns2) (back_at Below ns2) owner1 (next_at Below ns3) (back_at Below ns3) (upper_at ns4) below1 len at upper downs2 fits1
         len free.place free.inside (le_refl len) (λ y l n. l) nobody upper_here (λ y n. upper_off y n ∙ sym (but_off at (ids + 1) (upper_at ns) y n))
         (push_is Below ns2 at (get_or below1 upper nil) first_down.0 first_down.2
-        (head_off (next_at Below ns2) (back_at Below ns2) owner1 below1 len D2 upper at fits1 free.place nobody))
+        (head_off (next_at Below ns2) (back_at Below ns2) owner1 below1 len downs2 upper at fits1 free.place nobody))
 
-    D4 : AreLists (next_at Below ns4) (back_at Below ns4) (upper_at ns4) below3 len
-    D4 = AreLists_same (next_at Below ns3) (back_at Below ns3) (upper_at ns4) (next_at Below ns4) (back_at Below ns4) (upper_at ns4) below3 len
-        (λ y. pushed_field (λ n. n.below.next) Above (λ n l. refl) ns3 at _ y) (λ y. pushed_field (λ n. n.below.back) Above (λ n l. refl) ns3 at _ y) (λ y. refl) D3
+    downs4 : AreLists (next_at Below ns4) (back_at Below ns4) (upper_at ns4) below3 len
+    downs4 = AreLists_same (next_at Below ns3) (back_at Below ns3) (upper_at ns4) (next_at Below ns4) (back_at Below ns4) (upper_at ns4) below3 len
+        (λ y. pushed_field (λ n. n.below.next) Above (λ n l. refl) ns3 at _ y) (λ y. pushed_field (λ n. n.below.back) Above (λ n l. refl) ns3 at _ y) (λ y. refl) downs3
 
-    U3 : AreLists (next_at Above ns3) (back_at Above ns3) (lower_at ns) above len
-    U3 = AreLists_same (next_at Above ns) (back_at Above ns) (lower_at ns) (next_at Above ns3) (back_at Above ns3) (lower_at ns) above len
+    ups3 : AreLists (next_at Above ns3) (back_at Above ns3) (lower_at ns) above len
+    ups3 = AreLists_same (next_at Above ns) (back_at Above ns) (lower_at ns) (next_at Above ns3) (back_at Above ns3) (lower_at ns) above len
         (λ y. pushed_field (λ n. n.above.next) Below (λ n l. refl) ns2 at _ y ∙ (set_field (λ n. n.above.next) ns1 at _ y refl ∙ unlinked_field (λ n. n.above.next) Below (λ n l. refl) ns at y))
         (λ y. pushed_field (λ n. n.above.back) Below (λ n l. refl) ns2 at _ y ∙ (set_field (λ n. n.above.back) ns1 at _ y refl ∙ unlinked_field (λ n. n.above.back) Below (λ n l. refl) ns at y))
         (λ y. refl) a.ups
@@ -177,21 +177,21 @@ module _ (ids : ℕ) (ns : List Node) (below above : List ℕ) (a : AreChains id
     first_up = (
       subst (λ z. at < z) (sym size3) free.inside,
       fits,
-      λ n. subst (λ z. get_or above lower nil < z) (sym size3) (head_in (next_at Above ns3) (back_at Above ns3) (lower_at ns) above len U3 lower fits n).0,
+      λ n. subst (λ z. get_or above lower nil < z) (sym size3) (head_in (next_at Above ns3) (back_at Above ns3) (lower_at ns) above len ups3 lower fits n).0,
     )
 
-    U4 : AreLists (next_at Above ns4) (back_at Above ns4) (lower_at ns4) above4 len
-    U4 = lists_push (next_at Above ns3) (back_at Above ns3) (lower_at ns) (next_at Above ns4) (back_at Above ns4) (lower_at ns4) above len at lower U3 fits
+    ups4 : AreLists (next_at Above ns4) (back_at Above ns4) (lower_at ns4) above4 len
+    ups4 = lists_push (next_at Above ns3) (back_at Above ns3) (lower_at ns) (next_at Above ns4) (back_at Above ns4) (lower_at ns4) above len at lower ups3 fits
         len free.place free.inside (le_refl len) (λ y l n. l) nobody3 lower_here lower_off
         (push_is Above ns3 at (get_or above lower nil) first_up.0 first_up.2
-        (head_off (next_at Above ns3) (back_at Above ns3) (lower_at ns) above len U3 lower at fits free.place nobody3))
+        (head_off (next_at Above ns3) (back_at Above ns3) (lower_at ns) above len ups3 lower at fits free.place nobody3))
 
     pub chains_linked : AreChains ids ns4 below3 above4 (length ns4)
     chains_linked = record {
       size = (a.size.0, a.size.1, (let s = size4 in let z = a.size.2 in omega arith));
       heads = (length-set below1 upper at ∙ size_below1, length-set above lower at ∙ a.heads.1);
-      downs = subst (λ z. AreLists (next_at Below ns4) (back_at Below ns4) (upper_at ns4) below3 z) (sym size4) D4;
-      ups = subst (λ z. AreLists (next_at Above ns4) (back_at Above ns4) (lower_at ns4) above4 z) (sym size4) U4;
+      downs = subst (λ z. AreLists (next_at Below ns4) (back_at Below ns4) (upper_at ns4) below3 z) (sym size4) downs4;
+      ups = subst (λ z. AreLists (next_at Above ns4) (back_at Above ns4) (lower_at ns4) above4 z) (sym size4) ups4;
       ends = λ p l. elim (cases_eq p at) [
         | inl e ↦ subst (λ z. AreEnds ids (upper_at ns4 z) (lower_at ns4 z)) (sym e) (subst (λ z. AreEnds ids z (lower_at ns4 at)) (sym upper_here) (subst (λ z. AreEnds ids upper z) (sym lower_here) (inr (us, ls, differ))))
         | inr n ↦ subst (λ z. AreEnds ids z (lower_at ns4 p)) (sym (upper_off p n)) (subst (λ z. AreEnds ids (upper_at ns p) z) (sym (lower_off p n)) (a.ends p (let s = size4 in omega arith)))

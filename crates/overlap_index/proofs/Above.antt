@@ -1,8 +1,8 @@
 -- What the index's test says: who stands above whom.
-use Rattle.std.proofs.Common.{◌≡◌, ℕ, ◌<◌, true, List, [], ◌∷◌, map, filter, Contains, arith, inl, inr, refl, sym, ◌∙◌, subst, ap}
+use Rattle.std.proofs.Common.{◌≡◌, ℕ, ◌<◌, true, List, [], ◌∷◌, map, filter, Contains, arith, inl, inr, refl, sym, ◌∙◌, subst, ap, ap₂}
 use Rattle.std.specs.Prelude.{◌==◌, ◌↔◌, nat_lt, nat_eq, if◌then◌else◌}
 use Rattle.std.specs.List.{list_any, IsDistinct}
-use Rattle.std.proofs.lemmas.Bool.{and_parts, and_from, ltb-true, lt-ltb, eqb-true, eq-eqb, cond-true, cond-false, false_from_ne_true}
+use Rattle.std.proofs.lemmas.Bool.{both_ways, cases_Bool, and_parts, and_from, ltb-true, lt-ltb, eqb-true, eq-eqb, cond-true, cond-false, false_from_ne_true}
 use Rattle.slot_order.proofs.Lists.{contains_cases, contains_none, any_is, any_from, in_map, map_in, in_filter, filter_in}
 use Rattle.rule_model.specs.Piece.{pieces_meet}
 use Rattle.overlap_index.specs.declared.LivePiece.{LivePiece}
@@ -132,3 +132,20 @@ live_is live id e = let w = any_is (λ one. one.id == id) live e in (w.0, w.1, e
 
 pub is_live_from : (live : List LivePiece) (one : LivePiece) → Contains live one → is_live live one.id ≡ true
 is_live_from live one c = any_from (λ x. x.id == one.id) live one c (eq-eqb one.id one.id refl)
+
+-- two live pieces of one id are one
+pub same_one : (live : List LivePiece) (a b : LivePiece) → IsDistinct nat_eq (map (λ x. x.id) live) → Contains live a → Contains live b → a.id ≡ b.id → a ≡ b
+same_one live a b d has_a has_b same = sym (piece_is a live a d has_a) ∙ ap (piece_in a live) same ∙ piece_is a live b d has_b
+
+-- which of two live pieces is above the other, by their ids
+pub above_of : (live : List LivePiece) (upper lower : LivePiece) → IsDistinct nat_eq (map (λ x. x.id) live) → Contains live upper → Contains live lower
+    → is_over upper lower ≡ is_above live upper.id lower.id
+above_of live upper lower d has_upper has_lower = elim (cases_Bool (is_over upper lower)) [
+  | inl over ↦ over ∙ sym (is_above_from live upper lower has_upper has_lower over)
+  | inr apart ↦ apart ∙ sym (false_from_ne_true (is_above live upper.id lower.id) (λ e.
+      let w = above_is live upper.id lower.id e in
+      let u = same_one live w.upper upper d w.has_upper has_upper w.upper_id in
+      let l = same_one live w.lower lower d w.has_lower has_lower w.lower_id in
+      let over : is_over w.upper w.lower ≡ true = and_from _ _ w.meet (lt-ltb w.lower.rank w.upper.rank w.less) in
+      both_ways (is_over upper lower) apart (sym (ap₂ is_over u l) ∙ over)))
+]

@@ -1,9 +1,9 @@
 mod Blocks
-mod ById
 mod Examples
 mod Linked
 mod Passed
 mod Parts
+mod Placed
 mod Places
 mod Rows
 mod Sides

@@ -13,9 +13,11 @@ use Rattle.overlap_index.specs.declared.scan.Side.{Side}
 use Rattle.overlap_index.specs.declared.scan.Side.TheVariants.{Above, Below}
 use Rattle.overlap_index.specs.declared.LivePiece.{LivePiece}
 use Rattle.overlap_index.specs.Live.{AreApart, is_live, is_over, is_on, ids_on, ids_above, ids_below, is_above, without_id}
-use Rattle.overlap_index.specs.Linked.{AreLinked, HaveMore}
+use Rattle.overlap_index.specs.Linked.{AreLinked, ArePlaced, HaveMore}
+use Rattle.overlap_index.specs.Sides.{AreOn}
 use Rattle.overlap_index.proofs.Above.{IsOver, above_is, is_above_from, ids_above_are, ids_below_are, is_live_from, live_is}
 use Rattle.overlap_index.proofs.Live.{distinct_on}
+use Rattle.overlap_index.proofs.Placed.{apart_placed, on_more}
 use Rattle.order_chains.proofs.Seen.{roomy_pairs, without_pairs}
 
 -- what stands above what, from the two pieces
@@ -41,15 +43,12 @@ on_live side of live id c =
     subst (λ z. is_live live z ≡ true) m.2 (is_live_from live m.0 f.0)
 
 -- an id that isn't live is none of them
-pub on_others : (side : Side) (of : LivePiece) (slots ids : ℕ) (live : List LivePiece) (named : List ℕ) → named ≡ ids_on side of live → ids ≡ slots → AreApart slots live
+pub on_others : (side : Side) (of : LivePiece) (slots ids : ℕ) (live : List LivePiece) (named : List ℕ) → AreOn side of live named → ids ≡ slots → AreApart slots live
     → is_live live of.id ≡ false → (id : ℕ) → Contains named id → (id < ids) × (id ≢ of.id)
-on_others side of slots ids live named is size apart absent id c =
-    let on = on_live side of live id (subst (λ xs. Contains xs id) is c) in
-    let small = live_small slots live id apart on in
-    (omega arith, λ e. both_ways (is_live live id) (subst (λ z. is_live live z ≡ false) (sym e) absent) on)
-
-pub on_once : (side : Side) (of : LivePiece) (slots : ℕ) (live : List LivePiece) (named : List ℕ) → named ≡ ids_on side of live → AreApart slots live → IsDistinct nat_eq named
-on_once side of slots live named is apart = subst (IsDistinct nat_eq) (sym is) (distinct_on side of live apart.once)
+on_others side of slots ids live named on size apart absent id c =
+    let has = on_live side of live id ((on.exact id).0 c) in
+    let small = live_small slots live id apart has in
+    (omega arith, λ e. both_ways (is_live live id) (subst (λ z. is_live live z ≡ false) (sym e) absent) has)
 
 -- nor an end of a link
 pub not_upper : (edges : Pairs) (live : List LivePiece) (new lower : ℕ) → AreLinked edges live → is_live live new ≡ false → HasPair edges new lower → ⊥
@@ -72,7 +71,7 @@ live_size slots live apart =
     subst (λ n. n < slots) (m.2 ∙ sym (eqb-true q w.0 w.2)) (AllByRecursion-member (λ (one : LivePiece). one.id < slots) live m.0 apart.small m.1)) in
     omega arith
 
-pub on_size : (side : Side) (of : LivePiece) (slots : ℕ) (live : List LivePiece) → AreApart slots live → length (ids_on side of live) ≤ slots
+on_size : (side : Side) (of : LivePiece) (slots : ℕ) (live : List LivePiece) → AreApart slots live → length (ids_on side of live) ≤ slots
 on_size side of slots live apart =
     let some : List LivePiece = filter (λ other. is_on side other of) live in
     let size = live_size slots live apart in
@@ -80,6 +79,33 @@ on_size side of slots live apart =
     let kept = length-filter (λ other. is_on side other of) live in
     let less = count_by-le-length (λ other. is_on side other of) live in
     omega arith
+
+-- there are no more pieces with a place each than ids
+pub pieces_size : (slots : ℕ) (live pieces : List LivePiece) (places : List ℕ) → AreApart slots live → ArePlaced slots live pieces places → length pieces ≤ slots
+pieces_size slots live pieces places apart table = live_size slots pieces (apart_placed slots live pieces places apart table)
+
+-- what is found in any order is what is live
+pub on_found : (side : Side) (of : LivePiece) (slots : ℕ) (live pieces : List LivePiece) (places named : List ℕ) → slots ≤ 65536 → AreApart slots live → ArePlaced slots live pieces places
+    → named ≡ ids_on side of pieces → AreOn side of live named
+on_found side of slots live pieces places named most apart table is =
+    let dense = apart_placed slots live pieces places apart table in
+    let size = on_size side of slots pieces dense in
+    let same = ap length is in
+    record {
+      exact = λ id. (
+        λ c. on_more side of pieces live (λ one. (table.same one).0) id (subst (λ xs. Contains xs id) is c),
+        λ c. subst (λ xs. Contains xs id) (sym is) (on_more side of live pieces (λ one. (table.same one).1) id c),
+      );
+      once = subst (IsDistinct nat_eq) (sym is) (distinct_on side of pieces dense.once);
+      most = omega arith;
+    }
+
+-- pairs that are added, said in another way
+pub have_as : (old new : Pairs) (A B : ℕ → ℕ → Type 0) → ((upper lower : ℕ) → A upper lower ↔ B upper lower) → HaveMore old new A → HaveMore old new B
+have_as old new A B same more upper lower = (
+  λ c. elim ((more upper lower).0 c) [ inl before ↦ inl before | inr added ↦ inr ((same upper lower).0 added) ],
+  λ c. (more upper lower).1 (elim c [ inl before ↦ inl before | inr added ↦ inr ((same upper lower).1 added) ]),
+)
 
 -- nothing is linked where nothing is live
 pub linked_none : (edges : Pairs) → edges.places ≡ [] → AreLinked edges []

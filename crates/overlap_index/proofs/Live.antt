@@ -6,8 +6,11 @@ use Rattle.std.specs.Cmp.{nat_eq_equiv}
 use Rattle.std.proofs.lemmas.Bool.{both_ways, cases_Bool, cond-true, cond-false, false_from_ne_true, eqb-true, eq-eqb}
 use Rattle.std.proofs.lemmas.List.{get_or_default, map_push}
 use Rattle.std.proofs.lemmas.List.Elements.{All-filter, All-from_recursion, recursion_from_All}
+use Rattle.std.proofs.lemmas.List.Sums.{fold_push}
 use Rattle.std.proofs.lemmas.Map.Keys.{IsDistinct-push}
 use Rattle.slot_order.proofs.Lists.{all_append, AllByRecursion-member, any_is, any_from, in_map, map_in, in_filter}
+use Rattle.overlap_index.specs.Changes.{changed, live_after}
+use Rattle.overlap_index.specs.declared.Change.{Change}
 use Rattle.overlap_index.specs.declared.scan.Side.{Side}
 use Rattle.overlap_index.specs.declared.LivePiece.{LivePiece}
 use Rattle.overlap_index.specs.Live.{AreApart, is_live, is_on, ids_on}
@@ -69,3 +72,7 @@ apart_more slots one live small absent apart =
 -- the ids on one side are distinct
 pub distinct_on : (side : Side) (of : LivePiece) (live : List LivePiece) → IsDistinct nat_eq (ids live) → IsDistinct nat_eq (ids_on side of live)
 distinct_on side of live d = distinct_filter (λ other. is_on side other of) live d
+
+-- what is live after one change more
+pub live_more : (changes : List Change) (change : Change) → live_after (changes ++ change ∷ []) ≡ changed (live_after changes) change
+live_more changes change = fold_push changed [] changes change

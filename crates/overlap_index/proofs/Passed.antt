@@ -1,9 +1,10 @@
 -- Live pieces that a search passes over by the columns beside them, for those on one side or for an equal one.
 use Rattle.std.proofs.Common.{◌≡◌, ℕ, zero, suc, Bool, true, false, ◌+◌, ◌-◌, ◌<◌, ◌≤◌, Option, Some, None, List, [], ◌∷◌, ◌++◌, length, map, drop, get_or, arith, inl, inr, refl, sym, ◌∙◌, ap, ap₂, subst, le-leb, eq-eqb, append_assoc}
-use Rattle.std.specs.Prelude.{◌==◌, ◌&&◌, nat_eq, nat_le}
+use Rattle.std.specs.Prelude.{◌==◌, ◌&&◌, not, nat_eq, nat_le, nat_lt}
 use Rattle.std.specs.Option.{option_eq}
-use Rattle.std.proofs.lemmas.Bool.{both_ways, cases_Bool, cases_lt, cond-true, cond-false, and_parts, and_from, false_from_ne_true}
+use Rattle.std.proofs.lemmas.Bool.{both_ways, cases_Bool, cases_lt, cond-true, cond-false, and_parts, and_from, or_left, or_right, not-true, lt-ltb, false_from_ne_true}
 use Rattle.std.proofs.lemmas.List.{append-nil, drop_all, drop_more, get_or-map, get_or_default}
+use Rattle.rule_model.specs.PortRange.{PortRange, is_disjoint}
 use Rattle.rule_model.specs.declared.Piece.{Piece}
 use Rattle.overlap_index.specs.declared.scan.Side.{Side}
 use Rattle.overlap_index.specs.declared.scan.Side.TheVariants.{Above, Below}
@@ -13,12 +14,21 @@ use Rattle.overlap_index.specs.Near.{SpanColumns, columns_of, spans_of, first_of
 use Rattle.overlap_index.specs.declared.near.Spans.{Spans}
 use Rattle.overlap_index.proofs.Blocks.{meet_near, first_below_last}
 
--- the spans of two pieces have addresses in common, by their destinations and by their sources
+-- the spans of two pieces have addresses in common, by their destinations and by their sources, and ports
 record AreNear (a b : Spans) : Type 0 where
   dst_starts : a.dst.first ≤ b.dst.last
   dst_ends : b.dst.first ≤ a.dst.last
   src_starts : a.src.first ≤ b.src.last
   src_ends : b.src.first ≤ a.src.last
+  ports_start : a.ports.first ≤ b.ports.last
+  ports_end : b.ports.first ≤ a.ports.last
+
+-- ranges that aren't disjoint have a port in common
+ranges_near : (a b : PortRange) → not (is_disjoint a b) ≡ true → (a.lo ≤ b.hi) × (b.lo ≤ a.hi)
+ranges_near a b meet = (
+  elim (cases_lt b.hi a.lo) [ inl far ↦ absurd (both_ways (is_disjoint a b) (not-true _ meet) (or_right (nat_lt a.hi b.lo) (nat_lt b.hi a.lo) (lt-ltb b.hi a.lo far))) | inr near ↦ near ],
+  elim (cases_lt a.hi b.lo) [ inl far ↦ absurd (both_ways (is_disjoint a b) (not-true _ meet) (or_left (nat_lt a.hi b.lo) (nat_lt b.hi a.lo) (lt-ltb a.hi b.lo far))) | inr near ↦ near ],
+)
 
 -- the blocks of a piece on one side are near
 over_near : (upper lower : LivePiece) → is_over upper lower ≡ true → AreNear (spans_of upper.piece) (spans_of lower.piece)
@@ -26,19 +36,21 @@ over_near upper lower e =
     let blocks = (and_parts _ _ (and_parts _ _ (and_parts _ _ (and_parts _ _ e).0).0).0).0 in
     let src = meet_near upper.piece.src lower.piece.src (and_parts _ _ blocks).0 in
     let dst = meet_near upper.piece.dst lower.piece.dst (and_parts _ _ blocks).1 in
-    record { dst_starts = dst.0; dst_ends = dst.1; src_starts = src.0; src_ends = src.1 }
+    let ports = ranges_near upper.piece.dport lower.piece.dport (and_parts _ _ (and_parts _ _ e).0).1 in
+    record { dst_starts = dst.0; dst_ends = dst.1; src_starts = src.0; src_ends = src.1; ports_start = ports.0; ports_end = ports.1 }
 
 side_near : (side : Side) (other of : LivePiece) → is_on side other of ≡ true → AreNear (spans_of other.piece) (spans_of of.piece)
 side_near Above other of e = over_near other of e
-side_near Below other of e = let near = over_near of other e in record { dst_starts = near.dst_ends; dst_ends = near.dst_starts; src_starts = near.src_ends; src_ends = near.src_starts }
+side_near Below other of e = let near = over_near of other e in record { dst_starts = near.dst_ends; dst_ends = near.dst_starts; src_starts = near.src_ends; src_ends = near.src_starts; ports_start = near.ports_end; ports_end = near.ports_start }
 
 -- what the columns hold at a place, and the test of it
 near_at : (live : List LivePiece) (k : ℕ) (spans : Spans) (other : LivePiece) → k < length live → get_or live k other ≡ other → AreNear (spans_of other.piece) spans
     → is_near (columns_of live) spans k ≡ true
 near_at live k spans other inside at near =
-    and_from _ _
+    and_from _ _ (and_from _ _
     (and_from _ _ (starts (λ one. first_of one.piece.dst) spans.dst.last near.dst_starts) (ends (λ one. last_of one.piece.dst) spans.dst.first near.dst_ends))
-    (and_from _ _ (starts (λ one. first_of one.piece.src) spans.src.last near.src_starts) (ends (λ one. last_of one.piece.src) spans.src.first near.src_ends))
+    (and_from _ _ (starts (λ one. first_of one.piece.src) spans.src.last near.src_starts) (ends (λ one. last_of one.piece.src) spans.src.first near.src_ends)))
+    (and_from _ _ (starts (λ one. one.piece.dport.lo) spans.ports.last near.ports_start) (ends (λ one. one.piece.dport.hi) spans.ports.first near.ports_end))
   where
     holds : (of : LivePiece → ℕ) → get_or (map of live) k 0 ≡ of other
     holds of = get_or-map of live k other 0 inside ∙ ap of at
@@ -106,20 +118,21 @@ HasNone live piece priority place =
     (k : ℕ) (other : LivePiece) → k < place → k < length live → get_or live k other ≡ other → other.piece ≡ piece → other.rank ≡ priority → ⊥
 
 -- a place that isn't near hasn't the piece
-not_far : (piece : Piece) (live : List LivePiece) (k : ℕ) (other : LivePiece) → k < length live → get_or live k other ≡ other → other.piece ≡ piece
+not_far : (piece : Piece) (live : List LivePiece) (k : ℕ) (other : LivePiece) → piece.dport.lo ≤ piece.dport.hi → k < length live → get_or live k other ≡ other → other.piece ≡ piece
     → is_near (columns_of live) (spans_of piece) k ≡ true
-not_far piece live k other inside at same =
+not_far piece live k other ordered inside at same =
     let dst = first_below_last other.piece.dst in
     let src = first_below_last other.piece.src in
+    let ports = subst (λ (p : Piece). p.dport.lo ≤ p.dport.hi) (sym same) ordered in
     subst (λ p. is_near (columns_of live) (spans_of p) k ≡ true) same
-    (near_at live k (spans_of other.piece) other inside at (record { dst_starts = dst; dst_ends = dst; src_starts = src; src_ends = src }))
+    (near_at live k (spans_of other.piece) other inside at (record { dst_starts = dst; dst_ends = dst; src_starts = src; src_ends = src; ports_start = ports; ports_end = ports }))
 
 -- places that aren't near haven't the piece
 pub none_far : (piece : Piece) (priority : ℕ) (live : List LivePiece) (columns : SpanColumns) (spans : Spans) (at next : ℕ) → columns ≡ columns_of live → spans ≡ spans_of piece
-    → HasNone live piece priority at → ((k : ℕ) → at ≤ k → k < next → is_near columns spans k ≡ false) → HasNone live piece priority next
-none_far piece priority live columns spans at next are is before far k other within inside there same rank = elim (cases_lt k at) [
+    → spans.ports.first ≤ spans.ports.last → HasNone live piece priority at → ((k : ℕ) → at ≤ k → k < next → is_near columns spans k ≡ false) → HasNone live piece priority next
+none_far piece priority live columns spans at next are is ordered before far k other within inside there same rank = elim (cases_lt k at) [
   | inl early ↦ before k other early inside there same rank
-  | inr late ↦ both_ways _ (far k late within) (ap₂ (λ c s. is_near c s k) are is ∙ not_far piece live k other inside there same)
+  | inr late ↦ both_ways _ (far k late within) (ap₂ (λ c s. is_near c s k) are is ∙ not_far piece live k other (subst (λ (s : Spans). s.ports.first ≤ s.ports.last) is ordered) inside there same)
 ]
 
 -- nor has one that was looked at

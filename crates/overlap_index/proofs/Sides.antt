@@ -8,7 +8,7 @@ use Rattle.overlap_index.specs.declared.scan.Side.{Side}
 use Rattle.overlap_index.specs.declared.scan.Side.TheVariants.{Above, Below}
 use Rattle.overlap_index.specs.declared.LivePiece.{LivePiece}
 use Rattle.overlap_index.specs.Live.{is_over, is_on, ids_on}
-use Rattle.overlap_index.specs.Table.{side_of}
+use Rattle.overlap_index.specs.Sides.{side_of}
 
 -- of two pieces one at most is over the other
 over_once : (a b : LivePiece) → is_over a b ≡ true → is_over b a ≡ false

@@ -8,13 +8,16 @@ use rule_model::Piece;
 use std::alloc::{AllocError, Global};
 use std::marker::Model;
 
-/// The upper 32 bits of the first and of the last address of some pieces' destinations and sources.
+/// The upper 32 bits of the first and of the last address of some pieces' destinations and sources, and the first and
+/// the last of their destination ports.
 #[derive(Drop)]
 pub(crate) struct Columns {
     dst_firsts: Vec<u32>,
     dst_lasts: Vec<u32>,
     src_firsts: Vec<u32>,
     src_lasts: Vec<u32>,
+    port_firsts: Vec<u32>,
+    port_lasts: Vec<u32>,
 }
 
 impl Model for Columns {
@@ -22,9 +25,9 @@ impl Model for Columns {
 
     ghost Value = { SpanColumns };
 
-    ghost view = { λ c. record { dst_firsts = c.dst_firsts.items; dst_lasts = c.dst_lasts.items; src_firsts = c.src_firsts.items; src_lasts = c.src_lasts.items } };
+    ghost view = { λ c. record { dst_firsts = c.dst_firsts.items; dst_lasts = c.dst_lasts.items; src_firsts = c.src_firsts.items; src_lasts = c.src_lasts.items; port_firsts = c.port_firsts.items; port_lasts = c.port_lasts.items } };
 
-    ghost invariant = { λ c. AreLevel (record { dst_firsts = c.dst_firsts.items; dst_lasts = c.dst_lasts.items; src_firsts = c.src_firsts.items; src_lasts = c.src_lasts.items }) };
+    ghost invariant = { λ c. AreLevel (record { dst_firsts = c.dst_firsts.items; dst_lasts = c.dst_lasts.items; src_firsts = c.src_firsts.items; src_lasts = c.src_lasts.items; port_firsts = c.port_firsts.items; port_lasts = c.port_lasts.items }) };
 }
 
 impl Columns {
@@ -37,6 +40,8 @@ impl Columns {
             dst_lasts: Vec::with_capacity(alloc, places)?,
             src_firsts: Vec::with_capacity(alloc, places)?,
             src_lasts: Vec::with_capacity(alloc, places)?,
+            port_firsts: Vec::with_capacity(alloc, places)?,
+            port_lasts: Vec::with_capacity(alloc, places)?,
         })
     }
 
@@ -49,23 +54,29 @@ impl Columns {
         self.dst_lasts.reserve(1)?;
         self.src_firsts.reserve(1)?;
         self.src_lasts.reserve(1)?;
+        self.port_firsts.reserve(1)?;
+        self.port_lasts.reserve(1)?;
         let spans = spans_of(piece);
         self.dst_firsts.push_reserved(spans.dst.first);
         self.dst_lasts.push_reserved(spans.dst.last);
         self.src_firsts.push_reserved(spans.src.first);
         self.src_lasts.push_reserved(spans.src.last);
+        self.port_firsts.push_reserved(spans.ports.first);
+        self.port_lasts.push_reserved(spans.ports.last);
         Ok(())
     }
 
-    /// Takes out the piece at a place.
+    /// Takes out the piece at a place, which the last takes.
     pub(crate) fn remove(&mut self, place: usize)
         requires { place < length self.old.dst_firsts }
         ensures { self.new ≡ without_row self.old place }
     {
-        self.dst_firsts.remove(place);
-        self.dst_lasts.remove(place);
-        self.src_firsts.remove(place);
-        self.src_lasts.remove(place);
+        self.dst_firsts.swap_remove(place);
+        self.dst_lasts.swap_remove(place);
+        self.src_firsts.swap_remove(place);
+        self.src_lasts.swap_remove(place);
+        self.port_firsts.swap_remove(place);
+        self.port_lasts.swap_remove(place);
     }
 
     /// The next place from `at` on that may be near. Those that are passed over aren't; past the last eight each
@@ -92,17 +103,18 @@ impl Columns {
         next
     }
 
-    /// Whether the destinations and the sources at a place are near.
+    /// Whether the destinations, the sources and the ports at a place are near.
     fn is_near(&self, spans: Spans, at: usize) -> bool
         requires { at < length self.now.dst_firsts }
         ensures { result ≡ is_near self.now spans at }
     {
         meets_at(&self.dst_firsts, &self.dst_lasts, spans.dst, at)
             && meets_at(&self.src_firsts, &self.src_lasts, spans.src, at)
+            && meets_at(&self.port_firsts, &self.port_lasts, spans.ports, at)
     }
 
-    /// How many of the eight places from `at` on come before the first that is near, 8 where none is. The sources are
-    /// looked at only where some destination is near, since those of routes tell nothing.
+    /// How many of the eight places from `at` on come before the first that is near, 8 where none is. Sources and ports
+    /// are looked at only where some destination is near, since those of routes tell nothing.
     fn before_near(&self, spans: Spans, at: usize) -> u32
         requires { at + 8 ≤ length self.now.dst_firsts }
         ensures most { result ≤ 8 }
@@ -113,6 +125,7 @@ impl Columns {
             return 8;
         }
         let src = apart_eight(&self.src_firsts, &self.src_lasts, spans.src, at);
-        first_zero(either(dst, src))
+        let ports = apart_eight(&self.port_firsts, &self.port_lasts, spans.ports, at);
+        first_zero(either(either(dst, src), ports))
     }
 }

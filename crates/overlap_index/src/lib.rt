@@ -6,35 +6,38 @@
 //!
 //! # The one hard idea
 //! Which ids overlap is found once, when an id comes, and not at each question: each pair of overlapping ids is a link
-//! that both ends lead to, and a question only follows the links of its id. To ask of two ids needs no link: their
-//! pieces stand in a table by id, and are compared.
+//! that both ends lead to, and a question only follows the links of its id. To ask of two ids needs no link: a table
+//! has the place of each, and the pieces that stand there are compared.
 //!
 //! A new id is compared with every live piece. But most of them have nothing to do with it, and almost all are told
 //! apart by their addresses alone. So each is looked at once, but eight at a time, by the upper 32 bits of its
 //! destination's first and last address, which stand in columns of their own. Where one of the eight is near, so are the
-//! sources, by columns of theirs; only those that are near by both are compared by priority and piece.
+//! sources and the destination ports, by columns of theirs; only those that are near by all three are compared by
+//! priority and piece. A rule's ports are cut into blocks that are apart, so ports tell most pieces of lists apart.
+//!
+//! Live pieces, and the columns beside them, stand in no order that matters: where one goes the last takes its place. In
+//! which order they came is known to contracts alone, by a history that takes no memory.
 //!
 //! # What it cost
 //! A question costs time by the number of ids that it names, and not by the number of live pieces, and `is_above` takes
 //! the same time whatever is live. `add` and `id_of` pass over the live pieces once, eight in a step; `remove` takes as
-//! many steps as there are links that go, looks for the id among those that are live, and moves up what stands behind
-//! it: 20 bytes an id, since the piece itself stands in the table and stays. First and last addresses, and not address
-//! and mask, are in the columns, since the order of numbers is all that the proof needs then.
+//! many steps as there are links that go, and moves one piece. First and last addresses, and not address and mask, are
+//! in the columns, since the order of numbers is all that the proof needs then.
 //!
-//! Only `new` and `add` take memory: 28 bytes an id beside the piece, which stands once, in the table by id, and 24
-//! bytes a pair of ids that overlap, whose room doubles where it grows. The worst list, each piece over each other, has
-//! n (n - 1) / 2 pairs: 12 bytes times n squared, 201 MB at 4,096 ids and 51 GB at 65,536, in a block with room for up to
-//! twice as many.
+//! Only `new` and `add` take memory: 36 bytes an id beside the piece, which stands once, and 24 bytes a pair of ids that
+//! overlap, whose room doubles where it grows. The worst list, each piece over each other, has n (n - 1) / 2 pairs: 12
+//! bytes times n squared, 201 MB at 4,096 ids and 51 GB at 65,536, in a block with room for up to twice as many.
 //!
 //! # What isn't promised
-//! Any order of the ids that are named. Lists in which many rules have both blocks in common, `any` say, gain nothing
-//! from the columns. Room for links isn't given back before the whole index is.
+//! Any order of the ids that are named. Lists in which many rules have both blocks and their ports in common, `any` say,
+//! gain nothing from the columns. Room for links isn't given back before the whole index is.
 #![tactic(auto)]
 
-ghost use Rattle.std.specs.Prelude.{◌≡◌, ◌<◌, ◌≤◌, ◌↔◌, ℕ, [], ◌∷◌, ◌++◌, ◌==◌, length, slice_index, IsTrue, IsFalse, IsNone, IfSome, IfOk, OnOk, OnErr, Contains, nat_eq};
-ghost use Rattle.std.specs.List.{IsDistinct, list_any};
+ghost use Rattle.std.specs.Prelude.{◌≡◌, ◌<◌, ◌≤◌, ◌↔◌, ℕ, [], ◌∷◌, ◌++◌, length, IsTrue, IsFalse, IsNone, IfSome, IfOk, OnOk, OnErr, Contains, nat_eq};
+ghost use Rattle.std.specs.List.{IsDistinct};
 ghost use Rattle.overlap_index.specs.declared.LivePiece.{LivePiece};
-ghost use Rattle.overlap_index.specs.Live.{AreApart, is_live, is_above, without_id, ids_above, ids_below, ids_on};
+ghost use Rattle.overlap_index.specs.Live.{AreApart, is_live, is_above, without_id, ids_above, ids_below};
+ghost use Rattle.overlap_index.specs.Sides.{AreOn};
 ghost use Rattle.overlap_index.specs.declared.scan.Side.TheVariants as side;
 
 mod columns;
@@ -46,11 +49,12 @@ mod scan;
 #[cfg(test)]
 mod tests;
 
+use call_history::History;
 use columns::Columns;
 use links::{link_above, link_below};
 use order_chains::Edges;
 pub use overlaps::Overlaps;
-use rule_model::{Piece, Prefix, Rank, route_rule};
+use rule_model::{Piece, Rank};
 use scan::{Found, is_over, overlapping};
 use std::alloc::{AllocError, AllocFailed, Global};
 use std::marker::Model;
@@ -66,32 +70,43 @@ pub struct LivePiece {
     pub rank: Rank,
 }
 
+/// What became of an id, as the history of an index has it.
+#[derive(Drop)]
+enum Change {
+    /// It came, with its piece and its priority.
+    Came(LivePiece),
+    /// It went.
+    Went(u32),
+}
+
 /// The live ids below a number, each with its piece and its priority.
 #[derive(Drop)]
 pub struct Index {
     // The number that ids are below.
     slots: u32,
-    // The live ids in the order in which they came, none twice.
-    ids: Vec<u32>,
+    // The live pieces, none twice. Where one goes the last takes its place.
+    pieces: Vec<LivePiece>,
     // Their addresses, in the same order.
     columns: Columns,
-    // Each of them at its id; what stands at another id is of no account.
-    by_id: Vec<LivePiece>,
+    // The place of each live id among them; what stands at another id is of no account.
+    places: Vec<u32>,
     // Which of them overlap.
     edges: Edges,
+    // Which ids came and went, by which contracts know the order in which those that are live came.
+    history: History<Change>,
     alloc: Global,
 }
 
 impl Model for Index {
     ghost use Rattle.overlap_index.specs.Live.{LivePieces};
-    ghost use Rattle.overlap_index.specs.Table.{live_at};
+    ghost use Rattle.overlap_index.specs.Changes.{live_after};
     ghost use Rattle.overlap_index.specs.Linked.{AreParts};
 
     ghost Value = { LivePieces };
 
-    ghost view = { λ i. record { slots = i.slots; live = live_at i.by_id.items i.ids.items } };
+    ghost view = { λ i. record { slots = i.slots; live = live_after i.history.items } };
 
-    ghost invariant = { λ i. AreParts i.slots (live_at i.by_id.items i.ids.items) i.ids.items i.by_id.items i.columns i.edges };
+    ghost invariant = { λ i. AreParts i.slots (live_after i.history.items) i.pieces.items i.places.items i.columns i.edges };
 }
 
 impl Index {
@@ -102,16 +117,17 @@ impl Index {
         ensures slots { IfOk result (λ index. index.slots ≡ slots) }
         ensures live { IfOk result (λ index. index.live ≡ []) }
     {
-        let ids = Vec::with_capacity(alloc, slots as usize)?;
+        let pieces = Vec::with_capacity(alloc, slots as usize)?;
         let columns = Columns::new(alloc, slots as usize)?;
-        let by_id = Vec::from_elem(alloc, no_piece(), slots as usize)?;
+        let places = Vec::from_elem(alloc, 0, slots as usize)?;
         let edges = Edges::new(alloc, slots)?;
         Ok(Index {
             slots,
-            ids,
+            pieces,
             columns,
-            by_id,
+            places,
             edges,
+            history: History::new(),
             alloc,
         })
     }
@@ -133,12 +149,13 @@ impl Index {
         // Room comes first: once the columns are pushed, nothing can fail.
         self.edges
             .reserve((found.above.len() + found.below.len()) as u32)?;
-        self.ids.reserve(1)?;
+        self.pieces.reserve(1)?;
         self.columns.push(piece)?;
-        self.ids.push_reserved(id);
-        self.by_id[id as usize] = one;
+        self.places[id as usize] = self.pieces.len() as u32;
+        self.pieces.push_reserved(one);
         link_above(&mut self.edges, &found.above, id);
         link_below(&mut self.edges, id, &found.below);
+        self.history = self.history.and(&Change::Came(one));
         Ok(())
     }
 
@@ -148,10 +165,13 @@ impl Index {
         ensures live { self.new.live ≡ without_id self.old.live id }
         ensures slots { self.new.slots ≡ self.old.slots }
     {
-        let place = place_of(&self.ids, id);
-        self.ids.remove(place);
+        let place = self.places[id as usize] as usize;
+        let last = self.pieces[self.pieces.len() - 1].id;
+        self.places[last as usize] = place as u32;
+        self.pieces.swap_remove(place);
         self.columns.remove(place);
         self.edges.drop_node(id);
+        self.history = self.history.and(&Change::Went(id));
     }
 
     /// The live ids of higher priority whose pieces overlap that of a live id, each once, in any
@@ -186,7 +206,7 @@ impl Index {
         requires lower { IsTrue (is_live self.now.live lower) }
         ensures { result ≡ is_above self.now.live upper lower }
     {
-        is_over(&self.by_id[upper as usize], &self.by_id[lower as usize])
+        is_over(self.piece_of(upper), self.piece_of(lower))
     }
 
     /// The live id of this piece and this priority, if there is one.
@@ -194,40 +214,24 @@ impl Index {
         ensures found { IfSome result (λ id. Contains self.now.live (record { id = id; piece = piece.now; rank = priority })) }
         ensures none { IsNone result → (one : LivePiece) → Contains self.now.live one → one.piece ≡ piece.now → one.rank ≡ priority → ⊥ }
     {
-        exact::id_of(&self.ids, &self.by_id, &self.columns, piece, priority)
+        exact::id_of(&self.pieces, &self.columns, piece, priority)
+    }
+
+    /// A live id, with its piece and its priority.
+    fn piece_of(&self, id: u32) -> &LivePiece
+        requires { IsTrue (is_live self.now.live id) }
+        ensures live { Contains self.now.live result.now }
+        ensures id { result.now.id ≡ id }
+        ensures apart { AreApart self.now.slots self.now.live }
+    {
+        &self.pieces[self.places[id as usize] as usize]
     }
 
     /// The live ids on either side of a piece, by a pass over all live pieces.
     fn overlapping(&self, of: &LivePiece) -> Result<Found, AllocError>
-        ensures above { IfOk result (λ found. found.above.items ≡ ids_on side.Above of.now self.now.live) }
-        ensures below { IfOk result (λ found. found.below.items ≡ ids_on side.Below of.now self.now.live) }
-        ensures most_above { IfOk result (λ found. length found.above.items ≤ MOST_IDS) }
-        ensures most_below { IfOk result (λ found. length found.below.items ≤ MOST_IDS) }
+        ensures above { IfOk result (λ found. AreOn side.Above of.now self.now.live found.above.items) }
+        ensures below { IfOk result (λ found. AreOn side.Below of.now self.now.live found.below.items) }
     {
-        overlapping(self.alloc, of, &self.ids, &self.by_id, &self.columns)
+        overlapping(self.alloc, of, &self.pieces, &self.columns)
     }
-}
-
-/// What stands at an id that was never live.
-fn no_piece() -> LivePiece {
-    let any = route_rule(Prefix::any(), 0);
-    LivePiece {
-        id: 0,
-        piece: Piece::whole(&any),
-        rank: any.priority,
-    }
-}
-
-/// The first place of an id.
-fn place_of(ids: &[u32], id: u32) -> usize
-    requires { IsTrue (list_any (λ one. one == id) ids.now) }
-    ensures inside { result < length ids.now }
-    ensures found { slice_index ids.now result ≡ id }
-{
-    for (place, one) in ids.iter().enumerate() {
-        if *one == id {
-            return place;
-        }
-    }
-    unreachable!()
 }

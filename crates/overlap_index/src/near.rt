@@ -1,23 +1,24 @@
-// Which live pieces may overlap one, by the upper 32 bits of addresses, eight at a time.
+// Which live pieces may overlap one, by the upper 32 bits of addresses and by ports, eight at a time.
 ghost use Rattle.std.specs.Prelude.{◌≡◌, ℕ, ◌+◌, ◌-◌, ◌*◌, ◌/◌, ◌%◌, ◌^◌, ◌<◌, ◌≤◌, ◌==◌, length, slice_index, nat_le};
-ghost use Rattle.overlap_index.specs.Near.{first_of, last_of, span_of, spans_of, meets_at};
+ghost use Rattle.overlap_index.specs.Near.{first_of, last_of, span_of, ports_of, spans_of, meets_at};
 
 use eight_lanes::{eight, either};
-use rule_model::{Piece, Prefix};
+use rule_model::{Piece, Ports, Prefix};
 use std::simd::prelude::*;
 
-/// The upper 32 bits of the first and of the last address of a block.
+/// The upper 32 bits of the first and of the last address of a block, or the first and the last port.
 #[derive(Clone, Copy)]
 pub(crate) struct Span {
     pub(crate) first: u32,
     pub(crate) last: u32,
 }
 
-/// Those of a piece's destination and of its source.
+/// Those of a piece's destination, of its source and of its destination ports.
 #[derive(Clone, Copy)]
 pub(crate) struct Spans {
     pub(crate) dst: Span,
     pub(crate) src: Span,
+    pub(crate) ports: Span,
 }
 
 /// The upper 32 bits of the block's address, none of which is set past its length.
@@ -61,17 +62,30 @@ pub(crate) fn span_of(block: &Prefix) -> Span
     }
 }
 
-/// Both of the piece's destination and of its source.
+/// The first and the last port.
+fn ports_of(ports: &Ports) -> Span
+    ensures value { result ≡ ports_of ports.now }
+    ensures ordered { result.first ≤ result.last }
+{
+    Span {
+        first: u32::from(ports.lo()),
+        last: u32::from(ports.hi()),
+    }
+}
+
+/// Both of the piece's destination, of its source and of its destination ports.
 pub(crate) fn spans_of(piece: &Piece) -> Spans
-    ensures { result ≡ spans_of piece.now }
+    ensures value { result ≡ spans_of piece.now }
+    ensures ordered { result.ports.first ≤ result.ports.last }
 {
     Spans {
         dst: span_of(&piece.dst),
         src: span_of(&piece.src),
+        ports: ports_of(&piece.dport),
     }
 }
 
-/// Whether the range at one place of two columns has an address in common with a span.
+/// Whether the range at one place of two columns has a number in common with a span.
 pub(crate) fn meets_at(firsts: &[u32], lasts: &[u32], span: Span, at: usize) -> bool
     requires firsts { at < length firsts.now }
     requires lasts { at < length lasts.now }
@@ -80,7 +94,7 @@ pub(crate) fn meets_at(firsts: &[u32], lasts: &[u32], span: Span, at: usize) -> 
     firsts[at] <= span.last && span.first <= lasts[at]
 }
 
-/// Of the eight ranges from `at` on, 0 for each that has an address in common with a span.
+/// Of the eight ranges from `at` on, 0 for each that has a number in common with a span.
 pub(crate) fn apart_eight(firsts: &[u32], lasts: &[u32], span: Span, at: usize) -> u32x8
     requires firsts { at + 8 ≤ length firsts.now }
     requires lasts { at + 8 ≤ length lasts.now }

@@ -1,10 +1,9 @@
 //! The ids of the live pieces that overlap one, found by a pass over all of them.
-ghost use Rattle.std.specs.Prelude.{◌≡◌, ◌<◌, ◌++◌, ◌∷◌, [], length, IfOk, OnOk};
-ghost use Rattle.std.specs.List.{All};
+ghost use Rattle.std.specs.Prelude.{◌≡◌, ◌++◌, ◌∷◌, [], IfOk, OnOk};
 ghost use Rattle.overlap_index.specs.declared.scan.Side.TheVariants as side;
 ghost use Rattle.overlap_index.specs.Live.{is_over, ids_on};
 ghost use Rattle.overlap_index.specs.Near.{columns_of};
-ghost use Rattle.overlap_index.specs.Table.{live_at, side_of};
+ghost use Rattle.overlap_index.specs.Sides.{side_of};
 
 use crate::LivePiece;
 use crate::columns::Columns;
@@ -43,18 +42,16 @@ impl Found {
     }
 }
 
-/// The ids on either side of a piece, among those that stand by id. Those that are far from it aren't looked at.
+/// The ids on either side of a piece. Pieces that are far from it aren't looked at.
 pub(crate) fn overlapping(
     alloc: Global,
     of: &LivePiece,
-    ids: &[u32],
-    by_id: &[LivePiece],
+    pieces: &[LivePiece],
     columns: &Columns,
 ) -> Result<Found, AllocError>
-    requires inside { All (λ id. id < length by_id.now) ids.now }
-    requires columns { columns.now ≡ columns_of (live_at by_id.now ids.now) }
-    ensures above { IfOk result (λ found. found.above.items ≡ ids_on side.Above of.now (live_at by_id.now ids.now)) }
-    ensures below { IfOk result (λ found. found.below.items ≡ ids_on side.Below of.now (live_at by_id.now ids.now)) }
+    requires { columns.now ≡ columns_of pieces.now }
+    ensures above { IfOk result (λ found. found.above.items ≡ ids_on side.Above of.now pieces.now) }
+    ensures below { IfOk result (λ found. found.below.items ≡ ids_on side.Below of.now pieces.now) }
 {
     let spans = spans_of(&of.piece);
     let mut found = Found {
@@ -62,10 +59,10 @@ pub(crate) fn overlapping(
         below: Vec::new(alloc),
     };
     let mut next = 0;
-    while next < ids.len() {
+    while next < pieces.len() {
         next = columns.next_near(spans, next);
-        if next < ids.len() {
-            found.put(&by_id[ids[next] as usize], of)?;
+        if next < pieces.len() {
+            found.put(&pieces[next], of)?;
             next += 1;
         }
     }

@@ -76,11 +76,23 @@ fn pieces(alloc: Global) -> Result<Vec<LivePiece>, Fail> {
     Ok(live)
 }
 
+// Whether one of some pieces has an id.
+fn has_id(pieces: &[LivePiece], id: u32) -> bool
+    ensures { result ≡ is_live pieces.now id }
+{
+    for one in pieces {
+        if one.id == id {
+            return true;
+        }
+    }
+    false
+}
+
 // Whether an id is live.
 fn is_live(index: &Index, id: u32) -> bool
     ensures { result ≡ is_live index.now.live id }
 {
-    index.ids.contains(&id)
+    has_id(&index.pieces, id)
 }
 
 // The ids on one side of a live one, as they are linked.

@@ -1,6 +1,6 @@
 use Rattle.std.proofs.Common.{◌≡◌, ◌<◌, true, subst, sym}
+use Rattle.overlap_index.specs.Changes.{live_after}
 use Rattle.overlap_index.specs.Live.{AreApart, is_live}
-use Rattle.overlap_index.specs.Table.{live_at}
 use Rattle.overlap_index.specs.Linked.{AreLinked}
 use Rattle.overlap_index.proofs.Linked.{linked_above, live_small}
 use Rattle.overlap_index.proofs.Index.above.Goals as goal
@@ -9,7 +9,7 @@ pub above-requires : goal.above-requires
 above-requires c =
     let parts = c.self.invariant in
     let live = subst (λ v. is_live v.live c.args.id ≡ true) (sym c.self.view_is) c.requires in
-    let small = live_small c.self.inside.slots (live_at c.self.inside.by_id.items c.self.inside.ids.items) c.args.id parts.apart live in
+    let small = live_small c.self.inside.slots (live_after c.self.inside.history.items) c.args.id parts.apart live in
     subst (λ n. c.args.id < n) (sym parts.nodes) small
 
 pub returns-clause-exact : goal.returns-clause-exact

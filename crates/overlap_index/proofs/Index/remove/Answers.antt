@@ -1,40 +1,97 @@
-use Rattle.std.proofs.Common.{◌≡◌, ◌==◌, ◌<◌, ◌∙◌, true, length, get_or, ap, sym, subst}
-use Rattle.std.specs.List.{list_any}
+use Rattle.std.proofs.Common.{◌≡◌, ◌<◌, ◌-◌, ◌∙◌, true, length, vec_len, get_or, ap, rules, arith, sym, subst}
+use Rattle.std.proofs.lemmas.Grind.{common_steps}
+use Rattle.overlap_index.specs.declared.Change.TheVariants.{Went}
+use Rattle.overlap_index.specs.Changes.{live_after}
 use Rattle.overlap_index.specs.Live.{is_live, without_id}
-use Rattle.overlap_index.specs.Table.{live_at}
-use Rattle.overlap_index.proofs.ById.{listed}
 use Rattle.overlap_index.proofs.Linked.{live_small}
-use Rattle.overlap_index.proofs.Parts.{live_less, parts_less}
+use Rattle.overlap_index.proofs.Live.{live_more}
+use Rattle.overlap_index.proofs.Parts.{parts_less}
+use Rattle.overlap_index.proofs.Placed.{Closes, reads_place, last_small}
+use Rattle.overlap_index.proofs.Rows.{columns_size}
 use Rattle.overlap_index.proofs.Index.remove.Goals as goal
 
-pub place_of-place-requires : goal.place_of-place-requires
-place_of-place-requires c =
+pub index-requires : goal.index-requires
+index-requires c =
     let parts = c.self.invariant in
-    let ids = c.self.inside.ids.items in
-    let is = listed (live_at c.self.inside.by_id.items ids) ids c.args.id parts.named in
     let live = subst (λ v. is_live v.live c.args.id ≡ true) (sym c.self.view_is) c.requires in
-    subst (λ xs. list_any (λ one. one == c.args.id) xs ≡ true) (sym c.deref.ensures.value) (sym is ∙ live)
+    let small = live_small c.self.inside.slots (live_after c.self.inside.history.items) c.args.id parts.apart live in
+    let many = parts.table.many in
+    grind (arith, common_steps)
+
+pub overflow_sub-len : goal.overflow_sub-len
+overflow_sub-len c =
+    let i = c.self.inside in
+    let live = subst (λ v. is_live v.live c.args.id ≡ true) (sym c.self.view_is) c.requires in
+    let at = reads_place i.slots c.args.id c.index.result.now (live_after i.history.items) i.pieces.items i.places.items c.self.invariant.apart c.self.invariant.table live c.index.ensures in
+    let inside = at.inside in
+    let size = c.len.ensures in
+    grind (arith, common_steps)
+
+pub index-requires-2 : goal.index-requires-2
+index-requires-2 c =
+    let i = c.self.inside in
+    let live = subst (λ v. is_live v.live c.args.id ≡ true) (sym c.self.view_is) c.requires in
+    let at = reads_place i.slots c.args.id c.index.result.now (live_after i.history.items) i.pieces.items i.places.items c.self.invariant.apart c.self.invariant.table live c.index.ensures in
+    let inside = at.inside in
+    let size = c.len.ensures in
+    grind (arith, common_steps)
+
+pub index_mut-requires : goal.index_mut-requires
+index_mut-requires c =
+    let i = c.self.inside in
+    let live = subst (λ v. is_live v.live c.args.id ≡ true) (sym c.self.view_is) c.requires in
+    let at = reads_place i.slots c.args.id c.index.result.now (live_after i.history.items) i.pieces.items i.places.items c.self.invariant.apart c.self.invariant.table live c.index.ensures in
+    let inside = at.inside in
+    let size : vec_len i.pieces ≡ length i.pieces.items = first_of (search rules, grind (arith, common_steps)) in
+    let end : c.index-2.result.now ≡ get_or i.pieces.items (length i.pieces.items - 1) c.index-2.result.now =
+    c.index-2.ensures ∙ ap (λ n. get_or i.pieces.items (n - 1) c.index-2.result.now) (c.len.ensures ∙ size) in
+    let small = last_small i.slots (live_after i.history.items) i.pieces.items i.places.items c.index-2.result.now c.self.invariant.apart c.self.invariant.table (omega arith) end in
+    let many = c.self.invariant.table.many in
+    grind (arith, common_steps)
+
+pub swap_remove-requires : goal.swap_remove-requires
+swap_remove-requires c =
+    let i = c.self.inside in
+    let live = subst (λ v. is_live v.live c.args.id ≡ true) (sym c.self.view_is) c.requires in
+    let at = reads_place i.slots c.args.id c.index.result.now (live_after i.history.items) i.pieces.items i.places.items c.self.invariant.apart c.self.invariant.table live c.index.ensures in
+    let inside = at.inside in
+    grind (arith, common_steps)
+
+pub remove-requires : goal.remove-requires
+remove-requires c =
+    let i = c.self.inside in
+    let live = subst (λ v. is_live v.live c.args.id ≡ true) (sym c.self.view_is) c.requires in
+    let at = reads_place i.slots c.args.id c.index.result.now (live_after i.history.items) i.pieces.items i.places.items c.self.invariant.apart c.self.invariant.table live c.index.ensures in
+    subst (λ n. c.index.result.now < n) (sym (columns_size i.pieces.items i.columns c.self.invariant.beside)) at.inside
 
 pub drop_node-requires : goal.drop_node-requires
 drop_node-requires c =
     let parts = c.self.invariant in
     let live = subst (λ v. is_live v.live c.args.id ≡ true) (sym c.self.view_is) c.requires in
-    subst (λ n. c.args.id < n) (sym parts.nodes) (live_small c.self.inside.slots (live_at c.self.inside.by_id.items c.self.inside.ids.items) c.args.id parts.apart live)
+    subst (λ n. c.args.id < n) (sym parts.nodes) (live_small c.self.inside.slots (live_after c.self.inside.history.items) c.args.id parts.apart live)
 
-inside : (c : goal.After-drop_node) → c.place_of-place.result < length c.self.inside.ids.items
-inside c = subst (λ xs. c.place_of-place.result < length xs) c.deref.ensures.value c.place_of-place.ensures.inside
-
-found : (c : goal.After-drop_node) → get_or c.self.inside.ids.items c.place_of-place.result 0 ≡ c.args.id
-found c = subst (λ xs. get_or xs c.place_of-place.result 0 ≡ c.args.id) c.deref.ensures.value c.place_of-place.ensures.found
-
+-- the last piece takes the place of the one that goes
 pub invariant_of-self : goal.invariant_of-self
 invariant_of-self c =
-    rw (c.remove.ensures.items, c.remove-2.ensures)
-    (parts_less c.self.inside.slots c.self.inside.ids.items c.self.inside.by_id.items c.self.inside.columns c.self.inside.edges c.drop_node.new.self c.place_of-place.result c.args.id
-    (inside c) (found c) c.drop_node.ensures.gone c.drop_node.ensures.ids c.self.invariant)
+    let i = c.self.inside in
+    let live = subst (λ v. is_live v.live c.args.id ≡ true) (sym c.self.view_is) c.requires in
+    let at = reads_place i.slots c.args.id c.index.result.now (live_after i.history.items) i.pieces.items i.places.items c.self.invariant.apart c.self.invariant.table live c.index.ensures in
+    let size : vec_len i.pieces ≡ length i.pieces.items = first_of (search rules, grind (arith, common_steps)) in
+    let new_size : vec_len c.swap_remove.new.self ≡ length c.swap_remove.new.self.items = first_of (search rules, grind (arith, common_steps)) in
+    let less = c.swap_remove.ensures.len in
+    let end : c.index-2.result.now ≡ get_or i.pieces.items (length i.pieces.items - 1) c.index-2.result.now =
+    c.index-2.ensures ∙ ap (λ n. get_or i.pieces.items (n - 1) c.index-2.result.now) (c.len.ensures ∙ size) in
+    let after : live_after c.and-self-inside.result.items ≡ without_id (live_after i.history.items) c.args.id = ap live_after c.and-self-inside.ensures ∙ live_more i.history.items (Went c.args.id) in
+    let closes : Closes i.pieces.items c.swap_remove.new.self.items c.index.result.now =
+    record {
+      size = omega arith;
+      filled = λ d l. c.swap_remove.ensures.by_index.0 d (omega arith) ∙ ap (λ n. get_or i.pieces.items (n - 1) d) size;
+      others = λ k d apart l. c.swap_remove.ensures.by_index.1 k d apart (omega arith);
+    } in
+    rw (after, c.remove.ensures)
+    (parts_less i.slots c.args.id (live_after i.history.items) i.pieces.items c.swap_remove.new.self.items i.places.items i.columns i.edges c.drop_node.new.self c.index.result.now c.index-2.result.now c.swap_remove.result
+    live at.is (sym end) c.swap_remove.ensures.items closes c.drop_node.ensures.gone c.drop_node.ensures.ids c.self.invariant)
 
 pub returns-clause-live : goal.returns-clause-live
 returns-clause-live c =
-    ap (live_at c.self.inside.by_id.items) c.remove.ensures.items
-    ∙ live_less c.self.inside.slots c.self.inside.ids.items c.self.inside.by_id.items c.self.inside.columns c.self.inside.edges c.place_of-place.result c.args.id (inside c) (found c) c.self.invariant
-    ∙ ap (λ v. without_id v.live c.args.id) c.self.view_is
+    ap live_after c.and-self-inside.ensures ∙ live_more c.self.inside.history.items (Went c.args.id) ∙ ap (λ v. without_id v.live c.args.id) c.self.view_is

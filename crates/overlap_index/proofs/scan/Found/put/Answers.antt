@@ -1,6 +1,6 @@
-use Rattle.std.proofs.Common.{◌≡◌, Some, None, ap, sym, ◌∙◌}
+use Rattle.std.proofs.Common.{◌≡◌, Some, ap, sym, ◌∙◌}
 use Rattle.overlap_index.specs.declared.scan.Side.TheVariants.{Above, Below}
-use Rattle.overlap_index.specs.Table.{side_of}
+use Rattle.overlap_index.specs.Sides.{side_of}
 use Rattle.overlap_index.proofs.Sides.{on_above, on_below, on_none, put_on, put_off}
 use Rattle.overlap_index.proofs.scan.Found.put.Goals as goal
 

@@ -1,0 +1,17 @@
+-- The side of a piece on which another one is, and the ids on one side.
+use Rattle.std.specs.Prelude.{ℕ, List, length, ◌≤◌, Contains, ◌↔◌, nat_eq, None, Option, Some, if◌then◌else◌}
+use Rattle.std.specs.List.{IsDistinct}
+use Rattle.overlap_index.specs.declared.scan.Side.{Side}
+use Rattle.overlap_index.specs.declared.scan.Side.TheVariants.{Above, Below}
+use Rattle.overlap_index.specs.declared.LivePiece.{LivePiece}
+use Rattle.overlap_index.specs.Live.{is_over, ids_on}
+
+-- the side of a piece on which another one is, if it is on one
+abbrev pub side_of : LivePiece → LivePiece → Option Side
+side_of other of = if is_over other of then Some Above else if is_over of other then Some Below else None
+
+-- these are the ids of the live pieces on one side of a piece, each once, in any order
+pub record AreOn (side : Side) (of : LivePiece) (live : List LivePiece) (ids : List ℕ) : Type 0 where
+  pub exact : (id : ℕ) → Contains ids id ↔ Contains (ids_on side of live) id
+  pub once : IsDistinct nat_eq ids
+  pub most : length ids ≤ 65536
