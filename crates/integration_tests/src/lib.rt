@@ -15,8 +15,4 @@ mod devices;
 #[cfg(test)]
 mod refusals;
 #[cfg(test)]
-mod resumed;
-#[cfg(test)]
 mod silent;
-#[cfg(test)]
-mod stuck;

@@ -30,7 +30,8 @@ pub enum RouteFault {
 /// Why a commit doesn't come to its end.
 #[derive(Clone, Copy, Debug, PartialEq, Eq, Error)]
 pub enum CommitFault {
-    /// The batch isn't taken. Nothing was written, and the manager is as before.
+    /// The batch isn't taken. Nothing was written, and the manager is as before. The text has the prefix of the route
+    /// that is at fault.
     #[error(transparent)]
     Refused(Refusal),
     /// A write failed. The commit is still under way: [`resume`] makes that write again, and those behind it.

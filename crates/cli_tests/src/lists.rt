@@ -1,8 +1,8 @@
 //! The worked rows of access lists, over memory.
 
-use crate::Status;
-use crate::tests::check;
+use crate::rows::check;
 use std::test::Fail;
+use tcam_cli::Status;
 
 const EIGHT: &str = "tcam acl --slots 8";
 

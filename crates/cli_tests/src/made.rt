@@ -1,11 +1,10 @@
 //! The worked rows of made commands, over memory.
 
-use crate::Status;
-use crate::tests::{ONE, check, words_of};
-use crate::top::run;
+use crate::rows::{ONE, check, words_of};
 use memory_tcam::{FlakyTcam, MemTcam};
 use script_lines::{FailSink, FailSource, MemSink, MemSource};
 use std::test::Fail;
+use tcam_cli::{Status, run};
 
 const ONE_BATCH: &str =
     "commit 1 ok writes 1 words 0 most 1 span 0\nend rules 1 entries 1 writes 1 pending 0\n";

@@ -1,11 +1,11 @@
 // A run whose device failed four times at one write, and that goes on.
 ghost use Rattle.std.specs.Prelude.{◌≡◌, ◌≢◌, ℕ, ◌+◌, ◌<◌, ◌≤◌, Err, IfOk, OnOk};
-ghost use Rattle.integration_tests.specs.Going.{CanGoOn};
+ghost use Rattle.run_tests.specs.Going.{CanGoOn};
 
-use crate::commits::packet;
 use crate::stuck::{add, apply, change_of, commit, finish, route};
 use memory_tcam::FlakyTcam;
 use replay::{Act, Family, Mode, Placement, Run, RunFault};
+use rule_model::Key;
 use script_lines::MemSink;
 use std::alloc::Global;
 use std::process::Abort;
@@ -55,7 +55,12 @@ fn begin<D: Device>(run: &mut Run, sink: &mut MemSink, device: &mut D) -> Result
     commit_route(run, 0x0a00_0000, 8, sink, device)?;
     commit_route(run, 0x0a01_0200, 24, sink, device)?;
     commit_route(run, 0x0a01_0000, 16, sink, device)?;
-    apply(run, &Act::Probe(packet()), sink, device)?;
+    apply(
+        run,
+        &Act::Probe(Key::v4(0, 0x0a01_0203, 0, 0, 0)),
+        sink,
+        device,
+    )?;
     Ok(())
 }
 

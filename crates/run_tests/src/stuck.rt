@@ -2,7 +2,7 @@
 // and leaves what it leaves where no write fails.
 ghost use Rattle.std.specs.Prelude.{◌≡◌, ◌≢◌, ℕ, ◌+◌, ◌<◌, ◌≤◌, Err, IfOk, OnOk};
 ghost use Rattle.replay.specs.Running.{IsActOf};
-ghost use Rattle.integration_tests.specs.Going.{CanGoOn};
+ghost use Rattle.run_tests.specs.Going.{CanGoOn};
 
 use memory_tcam::{FlakyTcam, MemTcam};
 use replay::{Act, Family, Mode, Placement, Run, RunFault};

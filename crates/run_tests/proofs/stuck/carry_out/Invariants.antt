@@ -1,6 +1,6 @@
 use Rattle.std.proofs.Common.{◌≤◌, ◌*◌}
-use Rattle.integration_tests.specs.Going.{CanGoOn}
-use Rattle.integration_tests.proofs.stuck.carry_out.Given as goal
+use Rattle.run_tests.specs.Going.{CanGoOn}
+use Rattle.run_tests.proofs.stuck.carry_out.Given as goal
 
 abbrev pub invariant-loop-step : goal.invariant-loop-step
 invariant-loop-step g l = CanGoOn l.run (g.D.Writable.slot_count l.device) (g.D.Writable.spare l.device)

@@ -2,13 +2,12 @@
 
 ghost use Rattle.std.specs.Prelude.{◌<◌};
 
-use crate::Status;
-use crate::top::run;
 use memory_tcam::{FlakyTcam, MemTcam};
 use script_lines::{FailSink, FailSource, MemSink, MemSource};
 use std::alloc::{AllocError, Global};
 use std::process::Abort;
 use std::test::Fail;
+use tcam_cli::{Status, run};
 use tcam_device::Writable;
 
 /// The words of a command line that blanks part.

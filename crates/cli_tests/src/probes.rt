@@ -1,11 +1,10 @@
 //! The worked rows of probes and traces, over memory.
 
-use crate::Status;
-use crate::tests::{ONE, THREE, TWO, carried_out, check, check_line, words_of};
-use crate::top::run;
+use crate::rows::{ONE, THREE, TWO, carried_out, check, check_line, words_of};
 use memory_tcam::FlakyTcam;
 use script_lines::{MemSink, MemSource};
 use std::test::Fail;
+use tcam_cli::{Status, run};
 
 const EIGHT: &str = "tcam route --slots 8";
 

@@ -1,0 +1,8 @@
+//! Tests of whole runs whose device fails: at each write of a script, at all of its tries, and how they go on behind that.
+//! They stand apart from `integration_tests`, so that both are proved at once.
+#![tactic(auto)]
+
+#[cfg(test)]
+mod resumed;
+#[cfg(test)]
+mod stuck;

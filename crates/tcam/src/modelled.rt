@@ -1,0 +1,33 @@
+//! The hardware that the program drives.
+
+ghost use Rattle.std.specs.Prelude.{IsOk};
+
+use crate::DEVICE_SLOTS;
+use tcam_device::{DeviceFault, Hardware, Write};
+
+/// Hardware that takes each write and holds nothing: what stands in slots and tables is in the memory that `Shadowed`
+/// keeps beside it. So the modelled device takes memory by its slots, however many writes are made.
+#[derive(Drop)]
+pub struct Modelled {}
+
+impl Modelled {
+    /// Blank hardware.
+    pub fn new() -> Modelled {
+        Modelled {}
+    }
+}
+
+impl Hardware for Modelled {
+    ghost slot_count = { λ m. 4096 };
+
+    // No write fails.
+    ghost puts = { λ before write answer after. IsOk answer };
+
+    fn slots(&self) -> u32 {
+        DEVICE_SLOTS
+    }
+
+    fn put(&mut self, _write: &Write) -> Result<(), DeviceFault> {
+        Ok(())
+    }
+}
