@@ -13,6 +13,8 @@ mod commits;
 #[cfg(test)]
 mod devices;
 #[cfg(test)]
+mod in_flight;
+#[cfg(test)]
 mod refusals;
 #[cfg(test)]
 mod silent;

@@ -9,10 +9,11 @@ use std::test::Fail;
 use tcam_device::{DeviceFault, Hardware, Write};
 use ternary_word::Entry;
 
-/// Eight slots that take every write, and say of the first that it failed.
+/// Eight slots that take every write, and say of the first that it failed. Drains are counted.
 #[derive(Drop)]
 pub(crate) struct Late {
     pub(crate) slots: [Option<Entry>; 8],
+    pub(crate) drains: u32,
     failed: bool,
 }
 
@@ -20,6 +21,7 @@ impl Late {
     pub(crate) fn new() -> Late {
         Late {
             slots: [None; 8],
+            drains: 0,
             failed: false,
         }
     }
@@ -29,6 +31,8 @@ impl Hardware for Late {
     ghost slot_count = { λ late. 8 };
 
     ghost puts = { λ before write answer after. Unit {0} };
+
+    ghost drains = { λ before after. Unit {0} };
 
     fn slots(&self) -> u32 {
         8
@@ -43,6 +47,10 @@ impl Hardware for Late {
             return Err(DeviceFault);
         }
         Ok(())
+    }
+
+    fn drain(&mut self) {
+        self.drains = self.drains.saturating_add(1);
     }
 }
 

@@ -1,3 +1,5 @@
 mod Kept
 mod Least
 mod Shadows
+mod Logged
+mod Searched

@@ -2,6 +2,7 @@
 ghost use Rattle.std.specs.Prelude.{◌≡◌, ◌<◌, ◌≤◌, [], IfOk};
 ghost use Rattle.slot_order.specs.Order as order;
 ghost use Rattle.tcam_device.specs.State.{replay};
+ghost use Rattle.tcam_device.specs.Flight.{writes_in};
 
 use crate::MemTcam;
 use call_history::Calls;
@@ -28,12 +29,12 @@ impl<'a> Model for FlakyTcam<'a> {
 }
 
 impl<'a> FlakyTcam<'a> {
-    /// A blank device of 1 to 65,536 slots, with an empty journal and room for no write yet. The write calls
+    /// A blank device of 1 to 65,536 slots, with an empty journal, no word in flight and room for no write yet. The write calls
     /// whose numbers are in `calls` will fail; they are counted from 1, the failing ones too.
     pub fn new(alloc: Global, slots: u32, calls: &'a [u64]) -> Result<FlakyTcam<'a>, AllocError>
         requires least { 0 < slots }
         requires most { slots ≤ 65536 }
-        ensures { IfOk result (λ flaky. flaky ≡ record { device = record { slots = slots; journal = []; spare = 0 }; calls = record { listed = calls.entry.now; made = 0 }; faults = 0 }) }
+        ensures { IfOk result (λ flaky. flaky ≡ record { device = record { slots = slots; events = []; flight = []; spare = 0 }; calls = record { listed = calls.entry.now; made = 0 }; faults = 0 }) }
     {
         Ok(FlakyTcam {
             device: MemTcam::new(alloc, slots)?,
@@ -44,7 +45,7 @@ impl<'a> FlakyTcam<'a> {
 
     /// The writes since the device was blank, in order.
     pub fn journal(&self) -> &[Write]
-        ensures { result.now ≡ self.now.device.journal }
+        ensures { result.now ≡ writes_in self.now.device.events }
     {
         self.device.journal()
     }
@@ -52,25 +53,34 @@ impl<'a> FlakyTcam<'a> {
     /// What stands in a slot that the device has: an entry, or None where it is empty.
     pub fn slot(&self, slot: u32) -> Option<Entry>
         requires { slot < self.now.device.slots }
-        ensures { result ≡ order.slot (replay self.now.device.slots self.now.device.journal).slots slot }
+        ensures { result ≡ order.slot (replay self.now.device.slots (writes_in self.now.device.events)).slots slot }
     {
         self.device.slot(slot)
     }
 }
 
+/// The clauses are the trait's, and which write calls fail.
 impl<'a> Writable for FlakyTcam<'a> {
-    ghost use Rattle.std.specs.Prelude.{◌≡◌, ◌<◌, ◌≤◌, ◌+◌, ◌++◌, ◌∷◌, [], ◌↔◌, IsErr, OnOk, OnErr};
+    ghost use Rattle.std.specs.Prelude.{◌≡◌, ◌<◌, ◌≤◌, ◌+◌, ◌++◌, ◌∷◌, [], ◌↔◌, refl, IsErr, OnOk, OnErr};
     ghost use Rattle.call_history.specs.Cause.{HasCause, raised};
     ghost use Rattle.call_history.specs.Calls.{IsNextListed, with_call};
+    ghost use Rattle.tcam_device.specs.declared.Action.{Action};
     ghost use Rattle.tcam_device.specs.State.{IsInUse};
+    ghost use Rattle.tcam_device.specs.Flight.{writes_in};
 
     ghost slot_count = { λ f. f.device.slots };
 
-    ghost journal = { λ f. f.device.journal };
+    ghost journal = { λ f. writes_in f.device.events };
+
+    ghost events = { λ f. f.device.events };
+
+    ghost flight = { λ f. f.device.flight };
 
     ghost spare = { λ f. f.device.spare };
 
     ghost faults = { λ f. f.faults };
+
+    ghost agrees = { λ f. refl };
 
     fn slots(&self) -> u32 {
         self.device.slots()
@@ -80,7 +90,9 @@ impl<'a> Writable for FlakyTcam<'a> {
         ensures enough { OnOk result (n ≤ self.new.device.spare) }
         ensures least { self.old.device.spare ≤ self.new.device.spare }
         ensures spare_err { OnErr result (self.new.device.spare ≡ self.old.device.spare) }
-        ensures journal { self.new.device.journal ≡ self.old.device.journal }
+        ensures journal { writes_in self.new.device.events ≡ writes_in self.old.device.events }
+        ensures events { self.new.device.events ≡ self.old.device.events }
+        ensures flight { self.new.device.flight ≡ self.old.device.flight }
         ensures slots { self.new.device.slots ≡ self.old.device.slots }
         ensures calls { self.new.calls ≡ self.old.calls }
         ensures faults { self.new.faults ≡ self.old.faults }
@@ -95,10 +107,13 @@ impl<'a> Writable for FlakyTcam<'a> {
         ensures calls { self.new.calls ≡ with_call self.old.calls }
         ensures raised { OnErr result (self.new.faults ≡ raised self.old.faults) }
         ensures faults_ok { OnOk result (self.new.faults ≡ self.old.faults) }
-        ensures written { OnOk result (self.new.device.journal ≡ self.old.device.journal ++ write ∷ []) }
+        ensures written { OnOk result (writes_in self.new.device.events ≡ writes_in self.old.device.events ++ write ∷ []) }
+        ensures logged { OnOk result (self.new.device.events ≡ self.old.device.events ++ Action.Written write ∷ []) }
         ensures spare { OnOk result (self.new.device.spare + 1 ≡ self.old.device.spare) }
-        ensures journal_err { OnErr result (self.new.device.journal ≡ self.old.device.journal) }
+        ensures journal_err { OnErr result (writes_in self.new.device.events ≡ writes_in self.old.device.events) }
+        ensures events_err { OnErr result (self.new.device.events ≡ self.old.device.events) }
         ensures spare_err { OnErr result (self.new.device.spare ≡ self.old.device.spare) }
+        ensures flight { self.new.device.flight ≡ self.old.device.flight }
         ensures slots { self.new.device.slots ≡ self.old.device.slots }
         ensures cause { HasCause self.old.faults self.new.faults result }
     {
@@ -108,10 +123,59 @@ impl<'a> Writable for FlakyTcam<'a> {
         }
         self.device.write(write)
     }
+
+    fn in_flight(&self) -> u32 {
+        self.device.in_flight()
+    }
+
+    fn drain(&mut self)
+        requires empty { self.old.device.flight ≡ [] }
+        requires room { 0 < self.old.device.spare }
+        ensures logged { self.new.device.events ≡ self.old.device.events ++ Action.Drained ∷ [] }
+        ensures spare { self.new.device.spare + 1 ≡ self.old.device.spare }
+        ensures journal { writes_in self.new.device.events ≡ writes_in self.old.device.events }
+        ensures flight { self.new.device.flight ≡ self.old.device.flight }
+        ensures slots { self.new.device.slots ≡ self.old.device.slots }
+        ensures calls { self.new.calls ≡ self.old.calls }
+        ensures faults { self.new.faults ≡ self.old.faults }
+    {
+        self.device.drain();
+    }
 }
 
+/// The clauses are the trait's, and that no write call is counted.
 impl<'a> Device for FlakyTcam<'a> {
+    ghost use Rattle.std.specs.Prelude.{◌≡◌, ◌<◌, length, drop};
+    ghost use Rattle.tcam_device.specs.Flight.{most_in_flight, with_word, search_answer};
+
     fn look(&self, key: &Key) -> Option<(Rank, u32)> {
         self.device.look(key)
+    }
+
+    fn translate(&mut self, key: &Key)
+        requires room { length self.old.device.flight < most_in_flight }
+        ensures flight { self.new.device.flight
+            ≡ with_word (replay self.old.device.slots (writes_in self.old.device.events)) key.now self.old.device.flight }
+        ensures journal { writes_in self.new.device.events ≡ writes_in self.old.device.events }
+        ensures events { self.new.device.events ≡ self.old.device.events }
+        ensures spare { self.new.device.spare ≡ self.old.device.spare }
+        ensures slots { self.new.device.slots ≡ self.old.device.slots }
+        ensures calls { self.new.calls ≡ self.old.calls }
+        ensures faults { self.new.faults ≡ self.old.faults }
+    {
+        self.device.translate(key);
+    }
+
+    fn search(&mut self) -> Option<Option<(Rank, u32)>>
+        ensures answer { result ≡ search_answer (replay self.old.device.slots (writes_in self.old.device.events)) self.old.device.flight }
+        ensures flight { self.new.device.flight ≡ drop 1 self.old.device.flight }
+        ensures journal { writes_in self.new.device.events ≡ writes_in self.old.device.events }
+        ensures events { self.new.device.events ≡ self.old.device.events }
+        ensures spare { self.new.device.spare ≡ self.old.device.spare }
+        ensures slots { self.new.device.slots ≡ self.old.device.slots }
+        ensures calls { self.new.calls ≡ self.old.calls }
+        ensures faults { self.new.faults ≡ self.old.faults }
+    {
+        self.device.search()
     }
 }

@@ -2,13 +2,15 @@
 //!
 //! [`MemTcam`] never fails. [`FlakyTcam`] is the same one, but the write calls whose numbers it is given fail. Both keep
 //! the journal, and beside it the slots, in columns, and the tables as the journal leaves them, so that a look-up need
-//! not go through the journal.
+//! not go through the journal, and the words in flight.
 //!
 //! [`Shadowed`] makes a device of hardware of which nothing is known (`tcam_device::Hardware`): the memory follows the
 //! writes that the hardware answered Ok, and look-ups answer by it.
 #![tactic(auto)]
 
 mod flaky;
+mod log;
+mod lookups;
 mod mem;
 mod memory;
 mod shadowed;

@@ -1,9 +1,11 @@
 // A device in memory.
-ghost use Rattle.std.specs.Prelude.{◌≡◌, ◌<◌, ◌≤◌, ◌-◌, [], length, IfOk, vec_len, vec_capacity};
+ghost use Rattle.std.specs.Prelude.{◌≡◌, ◌<◌, ◌≤◌, [], IfOk};
 ghost use Rattle.slot_order.specs.Order as order;
 ghost use Rattle.tcam_device.specs.State.{replay};
+ghost use Rattle.tcam_device.specs.Flight.{writes_in};
 
-use crate::memory::Memory;
+use crate::log::Log;
+use crate::lookups::Lookups;
 use rule_model::{Key, Rank};
 use std::alloc::{AllocError, Global};
 use std::marker::Model;
@@ -13,80 +15,101 @@ use ternary_word::Entry;
 /// A device in memory, which never fails.
 #[derive(Drop)]
 pub struct MemTcam {
-    memory: Memory,
-    journal: Vec<Write>,
+    lookups: Lookups,
+    log: Log,
 }
 
 impl Model for MemTcam {
-    ghost use Rattle.std.specs.Prelude.{◌≡◌, ◌-◌, length, vec_len, vec_capacity};
-    ghost use Rattle.tcam_device.specs.State.{replay};
-    ghost use Rattle.memory_tcam.specs.Tcam.{Tcam};
+    ghost use Rattle.std.specs.Prelude.{length};
+    ghost use Rattle.memory_tcam.specs.Tcam.{Tcam, Follows};
 
     ghost Value = { Tcam };
 
-    ghost view = { λ m. record { slots = length m.memory.slots; journal = m.journal.items; spare = vec_capacity m.journal - vec_len m.journal } };
+    ghost view = { λ m. record { slots = length m.lookups.state.slots; events = m.log.events; flight = m.lookups.flight; spare = m.log.spare } };
 
-    ghost invariant = { λ m. m.memory ≡ replay (length m.memory.slots) m.journal.items };
+    ghost invariant = { λ m. Follows m.lookups.state m.log.events };
 }
 
 impl MemTcam {
-    /// A blank device of 1 to 65,536 slots, with an empty journal and room for no write yet.
+    /// A blank device of 1 to 65,536 slots, with an empty journal, no word in flight and room for no write yet.
     pub fn new(alloc: Global, slots: u32) -> Result<MemTcam, AllocError>
         requires least { 0 < slots }
         requires most { slots ≤ 65536 }
-        ensures { IfOk result (λ device. device ≡ record { slots = slots; journal = []; spare = 0 }) }
+        ensures { IfOk result (λ device. device ≡ record { slots = slots; events = []; flight = []; spare = 0 }) }
     {
         Ok(MemTcam {
-            memory: Memory::new(alloc, slots)?,
-            journal: Vec::new(alloc),
+            lookups: Lookups::new(alloc, slots)?,
+            log: Log::new(alloc),
         })
     }
 
     /// The writes since the device was blank, in order.
     pub fn journal(&self) -> &[Write]
-        ensures { result.now ≡ self.now.journal }
+        ensures { result.now ≡ writes_in self.now.events }
     {
-        &self.journal
+        self.log.journal()
     }
 
     /// What stands in a slot that the device has: an entry, or None where it is empty.
     pub fn slot(&self, slot: u32) -> Option<Entry>
         requires { slot < self.now.slots }
-        ensures { result ≡ order.slot (replay self.now.slots self.now.journal).slots slot }
+        ensures { result ≡ order.slot (replay self.now.slots (writes_in self.now.events)).slots slot }
     {
-        self.memory.slot(slot)
+        self.lookups.slot(slot)
     }
 }
 
 impl Writable for MemTcam {
+    ghost use Rattle.std.specs.Prelude.{refl};
+    ghost use Rattle.tcam_device.specs.Flight.{writes_in};
+
     ghost slot_count = { λ m. m.slots };
 
-    ghost journal = { λ m. m.journal };
+    ghost journal = { λ m. writes_in m.events };
+
+    ghost events = { λ m. m.events };
+
+    ghost flight = { λ m. m.flight };
 
     ghost spare = { λ m. m.spare };
 
     ghost faults = { λ m. 0 };
 
+    ghost agrees = { λ m. refl };
+
     fn slots(&self) -> u32 {
-        self.memory.count()
+        self.lookups.count()
     }
 
     fn reserve(&mut self, n: u64) -> Result<(), AllocError> {
-        self.journal.reserve(n as usize)
+        self.log.reserve(n)
     }
 
     fn write(&mut self, write: Write) -> Result<(), DeviceFault> {
-        match &write {
-            Write::Slot(slot, entry) => self.memory.put(*slot, *entry),
-            Write::Table(field, port, word) => self.memory.translate(*field, *port, *word),
-        }
-        self.journal.push_reserved(write);
+        self.lookups.make(&write);
+        self.log.write(&write);
         Ok(())
+    }
+
+    fn in_flight(&self) -> u32 {
+        self.lookups.in_flight()
+    }
+
+    fn drain(&mut self) {
+        self.log.drain();
     }
 }
 
 impl Device for MemTcam {
     fn look(&self, key: &Key) -> Option<(Rank, u32)> {
-        self.memory.look(key)
+        self.lookups.look(key)
+    }
+
+    fn translate(&mut self, key: &Key) {
+        self.lookups.translate(key);
+    }
+
+    fn search(&mut self) -> Option<Option<(Rank, u32)>> {
+        self.lookups.search()
     }
 }

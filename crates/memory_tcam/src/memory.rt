@@ -3,7 +3,8 @@ ghost use Rattle.std.specs.Prelude.{◌≡◌, ◌<◌, ◌≤◌, ◌^◌, [], 
 ghost use Rattle.slot_order.specs.Order as order;
 ghost use Rattle.slot_order.specs.Order.{first_hit};
 ghost use Rattle.ternary_word.specs.Entry as entries;
-ghost use Rattle.tcam_device.specs.State.{IsInUse, apply, blank, told, lookup};
+ghost use Rattle.tcam_device.specs.State.{IsInUse, apply, blank, told, lookup, search_word};
+ghost use Rattle.tcam_device.specs.Flight.{word_answer};
 
 use lane_lookup::Columns;
 use rule_model::{Key, Rank};
@@ -69,7 +70,7 @@ impl Memory {
     {
         match write {
             Write::Slot(slot, entry) => self.put(*slot, *entry),
-            Write::Table(field, port, word) => self.translate(*field, *port, *word),
+            Write::Table(field, port, word) => self.put_word(*field, *port, *word),
         }
     }
 
@@ -82,7 +83,7 @@ impl Memory {
     }
 
     /// Puts a table's word at a port.
-    pub(crate) fn translate(&mut self, field: Field, port: u16, word: u16)
+    pub(crate) fn put_word(&mut self, field: Field, port: u16, word: u16)
         ensures { self.new ≡ apply self.old (Write.Table field port word) }
     {
         match field {
@@ -91,16 +92,29 @@ impl Memory {
         }
     }
 
+    /// The key's word by the tables.
+    pub(crate) fn word(&self, key: &Key) -> Word
+        ensures { result ≡ search_word self.now key.now }
+    {
+        word_of(
+            key,
+            self.src[key.sport as usize],
+            self.dst[key.dport as usize],
+        )
+    }
+
+    /// Tag and result of the least slot that hits a word.
+    pub(crate) fn find(&self, word: &Word) -> Option<(Rank, u32)>
+        ensures { result ≡ word_answer self.now word.now }
+    {
+        find(&self.slots, word)
+    }
+
     /// Tag and result of the least slot that hits the key's word.
     pub(crate) fn look(&self, key: &Key) -> Option<(Rank, u32)>
         ensures { result ≡ lookup self.now key.now }
     {
-        let word = word_of(
-            key,
-            self.src[key.sport as usize],
-            self.dst[key.dport as usize],
-        );
-        find(&self.slots, &word)
+        find(&self.slots, &self.word(key))
     }
 }
 

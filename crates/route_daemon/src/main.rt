@@ -11,6 +11,7 @@ mod registers;
 
 ghost use Rattle.std.specs.Prelude.{◌≡◌, ◌≤◌, None, OnOk};
 ghost use Rattle.rule_store.specs.Batch.{set_after};
+ghost use Rattle.tcam_device.specs.Flight.{writes_in};
 ghost use Rattle.batch_order.specs.Managed.{IsOn};
 
 use anyhow::anyhow;
@@ -53,11 +54,11 @@ fn push_batch(
     device: &mut Shadowed<Registers>,
 ) -> anyhow::Result<()>
     requires slots { manager.old.slots ≤ device.old.slots }
-    requires on { IsOn device.old.slots device.old.journal manager.old }
+    requires on { IsOn device.old.slots (writes_in device.old.events) manager.old }
     requires idle { manager.old.held ≡ None }
     ensures slots { manager.new.slots ≡ manager.old.slots }
     ensures slot_count { device.new.slots ≡ device.old.slots }
-    ensures on { IsOn device.new.slots device.new.journal manager.new }
+    ensures on { IsOn device.new.slots (writes_in device.new.events) manager.new }
     ensures idle { OnOk result (manager.new.held ≡ None) }
     ensures rules { OnOk result (manager.new.rules ≡ set_after manager.old.rules batch.now) }
 {

@@ -28,6 +28,8 @@ impl Hardware for Registers {
     // Nothing is known of what a call of `put` does.
     ghost puts = { λ before write answer after. Unit {0} };
 
+    ghost drains = { λ before after. Unit {0} };
+
     fn slots(&self) -> u32 {
         SLOTS
     }
@@ -43,4 +45,7 @@ impl Hardware for Registers {
             Write::Table(..) => Err(DeviceFault),
         }
     }
+
+    // A look-up is undivided here, so none is under way.
+    fn drain(&mut self) {}
 }

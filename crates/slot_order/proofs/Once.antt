@@ -97,7 +97,7 @@ differ tag a b l k = let z : tag b ≡ tag a = ap tag k in omega arith
 differ' : {E : Type 0} (tag : E → ℕ) (a b : E) → tag a < tag b → a ≢ b
 differ' tag a b l k = let z : tag a ≡ tag b = ap tag k in omega arith
 
-down_once : {E : Type 0} (over : E → E → Type 0) (tag : E → ℕ) (P : E → Type 0) (d : List (Option E)) (f s : ℕ) (rest : List ℕ) (e : E)
+pub down_once : {E : Type 0} (over : E → E → Type 0) (tag : E → ℕ) (P : E → Type 0) (d : List (Option E)) (f s : ℕ) (rest : List ℕ) (e : E)
     → ((x y : E) → over x y → over y x) → Ordered over tag P d → AllOnce d → f < length d → slot d f ≡ None → slot d s ≡ Some e → IsDownChain over tag d f s rest
     → OneTwice (applied d (chain_moves d f s rest)) s e
 down_once over tag P d f s [] e mirror o once room free stands c =
@@ -112,7 +112,7 @@ down_once over tag P d f s (t ∷ rest) e mirror o once room free stands c =
     let p = pass b s t e g h (m.before s (let q = a.2 in omega arith) ∙ stands) (differ tag g e lt) (λ k. let q = a.2 in omega arith) in
     subst (λ z. OneTwice z s e) (ap (λ x. set b t x) (sym stands) ∙ sym (applied_push d (chain_moves d f t rest) (t, slot d s))) p
 
-up_once : {E : Type 0} (over : E → E → Type 0) (tag : E → ℕ) (P : E → Type 0) (d : List (Option E)) (f s : ℕ) (rest : List ℕ) (e : E)
+pub up_once : {E : Type 0} (over : E → E → Type 0) (tag : E → ℕ) (P : E → Type 0) (d : List (Option E)) (f s : ℕ) (rest : List ℕ) (e : E)
     → Ordered over tag P d → AllOnce d → f < length d → slot d f ≡ None → slot d s ≡ Some e → IsUpChain over tag d f s rest
     → OneTwice (applied d (chain_moves d f s rest)) s e
 up_once over tag P d f s [] e o once room free stands c =

@@ -23,6 +23,8 @@ impl Hardware for Modelled {
     // No write fails.
     ghost puts = { λ before write answer after. IsOk answer };
 
+    ghost drains = { λ before after. Unit {0} };
+
     fn slots(&self) -> u32 {
         DEVICE_SLOTS
     }
@@ -30,4 +32,6 @@ impl Hardware for Modelled {
     fn put(&mut self, _write: &Write) -> Result<(), DeviceFault> {
         Ok(())
     }
+
+    fn drain(&mut self) {}
 }

@@ -9,3 +9,4 @@ pub mod Cuts
 pub mod Shown
 pub mod Wider
 pub mod WiderInsertions
+pub mod Flights

@@ -11,7 +11,7 @@ use Rattle.ternary_word.specs.Entry.{RankedPiece}
 use Rattle.tcam_device.specs.declared.Write.{Write}
 use Rattle.tcam_device.specs.declared.Write.TheVariants.{Slot, Table}
 use Rattle.tcam_device.specs.State.{State, blank, hits_key, told, lookup, Shows, IsInUse, apply, state_after, on_device}
-use Rattle.tcam_device.specs.Order.{StandsOnce, IsOrdered}
+use Rattle.tcam_device.specs.Order.{AreAlike, HasOneTwin, StandsOnce, IsOrdered}
 use Rattle.tcam_device.specs.Hitless.{ShowsOldOrNew, IsHitless, TurnsOnce}
 use Rattle.tcam_device.proofs.Kept.{slots-apply}
 
@@ -127,3 +127,20 @@ pub StandsOnce-padded : (more : ℕ) (state : State) (Member : RankedPiece → T
 StandsOnce-padded more state Member once ranked member =
     let stands = once ranked member in
     (stands.0, slot-padded state.slots more stands.0 ∙ stands.1, λ other held. stands.2 other (sym (slot-padded state.slots more other) ∙ held))
+
+-- slots that hold the same piece do so among fewer
+abbrev alike_before : (more : ℕ) (state : State) (i j : ℕ) → AreAlike (padded more state).slots i j → AreAlike state.slots i j
+alike_before more state i j alike = record {
+  less = alike.less;
+  first = alike.first;
+  second = alike.second;
+  here = sym (slot-padded state.slots more i) ∙ alike.here;
+  there = sym (slot-padded state.slots more j) ∙ alike.there;
+  same = alike.same;
+}
+
+pub HasOneTwin-padded : (more : ℕ) (state : State) → HasOneTwin state.slots → HasOneTwin (padded more state).slots
+HasOneTwin-padded more state twins = record {
+  one = λ a b is_a is_b. twins.one a b (is_a.0, alike_before more state is_a.0 a is_a.1) (is_b.0, alike_before more state is_b.0 b is_b.1);
+  equal = λ lesser at alike. twins.equal lesser at (alike_before more state lesser at alike);
+}

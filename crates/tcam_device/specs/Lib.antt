@@ -1,4 +1,5 @@
 pub mod State
+pub mod Flight
 pub mod Hitless
 pub mod Insertion
 pub mod Order

@@ -8,9 +8,10 @@ use crate::{DeviceFault, Write};
 
 /// Hardware as the author of a driver writes it: how many slots there are, and how one write is made. Nothing is
 /// proved of what it holds. It is trusted in this: it is blank when `memory_tcam::Shadowed` takes it, each slot empty
-/// and each word of both tables 0, nobody else writes it, and where `put` answers Ok the write was made, whole, behind those before it. Where `put` answers Err the write
-/// was made whole or not at all, and which of the two doesn't matter to a caller that makes the same write next, as the
-/// manager's `step` does ([`crate::twice_as_once`]).
+/// and each word of both tables 0, nobody else writes it, and where `put` answers Ok the write was made, whole, behind
+/// those before it. Where `put` answers Err the write was made whole or not at all, and which of the two doesn't matter to
+/// a caller that makes the same write next, as the manager's `step` does ([`crate::twice_as_once`]). And when `drain`
+/// returns, no look-up whose word was made before is still to be searched.
 pub trait Hardware: Drop {
     /// The number of slots.
     ghost slot_count: { Self → ℕ };
@@ -20,6 +21,9 @@ pub trait Hardware: Drop {
     /// show this of a write only by the call itself.
     ghost puts: { Self → Write → Result (Unit {0}) DeviceFault → Self → Type 0 };
 
+    /// What `drain` did: the hardware before it and after it, as `puts` says it of `put`.
+    ghost drains: { Self → Self → Type 0 };
+
     /// The number of slots, which never changes.
     fn slots(&self) -> u32
         ensures { result ≡ slot_count self.now };
@@ -28,5 +32,11 @@ pub trait Hardware: Drop {
     fn put(&mut self, write: &Write) -> Result<(), DeviceFault>
         requires place { IsInUse (slot_count self.old) write.now }
         ensures puts { puts self.old write.now result self.new }
+        ensures slots { slot_count self.new ≡ slot_count self.old };
+
+    /// Comes where a drain is made, and returns when no look-up whose word was made before is still to be searched: a
+    /// driver with a look-up pipeline waits here, and one whose look-ups are undivided has nothing to do.
+    fn drain(&mut self)
+        ensures drains { drains self.old self.new }
         ensures slots { slot_count self.new ≡ slot_count self.old };
 }

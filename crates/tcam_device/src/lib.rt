@@ -7,6 +7,10 @@
 //! applied in order. [`Device`] adds look-ups: tag and result of the least slot that hits the key's word in that
 //! state.
 //!
+//! A look-up is undivided, `look`, or two events: `translate` makes the key's word by the tables as they stand then and
+//! puts it into flight, and `search` compares the oldest word in flight with the slots as they stand then. A drain among
+//! the writes ([`Action`]) stands only where no word is in flight, so no word that was made before it is searched behind it.
+//!
 //! **Over hardware of your own**: write `impl Hardware` for it, which asks for the number of slots and for one call
 //! that makes a write; nothing need be known of what the hardware holds. `memory_tcam::Shadowed` makes a device of it.
 //! What its author answers for stands at [`Hardware`]; a write that failed and was made all the same does no harm
@@ -35,6 +39,16 @@ pub enum Write {
     Slot(u32, Option<Entry>),
     Table(Field, u16, u16),
 }
+
+/// What is done to a device in order: a write, or a drain, which stands only where no word is in flight.
+#[derive(Clone, Copy, Debug, PartialEq, Eq)]
+pub enum Action {
+    Written(Write),
+    Drained,
+}
+
+/// How many words may be in flight.
+pub const MOST_IN_FLIGHT: u32 = 256;
 
 /// A write of the device failed: the journal doesn't have it.
 #[derive(Clone, Copy, Debug, PartialEq, Eq, Error)]

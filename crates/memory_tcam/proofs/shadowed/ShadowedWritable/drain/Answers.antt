@@ -1,0 +1,20 @@
+use Rattle.std.proofs.Common.{ap, sym, ◌∙◌}
+use Rattle.tcam_device.specs.Flight.{writes_in}
+use Rattle.tcam_device.proofs.Flights.{writes_in-drained}
+use Rattle.memory_tcam.proofs.Kept.{follows-drained}
+use Rattle.memory_tcam.proofs.Shadows.{drain_more}
+use Rattle.memory_tcam.proofs.shadowed.ShadowedWritable.drain.Goals as goal
+
+pub returns-clause-journal : goal.returns-clause-journal
+returns-clause-journal g c =
+    rw (← c.self.view_is) (ap writes_in c.and-self-inside.ensures ∙ writes_in-drained c.self.inside.events.items)
+
+pub invariant_of-self : goal.invariant_of-self
+invariant_of-self g c =
+    let i = c.self.inside in
+    let was = c.self.invariant in
+    rw c.and-self-inside.ensures record {
+      size = was.size ∙ sym c.drain.ensures.slots;
+      follows = follows-drained i.lookups.state i.events.items was.follows;
+      put = drain_more g.H.Hardware.puts g.H.Hardware.drains i.given.items i.events.items i.faults i.hardware c.drain.new.self was.put c.drain.ensures.drains;
+    }
