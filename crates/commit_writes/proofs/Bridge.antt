@@ -1,10 +1,12 @@
 -- One planned insertion of ids is one insertion of the device.
-use Rattle.std.proofs.Common.{◌≡◌, ℕ, ◌+◌, ◌*◌, ◌<◌, ◌≤◌, Option, None, Some, List, [], ◌∷◌, ◌++◌, length, map, take, arith, refl, sym, ◌∙◌, subst, ap, ap₂, length-append, length-set, set}
+use Rattle.std.proofs.Common.{◌≡◌, ℕ, ◌+◌, ◌*◌, ◌<◌, ◌≤◌, Option, None, Some, List, [], ◌∷◌, ◌++◌, length, map, take, arith, inl, inr, refl, sym, ◌∙◌, subst, ap, ap₂, length-append, length-set, set}
 use Rattle.std.specs.List.{AllByRecursion}
 use Rattle.std.proofs.lemmas.Bool.{false_from_ne_true}
 use Rattle.std.proofs.lemmas.List.{take-map, take-append-le, length-map}
 use Rattle.slot_order.specs.Order.{slot, Ordered}
 use Rattle.slot_order.specs.Moves.{applied, Along, BoundsMemberChains}
+use Rattle.slot_order.proofs.Chains.{Along_push}
+use Rattle.slot_order.proofs.Copies.{AtMostOneTwice, whole_copies}
 use Rattle.slot_order.proofs.Whole.{IsWhole, WholeKeeps, whole_keeps, whole_once}
 use Rattle.slot_order.proofs.Images.{entries}
 use Rattle.slot_order.proofs.Lists.{all_append}
@@ -19,7 +21,7 @@ use Rattle.ternary_word.specs.Entry.{RankedPiece, same_match}
 use Rattle.tcam_device.specs.declared.Write.{Write}
 use Rattle.tcam_device.specs.declared.Write.TheVariants.{Slot}
 use Rattle.tcam_device.specs.State.{State, state_after}
-use Rattle.tcam_device.specs.Order.{IsOrdered}
+use Rattle.tcam_device.specs.Order.{IsOrdered, HasOneTwin}
 use Rattle.tcam_device.specs.Insertion.{insertions, IsCrossingSpan}
 use Rattle.tcam_device.proofs.Lookups.{HitAsPieces}
 use Rattle.tcam_device.proofs.One.{slot_write, one_run}
@@ -32,6 +34,7 @@ use Rattle.move_planner.proofs.Planned.{plan}
 use Rattle.commit_writes.specs.Planned.{IdEntries, entry_at, write_for}
 use Rattle.commit_writes.proofs.Mirror.{Pieces, entry_by, over, rank, MatchApart, ordered_state, After, state_applied}
 use Rattle.commit_writes.proofs.Crossing.{span_is}
+use Rattle.commit_writes.proofs.Twins.{mirrors_few}
 
 -- the device writes of some moves
 abbrev pub device_writes : (ℕ → RankedPiece) → List Move → List Write
@@ -69,6 +72,7 @@ writes_same held piece Known (Erase at ∷ moves) have known = ap (λ rest. Slot
 -- what one planned insertion does to the device
 pub record IsBridged (held : IdEntries) (piece : ℕ → RankedPiece) (P Known : ℕ → Type 0) (above : Above) (d : Slots) (state : State) (id : ℕ) (moves : List Move) : Type 0 where
   pub during : (n : ℕ) → n < length moves → IsOrdered (state_after state (take n (device_writes piece moves))) (Pieces piece P)
+  pub copies : (n : ℕ) → HasOneTwin (state_after state (take n (device_writes piece moves))).slots
   -- in front of whatever comes next, one insertion
   pub first : (more : List Write) → insertions state (device_writes piece moves ++ more)
       ≡ record { before = state; writes = device_writes piece moves; entry = entry_by piece id } ∷ insertions (state_after state (device_writes piece moves)) more
@@ -87,6 +91,7 @@ pub bridge : (held : IdEntries) (piece : ℕ → RankedPiece) (P Known : ℕ →
     → IsPlacement above aim id d moves → IsBridged held piece P Known above d state id moves
 bridge held piece P Known above d state id moves reads apart have up known new same o alone hits placement = record {
   during = during;
+  copies = copies;
   first = first;
   span = span_is piece Known above d state id reads all known same hits;
   few = λ m bound. let k = w.few (gap_start above d id) (gap_end above d id) m (floor_is (over piece) (rank piece) Known above d id reads all known) (ceiling_is (over piece) (rank piece) Known above d id reads all known) bound in
@@ -135,6 +140,25 @@ bridge held piece P Known above d state id moves reads apart have up known new s
         let s = state_applied piece d state (take n (map write_of moves)) same in
         subst (λ xs. IsOrdered (state_after state xs) (Pieces piece P)) (sym (take-map (slot_write f) n (map write_of moves)))
         (ordered_state piece P Known (applied d (take n (map write_of moves))) (state_after state (map (slot_write f) (take n (map write_of moves)))) apart up s.slots g)
+
+    -- known ids alone stand meanwhile, at most one of them in two slots
+    stand : Along (AllKnown Known) d (map write_of moves)
+    stand = subst (Along (AllKnown Known) d) (sym w.parts)
+        (Along_push (AllKnown Known) d w.before (w.place, Some id)
+        (Along_weaker (Ordered (over piece) (rank piece) P) (AllKnown Known) d w.before (λ s g at a t. up a (g.within at a t)) w.along)
+        (λ at a t. plus a (w.done.within at a t)))
+      where
+        plus : (a : ℕ) → Plus P id a → Known a
+        plus a (inl was) = up a was
+        plus a (inr is) = subst Known is known
+
+    copies : (n : ℕ) → HasOneTwin (state_after state (take n (device_writes piece moves))).slots
+    copies n =
+        let s = state_applied piece d state (take n (map write_of moves)) same in
+        subst (λ (xs : List Write). HasOneTwin (state_after state xs).slots) (sym (take-map (slot_write f) n (map write_of moves)))
+        (mirrors_few piece Known (applied d (take n (map write_of moves))) (state_after state (map (slot_write f) (take n (map write_of moves)))).slots apart
+        (Along_prefix (AllKnown Known) d (map write_of moves) n stand) s.slots
+        (Along_prefix AtMostOneTwice d (map write_of moves) n (whole_copies (over piece) (rank piece) P Known d id (map write_of moves) reads.mirror o alone new whole)))
 
     front_inside : AllInside (length d) w.before
     front_inside = all_front w.before (subst (AllInside (length d)) w.parts (whole_inside (over piece) (rank piece) P Known d id (map write_of moves) whole))

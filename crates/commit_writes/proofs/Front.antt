@@ -19,7 +19,7 @@ use Rattle.rule_store.proofs.Counts.{count_by-append}
 use Rattle.ternary_word.specs.Entry.{RankedPiece}
 use Rattle.tcam_device.specs.declared.Write.{Write}
 use Rattle.tcam_device.specs.State.{State, IsState, IsInUse, Shows, lookup, state_after}
-use Rattle.tcam_device.specs.Order.{IsOrdered, StandsOnce}
+use Rattle.tcam_device.specs.Order.{IsOrdered, StandsOnce, HasOneTwin}
 use Rattle.tcam_device.specs.Hitless.{ShowsOldOrNew, IsHitless, TurnsOnce}
 use Rattle.tcam_device.specs.Insertion.{Insertion, insertions, is_table_write, table_writes, longest_insertion, IsGreatestSpan, IsWithinTightBound}
 use Rattle.tcam_device.proofs.Shown.{ordered_shows}
@@ -187,6 +187,10 @@ module _ (mode : Mode) (bits : FieldBits) (rules : List Rule) (batch : List Comm
             (on.0, subst (λ at. HoldsInOrder at (Contains (old ++ take on.0 inserted))) (sym (seam n past)) on.1)
       ];
       between = λ k insertion read. keeps_on.between k insertion (ap (λ (all : List Insertion). slice_get all k) (sym front_insertions) ∙ read);
+      copies = λ n within. elim (cases_lt n (length tables)) [
+        | inl short ↦ subst (λ (at : State). HasOneTwin at.slots) (sym (early n (omega arith))) (subst HasOneTwin (sym (slots_early n)) (keeps_on.copies 0 (omega arith)))
+        | inr past ↦ let total = as_many none in subst (λ (at : State). HasOneTwin at.slots) (sym (seam n past)) (keeps_on.copies (n - length tables) (omega arith))
+      ];
       finishing = λ n beyond.
           let total = as_many none in
           let past : length tables ≤ n = omega arith in

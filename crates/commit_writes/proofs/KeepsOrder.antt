@@ -14,7 +14,7 @@ use Rattle.ternary_word.specs.Entry.{RankedPiece}
 use Rattle.overlap_index.specs.declared.LivePiece.{LivePiece}
 use Rattle.tcam_device.specs.declared.Write.{Write}
 use Rattle.tcam_device.specs.State.{State, state_after}
-use Rattle.tcam_device.specs.Order.{IsOrdered, IsTranslated, ServesBits, StandsOnce}
+use Rattle.tcam_device.specs.Order.{IsOrdered, IsTranslated, ServesBits, StandsOnce, HasOneTwin}
 use Rattle.tcam_device.specs.Insertion.{Insertion, insertions, is_table_write}
 use Rattle.tcam_device.proofs.Wider.{all_take}
 use Rattle.commit_writes.specs.declared.Rewrite.{Rewrite}
@@ -35,7 +35,7 @@ use Rattle.commit_writes.proofs.OnTheWay.{on_the_way_between}
 use Rattle.commit_writes.proofs.Ordered.{planned_ordered, planned_between}
 use Rattle.commit_writes.proofs.Row.{whole_insertions}
 use Rattle.commit_writes.proofs.SlotWrites.{batch_slots, tables_left}
-use Rattle.commit_writes.proofs.Start.{commit_piece, commit_makes}
+use Rattle.commit_writes.proofs.Start.{commit_piece, commit_makes, commit_done}
 
 module _ (mode : Mode) (bits : FieldBits) (state : State) (rules : List Rule) (batch : List Command) (live : List LivePiece) (slots : Slots) (entries : IdEntries) (planned : List Planned) (rewrites : List Rewrite) (erased : List ℕ) (plan : IsPlannedBatch mode bits state rules batch live slots entries planned rewrites erased) where
   abbrev made : List Write
@@ -109,6 +109,13 @@ module _ (mode : Mode) (bits : FieldBits) (state : State) (rules : List Rule) (b
         },
       )
 
+  -- at most one of them in two slots,
+  copies : (n : ℕ) → n ≤ insertion_writes state made → HasOneTwin (state_after state (take n made)).slots
+  copies n within =
+      let short : n ≤ length inserting = let first = insertions_first in omega arith in
+      subst (λ (writes : List Write). HasOneTwin (state_after state writes).slots) (sym (take-append-le n inserting _ short))
+      ((commit_done state old added live slots entries planned row).copies n)
+
   -- and behind them what is on the way, each piece once
   late : (n : ℕ) → insertion_writes state made ≤ n → (standing : List RankedPiece) × AreBetween old new standing
       × HoldsInOrder (state_after state (take n made)) (Contains standing) × StandsOnce (state_after state (take n made)) (Contains standing)
@@ -127,6 +134,7 @@ module _ (mode : Mode) (bits : FieldBits) (state : State) (rules : List Rule) (b
     between = λ k insertion read.
         planned_between state old added live slots entries planned k insertion row
         (ap (λ (some : List Insertion). slice_get some k) (sym (batch_insertions mode bits state rules batch live slots entries planned rewrites erased plan)) ∙ read);
+    copies = copies;
     finishing = late;
     after = record {
       ordered = (batch_last mode bits state rules batch live slots entries planned rewrites erased plan).ordered;

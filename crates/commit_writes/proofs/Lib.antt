@@ -4,6 +4,7 @@ mod OneRoute
 pub mod Filters
 pub mod Mirror
 pub mod Crossing
+pub mod Twins
 pub mod Bridge
 pub mod Row
 pub mod Ids
@@ -52,3 +53,14 @@ pub mod KeptBits
 pub mod TableWrites
 pub mod Front
 pub mod WholeSegment
+pub mod Undone
+pub mod Current
+pub mod Searches
+pub mod LiveBits
+pub mod LiveRanges
+pub mod SlotsBehind
+pub mod ServedLive
+pub mod Actions
+pub mod Seen
+pub mod AtRest
+mod FlightExamples

@@ -25,13 +25,14 @@ use Rattle.move_planner.specs.Insertion.{IsLive}
 use Rattle.move_planner.proofs.Chain.{Reads, AllKnown, floor_is, ceiling_is}
 use Rattle.tcam_device.specs.declared.Write.{Write}
 use Rattle.tcam_device.specs.State.{State, state_after}
-use Rattle.tcam_device.specs.Order.{IsOrdered, StandsOnce}
+use Rattle.tcam_device.specs.Order.{IsOrdered, StandsOnce, HasOneTwin}
 use Rattle.tcam_device.specs.Insertion.{Insertion, insertions, IsCrossingSpan}
 use Rattle.tcam_device.proofs.Lookups.{HitAsPieces}
 use Rattle.tcam_device.proofs.Spans.{Makes, Makes-append, state_after-append}
 use Rattle.commit_writes.specs.Planned.{IdEntries, Planned, ArePlanned, write_for, planned_writes, live_after, slots_after}
 use Rattle.commit_writes.proofs.Mirror.{Pieces, entry_by, over, rank, MatchApart, ordered_state, stands_once, After, hits_after}
 use Rattle.commit_writes.proofs.Bridge.{HaveEntries, IsBridged, bridge}
+use Rattle.commit_writes.proofs.Twins.{mirrors_few}
 
 -- what is known of all ids: how they are told apart, their entries, and what the index says of any of them
 pub record AreReadable (held : IdEntries) (piece : ℕ → RankedPiece) (all : List LivePiece) : Type 0 where
@@ -131,6 +132,7 @@ whole_insertions-rise (planned ∷ rest) n m more = elim (cases_lt n (length pla
 -- what planned insertions do to the device
 pub record AreDone (held : IdEntries) (piece : ℕ → RankedPiece) (all live : List LivePiece) (slots : Slots) (state : State) (planned : List Planned) : Type 0 where
   pub during : (n : ℕ) → IsOrdered (state_after state (take n (planned_writes held planned))) (Pieces piece (IsLive (live_after live (take (whole_insertions planned n) planned))))
+  pub copies : (n : ℕ) → HasOneTwin (state_after state (take n (planned_writes held planned))).slots
   pub last : IsOrdered (state_after state (planned_writes held planned)) (Pieces piece (IsLive (live_after live planned)))
   pub changed : After piece (slots_after slots planned) state (state_after state (planned_writes held planned))
   pub within : AllKnown (IsLive (live_after live planned)) (slots_after slots planned)
@@ -154,6 +156,8 @@ done_none held piece all live slots state readable up same o alone =
     let now' = subst (λ some. IsOrdered state (Pieces piece (IsLive some))) (sym (append-nil live)) now in
     record {
       during = λ n. subst (λ ws. IsOrdered (state_after state ws) (Pieces piece (IsLive (live ++ [])))) (sym (none_taken n)) now';
+      copies = λ n. subst (λ (ws : List Write). HasOneTwin (state_after state ws).slots) (sym (none_taken n))
+          (mirrors_few piece (IsLive all) slots state.slots readable.apart (λ place id s. live_up live all up id (o.within place id s)) same (inl alone));
       last = now';
       changed = record { slots = same; src = refl; dst = refl };
       within = subst (λ some. AllKnown (IsLive some) slots) (sym (append-nil live)) o.within;
@@ -174,6 +178,7 @@ done_more : (held : IdEntries) (piece : ℕ → RankedPiece) (all live : List Li
     → AreDone held piece all live slots state (planned ∷ rest)
 done_more held piece all live slots state planned rest readable up o single span b h = record {
   during = during;
+  copies = copies;
   last = subst (λ some. IsOrdered (state_after state (ours ++ theirs)) (Pieces piece (IsLive some))) (regroup rest)
       (subst (λ s. IsOrdered s (Pieces piece (IsLive (live_after more rest)))) (sym (state_after-append state ours theirs)) h.last);
   changed = subst (After piece (slots_after slots (planned ∷ rest)) state) (sym (state_after-append state ours theirs))
@@ -250,6 +255,18 @@ done_more held piece all live slots state planned rest readable up o single span
           (subst (λ ones. IsOrdered (state_after state (take n (ours ++ theirs))) (Pieces piece (IsLive ones))) (regroup some)
           (subst (λ ws. IsOrdered (state_after state ws) (Pieces piece (IsLive (live_after more some)))) (sym split)
           (subst (λ s. IsOrdered s (Pieces piece (IsLive (live_after more some)))) (sym (state_after-append state ours (take later theirs))) (h.during later))))
+    ]
+
+    copies : (n : ℕ) → HasOneTwin (state_after state (take n (ours ++ theirs))).slots
+    copies n = elim (cases_lt n (length ours)) [
+      | inl short ↦ subst (λ (ws : List Write). HasOneTwin (state_after state ws).slots) (sym (take-append-le n ours theirs (omega arith)))
+          (subst (λ (ws : List Write). HasOneTwin (state_after state (take n ws)).slots) (sym b.same_writes) (b.copies n))
+      | inr long ↦
+          let later = n - length ours in
+          let split : take n (ours ++ theirs) ≡ ours ++ take later theirs =
+          ap (λ m. take m (ours ++ theirs)) (let e : n ≡ length ours + later = omega arith in e) ∙ take-append-add ours theirs later in
+          subst (λ (ws : List Write). HasOneTwin (state_after state ws).slots) (sym split)
+          (subst (λ (s : State). HasOneTwin s.slots) (sym (state_after-append state ours (take later theirs))) (h.copies later))
     ]
 
 pub done_all : (held : IdEntries) (piece : ℕ → RankedPiece) (all live : List LivePiece) (slots : Slots) (state : State) (planned : List Planned) → AreReadable held piece all

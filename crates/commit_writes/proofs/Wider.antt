@@ -10,9 +10,9 @@ use Rattle.rule_store.specs.Batch.{set_after}
 use Rattle.ternary_word.specs.Entry.{RankedPiece}
 use Rattle.tcam_device.specs.declared.Write.{Write}
 use Rattle.tcam_device.specs.State.{State, IsInUse, state_after}
-use Rattle.tcam_device.specs.Order.{StandsOnce}
+use Rattle.tcam_device.specs.Order.{StandsOnce, HasOneTwin}
 use Rattle.tcam_device.specs.Insertion.{Insertion, insertions, table_writes, IsGreatestSpan, AreBoundedBy, IsUncrossed}
-use Rattle.tcam_device.proofs.Wider.{padded, all_take, slot-padded, state_after-padded, slots-after, IsHitless-padded, TurnsOnce-padded, IsOrdered-padded, StandsOnce-padded}
+use Rattle.tcam_device.proofs.Wider.{padded, all_take, slot-padded, state_after-padded, slots-after, IsHitless-padded, TurnsOnce-padded, IsOrdered-padded, StandsOnce-padded, HasOneTwin-padded}
 use Rattle.tcam_device.proofs.WiderInsertions.{widened, insertions-padded, longest-padded, writes-widened, entries-widened, IsGreatestSpan-widened, AreBoundedBy-widened, IsUncrossed-widened}
 use Rattle.commit_writes.specs.declared.Done.{Done}
 use Rattle.commit_writes.specs.Bits.{FieldBits, bits_with}
@@ -117,6 +117,8 @@ KeepsOrder-padded more mode bits rules batch state made inside keeps = record {
   between = λ k insertion read.
       let w = map_read (widened more) (insertions state made) k insertion (ap (λ (all : List Insertion). slice_get all k) (sym (insertions-padded more state made inside)) ∙ read) in
       subst (λ (begun : Insertion). StandsOnce begun.before (first k)) w.2 (StandsOnce-padded more w.0.before (first k) (keeps.between k w.0 w.1));
+  copies = λ n within. subst (λ (now : State). HasOneTwin now.slots) (sym (reached n))
+      (HasOneTwin-padded more (state_after state (take n made)) (keeps.copies n (subst (λ count. n ≤ count) as_many within)));
   finishing = λ n past. let w = keeps.finishing n (subst (λ count. count ≤ n) as_many past) in (
     w.0,
     w.1,

@@ -8,7 +8,7 @@ use Rattle.rule_store.specs.Batch.{removes, additions, set_after}
 use Rattle.ternary_word.specs.Entry.{RankedPiece}
 use Rattle.tcam_device.specs.declared.Write.{Write}
 use Rattle.tcam_device.specs.State.{State, state_after}
-use Rattle.tcam_device.specs.Order.{IsOrdered, ServesBits, StandsOnce}
+use Rattle.tcam_device.specs.Order.{IsOrdered, ServesBits, StandsOnce, HasOneTwin}
 use Rattle.tcam_device.specs.Hitless.{IsHitless, TurnsOnce}
 use Rattle.tcam_device.specs.Insertion.{Insertion, insertions, longest_insertion, table_writes, IsGreatestSpan, IsWithinBound, IsWithinTightBound}
 use Rattle.commit_writes.specs.declared.Done.{Done}
@@ -54,6 +54,8 @@ pub record KeepsPieces (old inserted new : List RankedPiece) (state : State) (ma
   -- each of them in one slot where an insertion begins;
   pub between : (k : ℕ) (insertion : Insertion) → slice_get (insertions state made) k ≡ Some insertion
       → StandsOnce insertion.before (Contains (old ++ take k inserted))
+  -- and inside one at most one piece stands in two slots;
+  pub copies : (n : ℕ) → n ≤ insertion_writes state made → HasOneTwin (state_after state (take n made)).slots
   -- from then on pieces on the way from the old ones to the new ones, each in one slot;
   pub finishing : (n : ℕ) → insertion_writes state made ≤ n → (standing : List RankedPiece)
       × AreBetween old new standing

@@ -4,3 +4,7 @@ pub mod Shape
 pub mod Commit
 pub mod Planned
 pub mod PlannedBatch
+pub mod Undo
+pub mod InFlight
+pub mod Actions
+pub mod Segments

@@ -11,8 +11,19 @@
 //! that the manager rests on is in `proofs/`: from an arrangement in order, the device writes of such insertions are a
 //! segment; `specs/PlannedBatch` adds the results that change and the entries that go. There is no code but the numbers of
 //! a commit and what a changed result puts.
+//!
+//! A look-up may be two events, a key's translation into a word by the tables and the word's search in the slots, with
+//! writes between them. `specs/InFlight` says which words in flight are current, `specs/Actions` where a commit has to wait
+//! until none is in flight, `specs/Undo` what takes a commit back, and `specs/Segments` what packets see of both, from
+//! what a manager keeps between commits; the laws are proved, and nothing makes such look-ups yet.
 #![tactic(auto)]
 
+mod laws;
+
+pub use laws::{
+    commits_come_to_rest, ends_where_it_began, passes_no_new_state, rests_on_wider_devices,
+    returns_are_hitless, searches_answer_as_look_ups, sees_old_or_new, sees_old_or_new_back,
+};
 use ternary_word::Entry;
 
 /// The numbers of a commit: its device writes and those to the translation tables, the writes of its longest insertion,

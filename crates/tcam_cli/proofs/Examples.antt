@@ -21,7 +21,7 @@ use Rattle.std.proofs.Math.Seq.{take-nil}
 use Rattle.slot_order.proofs.Lists.{contains_none}
 use Rattle.slot_pool.specs.Arrangement.{Slots}
 use Rattle.ternary_word.specs.declared.Entry.{Entry}
-use Rattle.tcam_device.specs.Order.{IsOrdered}
+use Rattle.tcam_device.specs.Order.{IsOrdered, HasOneTwin}
 use Rattle.tcam_device.specs.declared.Write.{Write}
 use Rattle.tcam_device.proofs.States.{IsState-blank}
 use Rattle.tcam_device.proofs.Wider.{empty_slot}
@@ -186,6 +186,13 @@ blank-holds =
       serves = record { srcbits = λ ranked bit member. absurd (contains_none ranked member); dstbits = λ ranked bit member. absurd (contains_none ranked member) };
     }
 
+blank-twins : HasOneTwin (State.blank 8).slots
+blank-twins =
+    record {
+      one = λ a b twin other. absurd (let none : None ≡ Some twin.1.first = sym (empty_slot {E = Entry} 8 twin.0) ∙ twin.1.here in cc);
+      equal = λ lesser at alike. absurd (let none : None ≡ Some alike.first = sym (empty_slot {E = Entry} 8 lesser) ∙ alike.here in cc);
+    }
+
 nothing-made : IsSegment Cover no_bits [] [] (State.blank 8) []
 nothing-made =
     record {
@@ -207,6 +214,7 @@ nothing-made =
             after = blank-holds;
             once = λ ranked member. absurd (contains_none ranked member);
             between = λ k insertion none. absurd (none-some insertion none);
+            copies = λ n within. rw take-nil blank-twins;
           };
       shape =
           record {

@@ -1,0 +1,248 @@
+-- The writes and the drain of a commit, and those of one that is taken back, serve live ranges all the way.
+use Rattle.std.proofs.Common.{◌≡◌, ℕ, suc, ◌+◌, ◌≤◌, Bool, true, false, List, [], ◌∷◌, ◌++◌, length, map, take, drop, ◌⊎◌, inl, inr, refl, sym, ◌∙◌, ap, subst, arith, append_assoc}
+use Rattle.std.proofs.lemmas.Bool.{cases_lt}
+use Rattle.std.proofs.lemmas.List.{append-nil, take-take, length-take, map-append}
+use Rattle.std.proofs.Math.Seq.{take-add, take-length}
+use Rattle.rule_model.specs.declared.Rule.{Rule}
+use Rattle.rule_store.specs.declared.Mode.{Mode}
+use Rattle.rule_store.specs.declared.Command.{Command}
+use Rattle.tcam_device.specs.declared.Write.{Write}
+use Rattle.tcam_device.specs.State.{State, apply, state_after}
+use Rattle.tcam_device.specs.Insertion.{table_writes}
+use Rattle.tcam_device.proofs.Spans.{state_after-append}
+use Rattle.commit_writes.specs.Bits.{FieldBits, bits_with, new_bits}
+use Rattle.commit_writes.specs.Commit.{IsSegment}
+use Rattle.tcam_device.specs.declared.Action.{Action}
+use Rattle.tcam_device.specs.declared.Action.TheVariants.{Written, Drained}
+use Rattle.tcam_device.specs.Flight.{writes_in}
+use Rattle.commit_writes.specs.InFlight.{ArePartOf, ServesLive, Serving}
+use Rattle.commit_writes.specs.Undo.{restoring, undo_writes}
+use Rattle.commit_writes.specs.Actions.{have_bits, with_drain, commit_actions, back_from}
+use Rattle.commit_writes.specs.Segments.{MayBegin, CommitsServe, ReturnsServe}
+use Rattle.commit_writes.proofs.Undone.{restored}
+use Rattle.commit_writes.proofs.Current.{current_part}
+use Rattle.commit_writes.proofs.LiveRanges.{live_meanwhile, same_ranges}
+use Rattle.commit_writes.proofs.ServedLive.{bits_begun, early, late}
+use Rattle.commit_writes.proofs.ServedTables.{IsBitsStart}
+
+abbrev same_part : (bits : FieldBits) → ArePartOf bits bits
+same_part bits = record { src = λ bit range live. live; dst = λ bit range live. live }
+
+-- some writes serve the same ranges after each of them, and what follows serves on
+serving_on : (bits : FieldBits) (state : State) (writes : List Write) (rest : List Action)
+    → ((n : ℕ) → n ≤ length writes → ServesLive bits (state_after state (take n writes)))
+    → Serving bits (state_after state writes) rest → Serving bits state (map Written writes ++ rest)
+serving_on bits state [] rest each on = on
+serving_on bits state (write ∷ writes) rest each on =
+    (each 0 (omega arith), (bits, same_part bits, serving_on bits (apply state write) writes rest (λ n below. each (suc n) (omega arith)) on))
+
+-- and so do their undo writes
+serving_back : (bits : FieldBits) (state : State) (writes : List Write) (rest : List Action)
+    → ((n : ℕ) → n ≤ length writes → ServesLive bits (state_after state (take n writes)))
+    → Serving bits state rest → Serving bits (state_after state writes) (map Written (undo_writes state writes) ++ rest)
+serving_back bits state [] rest each on = on
+serving_back bits state (write ∷ writes) rest each on =
+    let next = apply state write in
+    let back = restoring state write in
+    let there : Serving bits next (Written back ∷ rest) =
+    (each 1 (omega arith), (bits, same_part bits, subst (λ s. Serving bits s rest) (sym (restored state write)) on)) in
+    let shape : map Written (undo_writes state (write ∷ writes)) ++ rest ≡ map Written (undo_writes next writes) ++ Written back ∷ rest =
+    ap (λ xs. xs ++ rest) (map-append {A = Write} Written (undo_writes next writes) (back ∷ [])) ∙ append_assoc (map Written (undo_writes next writes)) (Written back ∷ []) rest in
+    subst (Serving bits (state_after next writes)) (sym shape) (serving_back bits next writes (Written back ∷ rest) (λ n below. each (suc n) (omega arith)) there)
+
+-- where more ranges are served at first, these may be the ones
+serving_more : (less more : FieldBits) (state : State) (actions : List Action) → ArePartOf less more → ServesLive more state → Serving less state actions → Serving more state actions
+serving_more less more state [] part serves on = serves
+serving_more less more state (Written write ∷ actions) part serves on =
+    (serves, (on.1.0, record { src = λ bit range live. part.src bit range (on.1.1.src bit range live); dst = λ bit range live. part.dst bit range (on.1.1.dst bit range live) }, on.1.2))
+serving_more less more state (Drained ∷ actions) part serves on = (serves, on.1)
+
+-- where the same ranges are live in both, a state serves both
+serves_same : (some others : FieldBits) (state : State) → ArePartOf some others → ArePartOf others some → ServesLive others state → ServesLive some state
+serves_same some others state part back serves = record {
+  src_words = serves.src_words;
+  dst_words = serves.dst_words;
+  src_right = λ bit range live. serves.src_right bit range (part.src bit range live);
+  dst_right = λ bit range live. serves.dst_right bit range (part.dst bit range live);
+  tested = λ at entry held key a b first second. serves.tested at entry held key a b (current_part others some key a back first) (current_part others some key b back second);
+}
+
+-- undo writes of some writes and then others
+pub undo-append : (state : State) (a b : List Write) → undo_writes state (a ++ b) ≡ undo_writes (state_after state a) b ++ undo_writes state a
+undo-append state [] b = sym (append-nil (undo_writes state b))
+undo-append state (write ∷ a) b =
+    ap (λ xs. xs ++ restoring state write ∷ []) (undo-append (apply state write) a b)
+    ∙ append_assoc (undo_writes (state_after (apply state write) a) b) (undo_writes (apply state write) a) (restoring state write ∷ [])
+
+pub writes_of_map : (writes : List Write) → writes_in (map Written writes) ≡ writes
+writes_of_map [] = refl
+writes_of_map (write ∷ writes) = ap (λ ws. write ∷ ws) (writes_of_map writes)
+
+pub writes_in-append : (a b : List Action) → writes_in (a ++ b) ≡ writes_in a ++ writes_in b
+writes_in-append [] b = refl
+writes_in-append (Written write ∷ a) b = ap (λ ws. write ∷ ws) (writes_in-append a b)
+writes_in-append (Drained ∷ a) b = writes_in-append a b
+
+-- the first of some writes
+front_of_writes : (front back : List Action) (writes : List Write) → map Written writes ≡ front ++ back
+    → (n : ℕ) × (n ≤ length writes) × (front ≡ map Written (take n writes))
+front_of_writes [] back writes is = (0, omega arith, refl)
+front_of_writes (action ∷ front) back [] is = absurd (cc)
+front_of_writes (action ∷ front) back (write ∷ writes) is =
+    let head : Written write ≡ action = cc in
+    let tail : map Written writes ≡ front ++ back = cc in
+    let w = front_of_writes front back writes tail in
+    let less = w.1 in
+    (suc w.0, omega arith, ap (λ a. a ∷ front) (sym head) ∙ ap (λ xs. Written write ∷ xs) w.2)
+
+-- of writes with a drain among them: either the first before it, or all before it and the first behind it
+front_of_drained : (front back : List Action) (a b : List Write) → map Written a ++ Drained ∷ map Written b ≡ front ++ back
+    → ((n : ℕ) × (n ≤ length a) × (front ≡ map Written (take n a)))
+    ⊎ ((n : ℕ) × (n ≤ length b) × (front ≡ map Written a ++ Drained ∷ map Written (take n b)))
+front_of_drained [] back a b is = inl (0, omega arith, refl)
+front_of_drained (action ∷ front) back [] b is =
+    let head : Drained ≡ action = cc in
+    let tail : map Written b ≡ front ++ back = cc in
+    let w = front_of_writes front back b tail in
+    inr (w.0, w.1, ap (λ x. x ∷ front) (sym head) ∙ ap (λ xs. Drained ∷ xs) w.2)
+front_of_drained (action ∷ front) back (write ∷ a) b is =
+    let head : Written write ≡ action = cc in
+    let tail : map Written a ++ Drained ∷ map Written b ≡ front ++ back = cc in
+    elim (front_of_drained front back a b tail) [
+      | inl w ↦ let less = w.1 in inl (suc w.0, omega arith, ap (λ x. x ∷ front) (sym head) ∙ ap (λ xs. Written write ∷ xs) w.2)
+      | inr w ↦ inr (w.0, w.1, ap (λ x. x ∷ front) (sym head) ∙ ap (λ xs. Written write ∷ xs) w.2)
+    ]
+
+module _ (mode : Mode) (bits : FieldBits) (rules : List Rule) (batch : List Command) (state : State) (made : List Write)
+    (begin : MayBegin mode bits rules batch state) (segment : IsSegment mode bits rules batch state made) where
+  abbrev during : FieldBits
+  during = bits_with mode rules batch bits
+
+  abbrev count : ℕ
+  count = table_writes made
+
+  start : IsBitsStart mode bits rules batch state
+  start = bits_begun mode bits rules batch state begin
+
+  abbrev front_part : List Write
+  front_part = take count made
+
+  abbrev back_part : List Write
+  back_part = drop count made
+
+  served_early : (n : ℕ) → n ≤ count → ServesLive bits (state_after state (take n made))
+  served_early n below = early mode bits rules batch state made begin segment n below
+
+  served_late : (n : ℕ) → count ≤ n → ServesLive during (state_after state (take n made))
+  served_late n above = late mode bits rules batch state made begin segment n above
+
+  in_front : (n : ℕ) → n ≤ length front_part → ServesLive bits (state_after state (take n front_part))
+  in_front n below =
+      let size = length-take count made in
+      let few : n ≤ count = omega arith in
+      subst (λ ws. ServesLive bits (state_after state ws)) (sym (take-take n count made few)) (served_early n few)
+
+  behind : (n : ℕ) → ServesLive during (state_after (state_after state front_part) (take n back_part))
+  behind n =
+      let whole : state_after state (take (count + n) made) ≡ state_after (state_after state front_part) (take n back_part) =
+      ap (state_after state) (take-add count n made) ∙ state_after-append state front_part (take n back_part) in
+      subst (ServesLive during) whole (served_late (count + n) (omega arith))
+
+  -- without a new bit the live ranges are served all the way
+  unchanged : have_bits (new_bits bits during) ≡ false → (n : ℕ) → ServesLive bits (state_after state (take n made))
+  unchanged none n = elim (cases_lt count n) [
+    | inl past ↦
+        serves_same bits during (state_after state (take n made)) (live_meanwhile mode bits rules batch state start) (same_ranges mode bits rules batch state start none)
+        (served_late n (omega arith))
+    | inr early ↦ served_early n early
+  ]
+
+  drained_on : Serving bits (state_after state front_part) (Drained ∷ map Written back_part)
+  drained_on =
+      let at : ServesLive bits (state_after state front_part) = served_early count (omega arith) in
+      let on : Serving during (state_after state front_part) (map Written back_part ++ []) =
+      serving_on during (state_after state front_part) back_part [] (λ n below. behind n) (subst (λ ws. ServesLive during (state_after (state_after state front_part) ws)) (take-length back_part) (behind (length back_part))) in
+      (at, (during, subst (Serving during (state_after state front_part)) (append-nil (map Written back_part)) on))
+
+  pub commit_serves : Serving bits state (commit_actions mode bits rules batch made)
+  commit_serves = go (have_bits (new_bits bits during)) refl
+    where
+      go : (drains : Bool) → have_bits (new_bits bits during) ≡ drains → Serving bits state (with_drain drains made)
+      go false none =
+          subst (Serving bits state) (append-nil (map Written made))
+          (serving_on bits state made [] (λ n below. unchanged none n) (subst (λ ws. ServesLive bits (state_after state ws)) (take-length made) (unchanged none (length made))))
+      go true some = serving_on bits state front_part (Drained ∷ map Written back_part) in_front drained_on
+
+  -- some first writes, all of which serve the ranges, and their undo writes
+  back_at_once : (n : ℕ) (writes : List Write) → ((m : ℕ) → m ≤ length writes → ServesLive bits (state_after state (take m writes))) → n ≤ length writes
+      → Serving bits state (map Written (take n writes) ++ map Written (undo_writes state (take n writes)))
+  back_at_once n writes each below =
+      let size = length-take n writes in
+      let front : (m : ℕ) → m ≤ length (take n writes) → ServesLive bits (state_after state (take m (take n writes))) = (λ m less.
+      let few : m ≤ n = omega arith in
+      subst (λ ws. ServesLive bits (state_after state ws)) (sym (take-take m n writes few)) (each m (omega arith))) in
+      let back : Serving bits (state_after state (take n writes)) (map Written (undo_writes state (take n writes))) =
+      subst (Serving bits (state_after state (take n writes))) (append-nil (map Written (undo_writes state (take n writes))))
+      (serving_back bits state (take n writes) [] front (front 0 (omega arith))) in
+      serving_on bits state (take n writes) (map Written (undo_writes state (take n writes))) front back
+
+  -- the writes before the drain, the drain, some first writes behind it, and their undo writes
+  back_over_drain : (n : ℕ) → Serving bits state (map Written front_part ++ Drained ∷ (map Written (take n back_part) ++ map Written (undo_writes state (front_part ++ take n back_part))))
+  back_over_drain n =
+      let middle = state_after state front_part in
+      let some = take n back_part in
+      let at : ServesLive bits middle = served_early count (omega arith) in
+      let there : ServesLive during middle = behind 0 in
+      let each : (m : ℕ) → m ≤ length some → ServesLive during (state_after middle (take m some)) = (λ m less.
+      let size = length-take n back_part in
+      let few : m ≤ n = omega arith in
+      subst (λ ws. ServesLive during (state_after middle ws)) (sym (take-take m n back_part few)) (behind m)) in
+      let tables : Serving bits middle (map Written (undo_writes state front_part)) =
+      subst (Serving bits middle) (append-nil (map Written (undo_writes state front_part)))
+      (serving_back bits state front_part [] in_front (in_front 0 (omega arith))) in
+      let back : Serving during (state_after middle some) (map Written (undo_writes middle some) ++ map Written (undo_writes state front_part)) =
+      serving_back during middle some (map Written (undo_writes state front_part)) each
+      (serving_more bits during middle (map Written (undo_writes state front_part)) (live_meanwhile mode bits rules batch state start) there tables) in
+      let shape : map Written (undo_writes state (front_part ++ some)) ≡ map Written (undo_writes middle some) ++ map Written (undo_writes state front_part) =
+      ap (map Written) (undo-append state front_part some) ∙ map-append {A = Write} Written (undo_writes middle some) (undo_writes state front_part) in
+      let on : Serving during middle (map Written some ++ map Written (undo_writes state (front_part ++ some))) =
+      serving_on during middle some (map Written (undo_writes state (front_part ++ some))) each (subst (Serving during (state_after middle some)) (sym shape) back) in
+      serving_on bits state front_part (Drained ∷ (map Written some ++ map Written (undo_writes state (front_part ++ some)))) in_front (at, (during, on))
+
+  pub return_serves : (front back : List Action) → commit_actions mode bits rules batch made ≡ front ++ back → Serving bits state (back_from state front)
+  return_serves front back = go (have_bits (new_bits bits during)) refl
+    where
+      at_once : (n : ℕ) (writes : List Write) → front ≡ map Written (take n writes)
+          → Serving bits state (map Written (take n writes) ++ map Written (undo_writes state (take n writes))) → Serving bits state (back_from state front)
+      at_once n writes is on =
+          let inside : writes_in front ≡ take n writes = ap writes_in is ∙ writes_of_map (take n writes) in
+          let whole : back_from state front ≡ map Written (take n writes) ++ map Written (undo_writes state (take n writes)) =
+          ap (λ ws. front ++ map Written (undo_writes state ws)) inside ∙ ap (λ xs. xs ++ map Written (undo_writes state (take n writes))) is in
+          subst (Serving bits state) (sym whole) on
+
+      over_drain : (n : ℕ) → front ≡ map Written front_part ++ Drained ∷ map Written (take n back_part) → Serving bits state (back_from state front)
+      over_drain n is =
+          let inside : writes_in front ≡ front_part ++ take n back_part =
+          ap writes_in is ∙ writes_in-append (map Written front_part) (Drained ∷ map Written (take n back_part))
+          ∙ ap (λ ws. ws ++ writes_in (map Written (take n back_part))) (writes_of_map front_part) ∙ ap (λ ws. front_part ++ ws) (writes_of_map (take n back_part)) in
+          let undo = map Written (undo_writes state (front_part ++ take n back_part)) in
+          let whole : back_from state front ≡ map Written front_part ++ Drained ∷ (map Written (take n back_part) ++ undo) =
+          ap (λ ws. front ++ map Written (undo_writes state ws)) inside ∙ ap (λ xs. xs ++ undo) is
+          ∙ append_assoc (map Written front_part) (Drained ∷ map Written (take n back_part)) undo in
+          subst (Serving bits state) (sym whole) (back_over_drain n)
+
+      go : (drains : Bool) → have_bits (new_bits bits during) ≡ drains → with_drain drains made ≡ front ++ back → Serving bits state (back_from state front)
+      go false none is =
+          let w = front_of_writes front back made is in
+          at_once w.0 made w.2 (back_at_once w.0 made (λ m below. unchanged none m) w.1)
+      go true some is = elim (front_of_drained front back front_part back_part is) [
+        | inl w ↦ at_once w.0 front_part w.2 (back_at_once w.0 front_part in_front w.1)
+        | inr w ↦ over_drain w.0 w.2
+      ]
+
+pub commits_serve : CommitsServe
+commits_serve mode bits rules batch state made begin segment = commit_serves mode bits rules batch state made begin segment
+
+pub returns_serve : ReturnsServe
+returns_serve mode bits rules batch state actions begin return =
+    subst (Serving bits state) (sym return.actions_are) (return_serves mode bits rules batch state return.made begin return.segment return.front return.back return.parts)

@@ -1,0 +1,47 @@
+// What packets see of commits and of returns whose look-ups are two events: laws, in which there is nothing to run.
+ghost use Rattle.commit_writes.specs.InFlight.{AnswerAsLookUps};
+ghost use Rattle.commit_writes.specs.Segments.{SeesOldOrNew, SeesOldOrNewBack, CommitsComeToRest, RestsOnWiderDevices, ReturnsAreHitless};
+ghost use Rattle.commit_writes.specs.Undo.{PassesNoNewState, EndsWhereItBegan};
+
+/// While the device serves the live ranges that the words in flight are current for, each search answers what an
+/// undivided look-up of its key would answer in the state at that search, whatever stands between.
+pub fn searches_answer_as_look_ups()
+    ensures { AnswerAsLookUps }
+{}
+
+/// While a commit's writes and its drain are made in their order, look-ups of two events answer as undivided ones would
+/// in the state at the search, and so by the old or the new set.
+pub fn sees_old_or_new()
+    ensures { SeesOldOrNew }
+{}
+
+/// The same while a commit is taken back.
+pub fn sees_old_or_new_back()
+    ensures { SeesOldOrNewBack }
+{}
+
+/// After a commit's last write the next one may begin, with the bits that are left.
+pub fn commits_come_to_rest()
+    ensures { CommitsComeToRest }
+{}
+
+/// Where a set is at rest in the slots in use, it is so on a device with more of them.
+pub fn rests_on_wider_devices()
+    ensures { RestsOnWiderDevices }
+{}
+
+/// While a commit is taken back each key has the old or the new set's answer after every write, and in the end the device
+/// is as it was.
+pub fn returns_are_hitless()
+    ensures { ReturnsAreHitless }
+{}
+
+/// Each state of the second half of a return is one that its first half passed.
+pub fn passes_no_new_state()
+    ensures { PassesNoNewState }
+{}
+
+/// A return ends in the state that it began in.
+pub fn ends_where_it_began()
+    ensures { EndsWhereItBegan }
+{}
