@@ -8,7 +8,7 @@
 //!     frame HEX
 //!     commit
 //!
-//! `read_acl` is equal to the grammar both ways: it answers a command only where the line is one, and a
+//! Addresses, prefixes and frames are those of one version of IP, which the caller names. `read_acl` is equal to the grammar both ways: it answers a command only where the line is one, and a
 //! fault only where the line has that fault. Faults are found in a fixed order: the words that begin no
 //! command, then a wrong number of words, then the leftmost bad word. The sides and the ports of a rule
 //! are written source first. A rule on ports isn't tied to a protocol. What is common to both kinds of
@@ -16,14 +16,14 @@
 #![tactic(auto)]
 
 ghost use Rattle.std.specs.Prelude.{◌≡◌, ◌≤◌, ◌∷◌, length, take};
-ghost use Rattle.line_words.specs.Kinds.{ipv4_notation};
+ghost use Rattle.line_words.specs.Notations.{notation_for};
 ghost use Rattle.acl_reader.specs.Grammar.{acl_command, acl_line, acl_words, addition, change, removal};
 
 use line_words::{
-    CommonCommand, WordFault, Words, action_of, command_words, common_command, ipv4_side, ports_of,
-    protocol_choice, sequence_of,
+    CommonCommand, WordFault, Words, action_of, command_words, common_command, ports_of,
+    protocol_choice, sequence_of, side_of,
 };
-use rule_model::{Rule, list_rank};
+use rule_model::{IpVersion, Rule, list_rank};
 use script_lines::{LINE_BYTES, Line};
 
 /// A command of an access-list script.
@@ -40,38 +40,38 @@ pub enum AclCommand {
 }
 
 /// Reads a line of an access-list script: the command that it is, or nothing where it has no word or its
-/// first word begins with `#`.
+/// first word begins with `#`. Addresses, prefixes and frames are read as those of this version of IP.
 ///
 /// UnknownCommand comes where the first word, or for `acl` the first two, begin no command. WordCount
 /// comes where the command has another number of words. Else the fault is that of the leftmost word
 /// that isn't of its kind.
-pub fn read_acl(line: &Line) -> Result<Option<AclCommand>, WordFault>
+pub fn read_acl(line: &Line, version: IpVersion) -> Result<Option<AclCommand>, WordFault>
     requires { line.now.len ≤ LINE_BYTES }
-    ensures { result ≡ acl_line ipv4_notation (take line.now.len line.now.bytes) }
+    ensures { result ≡ acl_line (notation_for version) (take line.now.len line.now.bytes) }
 {
     match command_words(&line.bytes[..usize::from(line.len)]) {
         None => Ok(None),
-        Some((first, words)) => Ok(Some(command_of(first, words)?)),
+        Some((first, words)) => Ok(Some(command_of(first, words, version)?)),
     }
 }
 
 /// The command of a line that begins with this word, from the words behind it.
-fn command_of(first: &[u8], rest: Words<'_>) -> Result<AclCommand, WordFault>
-    ensures { result ≡ acl_command ipv4_notation (first.now ∷ rest.entry) }
+fn command_of(first: &[u8], rest: Words<'_>, version: IpVersion) -> Result<AclCommand, WordFault>
+    ensures { result ≡ acl_command (notation_for version) (first.now ∷ rest.entry) }
 {
     match first {
-        b"acl" => acl_words(rest),
-        _ => Ok(AclCommand::Common(common_command(first, rest)?)),
+        b"acl" => acl_words(rest, version),
+        _ => Ok(AclCommand::Common(common_command(first, rest, version)?)),
     }
 }
 
 /// The command of a line whose first word is `acl`, from the words behind it.
-fn acl_words(mut words: Words<'_>) -> Result<AclCommand, WordFault>
-    ensures { result ≡ acl_words ipv4_notation words.entry }
+fn acl_words(mut words: Words<'_>, version: IpVersion) -> Result<AclCommand, WordFault>
+    ensures { result ≡ acl_words (notation_for version) words.entry }
 {
     let verb = words.next().ok_or(WordFault::UnknownCommand)?;
     match verb {
-        b"add" => addition(words),
+        b"add" => addition(words, version),
         b"set" => change(words),
         b"del" => removal(words),
         _ => Err(WordFault::UnknownCommand),
@@ -79,8 +79,8 @@ fn acl_words(mut words: Words<'_>) -> Result<AclCommand, WordFault>
 }
 
 /// The addition of a rule, from its seven words.
-fn addition(mut words: Words<'_>) -> Result<AclCommand, WordFault>
-    ensures { result ≡ addition ipv4_notation words.entry }
+fn addition(mut words: Words<'_>, version: IpVersion) -> Result<AclCommand, WordFault>
+    ensures { result ≡ addition (notation_for version) words.entry }
 {
     let sequence = words.required()?;
     let action = words.required()?;
@@ -94,8 +94,8 @@ fn addition(mut words: Words<'_>) -> Result<AclCommand, WordFault>
     let answer = action_of(action)?;
     Ok(AclCommand::Add(Rule {
         priority: list_rank(number),
-        src: ipv4_side(src)?,
-        dst: ipv4_side(dst)?,
+        src: side_of(src, version)?,
+        dst: side_of(dst, version)?,
         proto: protocol_choice(proto)?,
         sport: ports_of(sport)?,
         dport: ports_of(dport)?,
@@ -133,13 +133,21 @@ mod tests {
     fn read(text: &[u8]) -> Result<Option<AclCommand>, WordFault>
         requires { length text.now ≤ LINE_BYTES }
     {
+        read_in(IpVersion::V4, text)
+    }
+
+    /// The same in a script of a version of IP.
+    fn read_in(version: IpVersion, text: &[u8]) -> Result<Option<AclCommand>, WordFault>
+        requires { length text.now ≤ LINE_BYTES }
+    {
         let mut bytes = [0u8; LINE_BYTES];
         bytes[..text.len()].copy_from_slice(text);
-        read_acl(&Line {
+        let line = Line {
             number: 1,
             len: text.len() as u16,
             bytes,
-        })
+        };
+        read_acl(&line, version)
     }
 
     /// The key of a TCP packet from 10.1.2.3 port 1234 to 10.1.2.4 port 80.
@@ -269,5 +277,34 @@ mod tests {
             assert!(rt; text.len() <= LINE_BYTES);
             assert_eq!(rt; read(text), Err(fault), "{text:?}");
         }
+    }
+
+    #[test]
+    fn ipv6_lines(rt: HostRuntime) -> Result<(), Fail> {
+        let block = Prefix::v6(0x2001_0db8_0000_0000_0000_0000_0000_0000, 32)?;
+        let web = Ports::new(80, 80).ok_or("a range")?;
+        let table: [(&[u8], Result<Option<AclCommand>, WordFault>); 7] = [
+            (
+                b"acl add 10 permit any 2001:DB8::/32 tcp any 80",
+                Ok(Some(AclCommand::Add(permit(block, 6, web)))),
+            ),
+            (b"acl set 100 deny", Ok(Some(AclCommand::Set(100, 0)))),
+            (
+                b"acl add 10 permit 10.0.0.0/8 any any any any",
+                Err(WordFault::BadPrefix),
+            ),
+            (
+                b"acl add 10 permit any 2001:db8::1/32 x any any",
+                Err(WordFault::HostBits),
+            ),
+            (b"packet 10.0.0.1 :: 6 0 0", Err(WordFault::BadAddress)),
+            (b"packet 1:2:3:4:5:6:7 :: 6 0 0", Err(WordFault::BadAddress)),
+            (b"frame 45", Err(WordFault::Frame(FrameFault::Version))),
+        ];
+        for (text, answer) in table {
+            assert!(rt; text.len() <= LINE_BYTES);
+            assert_eq!(rt; read_in(IpVersion::V6, text), answer, "{text:?}");
+        }
+        Ok(())
     }
 }

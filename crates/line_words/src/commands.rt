@@ -1,13 +1,13 @@
 //! The commands that both kinds of script have.
 
 ghost use Rattle.std.specs.Prelude.{◌≡◌};
-ghost use Rattle.line_words.specs.Kinds.{ipv4_notation};
+ghost use Rattle.line_words.specs.Notations.{notation_for};
 ghost use Rattle.line_words.specs.Commands.{commit_of, common_command, frame_of};
 
 use crate::WordFault;
 use crate::kinds::{frame_key, key_of};
 use crate::words::Words;
-use rule_model::Key;
+use rule_model::{IpVersion, Key};
 
 /// A command that both kinds of script have. A frame is read as a packet with its key.
 #[derive(Clone, Copy, Debug, PartialEq, Eq)]
@@ -20,17 +20,21 @@ pub enum CommonCommand {
     Commit,
 }
 
-/// The command of a line that begins with this word, from the words behind it.
+/// The command of a line that begins with this word, from the words behind it, in the notation of a version of IP.
 ///
 /// UnknownCommand where the word begins no common command, then WordCount where there are more or fewer
 /// words than the command has, and else the fault of the leftmost bad one.
-pub fn common_command(first: &[u8], rest: Words<'_>) -> Result<CommonCommand, WordFault>
-    ensures { result ≡ common_command ipv4_notation first.now rest.entry }
+pub fn common_command(
+    first: &[u8],
+    rest: Words<'_>,
+    version: IpVersion,
+) -> Result<CommonCommand, WordFault>
+    ensures { result ≡ common_command (notation_for version) first.now rest.entry }
 {
     match first {
-        b"probe" => key_of(rest).map(CommonCommand::Probe),
-        b"packet" => key_of(rest).map(CommonCommand::Packet),
-        b"frame" => frame_of(rest).map(CommonCommand::Packet),
+        b"probe" => key_of(rest, version).map(CommonCommand::Probe),
+        b"packet" => key_of(rest, version).map(CommonCommand::Packet),
+        b"frame" => frame_of(rest, version).map(CommonCommand::Packet),
         b"commit" => commit_of(rest),
         _ => Err(WordFault::UnknownCommand),
     }
@@ -45,10 +49,10 @@ fn commit_of(words: Words<'_>) -> Result<CommonCommand, WordFault>
 }
 
 /// The key of the frame that is the one word.
-fn frame_of(mut words: Words<'_>) -> Result<Key, WordFault>
-    ensures { result ≡ frame_of ipv4_notation words.entry }
+fn frame_of(mut words: Words<'_>, version: IpVersion) -> Result<Key, WordFault>
+    ensures { result ≡ frame_of (notation_for version) words.entry }
 {
     let digits = words.required()?;
     words.end()?;
-    frame_key(digits)
+    frame_key(digits, version)
 }

@@ -1,14 +1,15 @@
 //! The kinds of words that are no addresses, and packet keys.
 
 ghost use Rattle.std.specs.Prelude.{◌≡◌, ◌≤◌, ◌∷◌, length};
-ghost use Rattle.line_words.specs.Kinds.{result_of, sequence_of, action_of, proto_of, proto_choice, port_of, parts_at, port_parts, ports_of, key_of, frame_key, ipv4_notation};
+ghost use Rattle.line_words.specs.Kinds.{result_of, sequence_of, action_of, proto_of, proto_choice, port_of, parts_at, port_parts, ports_of, key_of, frame_key};
+ghost use Rattle.line_words.specs.Notations.{notation_for};
 
 use crate::WordFault;
-use crate::addresses::ipv4_address;
+use crate::addresses::address_of;
 use crate::numbers::{number_of_8_bits, number_of_16_bits, number_up_to, split_once};
 use crate::words::Words;
-use packet_keys::key_of_frame;
-use rule_model::{Key, Ports};
+use packet_keys::{FrameFault, key_of_frame, key6_of_frame};
+use rule_model::{IpVersion, Key, Ports};
 use script_lines::LINE_BYTES;
 
 /// The most bytes that a frame of one line has.
@@ -101,11 +102,12 @@ fn port_range(first: &[u8], last: &[u8]) -> Result<Ports, WordFault>
     Ports::new(lo, hi).ok_or(WordFault::BadPorts)
 }
 
-/// The key that five words are: source, destination, protocol, source port and destination port.
+/// The key that five words are: source, destination, protocol, source port and destination port. The addresses are
+/// in the notation of a version of IP.
 ///
 /// WordCount where there are more or fewer words, and else the fault of the leftmost bad one.
-pub fn key_of(mut words: Words<'_>) -> Result<Key, WordFault>
-    ensures { result ≡ key_of ipv4_notation words.entry }
+pub fn key_of(mut words: Words<'_>, version: IpVersion) -> Result<Key, WordFault>
+    ensures { result ≡ key_of (notation_for version) words.entry }
 {
     let src = words.required()?;
     let dst = words.required()?;
@@ -114,23 +116,33 @@ pub fn key_of(mut words: Words<'_>) -> Result<Key, WordFault>
     let dport = words.required()?;
     words.end()?;
     Ok(Key {
-        src: ipv4_address(src)?,
-        dst: ipv4_address(dst)?,
+        src: address_of(src, version)?,
+        dst: address_of(dst, version)?,
         proto: protocol_of(proto)?,
         sport: port_of(sport)?,
         dport: port_of(dport)?,
     })
 }
 
-/// The key of the frame that a word has as pairs of hexadecimal digits, in either case.
+/// The key of the frame of a version of IP that a word has as pairs of hexadecimal digits, in either case.
 ///
 /// BadHex where the word is no such pairs, and else the frame's own fault.
-pub fn frame_key(word: &[u8]) -> Result<Key, WordFault>
+pub fn frame_key(word: &[u8], version: IpVersion) -> Result<Key, WordFault>
     requires { length word.now ≤ LINE_BYTES }
-    ensures { result ≡ frame_key ipv4_notation word.now }
+    ensures { result ≡ frame_key (notation_for version) word.now }
 {
     let mut room = [0u8; FRAME_BYTES];
     let frame = &mut room[..word.len() / 2];
     hex::decode_to_slice(word, frame).map_err(|_| WordFault::BadHex)?;
-    key_of_frame(frame).map_err(WordFault::Frame)
+    key_in(frame, version).map_err(WordFault::Frame)
+}
+
+/// The key of a frame of a version of IP.
+fn key_in(frame: &[u8], version: IpVersion) -> Result<Key, FrameFault>
+    ensures { result ≡ (notation_for version).frame frame.now }
+{
+    match version {
+        IpVersion::V4 => key_of_frame(frame),
+        IpVersion::V6 => key6_of_frame(frame),
+    }
 }

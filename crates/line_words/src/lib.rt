@@ -12,7 +12,12 @@
 //!     commit                     common to both: no word
 //!
 //! Each kind of word has one function (`numbers`, `addresses`, `kinds`), and each fault of a word one
-//! variant of `WordFault`. Nothing takes memory: a frame is decoded into fixed room.
+//! variant of `WordFault`. Addresses, prefixes and frames are those of the version of IP that the caller
+//! names last, each written in its own way (`ipv4`, `ipv6`). Nothing takes memory: a frame is decoded into
+//! fixed room.
+//!
+//! An IPv6 address has many texts, of which RFC 5952 recommends one. `Ipv6Text` is that one, in fixed room,
+//! and it is read back as the address.
 #![tactic(auto)]
 
 ghost use Rattle.std.specs.Prelude.{◌≡◌, Some};
@@ -23,13 +28,21 @@ use std::fmt;
 
 mod addresses;
 mod commands;
+mod ipv4;
+mod ipv6;
 mod kinds;
+mod laws;
 mod numbers;
+mod printed;
+#[cfg(test)]
+mod tests;
 mod words;
 
-pub use addresses::{ipv4_prefix, ipv4_side};
+pub use addresses::{prefix_of, side_of};
 pub use commands::{CommonCommand, common_command};
 pub use kinds::{action_of, key_of, ports_of, protocol_choice, result_of, sequence_of};
+pub use laws::{printed_is_read_back, shortens_the_longest};
+pub use printed::Ipv6Text;
 pub use words::{Words, command_words};
 
 /// Why a line is no command.

@@ -7,14 +7,23 @@
 //!     byte 0             6          9         12       16       header's end
 //!     version, words ..  fragment ..  protocol ..  source  destination ..  source port, destination port
 //!
-//! `key_of_frame` looks at these fields alone, tests lengths before it reads, and names the first fault
-//! that it meets. It takes no memory.
+//! Or it begins with its IPv6 header (RFC 8200, section 3), behind which the ports stand likewise where the next
+//! header is TCP or UDP. Extension headers aren't walked, so a packet that has one has ports 0:
+//!
+//!     byte 0       6               8       24           40
+//!     version ..  next header ..  source  destination  source port, destination port
+//!
+//! `key_of_frame` and `key6_of_frame` look at these fields alone, test lengths before they read, and name the
+//! first fault that they meet. They take no memory.
 #![tactic(auto)]
 
 ghost use Rattle.std.specs.Prelude.{◌≡◌, ◌↔◌, ◌+◌, ◌<◌, ◌≤◌, length, IsTrue, IsErr, OnOk, IfOk, IfErr};
 ghost use Rattle.packet_keys.specs.Frame.{key_of_frame, header_len, version_of, has_ports, number_at, port_at};
 
+mod ipv6;
+
 use byteorder::{BigEndian, ByteOrder};
+pub use ipv6::key6_of_frame;
 use rule_model::Key;
 use thiserror::Error;
 
@@ -33,13 +42,13 @@ pub enum FrameFault {
     /// There is no byte.
     #[error("empty packet")]
     Empty,
-    /// The version is not 4.
+    /// The version is not that of the frame's kind, 4 or 6.
     #[error("bad version")]
     Version,
-    /// The header is shorter than five words of four bytes.
+    /// The header of IPv4 is shorter than five words of four bytes.
     #[error("bad header length")]
     HeaderLength,
-    /// The header is cut off, or the ports of a first fragment of TCP or UDP are.
+    /// The header is cut off, or the ports behind it are.
     #[error("short packet")]
     Short,
 }
@@ -162,6 +171,51 @@ mod tests {
         for (frame, answer) in table {
             assert_eq!(rt; key_of_frame(frame), answer, "{frame:?}");
         }
+        Ok(())
+    }
+
+    #[test]
+    fn ipv6_frames_and_their_keys(rt: HostRuntime) {
+        // From 2001:db8::1 to 2001:db8::2, with traffic class, flow label, payload length and hop limit set.
+        let header =
+            *b"\x6a\xbc\xde\xf0\0\x08\x06\x40\x20\x01\x0d\xb8\0\0\0\0\0\0\0\0\0\0\0\x01\x20\x01\x0d\xb8\0\0\0\0\0\0\0\0\0\0\0\x02";
+        let tcp = Key {
+            src: 0x2001_0db8_0000_0000_0000_0000_0000_0001,
+            dst: 0x2001_0db8_0000_0000_0000_0000_0000_0002,
+            proto: 6,
+            sport: 1234,
+            dport: 80,
+        };
+        assert_eq!(rt; key6_of_frame(&header), Err(FrameFault::Short));
+        assert_eq!(rt; key6_of_frame(&header[..39]), Err(FrameFault::Short));
+        assert_eq!(rt; key6_of_frame(&header[..1]), Err(FrameFault::Short));
+        assert_eq!(rt; key6_of_frame(&[]), Err(FrameFault::Empty));
+        assert_eq!(rt; key6_of_frame(b"\x45"), Err(FrameFault::Version));
+        // Hop-by-hop options, a fragment and ICMPv6 are protocols like any: what follows isn't walked.
+        let key = |proto, sport, dport| Key {
+            proto,
+            sport,
+            dport,
+            ..tcp
+        };
+        let table = [
+            (6, key(6, 1234, 80)),
+            (17, key(17, 1234, 80)),
+            (0, key(0, 0, 0)),
+            (44, key(44, 0, 0)),
+            (58, key(58, 0, 0)),
+        ];
+        for (proto, answer) in table {
+            let mut frame = [0u8; 44];
+            frame[..40].copy_from_slice(&header);
+            frame[40..].copy_from_slice(b"\x04\xd2\0\x50");
+            frame[6] = proto;
+            assert_eq!(rt; key6_of_frame(&frame), Ok(answer), "{proto}");
+        }
+    }
+
+    #[test]
+    fn texts_of_faults(rt: HostRuntime) -> Result<(), Fail> {
         let texts = [
             (FrameFault::Empty, "empty packet"),
             (FrameFault::Version, "bad version"),

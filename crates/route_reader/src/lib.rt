@@ -8,20 +8,20 @@
 //!     frame HEX
 //!     commit
 //!
-//! `read_route` is equal to the grammar both ways: it answers a command only where the line is one, and
+//! Addresses, prefixes and frames are those of one version of IP, which the caller names. `read_route` is equal to the grammar both ways: it answers a command only where the line is one, and
 //! a fault only where the line has that fault. Faults are found in a fixed order: the words that begin
 //! no command, then a wrong number of words, then the leftmost bad word. What is common to both kinds of
 //! script stands in `line_words`; here is what routes alone have. Nothing takes memory.
 #![tactic(auto)]
 
 ghost use Rattle.std.specs.Prelude.{◌≡◌, ◌≤◌, ◌∷◌, length, take};
-ghost use Rattle.line_words.specs.Kinds.{ipv4_notation};
+ghost use Rattle.line_words.specs.Notations.{notation_for};
 ghost use Rattle.route_reader.specs.Grammar.{addition, change, removal, route_command, route_line, route_words};
 
 use line_words::{
-    CommonCommand, WordFault, Words, command_words, common_command, ipv4_prefix, result_of,
+    CommonCommand, WordFault, Words, command_words, common_command, prefix_of, result_of,
 };
-use rule_model::Prefix;
+use rule_model::{IpVersion, Prefix};
 use script_lines::{LINE_BYTES, Line};
 
 /// A command of a route script.
@@ -38,71 +38,71 @@ pub enum RouteCommand {
 }
 
 /// Reads a line of a route script: the command that it is, or nothing where it has no word or its first
-/// word begins with `#`.
+/// word begins with `#`. Addresses, prefixes and frames are read as those of this version of IP.
 ///
 /// UnknownCommand comes where the first word, or for `route` the first two, begin no command. WordCount
 /// comes where the command has another number of words. Else the fault is that of the leftmost word
 /// that isn't of its kind.
-pub fn read_route(line: &Line) -> Result<Option<RouteCommand>, WordFault>
+pub fn read_route(line: &Line, version: IpVersion) -> Result<Option<RouteCommand>, WordFault>
     requires { line.now.len ≤ LINE_BYTES }
-    ensures { result ≡ route_line ipv4_notation (take line.now.len line.now.bytes) }
+    ensures { result ≡ route_line (notation_for version) (take line.now.len line.now.bytes) }
 {
     match command_words(&line.bytes[..usize::from(line.len)]) {
         None => Ok(None),
-        Some((first, words)) => Ok(Some(command_of(first, words)?)),
+        Some((first, words)) => Ok(Some(command_of(first, words, version)?)),
     }
 }
 
 /// The command of a line that begins with this word, from the words behind it.
-fn command_of(first: &[u8], rest: Words<'_>) -> Result<RouteCommand, WordFault>
-    ensures { result ≡ route_command ipv4_notation (first.now ∷ rest.entry) }
+fn command_of(first: &[u8], rest: Words<'_>, version: IpVersion) -> Result<RouteCommand, WordFault>
+    ensures { result ≡ route_command (notation_for version) (first.now ∷ rest.entry) }
 {
     match first {
-        b"route" => route_words(rest),
-        _ => Ok(RouteCommand::Common(common_command(first, rest)?)),
+        b"route" => route_words(rest, version),
+        _ => Ok(RouteCommand::Common(common_command(first, rest, version)?)),
     }
 }
 
 /// The command of a line whose first word is `route`, from the words behind it.
-fn route_words(mut words: Words<'_>) -> Result<RouteCommand, WordFault>
-    ensures { result ≡ route_words ipv4_notation words.entry }
+fn route_words(mut words: Words<'_>, version: IpVersion) -> Result<RouteCommand, WordFault>
+    ensures { result ≡ route_words (notation_for version) words.entry }
 {
     let verb = words.next().ok_or(WordFault::UnknownCommand)?;
     match verb {
-        b"add" => addition(words),
-        b"set" => change(words),
-        b"del" => removal(words),
+        b"add" => addition(words, version),
+        b"set" => change(words, version),
+        b"del" => removal(words, version),
         _ => Err(WordFault::UnknownCommand),
     }
 }
 
 /// The addition of a route, from its two words.
-fn addition(mut words: Words<'_>) -> Result<RouteCommand, WordFault>
-    ensures { result ≡ addition ipv4_notation words.entry }
+fn addition(mut words: Words<'_>, version: IpVersion) -> Result<RouteCommand, WordFault>
+    ensures { result ≡ addition (notation_for version) words.entry }
 {
     let prefix = words.required()?;
     let answer = words.required()?;
     words.end()?;
-    Ok(RouteCommand::Add(ipv4_prefix(prefix)?, result_of(answer)?))
+    Ok(RouteCommand::Add(prefix_of(prefix, version)?, result_of(answer)?))
 }
 
 /// The change of a route's result, from its two words.
-fn change(mut words: Words<'_>) -> Result<RouteCommand, WordFault>
-    ensures { result ≡ change ipv4_notation words.entry }
+fn change(mut words: Words<'_>, version: IpVersion) -> Result<RouteCommand, WordFault>
+    ensures { result ≡ change (notation_for version) words.entry }
 {
     let prefix = words.required()?;
     let answer = words.required()?;
     words.end()?;
-    Ok(RouteCommand::Set(ipv4_prefix(prefix)?, result_of(answer)?))
+    Ok(RouteCommand::Set(prefix_of(prefix, version)?, result_of(answer)?))
 }
 
 /// The removal of a route, from its one word.
-fn removal(mut words: Words<'_>) -> Result<RouteCommand, WordFault>
-    ensures { result ≡ removal ipv4_notation words.entry }
+fn removal(mut words: Words<'_>, version: IpVersion) -> Result<RouteCommand, WordFault>
+    ensures { result ≡ removal (notation_for version) words.entry }
 {
     let prefix = words.required()?;
     words.end()?;
-    Ok(RouteCommand::Del(ipv4_prefix(prefix)?))
+    Ok(RouteCommand::Del(prefix_of(prefix, version)?))
 }
 
 #[cfg(test)]
@@ -129,6 +129,17 @@ mod tests {
     /// The key of a TCP packet from 10.1.2.3 port 1234 to 10.1.2.4 port 80.
     fn web_key() -> Key {
         Key::v4(0x0a01_0203, 0x0a01_0204, 6, 1234, 80)
+    }
+
+    /// The key of an ICMPv6 packet from :: to 2001:db8::1.
+    fn ping_key() -> Key {
+        Key {
+            src: 0,
+            dst: 0x2001_0db8_0000_0000_0000_0000_0000_0001,
+            proto: 58,
+            sport: 0,
+            dport: 0,
+        }
     }
 
     #[test]
@@ -253,12 +264,74 @@ mod tests {
         ];
         for (text, answer) in table {
             assert!(rt; text.len() <= LINE_BYTES);
-            assert_eq!(rt; read_route(&line_of(text)), answer, "{text:?}");
+            assert_eq!(rt;
+                read_route(&line_of(text), IpVersion::V4),
+                answer,
+                "{text:?}"
+            );
         }
         assert_eq!(rt;
             WordFault::HostBits.to_string(rt.alloc())?.as_str(),
             "host bits"
         );
+        Ok(())
+    }
+
+    #[test]
+    fn ipv6_lines_and_their_commands(rt: HostRuntime) -> Result<(), Fail> {
+        let block = Prefix::v6(0x2001_0db8_0000_0000_0000_0000_0000_0000, 32)?;
+        let table: [(&[u8], Result<Option<RouteCommand>, WordFault>); 18] = [
+            (
+                b"route add 2001:db8::/32 7",
+                Ok(Some(RouteCommand::Add(block, 7))),
+            ),
+            (
+                b"route set 2001:DB8:0::/32 9",
+                Ok(Some(RouteCommand::Set(block, 9))),
+            ),
+            (
+                b"route del 2001:0db8::/32",
+                Ok(Some(RouteCommand::Del(block))),
+            ),
+            (
+                b"route del ::/0",
+                Ok(Some(RouteCommand::Del(Prefix::any()))),
+            ),
+            (
+                b"packet :: 2001:DB8:0::1 58 0 0",
+                Ok(Some(RouteCommand::Common(CommonCommand::Packet(ping_key())))),
+            ),
+            (
+                b"probe 0:0:0:0:0:0:0:0 2001:db8::1 58 0 0",
+                Ok(Some(RouteCommand::Common(CommonCommand::Probe(ping_key())))),
+            ),
+            (
+                b"frame 6000000000003a400000000000000000000000000000000020010db8000000000000000000000001",
+                Ok(Some(RouteCommand::Common(CommonCommand::Packet(ping_key())))),
+            ),
+            (
+                b"commit",
+                Ok(Some(RouteCommand::Common(CommonCommand::Commit))),
+            ),
+            (b"route add 2001:db8::/129 7", Err(WordFault::BadPrefix)),
+            (b"route add 2001:db8:: 7", Err(WordFault::BadPrefix)),
+            (b"route add 10.0.0.0/8 7", Err(WordFault::BadPrefix)),
+            (b"route add 2001:db8::1/32 x", Err(WordFault::HostBits)),
+            (b"route add 2001:db8::/32", Err(WordFault::WordCount)),
+            (b"route add 2001:db8::/32 x", Err(WordFault::BadResult)),
+            (b"packet :: 10.0.0.1 0 0 0", Err(WordFault::BadAddress)),
+            (b"packet :: 1::2::3 0 0 0", Err(WordFault::BadAddress)),
+            (b"frame 4500", Err(WordFault::Frame(FrameFault::Version))),
+            (b"frame 6000", Err(WordFault::Frame(FrameFault::Short))),
+        ];
+        for (text, answer) in table {
+            assert!(rt; text.len() <= LINE_BYTES);
+            assert_eq!(rt;
+                read_route(&line_of(text), IpVersion::V6),
+                answer,
+                "{text:?}"
+            );
+        }
         Ok(())
     }
 }

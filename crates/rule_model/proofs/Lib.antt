@@ -15,4 +15,5 @@ pub mod CommonKeys
 pub mod Ranks
 pub mod RuleSets
 pub mod Routes
+pub mod Routes6
 pub mod Parts

@@ -6,3 +6,4 @@ pub mod Rule
 pub mod RuleSet
 pub mod Piece
 pub mod Routes
+pub mod Routes6

@@ -4,6 +4,7 @@ ghost use Rattle.rule_model.specs.Key.{IsKey};
 ghost use Rattle.rule_model.specs.Rule.{AreConditions, HasConditions};
 ghost use Rattle.rule_model.specs.RuleSet.{AnswersByItsBestRule, AnswersInAnyOrder};
 ghost use Rattle.rule_model.specs.Routes.{Ipv4RoutesAreNested, Ipv4ChainsAreShort};
+ghost use Rattle.rule_model.specs.Routes6.{Ipv6RoutesAreNested, Ipv6ChainsAreShort};
 
 use crate::{Key, Piece, Rule};
 
@@ -54,6 +55,16 @@ pub fn ipv4_routes_are_nested()
 /// A chain of IPv4 routes, each overlapping the next, has 33 members at most, one for each length.
 pub fn ipv4_chains_are_short()
     ensures { Ipv4ChainsAreShort }
+{}
+
+/// Of two IPv6 routes that overlap, the one of greater priority has the longer prefix, which lies in the other.
+pub fn ipv6_routes_are_nested()
+    ensures { Ipv6RoutesAreNested }
+{}
+
+/// A chain of IPv6 routes, each overlapping the next, has 129 members at most, one for each length.
+pub fn ipv6_chains_are_short()
+    ensures { Ipv6ChainsAreShort }
 {}
 
 /// A protocol has 8 bits, by its type.

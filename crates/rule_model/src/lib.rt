@@ -23,6 +23,7 @@
 #![tactic(auto)]
 
 mod laws;
+mod priorities;
 #[cfg(test)]
 mod tests;
 
@@ -32,7 +33,6 @@ ghost use Rattle.std.specs.Cmp.Rules.{comparing};
 ghost use Rattle.std.proofs.Common.{rules};
 ghost use Rattle.rule_model.specs.AddressBlock.{AddressBlock, IsAddressBlock, IsIpv4Block, BlocksOverlap, ipv4_address, ipv4_block, any_address, block_holds};
 ghost use Rattle.rule_model.specs.PortRange.{IsPortRange, RangesOverlap, any_port, is_block, is_disjoint, range_holds};
-ghost use Rattle.rule_model.specs.Rank as rank;
 ghost use Rattle.rule_model.specs.Rule as spec;
 ghost use Rattle.rule_model.specs.Rule.{ProtosOverlap, Overlap, rule_matches, rules_meet, blocks_meet};
 ghost use Rattle.rule_model.specs.Piece as pieces;
@@ -40,7 +40,11 @@ ghost use Rattle.rule_model.specs.Piece.{PiecesOverlap, pieces_meet};
 
 pub use laws::{
     answers_by_its_best_rule, answers_in_any_order, ipv4_chains_are_short, ipv4_routes_are_nested,
-    key_fields, piece_conditions, rule_conditions,
+    ipv6_chains_are_short, ipv6_routes_are_nested, key_fields, piece_conditions, rule_conditions,
+};
+pub use priorities::{
+    ipv4_route_of, ipv4_route_rank, ipv6_route_of, ipv6_route_rank, ipv6_route_rule,
+    list_number_of, list_rank, route_rule,
 };
 use std::cmp::Ordering;
 use std::marker::Model;
@@ -107,6 +111,15 @@ impl Ord for Rank {
     fn cmp(&self, other: &Rank) -> Ordering {
         self.high.cmp(&other.high).then(self.low.cmp(&other.low))
     }
+}
+
+/// A version of IP. It decides how addresses are written and which bits of an [`Addr`] they have.
+#[derive(Clone, Copy, Debug, PartialEq, Eq)]
+pub enum IpVersion {
+    /// IPv4 (RFC 791).
+    V4,
+    /// IPv6 (RFC 8200).
+    V6,
 }
 
 /// The header fields by which a packet is classified: addresses and protocol (RFC 791, section 3.1, or RFC 8200,
@@ -181,6 +194,22 @@ impl Prefix {
             addr: u128::from(addr) << 96,
             len,
         })
+    }
+
+    /// The block of an IPv6 address (RFC 4291, section 2) and a length up to 128. Length comes for a greater length, and
+    /// HostBits for one that fits where a bit of the address past it is set (RFC 4291, section 2.3).
+    pub fn v6(addr: u128, len: u8) -> Result<Prefix, PrefixFault>
+        ensures length { (result ≡ Err PrefixFault.Length) ↔ (128 < len) }
+        ensures host_bits { (result ≡ Err PrefixFault.HostBits) ↔ ((len ≤ 128) × (addr % 2 ^ (128 - len) ≢ 0)) }
+        ensures block { IfOk result (λ prefix. prefix ≡ record { addr = addr; len = len }) }
+    {
+        if len > 128 {
+            return Err(PrefixFault::Length);
+        }
+        if has_host_bits(addr, len) {
+            return Err(PrefixFault::HostBits);
+        }
+        Ok(Prefix { addr, len })
     }
 
     /// The address of the block, whose bits past its length are 0.
@@ -373,6 +402,18 @@ impl Piece {
     }
 }
 
+/// Whether an address has a bit set past a length. The empty length is apart, since no shift is by all 128 bits.
+fn has_host_bits(addr: Addr, len: u8) -> bool
+    requires { len ≤ 128 }
+    ensures { IsTrue result ↔ (addr % 2 ^ (128 - len) ≢ 0) }
+{
+    if len == 0 {
+        addr != 0
+    } else {
+        addr % (1u128 << (128 - len)) != 0
+    }
+}
+
 /// Whether a protocol, or any, is that of a packet.
 fn proto_holds(wanted: Option<u8>, proto: u8) -> bool
     ensures { result ≡ spec.proto_holds wanted proto }
@@ -430,61 +471,4 @@ pub fn piece_overlaps(a: &Piece, b: &Piece) -> bool
         && protos_meet(a.proto, b.proto)
         && a.sport.meets(&b.sport)
         && a.dport.meets(&b.dport)
-}
-
-/// The priority of an IPv4 route: its length and, below that, its address, so that a longer prefix is greater.
-pub fn ipv4_route_rank(prefix: &Prefix) -> Rank
-    ensures { result ≡ rank.ipv4_route_rank prefix.now }
-{
-    Rank {
-        high: prefix.len,
-        low: prefix.addr >> 96,
-    }
-}
-
-/// The priority of a rule of an access list, so that a lower sequence number is greater.
-pub fn list_rank(sequence: u32) -> Rank
-    ensures { result ≡ rank.list_rank sequence }
-{
-    Rank {
-        high: 0,
-        low: (1u128 << 32) - u128::from(sequence),
-    }
-}
-
-/// The prefix whose priority as an IPv4 route a rank is, and None where it is that of no IPv4 route.
-pub fn ipv4_route_of(priority: Rank) -> Option<Prefix>
-    ensures found { IfSome result (λ prefix. IsIpv4Block prefix × (rank.ipv4_route_rank prefix ≡ priority)) }
-    ensures none { IsNone result → (block : AddressBlock) → IsAddressBlock block → IsIpv4Block block → rank.ipv4_route_rank block ≢ priority }
-{
-    if priority.low >> 32 != 0 {
-        return None;
-    }
-    Prefix::v4(priority.low as u32, priority.high).ok()
-}
-
-/// The sequence number whose priority in an access list a rank is, and None where it is that of no such number.
-pub fn list_number_of(priority: Rank) -> Option<u32>
-    ensures found { IfSome result (λ sequence. rank.list_rank sequence ≡ priority) }
-    ensures none { IsNone result → (sequence : ℕ) → sequence < 2 ^ 32 → rank.list_rank sequence ≢ priority }
-{
-    if priority.high != 0 || priority.low == 0 || priority.low > 1u128 << 32 {
-        return None;
-    }
-    Some(((1u128 << 32) - priority.low) as u32)
-}
-
-/// A route: a rule on the destination address alone.
-pub fn route_rule(prefix: Prefix, answer: u32) -> Rule
-    ensures { result ≡ spec.route_rule (rank.ipv4_route_rank prefix) prefix answer }
-{
-    Rule {
-        priority: ipv4_route_rank(&prefix),
-        src: Prefix::any(),
-        dst: prefix,
-        proto: None,
-        sport: Ports::any(),
-        dport: Ports::any(),
-        result: answer,
-    }
 }

@@ -34,6 +34,47 @@ fn prefixes(rt: HostRuntime) -> Result<(), Fail> {
     Ok(())
 }
 
+/// 2001:db8::.
+const DOCUMENTATION: u128 = 0x2001_0db8_0000_0000_0000_0000_0000_0000;
+
+#[test]
+fn ipv6_prefixes(rt: HostRuntime) -> Result<(), Fail> {
+    for (address, len, fault) in [
+        (DOCUMENTATION, 129, PrefixFault::Length),
+        (1, 255, PrefixFault::Length),
+        (DOCUMENTATION, 28, PrefixFault::HostBits),
+        (1, 127, PrefixFault::HostBits),
+        (1, 0, PrefixFault::HostBits),
+    ] {
+        assert_eq!(rt; Prefix::v6(address, len), Err(fault));
+    }
+    assert_eq!(rt; Prefix::v6(0, 0)?, Prefix::any());
+    assert_eq!(rt;
+        Prefix::v6(0x0a00_0000 << 96, 8)?,
+        Prefix::v4(0x0a00_0000, 8)?
+    );
+    for (address, len) in [(DOCUMENTATION, 29), (1, 128), (1 << 127, 1)] {
+        let prefix = Prefix::v6(address, len)?;
+        let route = ipv6_route_rule(prefix, 7);
+        assert_eq!(rt; (prefix.addr(), prefix.len()), (address, len));
+        assert_eq!(rt; route.priority, ipv6_route_rank(&prefix));
+        assert_eq!(rt; ipv6_route_of(route.priority), Some(prefix));
+        let key = Key {
+            dst: address,
+            ..Key::v4(0, 0, 0, 0, 0)
+        };
+        let other = Key {
+            dst: address ^ 1 << 127,
+            ..key
+        };
+        assert!(rt; matches(&route, &key) && !matches(&route, &other));
+    }
+    for (high, low) in [(129, 0), (127, 1), (0, 1)] {
+        assert_eq!(rt; ipv6_route_of(Rank { high, low }), None);
+    }
+    Ok(())
+}
+
 #[test]
 fn numbers_of_priorities(rt: HostRuntime) -> Result<(), Fail> {
     for number in [0, 10, u32::MAX] {

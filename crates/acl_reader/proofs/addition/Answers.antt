@@ -1,7 +1,8 @@
 use Rattle.std.proofs.Common.{◌≡◌, ℕ, ◌<◌, Err, List, [], ◌∷◌, length, refl, arith}
 use Rattle.std.proofs.lemmas.Result.{err_from_is_err_and}
 use Rattle.line_words.specs.declared.WordFault.TheVariants.{WordCount}
-use Rattle.line_words.specs.Kinds.{Notation, ipv4_notation}
+use Rattle.line_words.specs.Kinds.{Notation}
+use Rattle.line_words.specs.Notations.{notation_for}
 use Rattle.acl_reader.specs.Grammar.{addition}
 use Rattle.acl_reader.proofs.addition.Goals as goal
 
@@ -16,7 +17,7 @@ returns-in_err-end c =
     let out = err_from_is_err_and c.from_residual-in_err-end.result c.from_residual-in_err-end.ensures.1 in
     let more = c.in_err-end.ensures.1 in
     let eight =
-    eight-words ipv4_notation c.in_ok-sequence.sequence.now c.in_ok-action.action.now c.in_ok-src.src.now c.in_ok-dst.dst.now
+    eight-words (notation_for c.args.version) c.in_ok-sequence.sequence.now c.in_ok-action.action.now c.in_ok-src.src.now c.in_ok-dst.dst.now
     c.in_ok-proto.proto.now c.in_ok-sport.sport.now c.in_ok-dport.dport.now c.required-7.new.self more in
     rw (
       out.1,
