@@ -2,60 +2,90 @@
 use Rattle.std.proofs.Common.{◌≡◌, ℕ, suc, ◌+◌, ◌≤◌, Bool, true, false, List, [], ◌∷◌, ◌++◌, length, map, take, drop, ◌⊎◌, inl, inr, refl, sym, ◌∙◌, ap, subst, arith, append_assoc}
 use Rattle.std.proofs.lemmas.Bool.{cases_lt}
 use Rattle.std.proofs.lemmas.List.{append-nil, take-take, length-take, map-append}
+use Rattle.std.proofs.lemmas.List.Sums.{count_by-le-length}
 use Rattle.std.proofs.Math.Seq.{take-add, take-length}
 use Rattle.rule_model.specs.declared.Rule.{Rule}
 use Rattle.rule_store.specs.declared.Mode.{Mode}
 use Rattle.rule_store.specs.declared.Command.{Command}
 use Rattle.tcam_device.specs.declared.Write.{Write}
 use Rattle.tcam_device.specs.State.{State, apply, state_after}
-use Rattle.tcam_device.specs.Insertion.{table_writes}
+use Rattle.tcam_device.specs.Insertion.{is_table_write, table_writes}
 use Rattle.tcam_device.proofs.Spans.{state_after-append}
 use Rattle.commit_writes.specs.Bits.{FieldBits, bits_with, new_bits}
 use Rattle.commit_writes.specs.Commit.{IsSegment}
 use Rattle.tcam_device.specs.declared.Action.{Action}
 use Rattle.tcam_device.specs.declared.Action.TheVariants.{Written, Drained}
 use Rattle.tcam_device.specs.Flight.{writes_in}
-use Rattle.commit_writes.specs.InFlight.{ArePartOf, ServesLive, Serving}
+use Rattle.commit_writes.specs.InFlight.{ArePartOf, ServesLive, ServingTo, LeadsTo}
 use Rattle.commit_writes.specs.Undo.{restoring, undo_writes}
 use Rattle.commit_writes.specs.Actions.{have_bits, with_drain, commit_actions, back_from}
-use Rattle.commit_writes.specs.Segments.{MayBegin, CommitsServe, ReturnsServe}
-use Rattle.commit_writes.proofs.Undone.{restored}
+use Rattle.commit_writes.specs.Segments.{MayBegin, CommitsServe, ReturnsServe, live_behind}
+use Rattle.commit_writes.proofs.Undone.{restored, undo_ends}
 use Rattle.commit_writes.proofs.Current.{current_part}
 use Rattle.commit_writes.proofs.LiveRanges.{live_meanwhile, same_ranges}
 use Rattle.commit_writes.proofs.ServedLive.{bits_begun, early, late}
 use Rattle.commit_writes.proofs.ServedTables.{IsBitsStart}
 
-abbrev same_part : (bits : FieldBits) → ArePartOf bits bits
+abbrev pub same_part : (bits : FieldBits) → ArePartOf bits bits
 same_part bits = record { src = λ bit range live. live; dst = λ bit range live. live }
 
+part_of_part : (least less more : FieldBits) → ArePartOf least less → ArePartOf less more → ArePartOf least more
+part_of_part least less more inner outer = record {
+  src = λ bit range live. outer.src bit range (inner.src bit range live);
+  dst = λ bit range live. outer.dst bit range (inner.dst bit range live);
+}
+
 -- some writes serve the same ranges after each of them, and what follows serves on
-serving_on : (bits : FieldBits) (state : State) (writes : List Write) (rest : List Action)
+serving_on : (bits last : FieldBits) (state : State) (writes : List Write) (rest : List Action)
     → ((n : ℕ) → n ≤ length writes → ServesLive bits (state_after state (take n writes)))
-    → Serving bits (state_after state writes) rest → Serving bits state (map Written writes ++ rest)
-serving_on bits state [] rest each on = on
-serving_on bits state (write ∷ writes) rest each on =
-    (each 0 (omega arith), (bits, same_part bits, serving_on bits (apply state write) writes rest (λ n below. each (suc n) (omega arith)) on))
+    → ServingTo bits (state_after state writes) rest last → ServingTo bits state (map Written writes ++ rest) last
+serving_on bits last state [] rest each on = on
+serving_on bits last state (write ∷ writes) rest each on =
+    (each 0 (omega arith), (bits, same_part bits, serving_on bits last (apply state write) writes rest (λ n below. each (suc n) (omega arith)) on))
+
+-- with nothing behind them they serve these to the end
+serving_all : (bits : FieldBits) (state : State) (writes : List Write)
+    → ((n : ℕ) → n ≤ length writes → ServesLive bits (state_after state (take n writes)))
+    → ServingTo bits state (map Written writes) bits
+serving_all bits state writes each =
+    let whole : ServesLive bits (state_after state writes) = subst (λ ws. ServesLive bits (state_after state ws)) (take-length writes) (each (length writes) (omega arith)) in
+    subst (λ actions. ServingTo bits state actions bits) (append-nil (map Written writes)) (serving_on bits bits state writes [] each (whole, same_part bits))
 
 -- and so do their undo writes
-serving_back : (bits : FieldBits) (state : State) (writes : List Write) (rest : List Action)
+serving_back : (bits last : FieldBits) (state : State) (writes : List Write) (rest : List Action)
     → ((n : ℕ) → n ≤ length writes → ServesLive bits (state_after state (take n writes)))
-    → Serving bits state rest → Serving bits (state_after state writes) (map Written (undo_writes state writes) ++ rest)
-serving_back bits state [] rest each on = on
-serving_back bits state (write ∷ writes) rest each on =
+    → ServingTo bits state rest last → ServingTo bits (state_after state writes) (map Written (undo_writes state writes) ++ rest) last
+serving_back bits last state [] rest each on = on
+serving_back bits last state (write ∷ writes) rest each on =
     let next = apply state write in
     let back = restoring state write in
-    let there : Serving bits next (Written back ∷ rest) =
-    (each 1 (omega arith), (bits, same_part bits, subst (λ s. Serving bits s rest) (sym (restored state write)) on)) in
+    let there : ServingTo bits next (Written back ∷ rest) last =
+    (each 1 (omega arith), (bits, same_part bits, subst (λ s. ServingTo bits s rest last) (sym (restored state write)) on)) in
     let shape : map Written (undo_writes state (write ∷ writes)) ++ rest ≡ map Written (undo_writes next writes) ++ Written back ∷ rest =
     ap (λ xs. xs ++ rest) (map-append {A = Write} Written (undo_writes next writes) (back ∷ [])) ∙ append_assoc (map Written (undo_writes next writes)) (Written back ∷ []) rest in
-    subst (Serving bits (state_after next writes)) (sym shape) (serving_back bits next writes (Written back ∷ rest) (λ n below. each (suc n) (omega arith)) there)
+    subst (λ actions. ServingTo bits (state_after next writes) actions last) (sym shape)
+    (serving_back bits last next writes (Written back ∷ rest) (λ n below. each (suc n) (omega arith)) there)
+
+-- to the end again
+serving_back_all : (bits : FieldBits) (state : State) (writes : List Write)
+    → ((n : ℕ) → n ≤ length writes → ServesLive bits (state_after state (take n writes)))
+    → ServingTo bits (state_after state writes) (map Written (undo_writes state writes)) bits
+serving_back_all bits state writes each =
+    subst (λ actions. ServingTo bits (state_after state writes) actions bits) (append-nil (map Written (undo_writes state writes)))
+    (serving_back bits bits state writes [] each (each 0 (omega arith), same_part bits))
 
 -- where more ranges are served at first, these may be the ones
-serving_more : (less more : FieldBits) (state : State) (actions : List Action) → ArePartOf less more → ServesLive more state → Serving less state actions → Serving more state actions
-serving_more less more state [] part serves on = serves
-serving_more less more state (Written write ∷ actions) part serves on =
-    (serves, (on.1.0, record { src = λ bit range live. part.src bit range (on.1.1.src bit range live); dst = λ bit range live. part.dst bit range (on.1.1.dst bit range live) }, on.1.2))
-serving_more less more state (Drained ∷ actions) part serves on = (serves, on.1)
+serving_more : (less more last : FieldBits) (state : State) (actions : List Action) → ArePartOf less more → ServesLive more state → ServingTo less state actions last → ServingTo more state actions last
+serving_more less more last state [] part serves on = (serves, part_of_part last less more on.1 part)
+serving_more less more last state (Written write ∷ actions) part serves on = (serves, (on.1.0, part_of_part on.1.0 less more on.1.1 part, on.1.2))
+serving_more less more last state (Drained ∷ actions) part serves on = (serves, on.1)
+
+-- where fewer ranges are asked for in the end, they serve these
+serving_less : (bits less last : FieldBits) (state : State) (actions : List Action) → ArePartOf less last → ServingTo bits state actions last → ServingTo bits state actions less
+serving_less bits less last state [] part on = (on.0, part_of_part less last bits part on.1)
+serving_less bits less last state (Written write ∷ actions) part on =
+    (on.0, (on.1.0, on.1.1, serving_less on.1.0 less last (apply state write) actions part on.1.2))
+serving_less bits less last state (Drained ∷ actions) part on = (on.0, (on.1.0, serving_less on.1.0 less last state actions part on.1.1))
 
 -- where the same ranges are live in both, a state serves both
 serves_same : (some others : FieldBits) (state : State) → ArePartOf some others → ArePartOf others some → ServesLive others state → ServesLive some state
@@ -113,6 +143,15 @@ front_of_drained (action ∷ front) back (write ∷ a) b is =
       | inr w ↦ inr (w.0, w.1, ap (λ x. x ∷ front) (sym head) ∙ ap (λ xs. Written write ∷ xs) w.2)
     ]
 
+-- the ranges that are live behind writes alone, and behind a drain among them
+live_writes : (before meanwhile : FieldBits) (writes : List Write) → live_behind before meanwhile (map Written writes) ≡ before
+live_writes before meanwhile [] = refl
+live_writes before meanwhile (write ∷ writes) = live_writes before meanwhile writes
+
+live_drained : (before meanwhile : FieldBits) (writes : List Write) (rest : List Action) → live_behind before meanwhile (map Written writes ++ Drained ∷ rest) ≡ meanwhile
+live_drained before meanwhile [] rest = refl
+live_drained before meanwhile (write ∷ writes) rest = live_drained before meanwhile writes rest
+
 module _ (mode : Mode) (bits : FieldBits) (rules : List Rule) (batch : List Command) (state : State) (made : List Write)
     (begin : MayBegin mode bits rules batch state) (segment : IsSegment mode bits rules batch state made) where
   abbrev during : FieldBits
@@ -157,37 +196,86 @@ module _ (mode : Mode) (bits : FieldBits) (rules : List Rule) (batch : List Comm
     | inr early ↦ served_early n early
   ]
 
-  drained_on : Serving bits (state_after state front_part) (Drained ∷ map Written back_part)
-  drained_on =
-      let at : ServesLive bits (state_after state front_part) = served_early count (omega arith) in
-      let on : Serving during (state_after state front_part) (map Written back_part ++ []) =
-      serving_on during (state_after state front_part) back_part [] (λ n below. behind n) (subst (λ ws. ServesLive during (state_after (state_after state front_part) ws)) (take-length back_part) (behind (length back_part))) in
-      (at, (during, subst (Serving during (state_after state front_part)) (append-nil (map Written back_part)) on))
+  -- the drain and the first writes behind it
+  drained_on : (n : ℕ) → ServingTo bits (state_after state front_part) (Drained ∷ map Written (take n back_part)) during
+  drained_on n =
+      let each : (m : ℕ) → m ≤ length (take n back_part) → ServesLive during (state_after (state_after state front_part) (take m (take n back_part))) = (λ m less.
+      let size = length-take n back_part in
+      let few : m ≤ n = omega arith in
+      subst (λ ws. ServesLive during (state_after (state_after state front_part) ws)) (sym (take-take m n back_part few)) (behind m)) in
+      (served_early count (omega arith), (during, serving_all during (state_after state front_part) (take n back_part) each))
 
-  pub commit_serves : Serving bits state (commit_actions mode bits rules batch made)
-  commit_serves = go (have_bits (new_bits bits during)) refl
+  -- some first writes, all of which serve the ranges
+  lead_at_once : (n : ℕ) (writes : List Write) → ((m : ℕ) → m ≤ length writes → ServesLive bits (state_after state (take m writes))) → n ≤ length writes
+      → LeadsTo bits state (map Written (take n writes)) bits
+  lead_at_once n writes each below =
+      let size = length-take n writes in
+      let front : (m : ℕ) → m ≤ length (take n writes) → ServesLive bits (state_after state (take m (take n writes))) = (λ m less.
+      let few : m ≤ n = omega arith in
+      subst (λ ws. ServesLive bits (state_after state ws)) (sym (take-take m n writes few)) (each m (omega arith))) in (
+        serving_all bits state (take n writes) front,
+        subst (λ ws. ServesLive bits (state_after state ws)) (sym (writes_of_map (take n writes))) (each n below),
+      )
+
+  -- the writes before the drain, the drain, and some first writes behind it
+  lead_over_drain : (n : ℕ) → LeadsTo bits state (map Written front_part ++ Drained ∷ map Written (take n back_part)) during
+  lead_over_drain n =
+      let inside : writes_in (map Written front_part ++ Drained ∷ map Written (take n back_part)) ≡ front_part ++ take n back_part =
+      writes_in-append (map Written front_part) (Drained ∷ map Written (take n back_part))
+      ∙ ap (λ ws. ws ++ writes_in (map Written (take n back_part))) (writes_of_map front_part) ∙ ap (λ ws. front_part ++ ws) (writes_of_map (take n back_part)) in (
+        serving_on bits during state front_part (Drained ∷ map Written (take n back_part)) in_front (drained_on n),
+        subst (ServesLive during) (sym (ap (state_after state) inside ∙ state_after-append state front_part (take n back_part))) (behind n),
+      )
+
+  pub front_leads : (front back : List Action) → commit_actions mode bits rules batch made ≡ front ++ back → LeadsTo bits state front (live_behind bits during front)
+  front_leads front back = go (have_bits (new_bits bits during)) refl
     where
-      go : (drains : Bool) → have_bits (new_bits bits during) ≡ drains → Serving bits state (with_drain drains made)
-      go false none =
-          subst (Serving bits state) (append-nil (map Written made))
-          (serving_on bits state made [] (λ n below. unchanged none n) (subst (λ ws. ServesLive bits (state_after state ws)) (take-length made) (unchanged none (length made))))
-      go true some = serving_on bits state front_part (Drained ∷ map Written back_part) in_front drained_on
+      at_once : (n : ℕ) (writes : List Write) → front ≡ map Written (take n writes) → LeadsTo bits state (map Written (take n writes)) bits → LeadsTo bits state front (live_behind bits during front)
+      at_once n writes is leads =
+          subst (λ actions. LeadsTo bits state actions (live_behind bits during actions)) (sym is)
+          (subst (LeadsTo bits state (map Written (take n writes))) (sym (live_writes bits during (take n writes))) leads)
+
+      over_drain : (n : ℕ) → front ≡ map Written front_part ++ Drained ∷ map Written (take n back_part) → LeadsTo bits state front (live_behind bits during front)
+      over_drain n is =
+          subst (λ actions. LeadsTo bits state actions (live_behind bits during actions)) (sym is)
+          (subst (LeadsTo bits state (map Written front_part ++ Drained ∷ map Written (take n back_part))) (sym (live_drained bits during front_part (map Written (take n back_part)))) (lead_over_drain n))
+
+      go : (drains : Bool) → have_bits (new_bits bits during) ≡ drains → with_drain drains made ≡ front ++ back → LeadsTo bits state front (live_behind bits during front)
+      go false none is = let w = front_of_writes front back made is in at_once w.0 made w.2 (lead_at_once w.0 made (λ m below. unchanged none m) w.1)
+      go true some is = elim (front_of_drained front back front_part back_part is) [
+        | inl w ↦ at_once w.0 front_part w.2 (lead_at_once w.0 front_part in_front w.1)
+        | inr w ↦ over_drain w.0 w.2
+      ]
+
+  -- all of them lead to the ranges that are live meanwhile, also where none of these is new
+  pub commit_leads : LeadsTo bits state (commit_actions mode bits rules batch made) during
+  commit_leads = go (have_bits (new_bits bits during)) refl
+    where
+      whole : ServesLive during (state_after state made)
+      whole =
+          let less = count_by-le-length is_table_write made in
+          subst (λ ws. ServesLive during (state_after state ws)) (take-length made) (served_late (length made) (omega arith))
+
+      go : (drains : Bool) → have_bits (new_bits bits during) ≡ drains → LeadsTo bits state (with_drain drains made) during
+      go false none = (
+        serving_less bits during bits state (map Written made) (same_ranges mode bits rules batch state start none) (serving_all bits state made (λ n below. unchanged none n)),
+        subst (λ ws. ServesLive during (state_after state ws)) (sym (writes_of_map made)) whole,
+      )
+      go true some =
+          subst (λ ws. LeadsTo bits state (map Written front_part ++ Drained ∷ map Written ws) during) (take-length back_part) (lead_over_drain (length back_part))
 
   -- some first writes, all of which serve the ranges, and their undo writes
   back_at_once : (n : ℕ) (writes : List Write) → ((m : ℕ) → m ≤ length writes → ServesLive bits (state_after state (take m writes))) → n ≤ length writes
-      → Serving bits state (map Written (take n writes) ++ map Written (undo_writes state (take n writes)))
+      → ServingTo bits state (map Written (take n writes) ++ map Written (undo_writes state (take n writes))) bits
   back_at_once n writes each below =
       let size = length-take n writes in
       let front : (m : ℕ) → m ≤ length (take n writes) → ServesLive bits (state_after state (take m (take n writes))) = (λ m less.
       let few : m ≤ n = omega arith in
       subst (λ ws. ServesLive bits (state_after state ws)) (sym (take-take m n writes few)) (each m (omega arith))) in
-      let back : Serving bits (state_after state (take n writes)) (map Written (undo_writes state (take n writes))) =
-      subst (Serving bits (state_after state (take n writes))) (append-nil (map Written (undo_writes state (take n writes))))
-      (serving_back bits state (take n writes) [] front (front 0 (omega arith))) in
-      serving_on bits state (take n writes) (map Written (undo_writes state (take n writes))) front back
+      serving_on bits bits state (take n writes) (map Written (undo_writes state (take n writes))) front (serving_back_all bits state (take n writes) front)
 
   -- the writes before the drain, the drain, some first writes behind it, and their undo writes
-  back_over_drain : (n : ℕ) → Serving bits state (map Written front_part ++ Drained ∷ (map Written (take n back_part) ++ map Written (undo_writes state (front_part ++ take n back_part))))
+  back_over_drain : (n : ℕ) → ServingTo bits state (map Written front_part ++ Drained ∷ (map Written (take n back_part) ++ map Written (undo_writes state (front_part ++ take n back_part)))) bits
   back_over_drain n =
       let middle = state_after state front_part in
       let some = take n back_part in
@@ -197,30 +285,27 @@ module _ (mode : Mode) (bits : FieldBits) (rules : List Rule) (batch : List Comm
       let size = length-take n back_part in
       let few : m ≤ n = omega arith in
       subst (λ ws. ServesLive during (state_after middle ws)) (sym (take-take m n back_part few)) (behind m)) in
-      let tables : Serving bits middle (map Written (undo_writes state front_part)) =
-      subst (Serving bits middle) (append-nil (map Written (undo_writes state front_part)))
-      (serving_back bits state front_part [] in_front (in_front 0 (omega arith))) in
-      let back : Serving during (state_after middle some) (map Written (undo_writes middle some) ++ map Written (undo_writes state front_part)) =
-      serving_back during middle some (map Written (undo_writes state front_part)) each
-      (serving_more bits during middle (map Written (undo_writes state front_part)) (live_meanwhile mode bits rules batch state start) there tables) in
+      let back : ServingTo during (state_after middle some) (map Written (undo_writes middle some) ++ map Written (undo_writes state front_part)) bits =
+      serving_back during bits middle some (map Written (undo_writes state front_part)) each
+      (serving_more bits during bits middle (map Written (undo_writes state front_part)) (live_meanwhile mode bits rules batch state start) there (serving_back_all bits state front_part in_front)) in
       let shape : map Written (undo_writes state (front_part ++ some)) ≡ map Written (undo_writes middle some) ++ map Written (undo_writes state front_part) =
       ap (map Written) (undo-append state front_part some) ∙ map-append {A = Write} Written (undo_writes middle some) (undo_writes state front_part) in
-      let on : Serving during middle (map Written some ++ map Written (undo_writes state (front_part ++ some))) =
-      serving_on during middle some (map Written (undo_writes state (front_part ++ some))) each (subst (Serving during (state_after middle some)) (sym shape) back) in
-      serving_on bits state front_part (Drained ∷ (map Written some ++ map Written (undo_writes state (front_part ++ some)))) in_front (at, (during, on))
+      let on : ServingTo during middle (map Written some ++ map Written (undo_writes state (front_part ++ some))) bits =
+      serving_on during bits middle some (map Written (undo_writes state (front_part ++ some))) each (subst (λ actions. ServingTo during (state_after middle some) actions bits) (sym shape) back) in
+      serving_on bits bits state front_part (Drained ∷ (map Written some ++ map Written (undo_writes state (front_part ++ some)))) in_front (at, (during, on))
 
-  pub return_serves : (front back : List Action) → commit_actions mode bits rules batch made ≡ front ++ back → Serving bits state (back_from state front)
+  return_serves : (front back : List Action) → commit_actions mode bits rules batch made ≡ front ++ back → ServingTo bits state (back_from state front) bits
   return_serves front back = go (have_bits (new_bits bits during)) refl
     where
       at_once : (n : ℕ) (writes : List Write) → front ≡ map Written (take n writes)
-          → Serving bits state (map Written (take n writes) ++ map Written (undo_writes state (take n writes))) → Serving bits state (back_from state front)
+          → ServingTo bits state (map Written (take n writes) ++ map Written (undo_writes state (take n writes))) bits → ServingTo bits state (back_from state front) bits
       at_once n writes is on =
           let inside : writes_in front ≡ take n writes = ap writes_in is ∙ writes_of_map (take n writes) in
           let whole : back_from state front ≡ map Written (take n writes) ++ map Written (undo_writes state (take n writes)) =
           ap (λ ws. front ++ map Written (undo_writes state ws)) inside ∙ ap (λ xs. xs ++ map Written (undo_writes state (take n writes))) is in
-          subst (Serving bits state) (sym whole) on
+          subst (λ actions. ServingTo bits state actions bits) (sym whole) on
 
-      over_drain : (n : ℕ) → front ≡ map Written front_part ++ Drained ∷ map Written (take n back_part) → Serving bits state (back_from state front)
+      over_drain : (n : ℕ) → front ≡ map Written front_part ++ Drained ∷ map Written (take n back_part) → ServingTo bits state (back_from state front) bits
       over_drain n is =
           let inside : writes_in front ≡ front_part ++ take n back_part =
           ap writes_in is ∙ writes_in-append (map Written front_part) (Drained ∷ map Written (take n back_part))
@@ -229,9 +314,9 @@ module _ (mode : Mode) (bits : FieldBits) (rules : List Rule) (batch : List Comm
           let whole : back_from state front ≡ map Written front_part ++ Drained ∷ (map Written (take n back_part) ++ undo) =
           ap (λ ws. front ++ map Written (undo_writes state ws)) inside ∙ ap (λ xs. xs ++ undo) is
           ∙ append_assoc (map Written front_part) (Drained ∷ map Written (take n back_part)) undo in
-          subst (Serving bits state) (sym whole) (back_over_drain n)
+          subst (λ actions. ServingTo bits state actions bits) (sym whole) (back_over_drain n)
 
-      go : (drains : Bool) → have_bits (new_bits bits during) ≡ drains → with_drain drains made ≡ front ++ back → Serving bits state (back_from state front)
+      go : (drains : Bool) → have_bits (new_bits bits during) ≡ drains → with_drain drains made ≡ front ++ back → ServingTo bits state (back_from state front) bits
       go false none is =
           let w = front_of_writes front back made is in
           at_once w.0 made w.2 (back_at_once w.0 made (λ m below. unchanged none m) w.1)
@@ -240,9 +325,20 @@ module _ (mode : Mode) (bits : FieldBits) (rules : List Rule) (batch : List Comm
         | inr w ↦ over_drain w.0 w.2
       ]
 
+  pub return_leads : (front back : List Action) → commit_actions mode bits rules batch made ≡ front ++ back → LeadsTo bits state (back_from state front) bits
+  return_leads front back parts = (return_serves front back parts, subst (ServesLive bits) (sym ends) (served_early 0 (omega arith)))
+    where
+      ends : state_after state (writes_in (back_from state front)) ≡ state
+      ends =
+          ap (state_after state) (writes_in-append front (map Written (undo_writes state (writes_in front))) ∙ ap (λ ws. writes_in front ++ ws) (writes_of_map (undo_writes state (writes_in front))))
+          ∙ undo_ends state (writes_in front)
+
 pub commits_serve : CommitsServe
-commits_serve mode bits rules batch state made begin segment = commit_serves mode bits rules batch state made begin segment
+commits_serve mode bits rules batch state made begin segment = (
+  λ front some. front_leads mode bits rules batch state made begin segment front some.0 some.1,
+  commit_leads mode bits rules batch state made begin segment,
+)
 
 pub returns_serve : ReturnsServe
 returns_serve mode bits rules batch state actions begin return =
-    subst (Serving bits state) (sym return.actions_are) (return_serves mode bits rules batch state return.made begin return.segment return.front return.back return.parts)
+    subst (λ all. LeadsTo bits state all bits) (sym return.actions_are) (return_leads mode bits rules batch state return.made begin return.segment return.front return.back return.parts)

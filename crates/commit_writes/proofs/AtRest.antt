@@ -15,15 +15,20 @@ use Rattle.tcam_device.specs.declared.Write.{Write}
 use Rattle.tcam_device.specs.State.{State, IsState, state_after, on_device}
 use Rattle.tcam_device.specs.Insertion.{is_table_write}
 use Rattle.tcam_device.specs.Order.{IsOrdered}
+use Rattle.tcam_device.specs.Flight.{writes_in}
 use Rattle.tcam_device.proofs.Wider.{IsOrdered-padded}
-use Rattle.commit_writes.specs.Bits.{FieldBits, bits_with, bits_left}
-use Rattle.commit_writes.specs.InFlight.{ArePartOf}
+use Rattle.commit_writes.specs.Bits.{FieldBits, bits_with, bits_left, new_bits}
+use Rattle.commit_writes.specs.Actions.{have_bits}
+use Rattle.commit_writes.specs.InFlight.{ArePartOf, ServingTo, after_events}
 use Rattle.commit_writes.specs.Segments.{CommitsComeToRest, RestsOnWiderDevices}
 use Rattle.commit_writes.specs.Serving.{AreBitsOf}
 use Rattle.commit_writes.specs.Shape.{set_pieces}
+use Rattle.commit_writes.proofs.Actions.{commits_serve}
 use Rattle.commit_writes.proofs.BatchRules.{right_after, set_after-is}
 use Rattle.commit_writes.proofs.Current.{are_current_part}
 use Rattle.commit_writes.proofs.KeptBits.{pieces_left}
+use Rattle.commit_writes.proofs.Searches.{stay_current, state_after-events}
+use Rattle.commit_writes.proofs.Seen.{writes_of_commit}
 use Rattle.commit_writes.proofs.ServedLive.{change_begun, bits_begun, tables_stay}
 use Rattle.commit_writes.proofs.ServedTables.{fresh_writes, words_done, bits_after}
 use Rattle.commit_writes.proofs.SlotWrites.{LeavesTables}
@@ -46,7 +51,8 @@ left_part rules bits = record {
 }
 
 pub commits_come_to_rest : CommitsComeToRest
-commits_come_to_rest mode bits rules batch state made begin segment =
+commits_come_to_rest mode bits rules batch line made begin segment =
+    let state = line.state in
     let change = change_begun mode bits rules batch state begin in
     let start = bits_begun mode bits rules batch state begin in
     let less = count_by-le-length is_table_write made in
@@ -62,6 +68,13 @@ commits_come_to_rest mode bits rules batch state made begin segment =
       },
       λ flight current. are_current_part (bits_left (set_after rules batch) (bits_with mode rules batch bits)) (bits_with mode rules batch bits) flight
           (left_part (set_after rules batch) (bits_with mode rules batch bits)) current,
+      λ events actions current may. (
+        state_after-events line events ∙ ap (state_after line.state) (ap writes_in actions ∙ writes_of_commit (have_bits (new_bits bits (bits_with mode rules batch bits))) made),
+        are_current_part (bits_left (set_after rules batch) (bits_with mode rules batch bits)) (bits_with mode rules batch bits) (after_events line events).flight
+            (left_part (set_after rules batch) (bits_with mode rules batch bits))
+            (stay_current bits (bits_with mode rules batch bits) line events
+            (subst (λ all. ServingTo bits line.state all (bits_with mode rules batch bits)) (sym actions) (commits_serve mode bits rules batch line.state made begin segment).1.0) current may),
+      ),
     )
 
 -- empty slots behind the others change nothing

@@ -4,7 +4,7 @@ use Rattle.std.specs.List.{AllByRecursion, AllZip}
 use Rattle.std.proofs.lemmas.List.{length-map}
 use Rattle.slot_pool.specs.Arrangement.{Slots}
 use Rattle.rule_model.specs.declared.Rule.{Rule}
-use Rattle.rule_model.specs.Routes.{IsIpv4Route}
+use Rattle.rule_model.specs.declared.IpVersion.{IpVersion}
 use Rattle.rule_model.specs.RuleSet.{BoundsChains}
 use Rattle.rule_store.specs.declared.Command.{Command}
 use Rattle.rule_store.specs.declared.Mode.{Mode}
@@ -19,6 +19,7 @@ use Rattle.tcam_device.proofs.Spans.{state_after-append}
 use Rattle.commit_writes.specs.declared.Rewrite.{Rewrite}
 use Rattle.commit_writes.specs.Bits.{FieldBits}
 use Rattle.commit_writes.specs.Shape.{set_pieces, inserted_pieces, rewritten_pieces, erased_pieces, Rewrites, Erases}
+use Rattle.commit_writes.specs.Routes.{IsRoute, prefix_lengths}
 use Rattle.commit_writes.specs.Planned.{IdEntries, Planned, IsPlannedRow, planned_writes, slots_after}
 use Rattle.commit_writes.specs.PlannedBatch.{home_slot, rewrite_write, erase_write, batch_writes, IsIdOf, IsRewriteOf, IsPlannedBatch, HasSlotShape}
 use Rattle.commit_writes.proofs.SlotWrites.{no_table, batch_slots}
@@ -100,11 +101,12 @@ module _ (mode : Mode) (bits : FieldBits) (state : State) (rules : List Rule) (b
       (planned_tight state old added live slots entries planned chain row (row_chains mode bits rules batch (change_of mode bits state rules batch live slots entries planned rewrites erased plan) chain bounds))
 
   -- cross nothing where all rules are routes,
-  pub batch_uncrossed : AllByRecursion IsIpv4Route rules → AllByRecursion IsIpv4Route (additions batch)
-      → IsUncrossed 33 (insertions state (batch_writes entries slots planned rewrites erased))
-  batch_uncrossed routes adds =
+  pub batch_uncrossed : (version : IpVersion) → AllByRecursion (IsRoute version) rules → AllByRecursion (IsRoute version) (additions batch)
+      → IsUncrossed (prefix_lengths version) (insertions state (batch_writes entries slots planned rewrites erased))
+  batch_uncrossed version routes adds =
       let change = change_of mode bits state rules batch live slots entries planned rewrites erased plan in
-      subst (IsUncrossed 33) (sym makes) (planned_uncrossed state old added live slots entries planned row (row_nested mode bits rules batch change routes adds) (row_short mode bits rules batch change routes adds))
+      subst (IsUncrossed (prefix_lengths version)) (sym makes)
+      (planned_uncrossed (prefix_lengths version) state old added live slots entries planned row (row_nested mode bits rules batch version change routes adds) (row_short mode bits rules batch version change routes adds))
 
   -- write no table,
   pub batch_tables : table_writes (batch_writes entries slots planned rewrites erased) ≡ 0

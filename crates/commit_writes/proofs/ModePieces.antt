@@ -7,9 +7,8 @@ use Rattle.rule_model.specs.declared.Key.{Key}
 use Rattle.rule_model.specs.declared.Rule.{Rule}
 use Rattle.rule_model.specs.declared.Piece.{Piece}
 use Rattle.rule_model.specs.Key.{IsKey}
-use Rattle.rule_model.specs.Rule.{AreConditions, HasConditions, rule_matches}
+use Rattle.rule_model.specs.Rule.{AreConditions, HasConditions, route_rule, rule_matches}
 use Rattle.rule_model.specs.Piece.{PiecesOverlap, piece_matches, same_piece, cover_pieces, whole_piece}
-use Rattle.rule_model.specs.Routes.{IsIpv4Route}
 use Rattle.rule_model.proofs.CoverPieces.{piece_matches-cover, cover_pieces-right, cover_pieces-disjoint}
 use Rattle.rule_model.proofs.Parts.{IsBitless, part_bitless, piece_inside, cover_pieces-apart, same_piece-is}
 use Rattle.rule_store.specs.declared.Mode.{Mode}
@@ -63,11 +62,11 @@ pieces_disjoint Cover rule = cover_pieces-disjoint rule
 pieces_disjoint Bits rule = λ i j d less inside. absurd (omega arith)
 
 -- a route has one piece either way
-pub route_whole : (mode : Mode) (rule : Rule) (piece : Piece) → IsIpv4Route rule → Contains (pieces_of mode rule) piece → whole_piece rule ≡ piece
+pub route_whole : (mode : Mode) (rule : Rule) (piece : Piece) → rule ≡ route_rule rule.priority rule.dst rule.result → Contains (pieces_of mode rule) piece → whole_piece rule ≡ piece
 route_whole Cover rule piece route member = whole_only rule piece (subst (λ pieces. Contains pieces piece) one member)
   where
     one : cover_pieces rule ≡ whole_piece rule ∷ []
-    one = subst (λ r. cover_pieces r ≡ whole_piece r ∷ []) (sym route.route) refl
+    one = subst (λ r. cover_pieces r ≡ whole_piece r ∷ []) (sym route) refl
 route_whole Bits rule piece route member = whole_only rule piece member
 
 -- the test for a piece among them is exact

@@ -3,19 +3,22 @@
 use Rattle.std.proofs.Common.{◌≡◌, ℕ, ◌<◌, List, [], ◌∷◌, ◌++◌, length, IsTrue, Contains, inl, inr, refl, sym, ap, subst, ◌∙◌, arith}
 use Rattle.std.specs.List.{AllByRecursion}
 use Rattle.std.proofs.lemmas.List.Elements.{Contains-append_cases, Contains-append_left, Contains-append_right}
-use Rattle.slot_order.specs.Moves.{IsChain}
+use Rattle.slot_order.specs.Moves.{IsChain, BoundsMemberChains}
 use Rattle.slot_order.proofs.Lists.{contains_head, contains_tail, contains_cases, contains_none, AllByRecursion-member}
 use Rattle.rule_model.specs.declared.Key.{Key}
 use Rattle.rule_model.specs.declared.Rule.{Rule}
 use Rattle.rule_model.specs.AddressBlock.{BlocksOverlap}
 use Rattle.rule_model.specs.PortRange.{RangesOverlap}
 use Rattle.rule_model.specs.Key.{IsKey}
-use Rattle.rule_model.specs.Rule.{HasConditions, Overlap, ProtosOverlap, rule_matches}
+use Rattle.rule_model.specs.Rule.{HasConditions, Overlap, ProtosOverlap, route_rule, rule_matches}
 use Rattle.rule_model.specs.RuleSet.{IsOverlapChain, BoundsChains}
 use Rattle.rule_model.specs.Piece.{PiecesOverlap, piece_matches, whole_piece}
-use Rattle.rule_model.specs.Routes.{IsIpv4Route}
+use Rattle.rule_model.specs.declared.IpVersion.{IpVersion}
+use Rattle.rule_model.specs.declared.IpVersion.TheVariants.{V4, V6}
+use Rattle.rule_model.specs.Routes.{IsNested}
 use Rattle.rule_model.proofs.CommonKeys.{overlap_parts, overlap_from}
-use Rattle.rule_model.proofs.Routes.{ipv4_routes-nested, ipv4_chains-short}
+use Rattle.rule_model.proofs.Routes.{ipv4_priority, ipv4_routes-nested, ipv4_chains-short}
+use Rattle.rule_model.proofs.Routes6.{ipv6_priority, ipv6_routes-nested, ipv6_chains-short}
 use Rattle.rule_store.specs.declared.Mode.{Mode}
 use Rattle.rule_store.specs.declared.Command.{Command}
 use Rattle.rule_store.specs.Batch.{additions}
@@ -24,6 +27,7 @@ use Rattle.ternary_word.specs.Entry.{RankedPiece}
 use Rattle.rule_store.proofs.Additions.{new_rules, new_rules-member}
 use Rattle.commit_writes.specs.Bits.{FieldBits, with_bits}
 use Rattle.commit_writes.specs.Shape.{set_pieces, inserted_pieces}
+use Rattle.commit_writes.specs.Routes.{IsRoute, prefix_lengths}
 use Rattle.commit_writes.specs.Planned.{AreNested, BoundsPieceChains}
 use Rattle.commit_writes.proofs.ModePieces.{piece_within, route_whole}
 use Rattle.commit_writes.proofs.SetPieces.{IsChosen, in_chosen}
@@ -133,50 +137,69 @@ row_chains mode bits rules batch change bound bounds (first ∷ rest) members ch
           },
         )
 
+-- a route is its rank, its block and its result
+route_form : (version : IpVersion) (rule : Rule) → IsRoute version rule → rule ≡ route_rule rule.priority rule.dst rule.result
+route_form V4 rule is = subst (λ rank. rule ≡ route_rule rank rule.dst rule.result) (sym (ipv4_priority rule is)) is.route
+route_form V6 rule is = subst (λ rank. rule ≡ route_rule rank rule.dst rule.result) (sym (ipv6_priority rule is)) is.route
+
+nested_in : (version : IpVersion) (upper lower : Rule) → IsRoute version upper → IsRoute version lower → Overlap upper lower → lower.priority < upper.priority → IsNested lower upper
+nested_in V4 upper lower is_upper is_lower = ipv4_routes-nested upper lower is_upper is_lower
+nested_in V6 upper lower is_upper is_lower = ipv6_routes-nested upper lower is_upper is_lower
+
+chains_short : (version : IpVersion) → BoundsMemberChains Overlap (λ rule. rule.priority) (IsRoute version) (prefix_lengths version)
+chains_short V4 = ipv4_chains-short
+chains_short V6 = ipv6_chains-short
+
 -- the old rules and the added ones are routes
-routes_all : (rules : List Rule) (batch : List Command) → AllByRecursion IsIpv4Route rules → AllByRecursion IsIpv4Route (additions batch) → (rule : Rule) → Contains (rules ++ additions batch) rule → IsIpv4Route rule
-routes_all rules batch routes added rule member = elim (Contains-append_cases rules (additions batch) rule member) [
-  | inl old ↦ AllByRecursion-member IsIpv4Route rules rule routes old
-  | inr new ↦ AllByRecursion-member IsIpv4Route (additions batch) rule added new
+routes_all : (version : IpVersion) (rules : List Rule) (batch : List Command) → AllByRecursion (IsRoute version) rules → AllByRecursion (IsRoute version) (additions batch)
+    → (rule : Rule) → Contains (rules ++ additions batch) rule → IsRoute version rule
+routes_all version rules batch routes added rule member = elim (Contains-append_cases rules (additions batch) rule member) [
+  | inl old ↦ AllByRecursion-member (IsRoute version) rules rule routes old
+  | inr new ↦ AllByRecursion-member (IsRoute version) (additions batch) rule added new
 ]
 
--- chains of routes are short
-pub row_short : (mode : Mode) (bits : FieldBits) (rules : List Rule) (batch : List Command) → IsSoundChange rules batch → AllByRecursion IsIpv4Route rules → AllByRecursion IsIpv4Route (additions batch)
-    → BoundsPieceChains (set_pieces mode bits rules ++ inserted_pieces mode bits rules batch) 33
-row_short mode bits rules batch change routes added =
-    row_chains mode bits rules batch change 33 (λ chain members is. ipv4_chains-short chain (λ rule member. routes_all rules batch routes added rule (members rule member)) is)
-
 -- two routes that overlap a third, one higher and one lower, overlap one another
-routes_nested : (upper middle lower : Rule) → IsIpv4Route upper → IsIpv4Route middle → IsIpv4Route lower → Overlap middle upper → Overlap middle lower
+routes_nested : (version : IpVersion) (upper middle lower : Rule) → IsRoute version upper → IsRoute version middle → IsRoute version lower → Overlap middle upper → Overlap middle lower
     → middle.priority < upper.priority → lower.priority < middle.priority → Overlap lower upper
-routes_nested upper middle lower is_upper is_middle is_lower over_upper over_lower more less =
+routes_nested version upper middle lower is_upper is_middle is_lower over_upper over_lower more less =
     let parts = overlap_parts (whole_piece middle) (whole_piece upper) over_upper in
-    let inside = ipv4_routes-nested middle lower is_middle is_lower over_lower less in
+    let inside = nested_in version middle lower is_middle is_lower over_lower less in
+    let form = route_form version middle is_middle in
+    let below = route_form version lower is_lower in
     overlap_from (whole_piece lower) (whole_piece upper)
-    (subst (λ src. BlocksOverlap src upper.src) (ap (λ r. r.src) is_middle.route ∙ sym (ap (λ r. r.src) is_lower.route)) parts.0)
+    (subst (λ src. BlocksOverlap src upper.src) (ap (λ r. r.src) form ∙ sym (ap (λ r. r.src) below)) parts.0)
     (parts.1.0, parts.1.1, inside.within parts.1.0 parts.1.2, parts.1.3)
-    (subst (λ proto. ProtosOverlap proto upper.proto) (ap (λ r. r.proto) is_middle.route ∙ sym (ap (λ r. r.proto) is_lower.route)) parts.2)
-    (subst (λ range. RangesOverlap range upper.sport) (ap (λ r. r.sport) is_middle.route ∙ sym (ap (λ r. r.sport) is_lower.route)) parts.3)
-    (subst (λ range. RangesOverlap range upper.dport) (ap (λ r. r.dport) is_middle.route ∙ sym (ap (λ r. r.dport) is_lower.route)) parts.4)
+    (subst (λ proto. ProtosOverlap proto upper.proto) (ap (λ r. r.proto) form ∙ sym (ap (λ r. r.proto) below)) parts.2)
+    (subst (λ range. RangesOverlap range upper.sport) (ap (λ r. r.sport) form ∙ sym (ap (λ r. r.sport) below)) parts.3)
+    (subst (λ range. RangesOverlap range upper.dport) (ap (λ r. r.dport) form ∙ sym (ap (λ r. r.dport) below)) parts.4)
 
--- so pieces of routes are nested
-pub row_nested : (mode : Mode) (bits : FieldBits) (rules : List Rule) (batch : List Command) → IsSoundChange rules batch → AllByRecursion IsIpv4Route rules → AllByRecursion IsIpv4Route (additions batch)
-    → AreNested (set_pieces mode bits rules ++ inserted_pieces mode bits rules batch)
-row_nested mode bits rules batch change routes added upper one lower in_upper in_one in_lower more less over_upper over_lower =
-    let u = row_of mode bits rules batch upper in_upper in
-    let i = row_of mode bits rules batch one in_one in
-    let l = row_of mode bits rules batch lower in_lower in
-    let piece_u : upper.piece ≡ with_bits bits (whole_piece u.rule) = sym (ap (with_bits bits) (route_whole mode u.rule u.piece (route u.rule u.member) u.has) ∙ u.piece_is) in
-    let piece_i : one.piece ≡ with_bits bits (whole_piece i.rule) = sym (ap (with_bits bits) (route_whole mode i.rule i.piece (route i.rule i.member) i.has) ∙ i.piece_is) in
-    let piece_l : lower.piece ≡ with_bits bits (whole_piece l.rule) = sym (ap (with_bits bits) (route_whole mode l.rule l.piece (route l.rule l.member) l.has) ∙ l.piece_is) in
-    let rank_u = u.rank_is in
-    let rank_i = i.rank_is in
-    let rank_l = l.rank_is in
-    subst (λ p. PiecesOverlap p upper.piece) (sym piece_l) (subst (PiecesOverlap (whole_piece l.rule)) (sym piece_u)
-    (routes_nested u.rule i.rule l.rule (route u.rule u.member) (route i.rule i.member) (route l.rule l.member)
-    (subst (λ p. PiecesOverlap p (whole_piece u.rule)) piece_i (subst (PiecesOverlap one.piece) piece_u over_upper))
-    (subst (λ p. PiecesOverlap p (whole_piece l.rule)) piece_i (subst (PiecesOverlap one.piece) piece_l over_lower))
-    (omega arith) (omega arith)))
-  where
-    route : (rule : Rule) → Contains (rules ++ additions batch) rule → IsIpv4Route rule
-    route = routes_all rules batch routes added
+module _ (mode : Mode) (bits : FieldBits) (rules : List Rule) (batch : List Command) (version : IpVersion) (change : IsSoundChange rules batch)
+    (routes : AllByRecursion (IsRoute version) rules) (added : AllByRecursion (IsRoute version) (additions batch)) where
+  route : (rule : Rule) → Contains (rules ++ additions batch) rule → IsRoute version rule
+  route = routes_all version rules batch routes added
+
+  -- chains of routes are short
+  pub row_short : BoundsPieceChains (set_pieces mode bits rules ++ inserted_pieces mode bits rules batch) (prefix_lengths version)
+  row_short = row_chains mode bits rules batch change (prefix_lengths version) (λ chain members is. chains_short version chain (λ rule member. route rule (members rule member)) is)
+
+  -- a piece of a route is the whole of it
+  whole_of : (ranked : RankedPiece) (is : IsChosen bits (pieces_of mode) (rules ++ additions batch) ranked) → ranked.piece ≡ with_bits bits (whole_piece is.rule)
+  whole_of ranked is = sym (ap (with_bits bits) (route_whole mode is.rule is.piece (route_form version is.rule (route is.rule is.member)) is.has) ∙ is.piece_is)
+
+  -- so pieces of routes are nested
+  pub row_nested : AreNested (set_pieces mode bits rules ++ inserted_pieces mode bits rules batch)
+  row_nested upper one lower in_upper in_one in_lower more less over_upper over_lower =
+      let u = row_of mode bits rules batch upper in_upper in
+      let i = row_of mode bits rules batch one in_one in
+      let l = row_of mode bits rules batch lower in_lower in
+      let piece_u = whole_of upper u in
+      let piece_i = whole_of one i in
+      let piece_l = whole_of lower l in
+      let rank_u = u.rank_is in
+      let rank_i = i.rank_is in
+      let rank_l = l.rank_is in
+      subst (λ p. PiecesOverlap p upper.piece) (sym piece_l) (subst (PiecesOverlap (whole_piece l.rule)) (sym piece_u)
+      (routes_nested version u.rule i.rule l.rule (route u.rule u.member) (route i.rule i.member) (route l.rule l.member)
+      (subst (λ p. PiecesOverlap p (whole_piece u.rule)) piece_i (subst (PiecesOverlap one.piece) piece_u over_upper))
+      (subst (λ p. PiecesOverlap p (whole_piece l.rule)) piece_i (subst (PiecesOverlap one.piece) piece_l over_lower))
+      (omega arith) (omega arith)))

@@ -19,20 +19,24 @@ use Rattle.commit_writes.specs.Bits.{FieldBits, bits_with, new_bits}
 use Rattle.tcam_device.specs.declared.Action.{Action}
 use Rattle.tcam_device.specs.declared.Action.TheVariants.{Written, Drained}
 use Rattle.tcam_device.specs.Flight.{Event, Acted, Translated, Searched, Flight, Pipeline, MayGo, actions_in, writes_in, searched_by, searches, happens}
-use Rattle.commit_writes.specs.InFlight.{AreCurrent, Serving, IsLookUp, IsOldOrNew}
+use Rattle.commit_writes.specs.InFlight.{AreCurrent, ServingTo, IsLookUp, IsOldOrNew}
 use Rattle.commit_writes.specs.Undo.{undo_writes}
 use Rattle.commit_writes.specs.Actions.{have_bits, with_drain}
-use Rattle.commit_writes.specs.Segments.{SeesOldOrNew, SeesOldOrNewBack, ReturnsAreHitless}
+use Rattle.commit_writes.specs.Segments.{SeesOldOrNew, SeesOldOrNewBack, ReturnsAreHitless, live_behind}
 use Rattle.commit_writes.proofs.Undone.{undo_passes, undo_ends, length-undo_writes}
 use Rattle.commit_writes.proofs.Searches.{answer_as_look_ups, serves_now}
-use Rattle.commit_writes.proofs.Actions.{writes_of_map, writes_in-append, commits_serve, returns_serve}
+use Rattle.commit_writes.proofs.Actions.{same_part, writes_of_map, writes_in-append, commits_serve, returns_serve}
 
 -- the first of some actions serve as all of them do
-serving_front : (bits : FieldBits) (state : State) (front back : List Action) → Serving bits state (front ++ back) → Serving bits state front
-serving_front bits state [] back serving = serves_now bits state back serving
-serving_front bits state (Written write ∷ front) back serving =
-    (serving.0, (serving.1.0, serving.1.1, serving_front serving.1.0 (apply state write) front back serving.1.2))
-serving_front bits state (Drained ∷ front) back serving = (serving.0, (serving.1.0, serving_front serving.1.0 state front back serving.1.1))
+serving_front : (bits last : FieldBits) (state : State) (front back : List Action) → ServingTo bits state (front ++ back) last
+    → (there : FieldBits) × ServingTo bits state front there
+serving_front bits last state [] back serving = (bits, (serves_now bits last state back serving, same_part bits))
+serving_front bits last state (Written write ∷ front) back serving =
+    let rest = serving_front serving.1.0 last (apply state write) front back serving.1.2 in
+    (rest.0, (serving.0, (serving.1.0, serving.1.1, rest.1)))
+serving_front bits last state (Drained ∷ front) back serving =
+    let rest = serving_front serving.1.0 last state front back serving.1.1 in
+    (rest.0, (serving.0, (serving.1.0, rest.1)))
 
 -- the keys of the words in flight are right
 abbrev AreKeys : Flight → Type 0
@@ -125,8 +129,8 @@ both_ways state P writes each n = elim (cases_lt (length writes) n) [
 
 pub sees_old_or_new : SeesOldOrNew
 sees_old_or_new mode bits rules batch line made events begin segment front current may =
-    let serving = serving_front bits line.state (actions_in events) front.0 (subst (Serving bits line.state) front.1 (commits_serve mode bits rules batch line.state made begin segment)) in
-    let looks = answer_as_look_ups bits line events serving current may in
+    let leads = (commits_serve mode bits rules batch line.state made begin segment).0 (actions_in events) front in
+    let looks = answer_as_look_ups bits (live_behind bits (bits_with mode rules batch bits) (actions_in events)) line events leads.0 current may in
     let same : made ≡ writes_in (actions_in events) ++ writes_in front.0 =
     sym (writes_of_commit (have_bits (new_bits bits (bits_with mode rules batch bits))) made) ∙ ap writes_in front.1 ∙ writes_in-append (actions_in events) front.0 in
     let Shown : State → Type 0 = λ state. ShowsOldOrNew state rules (set_after rules batch) in
@@ -137,8 +141,9 @@ sees_old_or_new mode bits rules batch line made events begin segment front curre
 pub sees_old_or_new_back : SeesOldOrNewBack
 sees_old_or_new_back mode bits rules batch line actions events begin return front current may =
     let state = line.state in
-    let serving = serving_front bits state (actions_in events) front.0 (subst (Serving bits state) front.1 (returns_serve mode bits rules batch state actions begin return)) in
-    let looks = answer_as_look_ups bits line events serving current may in
+    let serving = serving_front bits bits state (actions_in events) front.0
+    (subst (λ all. ServingTo bits state all bits) front.1 (returns_serve mode bits rules batch state actions begin return).0) in
+    let looks = answer_as_look_ups bits serving.0 line events serving.1 current may in
     let Shown : State → Type 0 = λ now. ShowsOldOrNew now rules (set_after rules batch) in
     let some = writes_in return.front in
     let whole : return.made ≡ some ++ writes_in return.back =

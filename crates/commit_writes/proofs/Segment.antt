@@ -56,16 +56,16 @@ planned_tight state standing inserted live slots entries planned chain row bound
     (chains_of_ids state (standing ++ inserted) (live_after live planned) entries chain (of_row state standing inserted live slots entries planned row) bound))
 
 -- crossing nothing where they are nested,
-pub planned_uncrossed : (state : State) (standing inserted : List RankedPiece) (live : List LivePiece) (slots : Slots) (entries : IdEntries) (planned : List Planned)
-    → IsPlannedRow state standing inserted live slots entries planned → AreNested (standing ++ inserted) → BoundsPieceChains (standing ++ inserted) 33
-    → IsUncrossed 33 (insertions state (planned_writes entries planned))
-planned_uncrossed state standing inserted live slots entries planned row nested short =
+pub planned_uncrossed : (most : ℕ) (state : State) (standing inserted : List RankedPiece) (live : List LivePiece) (slots : Slots) (entries : IdEntries) (planned : List Planned)
+    → IsPlannedRow state standing inserted live slots entries planned → AreNested (standing ++ inserted) → BoundsPieceChains (standing ++ inserted) most
+    → IsUncrossed most (insertions state (planned_writes entries planned))
+planned_uncrossed most state standing inserted live slots entries planned row nested short =
     let pieces = of_row state standing inserted live slots entries planned row in
-    subst (IsUncrossed 33) (sym (commit_makes state standing inserted live slots entries planned row))
-    (made_uncrossed (commit_piece live entries planned) (live_after live planned) planned (made_by entries (commit_piece live entries planned) state planned) 33
+    subst (IsUncrossed most) (sym (commit_makes state standing inserted live slots entries planned row))
+    (made_uncrossed (commit_piece live entries planned) (live_after live planned) planned (made_by entries (commit_piece live entries planned) state planned) most
     (commit_done state standing inserted live slots entries planned row).as_planned
     (nested_ids state (standing ++ inserted) (live_after live planned) entries pieces nested)
-    (chains_of_ids state (standing ++ inserted) (live_after live planned) entries 33 pieces short))
+    (chains_of_ids state (standing ++ inserted) (live_after live planned) entries most pieces short))
 
 -- and as long as they were planned
 pub planned_longest : (state : State) (standing inserted : List RankedPiece) (live : List LivePiece) (slots : Slots) (entries : IdEntries) (planned : List Planned)

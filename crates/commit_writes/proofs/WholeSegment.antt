@@ -15,6 +15,7 @@ use Rattle.tcam_device.proofs.Wider.{slots-after}
 use Rattle.commit_writes.specs.declared.Done.{Done}
 use Rattle.commit_writes.specs.declared.Rewrite.{Rewrite}
 use Rattle.commit_writes.specs.Bits.{FieldBits, bits_with}
+use Rattle.commit_writes.specs.Routes.{prefix_lengths}
 use Rattle.commit_writes.specs.Shape.{set_pieces, inserted_pieces}
 use Rattle.commit_writes.specs.Planned.{IdEntries, Planned, held_entry}
 use Rattle.commit_writes.specs.PlannedBatch.{batch_writes, IsPlannedBatch, IsPlannedSegment, AreNumbersOf}
@@ -52,7 +53,7 @@ module _ (mode : Mode) (bits : FieldBits) (rules : List Rule) (batch : List Comm
         segment = front_segment mode bits rules batch state made (change_of mode during behind rules batch live slots entries planned rewrites erased plan)
             (record { is_state = is; changes = plan.changes; are = are; few = free }) ordered writes;
         numbers = front_numbers mode bits rules batch state made planned counts numbers sizes.0 sizes.1;
-        uncrossed = λ routes added. subst (IsUncrossed 33) (sym (front_insertions mode bits rules batch state made)) (writes.uncrossed routes added);
+        uncrossed = λ version routes added. subst (IsUncrossed (prefix_lengths version)) (sym (front_insertions mode bits rules batch state made)) (writes.uncrossed version routes added);
       }
 
   -- they write slots of the arrangement only

@@ -16,6 +16,7 @@ use Rattle.tcam_device.proofs.Wider.{padded, all_take, slot-padded, state_after-
 use Rattle.tcam_device.proofs.WiderInsertions.{widened, insertions-padded, longest-padded, writes-widened, entries-widened, IsGreatestSpan-widened, AreBoundedBy-widened, IsUncrossed-widened}
 use Rattle.commit_writes.specs.declared.Done.{Done}
 use Rattle.commit_writes.specs.Bits.{FieldBits, bits_with}
+use Rattle.commit_writes.specs.Routes.{prefix_lengths}
 use Rattle.commit_writes.specs.Shape.{Stands, Rewrites, Erases, inserted_pieces, rewritten_pieces, erased_pieces, HasCommitShape}
 use Rattle.commit_writes.specs.Commit.{old_pieces, new_pieces, insertion_writes, HoldsInOrder, KeepsOrder, IsSegment, AreCounts}
 use Rattle.commit_writes.specs.PlannedBatch.{IsPlannedSegment}
@@ -168,5 +169,6 @@ pub IsPlannedSegment-padded : (more : ℕ) (mode : Mode) (bits : FieldBits) (rul
 IsPlannedSegment-padded more mode bits rules batch state made counts inside is = record {
   segment = IsSegment-padded more _ _ rules batch state made inside is.segment;
   numbers = AreCounts-padded more state made counts inside is.numbers;
-  uncrossed = λ routes added. subst (IsUncrossed 33) (sym (insertions-padded more state made inside)) (IsUncrossed-widened more 33 (insertions state made) (is.uncrossed routes added));
+  uncrossed = λ version routes added.
+      subst (IsUncrossed (prefix_lengths version)) (sym (insertions-padded more state made inside)) (IsUncrossed-widened more (prefix_lengths version) (insertions state made) (is.uncrossed version routes added));
 }

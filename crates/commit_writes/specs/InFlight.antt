@@ -12,12 +12,12 @@ use Rattle.ternary_word.specs.declared.Entry.{Entry}
 use Rattle.ternary_word.specs.Word.{word_of}
 use Rattle.ternary_word.specs.Entry.{hits}
 use Rattle.range_bits.specs.LiveRanges.{LiveRanges, range_at}
-use Rattle.tcam_device.specs.State.{State, apply, lookup}
+use Rattle.tcam_device.specs.State.{State, apply, state_after, lookup}
 use Rattle.tcam_device.specs.Order.{IsTranslated}
 use Rattle.commit_writes.specs.Bits.{FieldBits}
 use Rattle.tcam_device.specs.declared.Action.{Action}
 use Rattle.tcam_device.specs.declared.Action.TheVariants.{Written, Drained}
-use Rattle.tcam_device.specs.Flight.{Event, Flight, Pipeline, MayGo, actions_in, searches}
+use Rattle.tcam_device.specs.Flight.{Event, Flight, Pipeline, MayGo, actions_in, writes_in, happens, searches}
 
 -- a table's word for a port is right: each live bit is set exactly where its range holds the port
 abbrev pub HasBits : LiveRanges → ℕ → ℕ → Type 0
@@ -59,14 +59,18 @@ pub record ServesLive (bits : FieldBits) (state : State) : Type 0 where
   pub dst_right : (bit : ℕ) (range : PortRange) → range_at bits.dst bit ≡ Some range → IsTranslated state.dst bit range
   pub tested : (at : ℕ) (entry : Entry) → slot state.slots at ≡ Some entry → TestsLive bits entry
 
--- While some actions are made the device serves live ranges. A write may leave fewer of them live, and a drain others, since
--- no word is in flight then.
-abbrev pub Serving : FieldBits → State → List Action → Type 0
-Serving bits state [] = ServesLive bits state
-Serving bits state (Written write ∷ actions) =
-    ServesLive bits state × ((next : FieldBits) × ArePartOf next bits × Serving next (apply state write) actions)
-Serving bits state (Drained ∷ actions) =
-    ServesLive bits state × ((next : FieldBits) × Serving next state actions)
+-- While some actions are made the device serves live ranges, of which the last ones are live in the end. A write may leave
+-- fewer of them live, and a drain others, since no word is in flight then.
+abbrev pub ServingTo : FieldBits → State → List Action → FieldBits → Type 0
+ServingTo bits state [] last = ServesLive bits state × ArePartOf last bits
+ServingTo bits state (Written write ∷ actions) last =
+    ServesLive bits state × ((next : FieldBits) × ArePartOf next bits × ServingTo next (apply state write) actions last)
+ServingTo bits state (Drained ∷ actions) last =
+    ServesLive bits state × ((next : FieldBits) × ServingTo next state actions last)
+
+-- and behind them it serves the last ones
+abbrev pub LeadsTo : FieldBits → State → List Action → FieldBits → Type 0
+LeadsTo bits state actions last = ServingTo bits state actions last × ServesLive last (state_after state (writes_in actions))
 
 -- a search answers what an undivided look-up of its key would answer in the state at that moment
 abbrev pub IsLookUp : State × Key × Answer → Type 0
@@ -80,5 +84,16 @@ IsOldOrNew old new (state, key, found) = (found ≡ answer old key) ⊎ (found �
 -- answers what an undivided look-up of its key would answer in the state at that moment.
 abbrev pub AnswerAsLookUps : Type 0
 AnswerAsLookUps =
-    (bits : FieldBits) (line : Pipeline) (events : List Event) → Serving bits line.state (actions_in events)
+    (bits last : FieldBits) (line : Pipeline) (events : List Event) → ServingTo bits line.state (actions_in events) last
     → AreCurrent bits line.flight → MayGo line events → AllByRecursion IsLookUp (searches line events)
+
+-- the pipeline after some events
+abbrev pub after_events : Pipeline → List Event → Pipeline
+after_events line [] = line
+after_events line (event ∷ events) = after_events (happens line event) events
+
+-- And the words that are in flight then, those translated meanwhile among them, are current for the last ranges.
+abbrev pub StayCurrent : Type 0
+StayCurrent =
+    (bits last : FieldBits) (line : Pipeline) (events : List Event) → ServingTo bits line.state (actions_in events) last
+    → AreCurrent bits line.flight → MayGo line events → AreCurrent last (after_events line events).flight

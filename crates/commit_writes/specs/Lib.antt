@@ -2,6 +2,7 @@ pub mod Bits
 pub mod Serving
 pub mod Shape
 pub mod Commit
+pub mod Routes
 pub mod Planned
 pub mod PlannedBatch
 pub mod Undo

@@ -5,7 +5,7 @@ use Rattle.slot_pool.specs.Arrangement.{Slots, home_of}
 use Rattle.rule_model.specs.declared.Rule.{Rule}
 use Rattle.rule_model.specs.Rule.{HasConditions}
 use Rattle.rule_model.specs.RuleSet.{IsRuleSet, BoundsChains}
-use Rattle.rule_model.specs.Routes.{IsIpv4Route}
+use Rattle.rule_model.specs.declared.IpVersion.{IpVersion}
 use Rattle.rule_store.specs.declared.Mode.{Mode}
 use Rattle.rule_store.specs.declared.Command.{Command}
 use Rattle.rule_store.specs.Batch.{ChangesRules, additions, batch_fault, set_after}
@@ -23,6 +23,7 @@ use Rattle.commit_writes.specs.Bits.{FieldBits}
 use Rattle.commit_writes.specs.Serving.{AreServing}
 use Rattle.commit_writes.specs.Shape.{Rewrites, Erases, set_pieces, inserted_pieces, rewritten_pieces, erased_pieces}
 use Rattle.commit_writes.specs.Commit.{KeepsPieces, ReplacesNone, IsSegment, AreCounts}
+use Rattle.commit_writes.specs.Routes.{IsRoute, prefix_lengths}
 use Rattle.commit_writes.specs.Planned.{IdEntries, Planned, ArePlanned, AreArranged, AreEntriesOf, contents, entry_at, ranked_of, slots_after, planned_writes, longest_planned, greatest_planned}
 
 -- the id is that of this live piece
@@ -95,7 +96,7 @@ pub record HasSlotShape (mode : Mode) (bits : FieldBits) (rules : List Rule) (ba
 
 -- The writes of a commit behind those of the tables, with the bits that are live while it is made: hitless, in order, of
 -- their shape, and within the bounds, from a state whose tables serve the rules; none of them is to a table. Of routes no
--- insertion crosses others, and none takes more than 33 writes.
+-- insertion crosses others, and none takes more writes than a prefix may have lengths.
 pub record AreSlotWrites (mode : Mode) (bits : FieldBits) (rules : List Rule) (batch : List Command) (state : State) (made : List Write) : Type 0 where
   pub hitless : IsHitless rules (set_after rules batch) state made
   pub turns : ReplacesNone batch → TurnsOnce rules (set_after rules batch) state made
@@ -103,14 +104,16 @@ pub record AreSlotWrites (mode : Mode) (bits : FieldBits) (rules : List Rule) (b
   pub shape : HasSlotShape mode bits rules batch state made
   pub tight : (chain : ℕ) → BoundsChains (rules ++ additions batch) chain → IsWithinTightBound chain (insertions state made)
   pub slots_only : table_writes made ≡ 0
-  pub uncrossed : AllByRecursion IsIpv4Route rules → AllByRecursion IsIpv4Route (additions batch) → IsUncrossed 33 (insertions state made)
+  pub uncrossed : (version : IpVersion) → AllByRecursion (IsRoute version) rules → AllByRecursion (IsRoute version) (additions batch)
+      → IsUncrossed (prefix_lengths version) (insertions state made)
 
 -- From a state on some writes are the segment of a batch, with these numbers; of routes no insertion crosses others, and
--- none takes more than 33 writes.
+-- none takes more writes than a prefix may have lengths.
 pub record IsPlannedSegment (mode : Mode) (bits : FieldBits) (rules : List Rule) (batch : List Command) (state : State) (made : List Write) (counts : Done) : Type 0 where
   pub segment : IsSegment mode bits rules batch state made
   pub numbers : AreCounts state made counts
-  pub uncrossed : AllByRecursion IsIpv4Route rules → AllByRecursion IsIpv4Route (additions batch) → IsUncrossed 33 (insertions state made)
+  pub uncrossed : (version : IpVersion) → AllByRecursion (IsRoute version) rules → AllByRecursion (IsRoute version) (additions batch)
+      → IsUncrossed (prefix_lengths version) (insertions state made)
 
 -- the numbers of a commit whose insertions are planned, and that makes so many writes
 pub record AreNumbersOf (writes : List Write) (planned : List Planned) (counts : Done) : Type 0 where

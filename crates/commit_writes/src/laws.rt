@@ -1,12 +1,27 @@
 // What packets see of commits and of returns whose look-ups are two events: laws, in which there is nothing to run.
-ghost use Rattle.commit_writes.specs.InFlight.{AnswerAsLookUps};
-ghost use Rattle.commit_writes.specs.Segments.{SeesOldOrNew, SeesOldOrNewBack, CommitsComeToRest, RestsOnWiderDevices, ReturnsAreHitless};
+ghost use Rattle.commit_writes.specs.InFlight.{AnswerAsLookUps, StayCurrent};
+ghost use Rattle.commit_writes.specs.Segments.{CommitsServe, ReturnsServe, SeesOldOrNew, SeesOldOrNewBack, CommitsComeToRest, RestsOnWiderDevices, ReturnsAreHitless};
 ghost use Rattle.commit_writes.specs.Undo.{PassesNoNewState, EndsWhereItBegan};
 
 /// While the device serves the live ranges that the words in flight are current for, each search answers what an
 /// undivided look-up of its key would answer in the state at that search, whatever stands between.
 pub fn searches_answer_as_look_ups()
     ensures { AnswerAsLookUps }
+{}
+
+/// Behind all that the device serves the words in flight are current still.
+pub fn words_stay_current()
+    ensures { StayCurrent }
+{}
+
+/// A commit serves the live ranges before it, and from its drain on those that are live meanwhile.
+pub fn commits_serve()
+    ensures { CommitsServe }
+{}
+
+/// A commit that is taken back leads to the ranges that were live before it.
+pub fn returns_serve()
+    ensures { ReturnsServe }
 {}
 
 /// While a commit's writes and its drain are made in their order, look-ups of two events answer as undivided ones would

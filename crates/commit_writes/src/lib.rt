@@ -21,8 +21,9 @@
 mod laws;
 
 pub use laws::{
-    commits_come_to_rest, ends_where_it_began, passes_no_new_state, rests_on_wider_devices,
-    returns_are_hitless, searches_answer_as_look_ups, sees_old_or_new, sees_old_or_new_back,
+    commits_come_to_rest, commits_serve, ends_where_it_began, passes_no_new_state,
+    rests_on_wider_devices, returns_are_hitless, returns_serve, searches_answer_as_look_ups,
+    sees_old_or_new, sees_old_or_new_back, words_stay_current,
 };
 use ternary_word::Entry;
 
