@@ -1,21 +1,22 @@
 -- What a device answers that made the next write already.
-use Rattle.std.proofs.Common.{◌≡◌, ℕ, ◌+◌, ◌≤◌, List, [], ◌∷◌, length, take, slice_get, Option, Some, None, sym, ap, subst, ◌∙◌}
-use Rattle.std.proofs.lemmas.List.Sums.{fold-append}
+use Rattle.std.proofs.Common.{◌≡◌, ℕ, ◌+◌, ◌≤◌, List, length, Option, Some, None, refl, sym, ap, subst, ◌∙◌}
 use Rattle.slot_pool.specs.Arrangement.{Slots}
 use Rattle.rule_store.specs.Batch.{set_after}
 use Rattle.rule_store.specs.Store.{StoredRules}
-use Rattle.rule_store.proofs.Sums.{take-read}
 use Rattle.tcam_device.specs.declared.Write.{Write}
-use Rattle.tcam_device.specs.State.{State, IsInUse, apply, replay, state_after, on_device}
+use Rattle.tcam_device.specs.State.{State, IsInUse, apply, replay, on_device}
 use Rattle.tcam_device.specs.Hitless.{ShowsOldOrNew}
 use Rattle.batch_order.specs.declared.Placement.{Placement}
-use Rattle.batch_order.specs.declared.manager.Held.{Held}
+use Rattle.batch_order.specs.declared.held.Held.{Held}
 use Rattle.batch_order.specs.declared.translation.Translation.{Translation}
 use Rattle.batch_order.specs.Entries.{Entries}
-use Rattle.batch_order.specs.Kept.{IsManaged, held_writes, settled_state, state_of}
-use Rattle.batch_order.specs.Managed.{Managed, IsOn, Serves, next_of}
+use Rattle.batch_order.specs.Kept.{IsManaged, one_less, state_of}
+use Rattle.batch_order.specs.Managed.{Managed, IsOn, Serves}
+use Rattle.batch_order.specs.Steps.{next_of}
 use Rattle.batch_order.proofs.Answered.{idle_answers, held_answers}
-use Rattle.batch_order.proofs.Carried.{view_of, get-drop, made_inside, managed_made, on_device-apply}
+use Rattle.batch_order.proofs.Carried.{view_of, on_device-apply}
+use Rattle.batch_order.proofs.Left.{forward_next, managed_made, state_made}
+use Rattle.batch_order.proofs.Back.{back_next, managed_back, undone_state}
 
 -- on a device that it has written, each key is answered as a manager promises
 pub serves : (placement : Placement) (translation : Option Translation) (rules : StoredRules) (kept : Entries) (slots : Slots) (held : Option Held) → IsManaged translation rules kept slots held
@@ -29,14 +30,18 @@ pub serves_ahead : (placement : Placement) (translation : Option Translation) (r
     → next_of (view_of placement translation rules kept slots held).held ≡ Some write → (device_slots : ℕ) → length slots ≤ device_slots
     → Serves (on_device device_slots (apply (view_of placement translation rules kept slots held).state write)) rules.rules (view_of placement translation rules kept slots held).held
 serves_ahead placement translation rules kept slots None write managed next device_slots wide = absurd (cc)
-serves_ahead placement translation rules kept slots (Some held) write managed next device_slots wide =
-    let read : slice_get (held_writes kept.entries held) held.made ≡ Some write = sym (get-drop (held_writes kept.entries held) held.made) ∙ next in
-    let more : Held = record held { made = held.made + 1 } in
-    let state : state_of translation kept.entries slots (Some more) ≡ apply (state_of translation kept.entries slots (Some held)) write =
-    ap (state_after (settled_state translation kept.entries slots)) (take-read (held_writes kept.entries held) held.made write read)
-    ∙ fold-append apply (settled_state translation kept.entries slots) (take held.made (held_writes kept.entries held)) (write ∷ []) in
-    subst (λ (s : State). ShowsOldOrNew (on_device device_slots s) rules.rules (set_after rules.rules held.batch)) state
-    (held_answers translation rules kept slots more (managed_made translation rules kept slots held managed (made_inside kept.entries held write next)) device_slots wide)
+serves_ahead placement translation rules kept slots (Some held) write managed next device_slots wide = go held.turned refl
+  where
+    go : (turned : Option ℕ) → held.turned ≡ turned → ShowsOldOrNew (on_device device_slots (apply (state_of translation kept.entries slots (Some held)) write)) rules.rules (set_after rules.rules held.batch)
+    go None forward =
+        let due = sym (forward_next translation rules kept slots held forward) ∙ next in
+        subst (λ (s : State). ShowsOldOrNew (on_device device_slots s) rules.rules (set_after rules.rules held.batch)) (state_made translation rules kept slots held managed write due)
+        (held_answers translation rules kept slots (record held { made = held.made + 1 }) (managed_made translation rules kept slots held managed write due forward) device_slots wide)
+    go (Some undone) turned =
+        let due = sym (back_next translation rules kept slots held undone turned) ∙ next in
+        let back = undone_state translation rules kept slots held managed undone turned write due in
+        subst (λ (s : State). ShowsOldOrNew (on_device device_slots s) rules.rules (set_after rules.rules held.batch)) (sym back.1)
+        (held_answers translation rules kept slots (one_less held) (managed_back translation rules kept slots held managed undone turned back.0) device_slots wide)
 
 -- what the manager's state serves, the journal of its device does
 pub by_journal : (device_slots : ℕ) (journal : List Write) (manager : Managed) → manager.slots ≤ device_slots

@@ -19,9 +19,9 @@ use Rattle.commit_writes.specs.Bits.{FieldBits}
 use Rattle.commit_writes.specs.Serving.{AreServing}
 use Rattle.commit_writes.specs.Shape.{names, ranked_pieces, common_pieces, dropped_pieces, rewritten_pieces, erased_pieces}
 use Rattle.commit_writes.specs.Planned.{held_entry}
-use Rattle.commit_writes.specs.PlannedBatch.{IsIdOf, IsRewriteOf}
+use Rattle.commit_writes.specs.PlannedBatch.{AreSlotWrites, IsIdOf, IsRewriteOf}
 use Rattle.commit_writes.proofs.WholeBatch.{slot_writes}
-use Rattle.batch_order.specs.declared.manager.Held.{Held}
+use Rattle.batch_order.specs.declared.held.Held.{Held}
 use Rattle.batch_order.specs.declared.translation.Translation.{Translation}
 use Rattle.batch_order.specs.Entries.{Entries}
 use Rattle.batch_order.specs.Kept.{IsManaged, bits_of, held_writes, mode_of, settled_state, state_of, tables_of}
@@ -38,12 +38,11 @@ none_erased mode bits rules =
     ap (λ (some : List Rule). flat_map (λ (old : Rule). ranked_pieces bits old (dropped_pieces mode (rule_at (additions []) old.priority) old)) (reverse some))
     (filter_nothing (λ (rule : Rule). removes rule.priority []) rules (λ rule member. refl))
 
--- without a commit under way the device answers as the rules do
-pub idle_answers : (translation : Option Translation) (rules : StoredRules) (kept : Entries) (slots : Slots) → IsManaged translation rules kept slots None
-    → (device_slots : ℕ) → length slots ≤ device_slots → Shows (on_device device_slots (settled_state translation kept.entries slots)) rules.rules
-idle_answers translation rules kept slots managed device_slots wide =
-    Shows-padded (device_slots - length state.slots) state rules.rules
-    (slot_writes mode bits state rules.rules [] kept.live slots kept.entries [] [] [] record {
+-- the writes of an empty batch, from the state of a manager without a commit under way
+pub idle_writes : (translation : Option Translation) (rules : StoredRules) (kept : Entries) (slots : Slots) → IsManaged translation rules kept slots None
+    → AreSlotWrites (mode_of translation) (bits_of translation) rules.rules [] (settled_state translation kept.entries slots) []
+idle_writes translation rules kept slots managed =
+    slot_writes mode bits state rules.rules [] kept.live slots kept.entries [] [] [] record {
       is_set = managed.is_set;
       right = managed.right;
       changes = tt;
@@ -59,7 +58,7 @@ idle_answers translation rules kept slots managed device_slots wide =
       are_planned = tt;
       rewrites_are = subst (λ (some : List RankedPiece). AllZip (IsRewriteOf kept.live) some []) (sym (none_rewritten mode bits rules.rules)) tt;
       erased_are = subst (λ (some : List RankedPiece). AllZip (IsIdOf kept.live) some []) (sym (none_erased mode bits rules.rules)) tt;
-    }).hitless.on_the_way.before
+    }
   where
     mode : Mode
     mode = mode_of translation
@@ -69,6 +68,13 @@ idle_answers translation rules kept slots managed device_slots wide =
 
     state : State
     state = settled_state translation kept.entries slots
+
+-- without a commit under way the device answers as the rules do
+pub idle_answers : (translation : Option Translation) (rules : StoredRules) (kept : Entries) (slots : Slots) → IsManaged translation rules kept slots None
+    → (device_slots : ℕ) → length slots ≤ device_slots → Shows (on_device device_slots (settled_state translation kept.entries slots)) rules.rules
+idle_answers translation rules kept slots managed device_slots wide =
+    let state : State = settled_state translation kept.entries slots in
+    Shows-padded (device_slots - length state.slots) state rules.rules (idle_writes translation rules kept slots managed).hitless.on_the_way.before
 
 -- and with one under way, as the old rules or the new ones do
 pub held_answers : (translation : Option Translation) (rules : StoredRules) (kept : Entries) (slots : Slots) (held : Held) → IsManaged translation rules kept slots (Some held)
@@ -80,4 +86,4 @@ held_answers translation rules kept slots held managed device_slots wide =
     let used : AllByRecursion (IsInUse (length begun.slots)) (take held.made (held_writes kept.entries held)) =
     all_take (IsInUse (length begun.slots)) held.made (held_writes kept.entries held) (subst (λ (n : ℕ). AllByRecursion (IsInUse n) (held_writes kept.entries held)) (sym size) managed.carried.in_use) in
     subst (λ (state : State). ShowsOldOrNew state rules.rules (set_after rules.rules held.batch)) (state_after-on_device device_slots begun (take held.made (held_writes kept.entries held)) used)
-    ((managed.carried.hitless device_slots wide).during held.made)
+    ((managed.carried.segment device_slots wide).hitless.on_the_way.during held.made)

@@ -1,8 +1,7 @@
 -- Carrying out a commit: the writes that are left, and the new rules put in at its end.
-use Rattle.std.proofs.Common.{◌≡◌, ℕ, ◌+◌, ◌-◌, ◌<◌, ◌≤◌, List, [], ◌∷◌, ◌++◌, length, take, drop, slice_get, replicate, Option, Some, None, IfSome, refl, sym, ap, ap₂, subst, ◌∙◌, arith, length-drop, length-set, get_or, add-one, zero, suc}
+use Rattle.std.proofs.Common.{◌≡◌, ℕ, ◌+◌, ◌-◌, ◌<◌, ◌≤◌, List, [], ◌∷◌, ◌++◌, length, take, drop, slice_get, replicate, Option, Some, None, refl, sym, ap, ap₂, subst, ◌∙◌, arith, length-drop, length-set, get_or, add-one, zero, suc}
 use Rattle.std.specs.List.{AllByRecursion}
 use Rattle.std.proofs.lemmas.List.{set-append_left, length-map, length-replicate, replicate-append-replicate}
-use Rattle.std.proofs.lemmas.Option.{get_or_from_slice_get, slice_get_within}
 use Rattle.std.proofs.Math.Seq.{drop-cons}
 use Rattle.std.proofs.lemmas.List.Sums.{fold-append}
 use Rattle.std.proofs.lemmas.List.{take_all}
@@ -17,23 +16,26 @@ use Rattle.commit_writes.specs.Serving.{AreBitsOf}
 use Rattle.rule_store.specs.Store.{StoredRules}
 use Rattle.rule_store.specs.Batch.{set_after}
 use Rattle.rule_store.proofs.After.{set_after-set}
-use Rattle.rule_store.proofs.Sums.{take-read}
 use Rattle.overlap_index.specs.declared.LivePiece.{LivePiece}
 use Rattle.tcam_device.specs.declared.Write.{Write}
 use Rattle.tcam_device.specs.declared.Write.TheVariants.{Slot, Table}
+use Rattle.tcam_device.specs.declared.Action.{Action}
 use Rattle.tcam_device.specs.State.{State, IsState, IsInUse, apply, blank, state_after, on_device}
 use Rattle.tcam_device.proofs.Wider.{slots-after}
+use Rattle.commit_writes.specs.Actions.{with_drain}
 use Rattle.commit_writes.specs.Bits.{FieldBits, no_bits}
 use Rattle.commit_writes.specs.Planned.{contents, with_slots, held_entry}
 use Rattle.commit_writes.specs.PlannedBatch.{erased_live, rewritten_entries}
-use Rattle.batch_order.specs.declared.Step.TheVariants.{Wrote, Finished}
-use Rattle.batch_order.specs.declared.manager.Held.{Held}
+use Rattle.batch_order.specs.declared.Step.TheVariants.{Finished}
+use Rattle.batch_order.specs.declared.held.Held.{Held}
 use Rattle.batch_order.specs.declared.translation.Translation.{Translation}
 use Rattle.batch_order.specs.declared.Placement.{Placement}
 use Rattle.batch_order.specs.Entries.{Entries, KeepEntries}
 use Rattle.batch_order.specs.Kept.{IsManaged, IsArranged, bits_after, bits_of, changed_by, held_of, held_writes, mode_of, settled_state, state_of, tables_of, translation_after}
 use Rattle.batch_order.specs.Planning.{as_write}
-use Rattle.batch_order.specs.Managed.{Managed, HeldCommit, StepsOn, IsOn, fresh, next_of}
+use Rattle.batch_order.specs.Managed.{Managed, IsOn, fresh}
+use Rattle.batch_order.specs.Steps.{StepsOn}
+use Rattle.batch_order.proofs.Drains.{all_made}
 use Rattle.batch_order.proofs.Entered.{contents_kept}
 use Rattle.batch_order.proofs.Translated.{bits_kept, mode_kept}
 use Rattle.batch_order.proofs.Unchanged.{arranged_same, settled_live}
@@ -47,7 +49,7 @@ view_of placement translation rules kept slots held = record {
   rules = rules.rules;
   bits = bits_of translation;
   state = state_of translation kept.entries slots held;
-  held = elim held [ None ↦ None | Some one ↦ Some (held_of rules.rules kept.entries one) ];
+  held = elim held [ None ↦ None | Some one ↦ Some (held_of translation slots rules.rules kept.entries one) ];
 }
 
 -- what stands in empty slots
@@ -69,15 +71,6 @@ fresh_view slots mode placement translation rules kept arrangement coded bits ta
     made : Mode → FieldBits → State → List Rule → Slots → Managed
     made m b t r s = record { slots = length s; mode = m; placement = placement; rules = r; bits = b; state = with_slots t (contents kept.entries s); held = None }
 
--- with no write left, none is left to make
-pub none_left : (held : Option HeldCommit) → next_of held ≡ None → IfSome held (λ held. held.writes ≡ [])
-none_left None next = tt
-none_left (Some held) next = go held.writes next
-  where
-    go : (writes : List Write) → slice_get writes 0 ≡ None → writes ≡ []
-    go [] read = refl
-    go (write ∷ writes) read = absurd (cc)
-
 -- the ids and entries of a commit that has finished: those that are live keep the entries that the commit leads to
 pub record IsFinished (kept kept' : Entries) (held : Held) : Type 0 where
   pub live : kept'.live ≡ erased_live kept.live held.erased.items
@@ -85,8 +78,8 @@ pub record IsFinished (kept kept' : Entries) (held : Held) : Type 0 where
   pub slots : kept'.slots ≡ kept.slots
 
 -- nothing is left to drop where all was made
-all_made : (writes : List Write) (made : ℕ) → drop made writes ≡ [] → take made writes ≡ writes
-all_made writes made none = take_all made writes (let left : length (drop made writes) ≡ 0 = ap length none in let size : length (drop made writes) ≡ length writes - made = length-drop made writes in omega arith)
+took_all : (writes : List Write) (made : ℕ) → drop made writes ≡ [] → take made writes ≡ writes
+took_all writes made none = take_all made writes (let left : length (drop made writes) ≡ 0 = ap length none in let size : length (drop made writes) ≡ length writes - made = length-drop made writes in omega arith)
 
 finished_arranged : (mode : Mode) (bits : FieldBits) (rules : List Rule) (kept kept' : Entries) (held : Held) → IsFinished kept kept' held
     → IsArranged mode bits rules (changed_by kept held.rewrites.items held.erased.items) held.arrangement → IsArranged mode bits rules kept' held.arrangement
@@ -119,17 +112,18 @@ module _ (translation translation' : Option Translation) (rules rules' : StoredR
   }
 
   -- the state stays where the last write was made, and is that of the entries as they are arranged then
-  pub finish_steps : (placement : Placement) → drop held.made (held_writes kept.entries held) ≡ []
-      → StepsOn (view_of placement translation rules kept slots (Some held)) (held_of rules.rules kept.entries held) (drop held.made (held_writes kept.entries held)) (Finished held.counts) (view_of placement translation' rules' kept' held.arrangement None)
-  finish_steps placement none =
+  pub finish_steps : (placement : Placement) (words : ℕ) → with_drain held.awaits (drop held.made (held_writes kept.entries held)) ≡ []
+      → StepsOn (view_of placement translation rules kept slots (Some held)) (held_of translation slots rules.rules kept.entries held) words (with_drain held.awaits (drop held.made (held_writes kept.entries held))) (Finished held.counts) (view_of placement translation' rules' kept' held.arrangement None)
+  finish_steps placement words over =
+      let none : drop held.made (held_writes kept.entries held) ≡ [] = (all_made held.awaits (drop held.made (held_writes kept.entries held)) over).1 in
       let carried = managed.carried in
       let size : length held.arrangement ≡ length slots = carried.after.settled.size ∙ sym carried.old.settled.size in
       let state : settled_state translation' kept'.entries held.arrangement ≡ state_of translation kept.entries slots (Some held) =
       ap₂ (λ (t : Option Translation) (e : List (Option Entry)). with_slots (tables_of t) e) turned
       (contents_kept kept'.live (rewritten_entries kept.entries held.rewrites.items) kept'.entries held.arrangement finished.entries
       (settled_live kept' held.arrangement (finished_arranged (mode_of translation) (bits_after rules.rules held) (set_after rules.rules held.batch) kept kept' held finished carried.after).settled))
-      ∙ (sym carried.leads ∙ ap (state_after (settled_state translation kept.entries slots)) (sym (all_made (held_writes kept.entries held) held.made none))) in
-      subst (λ (left : List Write). StepsOn (view_of placement translation rules kept slots (Some held)) (held_of rules.rules kept.entries held) left (Finished held.counts) (view_of placement translation' rules' kept' held.arrangement None)) (sym none) (
+      ∙ (sym carried.leads ∙ ap (state_after (settled_state translation kept.entries slots)) (sym (took_all (held_writes kept.entries held) held.made none))) in
+      subst (λ (left : List Action). StepsOn (view_of placement translation rules kept slots (Some held)) (held_of translation slots rules.rules kept.entries held) words left (Finished held.counts) (view_of placement translation' rules' kept' held.arrangement None)) (sym over) (
         refl,
         ap₂ (λ (n : ℕ) (m : Mode). now n m (bits_of translation') rules'.rules (settled_state translation' kept'.entries held.arrangement)) size mode_is
             ∙ (ap₂ (λ (b : FieldBits) (r : List Rule). now (length slots) (mode_of translation) b r (settled_state translation' kept'.entries held.arrangement)) bits_is is
@@ -146,76 +140,13 @@ get-drop [] (suc n) = refl
 get-drop (write ∷ writes) zero = refl
 get-drop (write ∷ writes) (suc n) = get-drop writes n
 
-drop-read : (writes : List Write) (place : ℕ) (write : Write) → place < length writes → write ≡ get_or writes place write → drop place writes ≡ write ∷ drop (place + 1) writes
+pub drop-read : (writes : List Write) (place : ℕ) (write : Write) → place < length writes → write ≡ get_or writes place write → drop place writes ≡ write ∷ drop (place + 1) writes
 drop-read writes place write inside read =
     drop-cons writes place write inside ∙ ap₂ (λ (w : Write) (n : ℕ). w ∷ drop n writes) (sym read) (sym (add-one place))
 
 -- the writes of a commit under way are as many as the planned ones
 pub held_size : (entries : List (Option Entry)) (held : Held) → length (held_writes entries held) ≡ length held.writes.items
 held_size entries held = length-map held.writes.items (as_write entries held.rewrites.items)
-
--- with one write more made, the commit can be carried out still
-pub managed_made : (translation : Option Translation) (rules : StoredRules) (kept : Entries) (slots : Slots) (held : Held) → IsManaged translation rules kept slots (Some held) → held.made < length held.writes.items
-    → IsManaged translation rules kept slots (Some (record held { made = held.made + 1 }))
-managed_made translation rules kept slots held managed less =
-    let carried = managed.carried in
-    record {
-      right = managed.right;
-      is_set = managed.is_set;
-      tables = managed.tables;
-      translated = managed.translated;
-      carried = record {
-        before = carried.before;
-        coded = carried.coded;
-        during = carried.during;
-        old = carried.old;
-        after = carried.after;
-        leads = carried.leads;
-        tables = carried.tables;
-        translated = carried.translated;
-        hitless = carried.hitless;
-        made = omega arith;
-        in_use = carried.in_use;
-        right = carried.right;
-        sound = carried.sound;
-        room = carried.room;
-        changed = carried.changed;
-        gone = carried.gone;
-        once = carried.once;
-      };
-    }
-
--- with a next write not all were made
-pub made_inside : (entries : List (Option Entry)) (held : Held) (write : Write) → slice_get (drop held.made (held_writes entries held)) 0 ≡ Some write → held.made < length held.writes.items
-made_inside entries held write next =
-    let inside : held.made < length (held_writes entries held) = slice_get_within (held_writes entries held) held.made write (sym (get-drop (held_writes entries held) held.made) ∙ next) in
-    let size : length (held_writes entries held) ≡ length held.writes.items = held_size entries held in
-    omega arith
-
--- the first of the writes that are left was made
-pub advance_steps : (placement : Placement) (translation : Option Translation) (rules : StoredRules) (kept : Entries) (slots : Slots) (held : Held) (write : Write)
-    → slice_get (drop held.made (held_writes kept.entries held)) 0 ≡ Some write
-    → StepsOn (view_of placement translation rules kept slots (Some held)) (held_of rules.rules kept.entries held) (drop held.made (held_writes kept.entries held)) (Wrote write)
-    (view_of placement translation rules kept slots (Some (record held { made = held.made + 1 })))
-advance_steps placement translation rules kept slots held write next =
-    let writes : List Write = held_writes kept.entries held in
-    let read : slice_get writes held.made ≡ Some write = sym (get-drop writes held.made) ∙ next in
-    let state : state_of translation kept.entries slots (Some (record held { made = held.made + 1 })) ≡ apply (state_of translation kept.entries slots (Some held)) write =
-    ap (state_after (settled_state translation kept.entries slots)) (take-read writes held.made write read)
-    ∙ fold-append apply (settled_state translation kept.entries slots) (take held.made writes) (write ∷ []) in
-    subst (λ (w : List Write). StepsOn (view_of placement translation rules kept slots (Some held)) (held_of rules.rules kept.entries held) w (Wrote write)
-    (view_of placement translation rules kept slots (Some (record held { made = held.made + 1 })))) (sym (drop-read writes held.made write (slice_get_within writes held.made write read) (sym (get_or_from_slice_get writes held.made write write read)))) (
-      refl,
-      ap (λ (s : State). record {
-        slots = length slots;
-        mode = mode_of translation;
-        placement = placement;
-        rules = rules.rules;
-        bits = bits_of translation;
-        state = s;
-        held = Some (held_of rules.rules kept.entries (record held { made = held.made + 1 }));
-      }) state,
-    )
 
 -- as many slots as are in use
 pub state_size : (translation : Option Translation) (kept : Entries) (slots : Slots) (held : Option Held) → length (state_of translation kept.entries slots held).slots ≡ length slots

@@ -1,5 +1,5 @@
 -- A manager that holds the plan of a batch: it can carry it out, and callers see it as the batch's segment.
-use Rattle.std.proofs.Common.{◌≡◌, ℕ, ◌^◌, ◌≤◌, List, length, take, drop, Option, Some, None, refl, sym, ap, ap₂, subst, ◌∙◌, arith}
+use Rattle.std.proofs.Common.{◌≡◌, ℕ, ◌+◌, ◌*◌, ◌-◌, ◌≤◌, Bool, true, false, List, [], length, take, drop, inl, Option, Some, None, refl, sym, ap, ap₂, subst, ◌∙◌, arith, length-drop}
 use Rattle.std.specs.List.{AllByRecursion}
 use Rattle.slot_pool.specs.Arrangement.{Slots}
 use Rattle.rule_model.specs.declared.Rule.{Rule}
@@ -7,27 +7,36 @@ use Rattle.rule_model.specs.Rule.{HasConditions}
 use Rattle.rule_model.specs.RuleSet.{IsRuleSet}
 use Rattle.rule_store.specs.declared.Mode.{Mode}
 use Rattle.rule_store.specs.declared.Command.{Command}
-use Rattle.rule_store.specs.Batch.{IsSound, set_after}
+use Rattle.rule_store.specs.Batch.{ChangesRules, IsSound, set_after}
 use Rattle.rule_store.specs.Store.{StoredRules}
 use Rattle.tcam_device.specs.declared.Write.{Write}
-use Rattle.tcam_device.specs.State.{State, IsInUse, state_after, on_device}
-use Rattle.tcam_device.specs.Insertion.{insertions, IsUncrossed}
-use Rattle.tcam_device.specs.Hitless.{KeepsOldOrNew}
-use Rattle.commit_writes.specs.Bits.{FieldBits, bits_with, bits_left}
-use Rattle.commit_writes.specs.Serving.{AreBitsOf}
-use Rattle.commit_writes.specs.Commit.{IsSegment, AreCounts}
+use Rattle.tcam_device.specs.declared.Action.{Action}
+use Rattle.tcam_device.specs.Flight.{writes_in}
+use Rattle.tcam_device.specs.State.{State, state_after, on_device}
+use Rattle.commit_writes.specs.Actions.{have_bits, with_drain}
+use Rattle.commit_writes.specs.Bits.{FieldBits, bits_with, bits_left, new_bits}
+use Rattle.commit_writes.specs.Serving.{AreBitsOf, HaveFreeBits}
+use Rattle.commit_writes.specs.Commit.{IsSegment}
+use Rattle.commit_writes.specs.Undo.{undo_writes}
 use Rattle.commit_writes.specs.PlannedBatch.{IsPlannedSegment, erased_slots, rewritten_entries}
 use Rattle.commit_writes.proofs.BatchRules.{right_after}
-use Rattle.batch_order.specs.declared.manager.Held.{Held}
+use Rattle.commit_writes.proofs.Undone.{length-undo_writes}
+use Rattle.batch_order.specs.declared.held.Held.{Held}
 use Rattle.batch_order.specs.declared.translation.Translation.{Translation}
 use Rattle.batch_order.specs.declared.Ready.{Ready}
 use Rattle.batch_order.specs.declared.Placement.{Placement}
-use Rattle.batch_order.specs.Entries.{Entries}
-use Rattle.batch_order.specs.Kept.{IsManaged, IsArranged, bits_of, changed_by, held_of, held_writes, mode_of, settled_state, tables_of, translation_after}
+use Rattle.batch_order.specs.Entries.{AddsIds, Entries}
+use Rattle.batch_order.specs.Planning.{as_writes}
+use Rattle.batch_order.specs.Restoring.{restorings}
+use Rattle.batch_order.proofs.Refused.{adds_first, adds_last}
+use Rattle.batch_order.specs.Kept.{IsManaged, IsArranged, bits_of, changed_by, during_of, held_of, held_writes, mode_of, settled_state, tables_of, translation_after}
 use Rattle.batch_order.specs.Kept as kept
-use Rattle.batch_order.specs.Managed.{Holds, ready_of}
+use Rattle.batch_order.specs.Managed.{HeldCommit, Holds, commit_of, ready_of, room_both_ways}
 use Rattle.batch_order.proofs.Unchanged.{arranged_same}
-use Rattle.batch_order.proofs.Carried.{view_of}
+use Rattle.batch_order.proofs.Carried.{held_size, view_of}
+use Rattle.batch_order.proofs.Drains.{length_drain, writes_left_are}
+use Rattle.batch_order.proofs.Left.{forward_actions}
+use Rattle.batch_order.proofs.Stepped.{both_on}
 use Rattle.batch_order.proofs.Taken.{IsCoded, IsPlanOf, during_by}
 use Rattle.batch_order.proofs.Leading.{parts_of, arranged_then, same_contents, same_state, plan_leads, plan_tables, plan_bits, plan_segment, few_planned}
 
@@ -36,6 +45,11 @@ pub record IsHeldPlan (placement : Placement) (translation : Option Translation)
   pub plan : IsPlanOf placement translation rules old new slots middle batch held.rewrites.items held.erased.items (held_writes new.entries held) held.counts
   pub same : rules'.rules ≡ rules.rules
   pub made : held.made ≡ 0
+  pub awaits : held.awaits ≡ have_bits (new_bits (bits_of translation) (during_of held.bits))
+  pub undrained : held.drained ≡ false
+  pub forward : held.turned ≡ None
+  pub undo : as_writes new.entries held.rewrites.items held.undo.items ≡ restorings (settled_state translation new.entries slots) (held_writes new.entries held)
+  pub adds : AddsIds old new held.ids.items
   pub batch_is : held.batch ≡ batch
   pub coded : IsCoded translation rules batch held.bits
 
@@ -98,13 +112,23 @@ module _ (placement : Placement) (translation : Option Translation) (rules rules
           tables = plan_tables placement translation rules old new slots middle batch held.rewrites.items held.erased.items writes held.counts plan held.bits (set_after rules'.rules held.batch) holds.coded.coded;
           translated = of_left (λ b set. AreBitsOf mode b set (tables_of (translation_after translation rules'.rules new.entries held)))
               (plan_bits placement translation rules old new slots middle batch held.rewrites.items held.erased.items writes held.counts plan held.bits (set_after rules'.rules held.batch) holds.coded.coded);
-          hitless = λ device_slots wide.
-              subst (λ (old_set : List Rule). KeepsOldOrNew old_set (set_after rules'.rules held.batch) (on_device device_slots begun) writes) (sym holds.same)
-              (subst (λ (new_set : List Rule). KeepsOldOrNew rules.rules new_set (on_device device_slots begun) writes) (sym sets)
-              (subst (λ (s : State). KeepsOldOrNew rules.rules (set_after rules.rules batch) (on_device device_slots s) writes) (sym same_begun) (made_by device_slots).segment.hitless.on_the_way));
+          segment = λ device_slots wide.
+              subst (λ (old_set : List Rule). IsSegment mode bits old_set held.batch (on_device device_slots begun) writes) (sym holds.same)
+              (subst (λ (b : List Command). IsSegment mode bits rules.rules b (on_device device_slots begun) writes) (sym holds.batch_is)
+              (subst (λ (s : State). IsSegment mode bits rules.rules batch (on_device device_slots s) writes) (sym same_begun) (made_by device_slots).segment));
+          words = plan.numbers.words;
+          early = λ still. (let none = holds.made in omega arith);
+          late = λ is. absurd (let clash : true ≡ false = sym is ∙ holds.undrained in cc);
+          undrained = λ not. inl (let none = holds.made in omega arith);
+          drains = λ forward none not. sym holds.awaits ∙ none;
+          undo = holds.undo;
+          added = adds_last old new held.ids.items holds.adds;
+          before_is = sym (adds_first old new held.ids.items holds.adds);
           made = (let none = holds.made in omega arith);
           in_use = plan.in_use;
           right = subst (AllByRecursion HasConditions) (sym sets) (right_after rules.rules batch plan.taken.change);
+          changes = subst (AllByRecursion ChangesRules) (sym holds.batch_is) plan.taken.change.changes;
+          few = subst (λ (set : List Rule). HaveFreeBits mode set held.batch) (sym holds.same) (subst (λ (b : List Command). HaveFreeBits mode rules.rules b) (sym holds.batch_is) plan.taken.room.free);
           sound = subst (λ (set : List Rule). IsSound set held.batch) (sym holds.same) (subst (λ (b : List Command). IsSound rules.rules b) (sym holds.batch_is) plan.taken.change.sound);
           room = (let size : length held.batch ≡ length batch = ap length holds.batch_is in omega arith);
           changed = parts.changed;
@@ -118,15 +142,15 @@ module _ (placement : Placement) (translation : Option Translation) (rules rules
   holds_plan ready counts =
       let plan = holds.plan in
       record {
-        held = held_of rules'.rules new.entries held;
-        new_is = ap₂ (λ (r : List Rule) (s : State). record { slots = length slots; mode = mode; placement = placement; rules = r; bits = bits; state = s; held = Some (held_of rules'.rules new.entries held) }) holds.same
-            (ap (λ (n : ℕ). state_after begun (take n writes)) holds.made ∙ same_begun);
-        rules = sets;
-        bits = left;
-        counts = counts;
-        in_use = subst (AllByRecursion (IsInUse (length slots))) (sym all) plan.in_use;
-        few = subst (λ (w : List Write). length w ≤ 2 ^ 39) (sym all) (few_planned placement translation rules old new slots middle batch held.rewrites.items held.erased.items writes held.counts plan);
-        segment = λ device_slots wide. subst (λ (w : List Write). IsSegment mode bits rules.rules batch (on_device device_slots before) w) (sym all) (made_by device_slots).segment;
+        made = writes;
+        counts = held.counts;
+        new_is = ap₂ (λ (r : List Rule) (s : State). record { slots = length slots; mode = mode; placement = placement; rules = r; bits = bits; state = s; held = Some (held_of translation slots rules'.rules new.entries held) }) holds.same
+            (ap (λ (n : ℕ). state_after begun (take n writes)) holds.made ∙ same_begun)
+            ∙ ap (λ (h : HeldCommit). record { slots = length slots; mode = mode; placement = placement; rules = rules.rules; bits = bits; state = before; held = Some h }) commit_is;
+        ready_is = counts;
+        in_use = plan.in_use;
+        few = few_planned placement translation rules old new slots middle batch held.rewrites.items held.erased.items writes held.counts plan;
+        segment = λ device_slots wide. (made_by device_slots).segment;
         placed = record {
           live = old.live;
           arrangement = slots;
@@ -137,11 +161,47 @@ module _ (placement : Placement) (translation : Option Translation) (rules rules
           stands = sym (same_contents placement translation rules old new slots middle batch held.rewrites.items held.erased.items writes held.counts plan);
           commit = plan.commit;
           aims = plan.aims;
-          writes_are = all ∙ plan.writes_are;
+          writes_are = plan.writes_are;
         };
-        numbers = λ device_slots wide. subst (λ (w : List Write). AreCounts (on_device device_slots before) w held.counts) (sym all) (made_by device_slots).numbers;
-        uncrossed = λ device_slots wide routes changes. subst (λ (w : List Write). IsUncrossed 33 (insertions (on_device device_slots before) w)) (sym all) ((made_by device_slots).uncrossed routes changes);
+        numbers = λ device_slots wide. (made_by device_slots).numbers;
+        uncrossed = λ device_slots wide version routes changes. (made_by device_slots).uncrossed version routes changes;
       }
     where
-      all : drop held.made writes ≡ writes
-      all = ap (λ (n : ℕ). drop n writes) holds.made
+      commit : Option ℕ → Bool → List Write → List Write → FieldBits → FieldBits → FieldBits → List Rule → HeldCommit
+      commit turned awaits all undo meanwhile behind current set = record {
+        actions = with_drain awaits all;
+        undo = undo;
+        turned = turned;
+        counts = held.counts;
+        rules = set;
+        during = meanwhile;
+        bits = behind;
+        current = current;
+      }
+
+      drains : held.awaits ≡ have_bits (new_bits bits (during_by translation rules batch))
+      drains = holds.awaits ∙ ap (λ b. have_bits (new_bits bits b)) holds.coded.during
+
+      commit_is : held_of translation slots rules'.rules new.entries held ≡ commit_of (view_of placement translation rules old slots None) batch writes held.counts
+      commit_is =
+          ap (λ (t : Option ℕ). commit t held.awaits (drop (elim t [ None ↦ held.made | Some undone ↦ undone ]) writes) (undo_writes begun (take held.made writes)) (during_of held.bits) (kept.bits_after rules'.rules held) (elim held.drained [ true ↦ during_of held.bits | false ↦ bits ]) (set_after rules'.rules held.batch)) holds.forward
+          ∙ ap₂ (λ (n : ℕ) (b : Bool). commit None held.awaits (drop n writes) (undo_writes begun (take n writes)) (during_of held.bits) (kept.bits_after rules'.rules held) (elim b [ true ↦ during_of held.bits | false ↦ bits ]) (set_after rules'.rules held.batch)) holds.made holds.undrained
+          ∙ ap₂ (λ (b : Bool) (d : FieldBits). commit None b writes [] d (kept.bits_after rules'.rules held) bits (set_after rules'.rules held.batch)) drains holds.coded.during
+          ∙ ap₂ (λ (l : FieldBits) (r : List Rule). commit None (have_bits (new_bits bits (during_by translation rules batch))) writes [] (during_by translation rules batch) l bits r) left sets
+
+  -- and the room for it, forward and back
+  pub held_room : (spare : ℕ) → 2 * length held.writes.items + 1 ≤ spare → room_both_ways (held_of translation slots rules'.rules new.entries held) ≤ spare
+  held_room spare enough =
+      let size : length writes ≡ length held.writes.items = held_size new.entries held in
+      let none = holds.made in
+      let left : length (drop held.made writes) ≡ length writes - held.made = length-drop held.made writes in
+      let actions : length (with_drain held.awaits (drop held.made writes)) ≤ length (drop held.made writes) + 1 = length_drain held.awaits (drop held.made writes) in
+      let all : length (writes_in (with_drain held.awaits (drop held.made writes))) ≡ length (drop held.made writes) = ap length (writes_left_are held.awaits (drop held.made writes)) in
+      let undo : length (undo_writes begun (take held.made writes)) ≡ length (take held.made writes) = length-undo_writes begun (take held.made writes) in
+      let taken : length (take held.made writes) ≡ 0 = ap (λ n. length (take n writes)) holds.made in
+      let one : HeldCommit = held_of translation slots rules'.rules new.entries held in
+      let shape : room_both_ways one
+      ≡ length (with_drain held.awaits (drop held.made writes)) + (length (writes_in (with_drain held.awaits (drop held.made writes))) + length (undo_writes begun (take held.made writes))) =
+      both_on one holds.forward
+      ∙ ap (λ (some : List Action). length some + (length (writes_in some) + length (undo_writes begun (take held.made writes)))) (forward_actions translation rules' new slots held holds.forward) in
+      omega arith

@@ -19,7 +19,7 @@ use Rattle.commit_writes.specs.Bits.{FieldBits, bits_with}
 use Rattle.commit_writes.specs.Serving.{AreRangesOf, HaveFreeBits}
 use Rattle.translation_tables.specs.Needed.{ranges_in, ranges_needed, with_needed}
 use Rattle.translation_tables.proofs.RulesBits.{AreLive, are_live, live_count-coded, with_needed-new, without_bits-new}
-use Rattle.batch_order.specs.declared.manager.Held.{Held}
+use Rattle.batch_order.specs.declared.held.Held.{Held}
 use Rattle.batch_order.specs.declared.translation.Translation.{Translation}
 use Rattle.batch_order.specs.declared.Refusal.{Refusal}
 use Rattle.batch_order.specs.declared.Refusal.TheVariants as refusal
@@ -177,9 +177,9 @@ idle_count translation rules kept slots managed =
     omega arith
 
 module _ (translation : Option Translation) (rules : StoredRules) (kept : Entries) (slots : Slots) (held : Option Held) (batch : List Command) (managed : IsManaged translation rules kept slots held)
-    (none : option_map (held_of rules.rules kept.entries) held ≡ None) where
+    (none : option_map (held_of translation slots rules.rules kept.entries) held ≡ None) where
   idle : IsManaged translation rules kept slots None
-  idle = subst (IsManaged translation rules kept slots) (idle_held (held_of rules.rules kept.entries) held none) managed
+  idle = subst (IsManaged translation rules kept slots) (idle_held (held_of translation slots rules.rules kept.entries) held none) managed
 
   -- the answer of an idle manager whose free slots are too few
   pub short_answer : free_slots slots < entries_added (mode_of translation) rules.rules batch

@@ -16,6 +16,9 @@ pub mod Translated
 pub mod Numbered
 pub mod Unchanged
 pub mod Carried
+pub mod Drains
+pub mod Left
+pub mod Stepped
 pub mod Begun
 pub mod Refused
 pub mod Judged
@@ -25,7 +28,15 @@ pub mod Holding
 pub mod Answered
 pub mod Aimed
 pub mod Padded
-mod Ahead
+pub mod Resting
+pub mod Turned
+pub mod WayBack
+pub mod Passed
+pub mod Ahead
 pub mod Served
 pub mod Onward
 pub mod Tried
+pub mod Restored
+pub mod Back
+pub mod Reverted
+pub mod Aborted

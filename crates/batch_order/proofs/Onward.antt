@@ -1,80 +1,325 @@
--- How far a commit has come while it is carried out.
-use Rattle.std.proofs.Common.{◌≡◌, List, [], ◌∷◌, ◌++◌, length, Some, None, Option, IsSome, refl, sym, ap, subst, ◌∙◌, append_assoc}
+-- How far a commit has come while it is carried out, forward or back.
+use Rattle.std.proofs.Common.{◌≡◌, ℕ, suc, ◌+◌, false, List, [], ◌∷◌, ◌++◌, length, map, drop, Some, None, Option, IsSome, IsTrue, refl, sym, ap, ap₂, subst, ◌∙◌, append-nil, append_assoc, arith}
+use Rattle.std.proofs.lemmas.List.{length-append}
 use Rattle.std.proofs.lemmas.List.Sums.{fold-append}
+use Rattle.rule_model.specs.declared.Rule.{Rule}
 use Rattle.tcam_device.specs.declared.Write.{Write}
+use Rattle.tcam_device.specs.declared.Action.{Action}
+use Rattle.tcam_device.specs.declared.Action.TheVariants.{Written, Drained}
 use Rattle.tcam_device.specs.State.{State, apply, state_after}
+use Rattle.tcam_device.specs.Flight.{writes_in}
+use Rattle.tcam_device.specs.Insertion.{is_table_write}
+use Rattle.commit_writes.specs.declared.Done.{Done}
+use Rattle.commit_writes.specs.Bits.{FieldBits}
+use Rattle.commit_writes.specs.Undo.{restoring}
+use Rattle.commit_writes.proofs.Actions.{writes_in-append, writes_of_map}
 use Rattle.batch_order.specs.declared.Step.{Step}
-use Rattle.batch_order.specs.declared.Step.TheVariants.{Wrote}
-use Rattle.batch_order.specs.Managed.{Managed, HeldCommit, Steps, StepsOn, next_of}
-use Rattle.batch_order.specs.CarriedOut.{StopsAt, ahead, ahead_of, writes_left}
+use Rattle.batch_order.specs.declared.Step.TheVariants as step
+use Rattle.batch_order.specs.Managed.{Managed, HeldCommit, actions_due, writes_due}
+use Rattle.batch_order.specs.Steps.{Steps, actions_of, awaits_drain, current_back, is_drain_next, next_of}
+use Rattle.batch_order.specs.CarriedOut.{GoesForward, Reverts, StopsAt, acted, acted_by, actions_left, ahead, ahead_of, back_by, done_of, finished_of, forward_by, writes_left}
+use Rattle.batch_order.proofs.Stepped.{HasStepped, stepped, written_on, drained_on, written_back}
 
--- the manager once these writes of a commit were made and those are left
-abbrev pub between : Managed → HeldCommit → List Write → List Write → Managed
-between old held made rest =
-    record old { state = state_after old.state made; held = Some (record held { writes = rest }) }
+-- what is left, forward and back
+due_on : (held : HeldCommit) → held.turned ≡ None → actions_due held ≡ held.actions
+due_on held turned = ap (λ (t : Option ℕ). elim t [ None ↦ held.actions | Some undone ↦ map Written held.undo ]) turned
 
--- some first part of a commit's writes was made
-pub record IsPart (old : Managed) (held : HeldCommit) (made : List Write) (now : Managed) : Type 0 where
-  pub rest : List Write
-  pub parts : made ++ rest ≡ held.writes
-  pub now_is : now ≡ between old held made rest
+due_back : (held : HeldCommit) (undone : ℕ) → held.turned ≡ Some undone → actions_due held ≡ map Written held.undo
+due_back held undone turned = ap (λ (t : Option ℕ). elim t [ None ↦ held.actions | Some undone ↦ map Written held.undo ]) turned
+
+-- its writes are those that are due
+pub due_writes : (held : HeldCommit) → writes_in (actions_due held) ≡ writes_due held
+due_writes held = go held.turned
+  where
+    go : (turned : Option ℕ) → writes_in (elim turned [ None ↦ held.actions | Some undone ↦ map Written held.undo ]) ≡ (elim turned [ None ↦ writes_in held.actions | Some undone ↦ held.undo ])
+    go None = refl
+    go (Some undone) = writes_of_map held.undo
+
+-- an action as the manager makes it
+acted_forward : (now : Managed) (one : HeldCommit) (action : Action) → now.held ≡ Some one → one.turned ≡ None → acted_by now action ≡ forward_by now one action
+acted_forward now one action under turned =
+    ap (λ (h : Option HeldCommit). elim h [ None ↦ now | Some held ↦ elim held.turned [ None ↦ forward_by now held action | Some undone ↦ back_by now held action ] ]) under
+    ∙ ap (λ (t : Option ℕ). elim t [ None ↦ forward_by now one action | Some undone ↦ back_by now one action ]) turned
+
+acted_back : (now : Managed) (one : HeldCommit) (undone : ℕ) (action : Action) → now.held ≡ Some one → one.turned ≡ Some undone → acted_by now action ≡ back_by now one action
+acted_back now one undone action under turned =
+    ap (λ (h : Option HeldCommit). elim h [ None ↦ now | Some held ↦ elim held.turned [ None ↦ forward_by now held action | Some undone ↦ back_by now held action ] ]) under
+    ∙ ap (λ (t : Option ℕ). elim t [ None ↦ forward_by now one action | Some undone ↦ back_by now one action ]) turned
+
+-- some first part of a commit's actions was made
+pub record IsPart (old : Managed) (held : HeldCommit) (made : List Action) (now : Managed) : Type 0 where
+  pub one : HeldCommit
+  pub under_way : now.held ≡ Some one
+  pub parts : made ++ actions_due one ≡ actions_due held
+  pub turned : one.turned ≡ held.turned
+  pub counts : one.counts ≡ held.counts
+  pub rules : one.rules ≡ held.rules
+  pub bits : one.bits ≡ held.bits
+  pub now_is : now ≡ record old { state = state_after old.state (writes_in made); held = Some one }
+  pub acted_is : now ≡ acted old made
 
 -- the same also where no commit is under way: then none was made, and nothing changed
-abbrev pub Onward : Managed → Option HeldCommit → List Write → Managed → Type 0
+abbrev pub Onward : Managed → Option HeldCommit → List Action → Managed → Type 0
 Onward old None made now = (made ≡ []) × (now ≡ old)
 Onward old (Some held) made now = IsPart old held made now
 
 pub start : (manager : Managed) (held : Option HeldCommit) → manager.held ≡ held → Onward manager held [] manager
 start manager None is = (refl, refl)
-start manager (Some held) is = record { rest = held.writes; parts = refl; now_is = ap (λ (h : Option HeldCommit). record manager { held = h }) is }
+start manager (Some held) is = record {
+  one = held;
+  under_way = is;
+  parts = refl;
+  turned = refl;
+  counts = refl;
+  rules = refl;
+  bits = refl;
+  now_is = ap (λ (h : Option HeldCommit). record manager { held = h }) is;
+  acted_is = refl;
+}
 
--- a step over the same manager
-over : (now now' new : Managed) (step : Step) → now ≡ now' → Steps now now.held step new → Steps now' now'.held step new
-over now now' new step is steps = subst (λ (m : Managed). Steps m m.held step new) is steps
+-- what one action of a commit under way leaves
+record HasActed (now : Managed) (one : HeldCommit) (action : Action) (new : Managed) : Type 0 where
+  next : HeldCommit
+  new_is : new ≡ record now { state = state_after now.state (writes_in (action ∷ [])); held = Some next }
+  due : actions_due one ≡ action ∷ actions_due next
+  turned : next.turned ≡ one.turned
+  counts : next.counts ≡ one.counts
+  rules : next.rules ≡ one.rules
+  bits : next.bits ≡ one.bits
+  acted_is : new ≡ acted_by now action
 
--- one write more
-pub wrote : (old now new : Managed) (held : Option HeldCommit) (made : List Write) (write : Write) → old.held ≡ held → Onward old held made now
-    → Steps now now.held (Wrote write) new → Onward old held (made ++ write ∷ []) new
-wrote old now new None made write is was steps =
-    let idle : Steps old old.held (Wrote write) new = over now old new (Wrote write) was.1 steps in
-    let none : Steps old None (Wrote write) new = subst (λ (h : Option HeldCommit). Steps old h (Wrote write) new) is idle in
-    absurd (let no = none.0 in cc)
-wrote old now new (Some held) made write is was steps = go was.rest was.parts (over now (between old held made was.rest) new (Wrote write) was.now_is steps)
-  where
-    go : (rest : List Write) → made ++ rest ≡ held.writes → StepsOn (between old held made rest) (record held { writes = rest }) rest (Wrote write) new
-        → IsPart old held (made ++ write ∷ []) new
-    go [] parts on = absurd (let no = on.0 in cc)
-    go (first ∷ rest) parts on =
-        let same : first ≡ write = (let is = on.0 in cc) in
-        let state : apply (state_after old.state made) first ≡ state_after old.state (made ++ write ∷ []) =
-        ap (apply (state_after old.state made)) same ∙ sym (fold-append apply old.state made (write ∷ [])) in
-        record {
-          rest = rest;
-          parts = append_assoc made (write ∷ []) rest ∙ (ap (λ (w : Write). made ++ w ∷ rest) (sym same) ∙ parts);
-          now_is = on.1 ∙ ap (λ (s : State). record old { state = s; held = Some (record held { writes = rest }) }) state;
-        }
+has_acted : (now : Managed) (words : ℕ) (one : HeldCommit) (made : Step) (new : Managed) (action : Action) → now.held ≡ Some one → actions_of made ≡ action ∷ []
+    → HasStepped now words one made new → HasActed now one action new
+has_acted now words one made new action under acts (HasStepped.End turned actions did is) = absurd (let clash : [] ≡ action ∷ [] = ap actions_of (sym did) ∙ acts in cc)
+has_acted now words one made new action under acts (HasStepped.On write actions turned rest did is) =
+    let read : Written write ∷ [] ≡ action ∷ [] = ap actions_of (sym did) ∙ acts in
+    let same : Written write ≡ action = cc in
+    let next : HeldCommit = record one { actions = actions; undo = restoring now.state write ∷ one.undo } in
+    let shape : actions_due one ≡ Written write ∷ actions_due next = due_on one turned ∙ rest ∙ ap (λ xs. Written write ∷ xs) (sym (due_on next turned)) in
+    subst (λ a. HasActed now one a new) same (record {
+      next = next;
+      new_is = is;
+      due = shape;
+      turned = refl;
+      counts = refl;
+      rules = refl;
+      bits = refl;
+      acted_is = is ∙ ap (λ xs. written_on now one write (drop 1 xs)) (sym rest) ∙ sym (acted_forward now one (Written write) under turned);
+    })
+has_acted now words one made new action under acts (HasStepped.Drain actions turned rest did is) =
+    let read : Drained ∷ [] ≡ action ∷ [] = ap actions_of (sym did) ∙ acts in
+    let same : Drained ≡ action = cc in
+    let next : HeldCommit = record one { actions = actions; current = one.during } in
+    let shape : actions_due one ≡ Drained ∷ actions_due next = due_on one turned ∙ rest ∙ ap (λ xs. Drained ∷ xs) (sym (due_on next turned)) in
+    subst (λ a. HasActed now one a new) same (record {
+      next = next;
+      new_is = is;
+      due = shape;
+      turned = refl;
+      counts = refl;
+      rules = refl;
+      bits = refl;
+      acted_is = is ∙ ap (λ xs. drained_on now one (drop 1 xs)) (sym rest) ∙ sym (acted_forward now one Drained under turned);
+    })
+has_acted now words one made new action under acts (HasStepped.Wait actions more turned rest flying did is) = absurd (let clash : [] ≡ action ∷ [] = ap actions_of (sym did) ∙ acts in cc)
+has_acted now words one made new action under acts (HasStepped.Back undone write undo turned rest did is) =
+    let read : Written write ∷ [] ≡ action ∷ [] = ap actions_of (sym did) ∙ acts in
+    let same : Written write ≡ action = cc in
+    let next : HeldCommit = record one { undo = undo; current = current_back now.bits one.current (is_table_write write) } in
+    let shape : actions_due one ≡ Written write ∷ actions_due next = due_back one undone turned ∙ ap (map Written) rest ∙ ap (λ xs. Written write ∷ xs) (sym (due_back next undone turned)) in
+    subst (λ a. HasActed now one a new) same (record {
+      next = next;
+      new_is = is;
+      due = shape;
+      turned = refl;
+      counts = refl;
+      rules = refl;
+      bits = refl;
+      acted_is = is ∙ ap (λ xs. written_back now one write (drop 1 xs)) (sym rest) ∙ sym (acted_back now one undone (Written write) under turned);
+    })
+has_acted now words one made new action under acts (HasStepped.Revert undone turned rest did is) = absurd (let clash : [] ≡ action ∷ [] = ap actions_of (sym did) ∙ acts in cc)
 
--- where the next write failed
-pub stops : (old now : Managed) (held : Option HeldCommit) (made before after : List Write) → old.held ≡ held → Onward old held made now
-    → IsSome (next_of now.held) → after ≡ before ++ made → StopsAt old now before after (length (writes_left now.held))
+-- a step of the commit that is under way
+over : (now new : Managed) (words : ℕ) (one : HeldCommit) (made : Step) → now.held ≡ Some one → Steps now words now.held made new → HasStepped now words one made new
+over now new words one made under steps = stepped now words one made new (subst (λ (h : Option HeldCommit). Steps now words h made new) under steps)
+
+-- one action more
+pub acts_on : (old now new : Managed) (words : ℕ) (held : Option HeldCommit) (made : List Action) (did : Step) (action : Action) → old.held ≡ held → Onward old held made now
+    → actions_of did ≡ action ∷ [] → Steps now words now.held did new → Onward old held (made ++ action ∷ []) new
+acts_on old now new words None made did action is was acts steps =
+    let none : now.held ≡ None = ap (λ (m : Managed). m.held) was.1 ∙ is in
+    let idle : Steps now words None did new = subst (λ (h : Option HeldCommit). Steps now words h did new) none steps in
+    absurd (let clash : [] ≡ action ∷ [] = ap actions_of (sym idle.0) ∙ acts in cc)
+acts_on old now new words (Some held) made did action is was acts steps =
+    let more = has_acted now words was.one did new action was.under_way acts (over now new words was.one did was.under_way steps) in
+    let state : state_after (state_after old.state (writes_in made)) (writes_in (action ∷ [])) ≡ state_after old.state (writes_in (made ++ action ∷ [])) =
+    sym (ap (state_after old.state) (writes_in-append made (action ∷ [])) ∙ fold-append apply old.state (writes_in made) (writes_in (action ∷ []))) in
+    record {
+      one = more.next;
+      under_way = ap (λ (m : Managed). m.held) more.new_is;
+      parts = append_assoc made (action ∷ []) (actions_due more.next) ∙ (ap (λ xs. made ++ xs) (sym more.due) ∙ was.parts);
+      turned = more.turned ∙ was.turned;
+      counts = more.counts ∙ was.counts;
+      rules = more.rules ∙ was.rules;
+      bits = more.bits ∙ was.bits;
+      now_is =
+          more.new_is ∙ ap (λ (m : Managed). record m { state = state_after m.state (writes_in (action ∷ [])); held = Some more.next }) was.now_is
+          ∙ ap (λ (s : State). record old { state = s; held = Some more.next }) state;
+      acted_is = more.acted_is ∙ (ap (λ (m : Managed). acted_by m action) was.acted_is ∙ sym (fold-append acted_by old made (action ∷ [])));
+    }
+
+-- where it stops
+stopped : (old now : Managed) (held : HeldCommit) (made : List Action) (before after : List Write) → old.held ≡ Some held → IsPart old held made now → after ≡ before ++ writes_in made
+    → StopsAt old now before after (length (writes_left now.held))
+stopped old now held made before after is was journal = record {
+  held = held;
+  under_way = is;
+  made = made;
+  rest = actions_due was.one;
+  parts = was.parts;
+  rest_is = ap actions_left was.under_way;
+  left_is = refl;
+  new_is = was.acted_is;
+  state_is = ap (λ (m : Managed). m.state) was.now_is;
+  journal = journal;
+}
+
+pub stops : (old now : Managed) (held : Option HeldCommit) (made : List Action) (before after : List Write) → old.held ≡ held → Onward old held made now
+    → IsSome (next_of now.held) → after ≡ before ++ writes_in made → StopsAt old now before after (length (writes_left now.held))
 stops old now None made before after is was some journal =
     let none : now.held ≡ None = ap (λ (m : Managed). m.held) was.1 ∙ is in
-    absurd (let no : IsSome (next_of None) = subst (λ (h : Option HeldCommit). IsSome (next_of h)) none some in cc)
-stops old now (Some held) made before after is was some journal = go was.rest was.parts was.now_is
+    absurd (let clash : IsSome (next_of None) = subst (λ (h : Option HeldCommit). IsSome (next_of h)) none some in cc)
+stops old now (Some held) made before after is was some journal = stopped old now held made before after is was journal
+
+-- where it waits
+pub record IsWaiting (old now new : Managed) (before after : List Write) (words waiting : ℕ) : Type 0 where
+  pub stays : new ≡ now
+  pub at : StopsAt old now before after (length (writes_left now.held))
+  pub next : IsTrue (awaits_drain now.held)
+  pub flying : waiting ≡ words
+  pub some : words ≡ 0 → ⊥
+
+pub waiting : (old now new : Managed) (words count : ℕ) (held : Option HeldCommit) (made : List Action) (before after : List Write) → old.held ≡ held → Onward old held made now
+    → Steps now words now.held (step.Waiting count) new → after ≡ before ++ writes_in made → IsWaiting old now new before after words count
+waiting old now new words count None made before after is was steps journal =
+    let none : now.held ≡ None = ap (λ (m : Managed). m.held) was.1 ∙ is in
+    let idle : Steps now words None (step.Waiting count) new = subst (λ (h : Option HeldCommit). Steps now words h (step.Waiting count) new) none steps in
+    absurd (let clash = idle.0 in cc)
+waiting old now new words count (Some held) made before after is was steps journal = go (over now new words was.one (step.Waiting count) was.under_way steps)
   where
-    go : (rest : List Write) → made ++ rest ≡ held.writes → now ≡ between old held made rest → StopsAt old now before after (length (writes_left now.held))
-    go [] parts now_is = absurd (let no : IsSome (next_of (between old held made []).held) = subst (λ (m : Managed). IsSome (next_of m.held)) now_is some in cc)
-    go (due ∷ rest) parts now_is = record {
-      held = held;
-      under_way = is;
-      made = made;
-      due = due;
-      rest = rest;
-      parts = parts;
-      left_is = ap (λ (m : Managed). length (writes_left m.held)) now_is;
-      new_is = now_is;
-      journal = journal;
+    go : HasStepped now words was.one (step.Waiting count) new → IsWaiting old now new before after words count
+    go (HasStepped.End turned actions did new_is) = absurd (let clash = did in cc)
+    go (HasStepped.On write actions turned rest did new_is) = absurd (let clash = did in cc)
+    go (HasStepped.Drain actions turned rest did new_is) = absurd (let clash = did in cc)
+    go (HasStepped.Wait actions more turned rest flying did new_is) = record {
+      stays = new_is;
+      at = stopped old now held made before after is was journal;
+      next =
+          ap awaits_drain was.under_way ∙ ap (λ (t : Option ℕ). elim t [ None ↦ is_drain_next was.one.actions | Some undone ↦ false ]) turned ∙ ap is_drain_next rest;
+      flying = (let same : count ≡ suc more = cc in same ∙ sym flying);
+      some = λ none. absurd (let clash : suc more ≡ 0 = sym flying ∙ none in cc);
     }
+    go (HasStepped.Back undone write undo turned rest did new_is) = absurd (let clash = did in cc)
+    go (HasStepped.Revert undone turned rest did new_is) = absurd (let clash = did in cc)
+
+-- where it ends: all actions were made
+pub record HasEnded (old new : Managed) (held : Option HeldCommit) (made : List Action) (done : Done) : Type 0 where
+  pub forward : GoesForward held
+  pub all : made ≡ actions_left held
+  pub writes : writes_in made ≡ writes_left held
+  pub done_is : done ≡ done_of held
+  pub new_is : new ≡ finished_of held old
+  pub idle : new.held ≡ None
+
+pub ended : (old now new : Managed) (words : ℕ) (done : Done) (held : Option HeldCommit) (made : List Action) → old.held ≡ held → Onward old held made now
+    → Steps now words now.held (step.Finished done) new → HasEnded old new held made done
+ended old now new words done None made is was steps =
+    let none : now.held ≡ None = ap (λ (m : Managed). m.held) was.1 ∙ is in
+    let idle : Steps now words None (step.Finished done) new = subst (λ (h : Option HeldCommit). Steps now words h (step.Finished done) new) none steps in
+    absurd (let clash = idle.0 in cc)
+ended old now new words done (Some held) made is was steps = go (over now new words was.one (step.Finished done) was.under_way steps)
+  where
+    go : HasStepped now words was.one (step.Finished done) new → HasEnded old new (Some held) made done
+    go (HasStepped.End turned actions did new_is) =
+        let all : made ≡ actions_due held = sym (append-nil made) ∙ ap (λ xs. made ++ xs) (sym (due_on was.one turned ∙ actions)) ∙ was.parts in
+        let writes : writes_in made ≡ writes_due held = ap writes_in all ∙ due_writes held in
+        record {
+          forward = sym was.turned ∙ turned;
+          all = all;
+          writes = writes;
+          done_is = (let same : done ≡ was.one.counts = cc in same ∙ was.counts);
+          new_is =
+              new_is ∙ ap (λ (m : Managed). record m { rules = was.one.rules; bits = was.one.bits; held = None }) was.now_is
+              ∙ ap₂ (λ (r : List Rule) (b : FieldBits). record old { rules = r; bits = b; state = state_after old.state (writes_in made); held = None }) was.rules was.bits
+              ∙ ap (λ (ws : List Write). record old { rules = held.rules; bits = held.bits; state = state_after old.state ws; held = None }) writes;
+          idle = ap (λ (m : Managed). m.held) new_is;
+        }
+    go (HasStepped.On write actions turned rest did new_is) = absurd (let clash = did in cc)
+    go (HasStepped.Drain actions turned rest did new_is) = absurd (let clash = did in cc)
+    go (HasStepped.Wait actions more turned rest flying did new_is) = absurd (let clash = did in cc)
+    go (HasStepped.Back undone write undo turned rest did new_is) = absurd (let clash = did in cc)
+    go (HasStepped.Revert undone turned rest did new_is) = absurd (let clash = did in cc)
+
+-- where none was under way
+pub idled : (old now new : Managed) (words : ℕ) (held : Option HeldCommit) (made : List Action) → old.held ≡ held → Onward old held made now
+    → Steps now words now.held step.Idle new → HasEnded old new held made (record { writes = 0; words = 0; most = 0; span = 0 })
+idled old now new words None made is was steps =
+    let none : now.held ≡ None = ap (λ (m : Managed). m.held) was.1 ∙ is in
+    let idle : Steps now words None step.Idle new = subst (λ (h : Option HeldCommit). Steps now words h step.Idle new) none steps in
+    record {
+      forward = tt;
+      all = was.0;
+      writes = ap writes_in was.0;
+      done_is = refl;
+      new_is = idle.1 ∙ was.1 ∙ ap (λ (h : Option HeldCommit). record old { held = h }) is;
+      idle = ap (λ (m : Managed). m.held) (idle.1 ∙ was.1) ∙ is;
+    }
+idled old now new words (Some held) made is was steps = go (over now new words was.one step.Idle was.under_way steps)
+  where
+    go : HasStepped now words was.one step.Idle new → HasEnded old new (Some held) made (record { writes = 0; words = 0; most = 0; span = 0 })
+    go (HasStepped.End turned actions did new_is) = absurd (let clash = did in cc)
+    go (HasStepped.On write actions turned rest did new_is) = absurd (let clash = did in cc)
+    go (HasStepped.Drain actions turned rest did new_is) = absurd (let clash = did in cc)
+    go (HasStepped.Wait actions more turned rest flying did new_is) = absurd (let clash = did in cc)
+    go (HasStepped.Back undone write undo turned rest did new_is) = absurd (let clash = did in cc)
+    go (HasStepped.Revert undone turned rest did new_is) = absurd (let clash = did in cc)
+
+-- where it was taken back: all undo writes were made
+pub record HasReverted (old new : Managed) (made : List Action) (before after : List Write) (undone : ℕ) : Type 0 where
+  pub reverts : Reverts old new before after undone
+  pub all : made ≡ actions_left old.held
+  pub idle : new.held ≡ None
+
+pub reverted : (old now new : Managed) (words undone : ℕ) (held : Option HeldCommit) (made : List Action) (before after : List Write) → old.held ≡ held → Onward old held made now
+    → Steps now words now.held (step.Reverted undone) new → after ≡ before ++ writes_in made → HasReverted old new made before after undone
+reverted old now new words undone None made before after is was steps journal =
+    let none : now.held ≡ None = ap (λ (m : Managed). m.held) was.1 ∙ is in
+    let idle : Steps now words None (step.Reverted undone) new = subst (λ (h : Option HeldCommit). Steps now words h (step.Reverted undone) new) none steps in
+    absurd (let clash = idle.0 in cc)
+reverted old now new words undone (Some held) made before after is was steps journal = go (over now new words was.one (step.Reverted undone) was.under_way steps)
+  where
+    go : HasStepped now words was.one (step.Reverted undone) new → HasReverted old new made before after undone
+    go (HasStepped.End turned actions did new_is) = absurd (let clash = did in cc)
+    go (HasStepped.On write actions turned rest did new_is) = absurd (let clash = did in cc)
+    go (HasStepped.Drain actions turned rest did new_is) = absurd (let clash = did in cc)
+    go (HasStepped.Wait actions more turned rest flying did new_is) = absurd (let clash = did in cc)
+    go (HasStepped.Back count write undo turned rest did new_is) = absurd (let clash = did in cc)
+    go (HasStepped.Revert count turned rest did new_is) =
+        let way : held.turned ≡ Some count = sym was.turned ∙ turned in
+        let all : made ≡ actions_due held = sym (append-nil made) ∙ ap (λ xs. made ++ xs) (sym (due_back was.one count turned ∙ ap (map Written) rest)) ∙ was.parts in
+        let writes : writes_in made ≡ held.undo = ap writes_in (all ∙ due_back held count way) ∙ writes_of_map held.undo in
+        let same : undone ≡ count = cc in
+        record {
+          reverts = record {
+            held = held;
+            under_way = is;
+            turned = way ∙ ap (λ n. Some n) (sym same);
+            new_is = new_is ∙ ap (λ (m : Managed). record m { held = None }) was.now_is ∙ ap (λ (ws : List Write). record old { state = state_after old.state ws; held = None }) writes;
+            journal = journal ∙ ap (λ ws. before ++ ws) writes;
+          };
+          all = all ∙ ap actions_left (sym is);
+          idle = ap (λ (m : Managed). m.held) new_is;
+        }
 
 -- what is carried on keeps the rules, those ahead and the slots
 pub record IsSame (old now : Managed) : Type 0 where
@@ -82,11 +327,25 @@ pub record IsSame (old now : Managed) : Type 0 where
   pub rules : now.rules ≡ old.rules
   pub ahead : ahead now ≡ ahead old
 
-pub same : (old now : Managed) (held : Option HeldCommit) (made : List Write) → old.held ≡ held → Onward old held made now → IsSame old now
+pub same : (old now : Managed) (held : Option HeldCommit) (made : List Action) → old.held ≡ held → Onward old held made now → IsSame old now
 same old now None made is was =
     record { slots = ap (λ (m : Managed). m.slots) was.1; rules = ap (λ (m : Managed). m.rules) was.1; ahead = ap ahead was.1 }
 same old now (Some held) made is was = record {
   slots = ap (λ (m : Managed). m.slots) was.now_is;
   rules = ap (λ (m : Managed). m.rules) was.now_is;
-  ahead = ap ahead was.now_is ∙ ap (λ (h : Option HeldCommit). ahead_of h old.rules) (sym is);
+  ahead = ap ahead was.now_is ∙ was.rules ∙ ap (λ (h : Option HeldCommit). ahead_of h old.rules) (sym is);
 }
+
+-- what was made is what is left no more
+pub counted_left : (old now : Managed) (held : Option HeldCommit) (made : List Action) → old.held ≡ held → Onward old held made now
+    → length made + length (actions_left now.held) ≡ length (actions_left old.held)
+counted_left old now None made is was =
+    let none : length made ≡ 0 = ap length was.0 in
+    let left : length (actions_left now.held) ≡ length (actions_left old.held) = ap (λ (m : Managed). length (actions_left m.held)) was.1 in
+    omega arith
+counted_left old now (Some held) made is was =
+    let left : length (actions_left now.held) ≡ length (actions_due was.one) = ap (λ (h : Option HeldCommit). length (actions_left h)) was.under_way in
+    let all : length (actions_left old.held) ≡ length (actions_due held) = ap (λ (h : Option HeldCommit). length (actions_left h)) is in
+    let parts : length (made ++ actions_due was.one) ≡ length (actions_due held) = ap length was.parts in
+    let sum : length (made ++ actions_due was.one) ≡ length made + length (actions_due was.one) = length-append made (actions_due was.one) in
+    omega arith

@@ -1,6 +1,7 @@
 -- A batch that isn't taken after all: the manager is as it was.
-use Rattle.std.proofs.Common.{◌≡◌, ℕ, ◌+◌, ◌-◌, Option, List, length, take, None, sym, ap, ap₂, subst, ◌∙◌, arith}
+use Rattle.std.proofs.Common.{◌≡◌, ℕ, ◌+◌, ◌-◌, Option, List, length, map, take, drop, None, sym, ap, ap₂, subst, ◌∙◌, arith}
 use Rattle.std.specs.List.{AllByRecursion}
+use Rattle.std.proofs.Math.Seq.{drop-append_seam}
 use Rattle.std.proofs.lemmas.List.{length-append, length-map, take_at}
 use Rattle.slot_pool.specs.Arrangement.{Slots}
 use Rattle.rule_model.specs.declared.Rule.{Rule}
@@ -13,7 +14,7 @@ use Rattle.commit_writes.specs.Serving.{AreBitsOf}
 use Rattle.commit_writes.specs.Planned.{with_slots}
 use Rattle.batch_order.specs.declared.Placement.{Placement}
 use Rattle.batch_order.specs.declared.translation.Translation.{Translation}
-use Rattle.batch_order.specs.Entries.{Entries, AddsIds, KeepEntries}
+use Rattle.batch_order.specs.Entries.{AreLast, Entries, AddsIds, KeepEntries}
 use Rattle.batch_order.specs.Kept.{IsManaged, IsArranged, bits_of, mode_of, tables_of}
 use Rattle.batch_order.proofs.Entered.{contents_kept}
 use Rattle.batch_order.proofs.Carried.{view_of}
@@ -26,6 +27,14 @@ adds_first old new ids adds =
     let total : length new.live ≡ length old.live + length adds.made = ap length adds.live ∙ length-append old.live adds.made in
     let before : length new.live - length ids ≡ length old.live = omega arith in
     ap (take (length new.live - length ids)) adds.live ∙ take_at old.live adds.made (length new.live - length ids) (sym before)
+
+-- these ids are the last
+pub adds_last : (old new : Entries) (ids : List ℕ) → AddsIds old new ids → AreLast new.live ids
+adds_last old new ids adds =
+    let number : length adds.made ≡ length ids = sym (length-map adds.made (λ (one : LivePiece). one.id)) ∙ ap length adds.ids_are in
+    let total : length new.live ≡ length old.live + length adds.made = ap length adds.live ∙ length-append old.live adds.made in
+    let before : length new.live - length ids ≡ length old.live = omega arith in
+    (omega arith, ap (map (λ (one : LivePiece). one.id)) (ap₂ drop before adds.live ∙ drop-append_seam old.live adds.made) ∙ adds.ids_are)
 
 -- a manager whose batch wasn't taken after all
 pub managed_same : (translation : Option Translation) (rules rules' : StoredRules) (old new : Entries) (slots : Slots) → IsManaged translation rules old slots None → rules'.rules ≡ rules.rules

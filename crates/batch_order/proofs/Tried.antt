@@ -1,11 +1,17 @@
 -- What a loop keeps that makes the writes of a commit and tries each of them so many times.
-use Rattle.std.proofs.Common.{◌≡◌, ℕ, ◌+◌, ◌*◌, ◌-◌, ◌^◌, ◌≤◌, ◌<◌, min, List, [], ◌∷◌, ◌++◌, length, refl, sym, ap, subst, ◌∙◌, append-nil, append_assoc, arith}
+use Rattle.std.proofs.Common.{◌≡◌, ℕ, ◌+◌, ◌*◌, ◌-◌, ◌^◌, ◌≤◌, ◌<◌, min, List, [], ◌∷◌, ◌++◌, length, refl, sym, ap, ap₂, subst, ◌∙◌, append-nil, append_assoc, arith}
 use Rattle.std.proofs.Math.Nat.{min-le_left, suc-mul}
 use Rattle.std.proofs.lemmas.List.{length-append}
 use Rattle.tcam_device.specs.declared.Write.{Write}
-use Rattle.batch_order.specs.declared.Step.TheVariants.{Wrote}
-use Rattle.batch_order.specs.Managed.{Managed, Steps}
-use Rattle.batch_order.proofs.Onward.{Onward, start, wrote}
+use Rattle.tcam_device.specs.declared.Action.{Action}
+use Rattle.tcam_device.specs.declared.Action.TheVariants.{Written, Drained}
+use Rattle.tcam_device.specs.Flight.{writes_in}
+use Rattle.commit_writes.proofs.Actions.{writes_in-append}
+use Rattle.batch_order.specs.declared.Step.{Step}
+use Rattle.batch_order.specs.declared.Step.TheVariants as step
+use Rattle.batch_order.specs.Managed.{Managed}
+use Rattle.batch_order.specs.Steps.{Steps, actions_of}
+use Rattle.batch_order.proofs.Onward.{Onward, acts_on, start}
 
 -- a count of failures: those of the next write, and fewer than the tries of each that was made
 pub record IsCount (tries made failures before now : ℕ) : Type 0 where
@@ -25,32 +31,58 @@ count-wrote tries made failures before now was below =
       least = (let less : min (before + 0) (2 ^ 64 - 1) ≤ before + 0 = min-le_left (before + 0) (2 ^ 64 - 1) in let later = was.later in omega arith);
     }
 
--- So far goes a commit: some first part of its writes was made, and the room for them is used.
-pub record Goes (old now : Managed) (before after : List Write) (spare spare' tries failures faults faults' : ℕ) : Type 0 where
-  pub made : List Write
+-- So far goes a commit: some first part of its actions was made, and the room for them is used.
+pub record Goes (old now : Managed) (before after : List Write) (events events' : List Action) (spare spare' tries failures faults faults' : ℕ) : Type 0 where
+  pub made : List Action
   pub onward : Onward old old.held made now
-  pub journal : after ≡ before ++ made
+  pub journal : after ≡ before ++ writes_in made
+  pub events_are : events' ≡ events ++ made
   pub spare_is : spare' + length made ≡ spare
-  pub counted : IsCount tries (length made) failures faults faults'
+  pub counted : IsCount tries (length (writes_in made)) failures faults faults'
 
-pub goes-start : (manager : Managed) (journal : List Write) (spare tries faults : ℕ) → Goes manager manager journal journal spare spare tries 0 faults faults
-goes-start manager journal spare tries faults = record {
+pub goes-start : (manager : Managed) (journal : List Write) (events : List Action) (spare tries faults : ℕ) → Goes manager manager journal journal events events spare spare tries 0 faults faults
+goes-start manager journal events spare tries faults = record {
   made = [];
   onward = start manager manager.held refl;
   journal = sym (append-nil journal);
+  events_are = sym (append-nil events);
   spare_is = omega arith;
   counted = count-start tries faults;
 }
 
-pub goes-wrote : (old now new : Managed) (before after longer : List Write) (spare spare' less tries failures faults faults' : ℕ) (write : Write)
-    → Goes old now before after spare spare' tries failures faults faults' → Steps now now.held (Wrote write) new → longer ≡ after ++ write ∷ [] → less + 1 ≡ spare' → failures < tries
-    → Goes old new before longer spare less tries 0 faults faults'
-goes-wrote old now new before after longer spare spare' less tries failures faults faults' write was steps more fewer below =
-    let size : length (was.made ++ write ∷ []) ≡ length was.made + 1 = length-append was.made (write ∷ []) in
+-- one action more, a write or the drain
+pub goes-acted : (old now new : Managed) (words : ℕ) (did : Step) (action : Action) (before after longer : List Write) (events events' logged : List Action) (spare spare' less tries failures failures' faults faults' : ℕ)
+    → (was : Goes old now before after events events' spare spare' tries failures faults faults') → actions_of did ≡ action ∷ [] → Steps now words now.held did new
+    → longer ≡ after ++ writes_in (actions_of did) → logged ≡ events' ++ actions_of did → less + length (actions_of did) ≡ spare'
+    → IsCount tries (length (writes_in was.made) + length (writes_in (action ∷ []))) failures' faults faults' → Goes old new before longer events logged spare less tries failures' faults faults'
+goes-acted old now new words did action before after longer events events' logged spare spare' less tries failures failures' faults faults' was acts steps more told fewer count =
+    let size : length (was.made ++ action ∷ []) ≡ length was.made + 1 = length-append was.made (action ∷ []) in
+    let one : length (actions_of did) ≡ 1 = ap length acts in
+    let writes : writes_in (was.made ++ action ∷ []) ≡ writes_in was.made ++ writes_in (action ∷ []) = writes_in-append was.made (action ∷ []) in
+    let number : length (writes_in (was.made ++ action ∷ [])) ≡ length (writes_in was.made) + length (writes_in (action ∷ [])) = ap length writes ∙ length-append (writes_in was.made) (writes_in (action ∷ [])) in
     record {
-      made = was.made ++ write ∷ [];
-      onward = wrote old now new old.held was.made write refl was.onward steps;
-      journal = more ∙ (ap (λ (j : List Write). j ++ write ∷ []) was.journal ∙ append_assoc before was.made (write ∷ []));
+      made = was.made ++ action ∷ [];
+      onward = acts_on old now new words old.held was.made did action refl was.onward acts steps;
+      journal = more ∙ (ap₂ (λ (j : List Write) (xs : List Action). j ++ writes_in xs) was.journal acts ∙ (append_assoc before (writes_in was.made) (writes_in (action ∷ [])) ∙ ap (λ ws. before ++ ws) (sym writes)));
+      events_are = told ∙ (ap₂ (λ (e xs : List Action). e ++ xs) was.events_are acts ∙ append_assoc events was.made (action ∷ []));
       spare_is = (let room = was.spare_is in omega arith);
-      counted = subst (λ (n : ℕ). IsCount tries n 0 faults faults') (sym size) (count-wrote tries (length was.made) failures faults faults' was.counted below);
+      counted = subst (λ (n : ℕ). IsCount tries n failures' faults faults') (sym number) count;
     }
+
+-- a write more
+pub goes-wrote : (old now new : Managed) (words : ℕ) (write : Write) (before after longer : List Write) (events events' logged : List Action) (spare spare' less tries failures faults faults' : ℕ)
+    → Goes old now before after events events' spare spare' tries failures faults faults' → Steps now words now.held (step.Wrote write) new
+    → longer ≡ after ++ write ∷ [] → logged ≡ events' ++ Written write ∷ [] → less + 1 ≡ spare' → failures < tries
+    → Goes old new before longer events logged spare less tries 0 faults faults'
+goes-wrote old now new words write before after longer events events' logged spare spare' less tries failures faults faults' was steps more told fewer below =
+    goes-acted old now new words (step.Wrote write) (Written write) before after longer events events' logged spare spare' less tries failures 0 faults faults' was refl steps more told fewer
+    (count-wrote tries (length (writes_in was.made)) failures faults faults' was.counted below)
+
+-- the drain
+pub goes-drained : (old now new : Managed) (words : ℕ) (before after longer : List Write) (events events' logged : List Action) (spare spare' less tries failures faults faults' : ℕ)
+    → Goes old now before after events events' spare spare' tries failures faults faults' → Steps now words now.held step.Drained new
+    → longer ≡ after ++ [] → logged ≡ events' ++ Drained ∷ [] → less + 1 ≡ spare'
+    → Goes old new before longer events logged spare less tries failures faults faults'
+goes-drained old now new words before after longer events events' logged spare spare' less tries failures faults faults' was steps more told fewer =
+    goes-acted old now new words step.Drained Drained before after longer events events' logged spare spare' less tries failures failures faults faults' was refl steps more told fewer
+    (subst (λ (n : ℕ). IsCount tries n failures faults faults') (let e : length (writes_in was.made) ≡ length (writes_in was.made) + 0 = omega arith in e) was.counted)

@@ -1,23 +1,44 @@
 -- What carries a commit under way to its end, and where it stops.
-use Rattle.std.specs.Prelude.{◌≡◌, ℕ, ◌+◌, ◌*◌, ◌-◌, ◌^◌, ◌≤◌, ◌++◌, min, Option, Some, None, IfSome, List, [], ◌∷◌, length, take}
+use Rattle.std.specs.Prelude.{◌≡◌, ℕ, ◌+◌, ◌*◌, ◌-◌, ◌^◌, ◌<◌, ◌≤◌, ◌++◌, min, IsTrue, IsSome, Result, Ok, Err, Option, Some, None, IfSome, List, [], ◌∷◌, length, take, drop, fold}
 use Rattle.rule_model.specs.declared.Rule.{Rule}
 use Rattle.tcam_device.specs.declared.Write.{Write}
-use Rattle.tcam_device.specs.State.{replay, state_after}
+use Rattle.tcam_device.specs.declared.Action.{Action}
+use Rattle.tcam_device.specs.declared.Action.TheVariants.{Written, Drained}
+use Rattle.tcam_device.specs.State.{apply, replay, state_after}
+use Rattle.tcam_device.specs.Flight.{writes_in}
 use Rattle.tcam_device.specs.Hitless.{ShowsOldOrNew}
+use Rattle.tcam_device.specs.Insertion.{is_table_write}
 use Rattle.commit_writes.specs.declared.Done.{Done}
 use Rattle.commit_writes.specs.Bits.{FieldBits}
-use Rattle.batch_order.specs.Managed.{Managed, HeldCommit}
+use Rattle.commit_writes.specs.Undo.{restoring}
+use Rattle.batch_order.specs.declared.Unfinished.{Unfinished}
+use Rattle.batch_order.specs.declared.Unfinished.TheVariants as unfinished
+use Rattle.batch_order.specs.Managed.{Managed, HeldCommit, actions_due, room_needed, room_both_ways, writes_due}
+use Rattle.batch_order.specs.Steps.{awaits_drain, current_back, next_of}
 
--- the writes that are left to make
+-- the writes that are left to make, forward or back
 abbrev pub writes_left : Option HeldCommit → List Write
 writes_left None = []
-writes_left (Some held) = held.writes
+writes_left (Some held) = writes_due held
+
+-- and the actions
+abbrev pub actions_left : Option HeldCommit → List Action
+actions_left None = []
+actions_left (Some held) = actions_due held
 
 -- a device with so much room has it for them
 abbrev pub HasRoomLeft : Option HeldCommit → ℕ → Type 0
-HasRoomLeft held spare = IfSome held (λ one. length one.writes ≤ spare)
+HasRoomLeft held spare = IfSome held (λ one. room_needed one ≤ spare)
 
--- the rules that a manager has once the commit under way, if there is one, has come to its end
+-- and also where the commit is turned round
+abbrev pub HasRoomBothWays : Option HeldCommit → ℕ → Type 0
+HasRoomBothWays held spare = IfSome held (λ one. room_both_ways one ≤ spare)
+
+-- a commit under way, if there is one, isn't turned round
+abbrev pub GoesForward : Option HeldCommit → Type 0
+GoesForward held = IfSome held (λ one. one.turned ≡ None)
+
+-- the rules that the commit under way leads to, if there is one, and else the manager's
 abbrev pub ahead_of : Option HeldCommit → List Rule → List Rule
 ahead_of None rules = rules
 ahead_of (Some held) rules = held.rules
@@ -55,18 +76,72 @@ pub record IsServed (device_slots : ℕ) (before after : List Write) (old new : 
   pub since : after ≡ before ++ written
   pub during : (n : ℕ) → ShowsOldOrNew (state_after (replay device_slots before) (take n written)) old new
 
--- Some first part of the writes of the commit under way was made. The rest is held: so many writes, and the one that
--- failed is the first of them.
+-- The manager after an action of the commit under way, forward: the writes that were made are kept as those that undo
+-- them, and with the drain the new ranges count.
+abbrev pub forward_by : Managed → HeldCommit → Action → Managed
+forward_by old held (Written write) =
+    record old {
+      state = apply old.state write;
+      held = Some (record held { actions = drop 1 held.actions; undo = restoring old.state write ∷ held.undo });
+    }
+forward_by old held Drained =
+    record old { held = Some (record held { actions = drop 1 held.actions; current = held.during }) }
+
+-- and back
+abbrev pub back_by : Managed → HeldCommit → Action → Managed
+back_by old held (Written write) =
+    record old {
+      state = apply old.state write;
+      held = Some (record held { undo = drop 1 held.undo; current = current_back old.bits held.current (is_table_write write) });
+    }
+back_by old held Drained = old
+
+abbrev pub acted_by : Managed → Action → Managed
+acted_by old action =
+    elim old.held [
+      | None ↦ old
+      | Some held ↦ elim held.turned [ None ↦ forward_by old held action | Some undone ↦ back_by old held action ]
+    ]
+
+-- and after some actions
+abbrev pub acted : Managed → List Action → Managed
+acted old actions = fold acted_by old actions
+
+-- Some first part of the actions of the commit under way was made, forward or back, and the rest is held, with so many
+-- writes in it.
 pub record StopsAt (old new : Managed) (before after : List Write) (left : ℕ) : Type 0 where
   pub held : HeldCommit
   pub under_way : old.held ≡ Some held
-  pub made : List Write
-  pub due : Write
-  pub rest : List Write
-  pub parts : made ++ due ∷ rest ≡ held.writes
-  pub left_is : left ≡ length (due ∷ rest)
-  pub new_is : new ≡ record old { state = state_after old.state made; held = Some (record held { writes = due ∷ rest }) }
-  pub journal : after ≡ before ++ made
+  pub made : List Action
+  pub rest : List Action
+  pub parts : made ++ rest ≡ actions_due held
+  pub rest_is : actions_left new.held ≡ rest
+  pub left_is : left ≡ length (writes_left new.held)
+  pub new_is : new ≡ acted old made
+  pub state_is : new.state ≡ state_after old.state (writes_in made)
+  pub journal : after ≡ before ++ writes_in made
+
+-- A commit that is turned round was taken back by so many undo writes: the rules are the old ones.
+pub record Reverts (old new : Managed) (before after : List Write) (undone : ℕ) : Type 0 where
+  pub held : HeldCommit
+  pub under_way : old.held ≡ Some held
+  pub turned : held.turned ≡ Some undone
+  pub new_is : new ≡ record old { state = state_after old.state held.undo; held = None }
+  pub journal : after ≡ before ++ held.undo
+
+-- Why a commit hasn't finished: its next write failed, its drain waits for the words in flight, or it was taken back.
+abbrev pub StopsBy : Managed → Managed → List Write → List Write → ℕ → Unfinished → Type 0
+StopsBy old new before after words (unfinished.Stuck left) = StopsAt old new before after left × IsSome (next_of new.held)
+StopsBy old new before after words (unfinished.Waiting waiting left) =
+    StopsAt old new before after left × IsTrue (awaits_drain new.held) × (waiting ≡ words) × (0 < words)
+StopsBy old new before after words (unfinished.Reverted undone) = Reverts old new before after undone
+
+-- a write failed
+abbrev pub IsStuckBy : Result Done Unfinished → Type 0
+IsStuckBy (Ok done) = ⊥
+IsStuckBy (Err (unfinished.Stuck left)) = Unit {0}
+IsStuckBy (Err (unfinished.Waiting waiting left)) = ⊥
+IsStuckBy (Err (unfinished.Reverted undone)) = ⊥
 
 -- A count of failures after so many writes were made, each tried up to so many times: where a write came to no end it rose
 -- by each try of that write, or stands at its last value, and by at most the tries but one for each write that was made.

@@ -1,5 +1,5 @@
 -- What holds of a manager between its calls.
-use Rattle.std.specs.Prelude.{◌≡◌, ℕ, ◌≤◌, IsTrue, Option, Some, None, List, length, take, drop, nat_eq}
+use Rattle.std.specs.Prelude.{◌≡◌, ℕ, ◌≤◌, ◌-◌, ◌⊎◌, Bool, true, false, ◌&&◌, IsTrue, Option, Some, None, List, length, take, drop, nat_eq, nat_lt}
 use Rattle.std.specs.List.{AllByRecursion, IsDistinct}
 use Rattle.slot_pool.specs.Arrangement.{Slots}
 use Rattle.rule_model.specs.declared.Rule.{Rule}
@@ -8,24 +8,29 @@ use Rattle.rule_model.specs.RuleSet.{IsRuleSet}
 use Rattle.ternary_word.specs.declared.Entry.{Entry}
 use Rattle.rule_store.specs.declared.Mode.{Mode}
 use Rattle.rule_store.specs.declared.Mode.TheVariants.{Cover, Bits}
-use Rattle.rule_store.specs.Batch.{IsSound, set_after}
+use Rattle.rule_store.specs.Batch.{ChangesRules, IsSound, set_after}
 use Rattle.rule_store.specs.Store.{StoredRules}
 use Rattle.overlap_index.specs.declared.LivePiece.{LivePiece}
 use Rattle.overlap_index.specs.Live.{is_live}
 use Rattle.tcam_device.specs.State.{State, IsState, IsInUse, blank, state_after, on_device}
 use Rattle.tcam_device.specs.declared.Write.{Write}
-use Rattle.tcam_device.specs.Hitless.{KeepsOldOrNew}
+use Rattle.tcam_device.specs.Insertion.{table_writes}
+use Rattle.commit_writes.specs.declared.Done.{Done}
 use Rattle.commit_writes.specs.declared.Rewrite.{Rewrite}
-use Rattle.commit_writes.specs.Bits.{FieldBits, no_bits, bits_with, bits_left}
-use Rattle.commit_writes.specs.Serving.{AreBitsOf}
+use Rattle.commit_writes.specs.Actions.{have_bits, with_drain}
+use Rattle.commit_writes.specs.Bits.{FieldBits, no_bits, bits_with, bits_left, new_bits}
+use Rattle.commit_writes.specs.Commit.{IsSegment}
+use Rattle.commit_writes.specs.Serving.{AreBitsOf, HaveFreeBits}
+use Rattle.commit_writes.specs.Undo.{undo_writes}
 use Rattle.commit_writes.specs.Shape.{set_pieces}
 use Rattle.commit_writes.specs.Planned.{AreEntriesOf, contents, with_slots}
 use Rattle.commit_writes.specs.PlannedBatch.{rewritten_entries, erased_live}
-use Rattle.batch_order.specs.declared.manager.Held.{Held}
+use Rattle.batch_order.specs.declared.held.Held.{Held}
 use Rattle.batch_order.specs.declared.translation.Translation.{Translation}
-use Rattle.batch_order.specs.Entries.{Entries}
+use Rattle.batch_order.specs.Entries.{AreLast, Entries}
 use Rattle.batch_order.specs.Planning.{IsSettled, as_writes}
 use Rattle.batch_order.specs.Managed.{HeldCommit}
+use Rattle.batch_order.specs.Restoring.{restorings}
 
 -- What a manager keeps of its device's translation: by covers nothing, and by bits the live ranges and both tables.
 abbrev pub mode_of : Option Translation → Mode
@@ -71,25 +76,53 @@ translation_after translation rules entries held =
 abbrev pub bits_after : List Rule → Held → FieldBits
 bits_after rules held = bits_left (set_after rules held.batch) (during_of held.bits)
 
--- the commit under way, as callers see it
-abbrev pub held_of : List Rule → List (Option Entry) → Held → HeldCommit
-held_of rules entries held =
-    record {
-      writes = drop held.made (held_writes entries held);
-      counts = held.counts;
-      rules = set_after rules held.batch;
-      bits = bits_after rules held;
-    }
+-- whether the drain is next, with so many writes made
+abbrev pub drains_at : Bool → ℕ → Done → Bool
+drains_at awaits made counts = awaits && nat_eq made counts.words
 
 -- what tables and slots in use hold before a commit under way: the entries as they are arranged
 abbrev pub settled_state : Option Translation → List (Option Entry) → Slots → State
 settled_state translation entries slots = with_slots (tables_of translation) (contents entries slots)
+
+-- the ranges that the words in flight are current for: those before the commit, and once it has drained those meanwhile
+abbrev pub current_of : Option Translation → Held → FieldBits
+current_of translation held = elim held.drained [ true ↦ during_of held.bits | false ↦ bits_of translation ]
+
+-- how many of its writes stood when it was turned round, and else how many stand
+abbrev pub most_made : Held → ℕ
+most_made held = elim held.turned [ None ↦ held.made | Some undone ↦ undone ]
+
+-- the commit under way, as callers see it
+abbrev pub held_of : Option Translation → Slots → List Rule → List (Option Entry) → Held → HeldCommit
+held_of translation slots rules entries held =
+    record {
+      actions = with_drain held.awaits (drop (most_made held) (held_writes entries held));
+      undo = undo_writes (settled_state translation entries slots) (take held.made (held_writes entries held));
+      turned = held.turned;
+      counts = held.counts;
+      rules = set_after rules held.batch;
+      during = during_of held.bits;
+      bits = bits_after rules held;
+      current = current_of translation held;
+    }
 
 -- and after those of its writes that were made
 abbrev pub state_of : Option Translation → List (Option Entry) → Slots → Option Held → State
 state_of translation entries slots None = settled_state translation entries slots
 state_of translation entries slots (Some held) =
     state_after (settled_state translation entries slots) (take held.made (held_writes entries held))
+
+-- how many writes it has left, forward or back
+abbrev pub left_of : Held → ℕ
+left_of held = elim held.turned [ None ↦ length held.writes.items - held.made | Some undone ↦ held.made ]
+
+-- a commit as it is turned round
+abbrev pub turned_at : Held → Held
+turned_at held = record held { turned = Some held.made }
+
+-- a commit that is turned round with one write less made: with a table word undone the new bits are no words' any more
+abbrev pub one_less : Held → Held
+one_less held = record held { made = held.made - 1; drained = elim (nat_lt (held.made - 1) held.counts.words) [ true ↦ false | false ↦ held.drained ] }
 
 -- the pieces of a set have an entry each, and these stand in order
 pub record IsArranged (mode : Mode) (bits : FieldBits) (rules : List Rule) (kept : Entries) (slots : Slots) : Type 0 where
@@ -114,14 +147,26 @@ pub record IsHeld (translation : Option Translation) (rules : StoredRules) (kept
       ≡ settled_state (translation_after translation rules.rules kept.entries held) (rewritten_entries kept.entries held.rewrites.items) held.arrangement
   pub tables : IsState 0 (tables_of (translation_after translation rules.rules kept.entries held))
   pub translated : AreBitsOf (mode_of translation) (bits_after rules.rules held) (set_after rules.rules held.batch) (tables_of (translation_after translation rules.rules kept.entries held))
-  -- and on the way each key has the old or the new answer, on a device with so many slots or more
-  pub hitless : (device_slots : ℕ) → length slots ≤ device_slots
-      → KeepsOldOrNew rules.rules (set_after rules.rules held.batch) (on_device device_slots (settled_state translation kept.entries slots)) (held_writes kept.entries held)
+  -- they are the writes of the batch on a device with so many slots or more, so on the way each key has the old or the new answer
+  pub segment : (device_slots : ℕ) → length slots ≤ device_slots
+      → IsSegment (mode_of translation) (bits_of translation) rules.rules held.batch (on_device device_slots (settled_state translation kept.entries slots)) (held_writes kept.entries held)
+  -- the drain, where a new bit asks for it, stands behind the words of the tables
+  pub words : held.counts.words ≡ table_writes (held_writes kept.entries held)
+  pub early : held.awaits ≡ true → held.made ≤ held.counts.words
+  pub late : held.drained ≡ true → held.counts.words ≤ held.made
+  pub undrained : held.drained ≡ false → (held.made ≤ held.counts.words) ⊎ (have_bits (new_bits (bits_of translation) (during_of held.bits)) ≡ false)
+  pub drains : held.turned ≡ None → held.awaits ≡ false → held.drained ≡ false → have_bits (new_bits (bits_of translation) (during_of held.bits)) ≡ false
   pub made : held.made ≤ length held.writes.items
   pub in_use : AllByRecursion (IsInUse (length slots)) (held_writes kept.entries held)
+  -- each can be undone, and the new ids are those that became live last
+  pub undo : as_writes kept.entries held.rewrites.items held.undo.items ≡ restorings (settled_state translation kept.entries slots) (held_writes kept.entries held)
+  pub added : AreLast kept.live held.ids.items
+  pub before_is : before ≡ take (length kept.live - length held.ids.items) kept.live
   -- the batch can be applied to the set, without memory
   pub right : AllByRecursion HasConditions (set_after rules.rules held.batch)
   pub sound : IsSound rules.rules held.batch
+  pub changes : AllByRecursion ChangesRules held.batch
+  pub few : HaveFreeBits (mode_of translation) rules.rules held.batch
   pub room : length held.batch ≤ rules.spare
   -- and what it rewrites and erases are live ids, each erased once
   pub changed : AllByRecursion (λ rewrite. IsTrue (is_live kept.live rewrite.id)) held.rewrites.items

@@ -3,5 +3,10 @@ pub mod Planning
 pub mod Placing
 pub mod Changes
 pub mod Managed
+pub mod Steps
+pub mod Turning
+pub mod Passed
 pub mod CarriedOut
+pub mod Restoring
 pub mod Kept
+pub mod Undoing

@@ -1,8 +1,8 @@
 -- What a manager keeps, and how it judges a batch.
-use Rattle.std.specs.Prelude.{◌≡◌, ℕ, ◌≤◌, ◌^◌, ◌⊎◌, Result, Err, IsOk, Option, Some, None, List, [], ◌∷◌, length, slice_get}
+use Rattle.std.specs.Prelude.{◌≡◌, ℕ, ◌+◌, ◌≤◌, ◌^◌, ◌⊎◌, Result, Err, IsOk, Option, Some, None, List, [], length, map}
 use Rattle.std.specs.List.{AllByRecursion}
 use Rattle.rule_model.specs.declared.Rule.{Rule}
-use Rattle.rule_model.specs.Routes.{IsIpv4Route}
+use Rattle.rule_model.specs.declared.IpVersion.{IpVersion}
 use Rattle.rule_store.specs.declared.Mode.{Mode}
 use Rattle.rule_store.specs.declared.Command.{Command}
 use Rattle.rule_store.specs.declared.BatchFault.{BatchFault}
@@ -10,26 +10,39 @@ use Rattle.rule_store.specs.declared.BatchFault.TheVariants.{Twice, Taken, Absen
 use Rattle.rule_store.specs.Batch.{additions, set_after}
 use Rattle.rule_store.specs.Verdict.{Verdict, Accepted, Unsound, OutOfBits, OutOfSlots, verdict}
 use Rattle.tcam_device.specs.declared.Write.{Write}
-use Rattle.tcam_device.specs.State.{State, IsInUse, Shows, blank, apply, replay, on_device}
+use Rattle.tcam_device.specs.declared.Action.{Action}
+use Rattle.tcam_device.specs.declared.Action.TheVariants.{Written}
+use Rattle.tcam_device.specs.State.{State, IsInUse, Shows, blank, replay, on_device}
+use Rattle.tcam_device.specs.Flight.{writes_in}
 use Rattle.tcam_device.specs.Hitless.{ShowsOldOrNew}
 use Rattle.tcam_device.specs.Insertion.{insertions, IsUncrossed}
 use Rattle.commit_writes.specs.declared.Done.{Done}
 use Rattle.commit_writes.specs.Bits.{FieldBits, no_bits, bits_with, bits_left}
 use Rattle.commit_writes.specs.Commit.{IsSegment, AreCounts}
+use Rattle.commit_writes.specs.Actions.{commit_actions}
+use Rattle.commit_writes.specs.Routes.{IsRoute, prefix_lengths}
 use Rattle.batch_order.specs.declared.Placement.{Placement}
 use Rattle.batch_order.specs.declared.Refusal.{Refusal}
 use Rattle.batch_order.specs.declared.Refusal.TheVariants as refusal
-use Rattle.batch_order.specs.declared.Step.{Step}
-use Rattle.batch_order.specs.declared.Step.TheVariants.{Wrote, Finished, Idle}
 use Rattle.batch_order.specs.declared.Ready.{Ready}
 use Rattle.batch_order.specs.Placing.{IsPlacedBy}
 
--- a commit under way: the writes still to make, its numbers, and the set and the live ranges that it leads to
+-- A commit under way.
 pub record HeldCommit : Type 0 where
-  pub writes : List Write
+  -- the writes still to make, and the drain where it is still to come
+  pub actions : List Action
+  -- the undo writes of those that were made, the next one first
+  pub undo : List Write
+  -- once it is turned round, how many undo writes there were
+  pub turned : Option ℕ
+  -- its numbers, and the set that it leads to
   pub counts : Done
   pub rules : List Rule
+  -- the ranges that are live while it is made, and those that are when it has finished
+  pub during : FieldBits
   pub bits : FieldBits
+  -- those that the words in flight are current for now
+  pub current : FieldBits
 
 -- a manager: the slots in use, the encoding of port ranges, where insertions aim, the rules of the set and their live
 -- ranges, what the slots in use and the tables of its device hold, and the commit under way
@@ -56,6 +69,31 @@ abbrev pub Serves : State → List Rule → Option HeldCommit → Type 0
 Serves state rules None = Shows state rules
 Serves state rules (Some held) = ShowsOldOrNew state rules held.rules
 
+-- The live ranges that the words in flight are current for: while a commit is made those before it up to its drain, then also
+-- its new ones, until it is taken back as far as a table word.
+abbrev pub live_now : Managed → FieldBits
+live_now manager = elim manager.held [ None ↦ manager.bits | Some held ↦ held.current ]
+
+-- the writes that a commit under way has still to make, forward or back
+abbrev pub writes_due : HeldCommit → List Write
+writes_due held = elim held.turned [ None ↦ writes_in held.actions | Some undone ↦ held.undo ]
+
+-- the actions that it has still to make, forward or back
+abbrev pub actions_due : HeldCommit → List Action
+actions_due held = elim held.turned [ None ↦ held.actions | Some undone ↦ map Written held.undo ]
+
+-- how many writes and drains it has still to make
+abbrev pub room_needed : HeldCommit → ℕ
+room_needed held = elim held.turned [ None ↦ length held.actions | Some undone ↦ length held.undo ]
+
+-- and how many it may make yet, if it is turned round at the worst moment
+abbrev pub room_both_ways : HeldCommit → ℕ
+room_both_ways held =
+    elim held.turned [
+      | None ↦ length held.actions + (length (writes_in held.actions) + length held.undo)
+      | Some undone ↦ length held.undo
+    ]
+
 -- the fault of a batch as a refusal
 abbrev pub refusal_of : BatchFault → Refusal
 refusal_of (Twice priority) = refusal.Twice priority
@@ -69,9 +107,9 @@ Answers (Unsound fault) result = result ≡ Err (refusal_of fault)
 Answers (OutOfBits field needed free) result = result ≡ Err (refusal.Bits field needed free)
 Answers (OutOfSlots needed free) result = result ≡ Err (refusal.Slots needed free)
 
--- what a manager answers to a batch: busy where a commit is under way, and else by the verdict
+-- what a manager answers to a batch: busy where a commit is under way, forward or back, and else by the verdict
 abbrev pub Judges : Managed → Option HeldCommit → List Command → Result Ready Refusal → Type 0
-Judges manager (Some held) batch result = result ≡ Err (refusal.Busy (length held.writes))
+Judges manager (Some held) batch result = result ≡ Err (refusal.Busy (length (writes_due held)))
 Judges manager None batch result = Answers (verdict manager.slots manager.mode manager.rules batch) result
 
 -- the numbers before the first write
@@ -79,48 +117,39 @@ abbrev pub ready_of : Done → Ready
 ready_of counts =
     record { writes = counts.writes; words = counts.words; most = counts.most; span = counts.span }
 
--- the batch changes routes: each rule that it adds is an IPv4 route
-abbrev pub OnlyChangesRoutes : List Command → Type 0
-OnlyChangesRoutes batch = AllByRecursion IsIpv4Route (additions batch)
+-- the batch changes routes: each rule that it adds is a route of this version
+abbrev pub OnlyChangesRoutes : IpVersion → List Command → Type 0
+OnlyChangesRoutes version batch = AllByRecursion (IsRoute version) (additions batch)
 
--- a batch is taken: its writes are held, and they are its segment on a device with so many slots or more
+-- the commit of a batch before its first action, with these writes and numbers
+abbrev pub commit_of : Managed → List Command → List Write → Done → HeldCommit
+commit_of old batch made counts =
+    record {
+      actions = commit_actions old.mode old.bits old.rules batch made;
+      undo = [];
+      turned = None;
+      counts = counts;
+      rules = set_after old.rules batch;
+      during = bits_with old.mode old.rules batch old.bits;
+      bits = bits_left (set_after old.rules batch) (bits_with old.mode old.rules batch old.bits);
+      current = old.bits;
+    }
+
+-- A batch is taken: its actions are held, and their writes are its segment on a device with so many slots or more.
 pub record Holds (old : Managed) (batch : List Command) (ready : Ready) (new : Managed) : Type 0 where
-  pub held : HeldCommit
-  pub new_is : new ≡ record old { held = Some held }
-  pub rules : held.rules ≡ set_after old.rules batch
-  pub bits : held.bits ≡ bits_left (set_after old.rules batch) (bits_with old.mode old.rules batch old.bits)
-  pub counts : ready ≡ ready_of held.counts
-  pub in_use : AllByRecursion (IsInUse old.slots) held.writes
-  pub few : length held.writes ≤ 2 ^ 39
+  pub made : List Write
+  pub counts : Done
+  pub new_is : new ≡ record old { held = Some (commit_of old batch made counts) }
+  pub ready_is : ready ≡ ready_of counts
+  pub in_use : AllByRecursion (IsInUse old.slots) made
+  pub few : length made ≤ 2 ^ 39
   -- hitless after every write, of the commit's shape, and within the bounds on insertions
   pub segment : (device_slots : ℕ) → old.slots ≤ device_slots
-      → IsSegment old.mode old.bits old.rules batch (on_device device_slots old.state) held.writes
+      → IsSegment old.mode old.bits old.rules batch (on_device device_slots old.state) made
   -- its insertions are those of the placement, each with its aim
-  pub placed : IsPlacedBy old.placement old.mode old.bits old.rules batch old.state held.writes
-  pub numbers : (device_slots : ℕ) → old.slots ≤ device_slots → AreCounts (on_device device_slots old.state) held.writes held.counts
-  -- of routes no insertion crosses others, and none takes more than 33 writes
-  pub uncrossed : (device_slots : ℕ) → old.slots ≤ device_slots → AllByRecursion IsIpv4Route old.rules → OnlyChangesRoutes batch
-      → IsUncrossed 33 (insertions (on_device device_slots old.state) held.writes)
-
--- the next write to make, if a commit is under way and has one left
-abbrev pub next_of : Option HeldCommit → Option Write
-next_of None = None
-next_of (Some held) = slice_get held.writes 0
-
--- the writes that a step made
-abbrev pub writes_of : Step → List Write
-writes_of (Wrote write) = write ∷ []
-writes_of (Finished counts) = []
-writes_of Idle = []
-
--- with writes left the next one was made, and with none left the rules are the new set
-abbrev pub StepsOn : Managed → HeldCommit → List Write → Step → Managed → Type 0
-StepsOn old held [] step new =
-    (step ≡ Finished held.counts) × (new ≡ record old { rules = held.rules; bits = held.bits; held = None })
-StepsOn old held (write ∷ writes) step new =
-    (step ≡ Wrote write) × (new ≡ record old { state = apply old.state write; held = Some (record held { writes = writes }) })
-
--- what a step does: it is idle where no commit is under way, and then nothing changes
-abbrev pub Steps : Managed → Option HeldCommit → Step → Managed → Type 0
-Steps old None step new = (step ≡ Idle) × (new ≡ old)
-Steps old (Some held) step new = StepsOn old held held.writes step new
+  pub placed : IsPlacedBy old.placement old.mode old.bits old.rules batch old.state made
+  pub numbers : (device_slots : ℕ) → old.slots ≤ device_slots → AreCounts (on_device device_slots old.state) made counts
+  -- of routes no insertion crosses others, and none takes more writes than a prefix may have lengths
+  pub uncrossed : (device_slots : ℕ) → old.slots ≤ device_slots → (version : IpVersion)
+      → AllByRecursion (IsRoute version) old.rules → OnlyChangesRoutes version batch
+      → IsUncrossed (prefix_lengths version) (insertions (on_device device_slots old.state) made)

@@ -33,8 +33,16 @@
 //! writes the words of the tables in which their bits differ. No slot tests such a bit yet, since a bit is given up only when
 //! a commit that leaves no rule with its range has finished; so these writes change no answer.
 //!
-//! **Memory.** `prepare` takes all of it, the device's too; `step` and `carry_out` take none. So want of memory can't
-//! come between two writes of a commit, and a batch that is refused changes nothing.
+//! **Words in flight.** A look-up may be two events: the key's word is made by the tables, and compared with the slots
+//! later. A word that was made before a bit got its meaning must not meet an entry that tests it. So a commit that brings
+//! new ranges drains once, behind the words of the tables: it goes on when no word is in flight.
+//!
+//! **Taking back.** A commit may be turned round at any moment (`Manager::abort`): what its writes replaced is put back, the
+//! last one first, so it goes back through the states that it passed. What restores each write is planned beside it, as a
+//! planned write again (`undoing`): what a slot holds was put there by one, or stood there before.
+//!
+//! **Memory.** `prepare` takes all of it, the device's too; `step`, `abort` and `carry_out` take none. So want of memory
+//! can't come between two writes of a commit, and a batch that is refused changes nothing.
 #![tactic(auto)]
 
 ghost use Rattle.std.specs.Prelude.{◌≡◌};
@@ -43,16 +51,21 @@ ghost use Rattle.batch_order.specs.Managed as managed;
 mod aims;
 mod changes;
 mod entries;
+mod held;
 mod insertions;
+mod laws;
 mod manager;
 mod parts;
 mod pieces;
 mod plan;
 mod planned_writes;
 mod rule_name;
+mod steps;
 mod translation;
+mod undoing;
 
 pub use commit_writes::Done;
+pub use laws::{goes_back_through_states, reverts_to_the_old_state, steps_keep_the_way_back};
 pub use manager::Manager;
 pub use rule_model::Field;
 use rule_model::Rank;
@@ -111,20 +124,47 @@ pub struct Ready {
 /// What one step did.
 #[derive(Clone, Copy, Debug, PartialEq, Eq)]
 pub enum Step {
-    /// It made this write, the next of the plan.
+    /// It made this write, the next of the plan or, on a plan that is turned round, the next undo write.
     Wrote(Write),
-    /// The plan had no write left: the rules are the new set now, and no plan is held.
+    /// The plan had nothing left: the rules are the new set now, and no plan is held.
     Finished(Done),
     /// No plan was held, and nothing changed.
     Idle,
+    /// It drained: no word is in flight that has an old meaning of a new bit.
+    Drained,
+    /// The drain is next, and so many words are in flight. Nothing changed.
+    Waiting(u32),
+    /// The plan was turned round and has no undo write left, after so many of them: the rules are the old ones, and no
+    /// plan is held.
+    Reverted(u64),
 }
 
-/// A device whose writes fail. The commit is still under way, with this many writes to make, and the one that failed is
-/// the next.
+/// Why `carry_out` came to no end of the commit, or to that of one that was turned round. Writes are counted forward, and
+/// on a plan that is turned round back.
 #[derive(Clone, Copy, Debug, PartialEq, Eq, Error)]
-#[error("the device failed with {left} writes to make")]
-pub struct Stuck {
-    pub left: u64,
+pub enum Unfinished {
+    /// A device whose writes fail. The commit is still under way, with this many writes to make, and the one that failed
+    /// is the next.
+    #[error("the device failed with {left} writes to make")]
+    Stuck { left: u64 },
+    /// The drain is next, and so many words are in flight. The commit is still under way, with this many writes to make,
+    /// and goes on once the words have been searched.
+    #[error("{words} words are in flight with {left} writes to make")]
+    Waiting { words: u32, left: u64 },
+    /// The commit was turned round, and was taken back by so many undo writes.
+    #[error("the plan was taken back by {undone} writes")]
+    Reverted { undone: u64 },
+}
+
+/// Why no plan is turned round. Nothing changed then.
+#[derive(Clone, Copy, Debug, PartialEq, Eq, Error)]
+pub enum AbortFault {
+    /// No plan is held.
+    #[error("no plan is held")]
+    Idle,
+    /// The plan is turned round already, with this many undo writes to make.
+    #[error("the plan is turned round with {left} writes to make")]
+    Back { left: u64 },
 }
 
 /// The fault of a batch as a refusal.

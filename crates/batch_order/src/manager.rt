@@ -1,28 +1,33 @@
 //! The manager of one device.
 
-ghost use Rattle.std.specs.Prelude.{◌≡◌, ◌+◌, ◌-◌, ◌*◌, ◌^◌, ◌++◌, ◌∷◌, [], ◌≤◌, ◌<◌, ◌↔◌, ℕ, List, Option, Some, None, Err, IfSome, IsSome, IfOk, IfErr, IsErr, OnOk, OnErr, length, map, option_map, fold};
+ghost use Rattle.std.specs.Prelude.{◌≡◌, ◌+◌, ◌-◌, ◌*◌, ◌^◌, ◌++◌, ◌∷◌, [], ◌≤◌, ◌<◌, ◌↔◌, ℕ, List, Option, Some, None, Err, IfSome, IsSome, IsTrue, IfOk, IfErr, IsErr, OnOk, OnErr, length, map, option_map, fold};
 ghost use Rattle.std.specs.List.{AllByRecursion};
 ghost use Rattle.call_history.specs.Cause.{HasCause};
 ghost use Rattle.tcam_device.specs.declared.Write.{Write};
-ghost use Rattle.tcam_device.specs.State.{IsInUse, Shows, apply, on_device, replay};
+ghost use Rattle.tcam_device.specs.State.{IsInUse, Shows, State, apply, on_device, replay};
+ghost use Rattle.tcam_device.specs.Flight.{writes_in};
 ghost use Rattle.tcam_device.specs.Hitless.{ShowsOldOrNew};
 ghost use Rattle.rule_store.specs.Verdict.{entries_of, slots_verdict, verdict, Accepted};
 ghost use Rattle.rule_store.specs.Batch.{ChangesRules, batch_fault, set_after};
-ghost use Rattle.batch_order.specs.Managed.{Managed, Judges, Answers, Holds, Steps, next_of, IsOn, Serves, fresh, writes_of};
+ghost use Rattle.batch_order.specs.Managed.{Managed, Judges, Answers, Holds, IsOn, Serves, fresh, live_now, writes_due};
+ghost use Rattle.batch_order.specs.Steps.{Aborts, IsAllMade, KeepsCurrent, ServesNow, Steps, actions_of, awaits_drain, next_of};
+ghost use Rattle.batch_order.specs.Turning.{IsHeldRight};
+ghost use Rattle.batch_order.specs.Passed.{GoesBackFrom, WayBackFrom};
 ghost use Rattle.commit_writes.specs.Bits.{bits_with};
 ghost use Rattle.commit_writes.specs.Serving.{HaveFreeBits};
 ghost use Rattle.batch_order.specs.Kept.{coded_by, during_of};
 ghost use Rattle.batch_order.specs.Placing.{words_of};
-ghost use Rattle.batch_order.specs.CarriedOut.{HasRoomLeft, IsServed, IsTried, StopsAt, ahead, done_of, finished, writes_left};
+ghost use Rattle.batch_order.specs.CarriedOut.{GoesForward, HasRoomBothWays, HasRoomLeft, IsServed, IsStuckBy, IsTried, StopsBy, actions_left, ahead, done_of, finished, writes_left};
 
 use crate::entries::LiveEntries;
+use crate::held::Held;
 use crate::insertions::{forget_all, plan_additions};
 use crate::parts::parts_of;
 use crate::plan::{Plan, erase_all, plan_changes, ready};
-use crate::planned_writes::{PlannedWrite, write_of};
-use crate::translation::{Translation, blank_translation, check_field, encoding, translate};
-use crate::{Done, Field, Placement, Ready, Refusal, Step, Stuck, refusal_of};
-use commit_writes::Rewrite;
+use crate::planned_writes::PlannedWrite;
+use crate::translation::{Translation, blank_translation, check_field, encoding, gives_bits};
+use crate::undoing::plan_undo;
+use crate::{AbortFault, Done, Field, Placement, Ready, Refusal, Step, Unfinished, refusal_of};
 use rule_store::{Batch, Command, Mode, Store};
 use slot_pool::Arrangement;
 use std::alloc::{AllocError, Global};
@@ -38,34 +43,18 @@ const NOTHING_DONE: Done = Done {
     span: 0,
 };
 
-/// A commit under way: its planned writes and how many of them were made, its numbers, and what is to be done once its
-/// writes are made: the batch that takes the rules to the new set, the ids that get another entry, the ids that go, by
-/// rising priority, and where the entries stand then.
-#[derive(Drop)]
-pub(crate) struct Held {
-    pub(crate) writes: Vec<PlannedWrite>,
-    pub(crate) made: usize,
-    pub(crate) counts: Done,
-    /// The live ranges meanwhile, those of the old set and of the new one: none by covers.
-    pub(crate) bits: Option<FieldBits>,
-    pub(crate) batch: Batch,
-    pub(crate) rewrites: Vec<Rewrite>,
-    pub(crate) erased: Vec<u32>,
-    pub(crate) arrangement: Arrangement,
-}
-
 /// The manager of one device: its rules, where their entries stand, and the commit under way, if there is one.
 #[derive(Drop)]
 pub struct Manager {
-    alloc: Global,
-    placement: Placement,
+    pub(crate) alloc: Global,
+    pub(crate) placement: Placement,
     /// What is live and stands before the writes of a commit under way: none by covers.
-    translation: Option<Translation>,
-    rules: Store,
-    live: LiveEntries,
+    pub(crate) translation: Option<Translation>,
+    pub(crate) rules: Store,
+    pub(crate) live: LiveEntries,
     /// Where the entries of the set stand, before the writes of a commit under way.
-    arrangement: Arrangement,
-    held: Option<Held>,
+    pub(crate) arrangement: Arrangement,
+    pub(crate) held: Option<Held>,
 }
 
 impl Model for Manager {
@@ -82,7 +71,7 @@ impl Model for Manager {
       rules = m.rules.rules;
       bits = bits_of m.translation;
       state = state_of m.translation m.live.entries m.arrangement m.held;
-      held = option_map (held_of m.rules.rules m.live.entries) m.held;
+      held = option_map (held_of m.translation m.arrangement m.rules.rules m.live.entries) m.held;
     } };
 
     ghost invariant = { λ m. IsManaged m.translation m.rules m.live m.arrangement m.held };
@@ -126,6 +115,7 @@ impl Manager {
             → Shows (on_device device_slots self.now.state) self.now.rules }
         ensures on_the_way { IfSome self.now.held (λ held. (device_slots : ℕ) → self.now.slots ≤ device_slots
             → ShowsOldOrNew (on_device device_slots self.now.state) self.now.rules held.rules) }
+        ensures serves { ServesNow self.now }
     {
         &self.rules
     }
@@ -137,20 +127,22 @@ impl Manager {
         self.rules.entries_of(encoding(&self.translation)) as u32
     }
 
-    /// How many writes of the commit under way are still to make. None comes exactly where no commit is under way.
+    /// How many writes of the commit under way are still to make, forward, or back once it is turned round. None comes
+    /// exactly where no commit is under way.
     pub fn left(&self) -> Option<u64>
-        ensures { result ≡ option_map (λ held. length held.writes) self.now.held }
+        ensures { result ≡ option_map (λ held. length (writes_due held)) self.now.held }
     {
         match &self.held {
             None => None,
-            Some(held) => Some((held.writes.len() - held.made) as u64),
+            Some(held) => Some(held.left() as u64),
         }
     }
 
     /// Judges a batch of changes to the rules, over a device with at least the slots in use. Where the batch is
     /// taken, all of its writes are planned, its insertions by the placement, and all memory for them is taken, the
-    /// device's too: then nothing can fail for memory until the commit has finished. The answer has the numbers of the
-    /// writes.
+    /// device's too: then nothing can fail for memory until the commit has finished. The device is reserved for twice the
+    /// writes and a drain, so that what is made can be undone. The answer has the numbers of the writes. Words in flight
+    /// stay as they are.
     ///
     /// Refusals are tried in this order. `Busy` comes exactly while a commit is under way, with the writes that are
     /// left. Else the rule lists alone decide: `Twice`, `Taken` and `Absent` by the first command that the set doesn't
@@ -165,10 +157,16 @@ impl Manager {
         ensures judged { Judges self.old self.old.held batch.now result }
         ensures ready { IfOk result (λ ready. Holds self.old batch.now ready self.new) }
         ensures refused { OnErr result (self.new ≡ self.old) }
-        ensures reserved { IfOk result (λ ready. ready.writes ≤ D.spare device.new) }
+        ensures reserved { OnOk result (HasRoomBothWays self.new.held (D.spare device.new)) }
+        ensures enough { IfOk result (λ ready. ready.writes ≤ D.spare device.new) }
         ensures room { HasRoomLeft self.old.held (D.spare device.old) → HasRoomLeft self.new.held (D.spare device.new) }
+        ensures both_ways { HasRoomBothWays self.old.held (D.spare device.old) → HasRoomBothWays self.new.held (D.spare device.new) }
+        ensures forward { GoesForward self.old.held → GoesForward self.new.held }
+        ensures way_back { OnOk result (WayBackFrom self.old.state self.new) }
         ensures spare { D.spare device.old ≤ D.spare device.new }
         ensures journal { D.journal device.new ≡ D.journal device.old }
+        ensures events { D.events device.new ≡ D.events device.old }
+        ensures flight { D.flight device.new ≡ D.flight device.old }
         ensures slot_count { D.slot_count device.new ≡ D.slot_count device.old }
         ensures faults { D.faults device.new ≡ D.faults device.old }
         ensures stays_on { IsOn (D.slot_count device.old) (D.journal device.old) self.old → IsOn (D.slot_count device.new) (D.journal device.new) self.new }
@@ -241,9 +239,12 @@ impl Manager {
         requires changes { AllByRecursion ChangesRules batch.now }
         ensures ready { IfOk result (λ ready. Holds self.old batch.now ready self.new) }
         ensures refused { OnErr result (self.new ≡ self.old) }
-        ensures reserved { IfOk result (λ ready. ready.writes ≤ D.spare device.new) }
+        ensures reserved { OnOk result (HasRoomBothWays self.new.held (D.spare device.new)) }
+        ensures enough { IfOk result (λ ready. ready.writes ≤ D.spare device.new) }
         ensures spare { D.spare device.old ≤ D.spare device.new }
         ensures journal { D.journal device.new ≡ D.journal device.old }
+        ensures events { D.events device.new ≡ D.events device.old }
+        ensures flight { D.flight device.new ≡ D.flight device.old }
         ensures slot_count { D.slot_count device.new ≡ D.slot_count device.old }
         ensures faults { D.faults device.new ≡ D.faults device.old }
     {
@@ -270,16 +271,34 @@ impl Manager {
                 return Err(fault);
             }
         }
+        let undo = match plan_undo(
+            self.alloc,
+            &self.translation,
+            &self.arrangement,
+            &plan.writes,
+        ) {
+            Ok(undo) => undo,
+            Err(fault) => {
+                forget_all(&mut self.live, ids);
+                return Err(fault);
+            }
+        };
         erase_all(&mut arrangement, &parts.erased);
         let counts = plan.counts();
+        let awaits = gives_bits(&self.translation, &bits);
         self.held = Some(Held {
             writes: plan.writes,
+            undo,
             made: 0,
+            turned: None,
+            awaits,
+            drained: false,
             counts,
             bits,
             batch: copy,
             rewrites: parts.rewrites,
             erased: parts.erased,
+            ids,
             arrangement,
         });
         Ok(ready(&counts))
@@ -310,9 +329,14 @@ impl Manager {
         Ok(Some(bits))
     }
 
-    /// Makes the next write of the commit under way, over the device that `prepare` reserved, with room for the writes
-    /// that are left. With none left there is no write: the rules become the new set, and the answer is `Finished`.
-    /// With no commit under way the answer is `Idle`, and nothing changes. It takes no memory.
+    /// Makes the next write of the commit under way, over the device that `prepare` reserved, with room for what is left.
+    /// Where the commit gives new bits, a drain is next once the words of the tables are written: while words are in
+    /// flight the answer is `Waiting` with their number, and nothing changes; with none in flight it drains. With nothing
+    /// left the rules become the new set, and the answer is `Finished`. With no commit under way the answer is `Idle`, and
+    /// nothing changes. It takes no memory.
+    ///
+    /// The words in flight stay as they are, and unless it drains those that were current are so still: each answers as
+    /// its key's word by the tables would.
     ///
     /// After it, also after a failure, each key is answered, by the device's journal, as the rules do, and while a commit
     /// is under way as the old ones or the new ones do.
@@ -324,12 +348,22 @@ impl Manager {
     pub fn step<D: Writable>(&mut self, device: &mut D) -> Result<Step, DeviceFault>
         requires slots { self.old.slots ≤ D.slot_count device.old }
         requires room { HasRoomLeft self.old.held (D.spare device.old) }
-        ensures stepped { IfOk result (λ step. Steps self.old self.old.held step self.new) }
-        ensures journal { IfOk result (λ step. D.journal device.new ≡ D.journal device.old ++ writes_of step) }
-        ensures spare { IfOk result (λ step. D.spare device.new + length (writes_of step) ≡ D.spare device.old) }
+        ensures stepped { IfOk result (λ step. Steps self.old (length (D.flight device.old)) self.old.held step self.new) }
+        ensures keeps { IfOk result (λ step. KeepsCurrent self.old step self.new) }
+        ensures way_back { (begun : State) → WayBackFrom begun self.old → WayBackFrom begun self.new }
+        ensures goes_back { (begun : State) → WayBackFrom begun self.old → GoesBackFrom begun self.new }
+        ensures journal { IfOk result (λ step. D.journal device.new ≡ D.journal device.old ++ writes_in (actions_of step)) }
+        ensures events { IfOk result (λ step. D.events device.new ≡ D.events device.old ++ actions_of step) }
+        ensures spare { IfOk result (λ step. D.spare device.new + length (actions_of step) ≡ D.spare device.old) }
+        ensures room { HasRoomLeft self.new.held (D.spare device.new) }
+        ensures both_ways { HasRoomBothWays self.old.held (D.spare device.old) → HasRoomBothWays self.new.held (D.spare device.new) }
+        ensures slots { self.new.slots ≡ self.old.slots }
+        ensures forward { GoesForward self.old.held → GoesForward self.new.held }
         ensures failed { OnErr result (self.new ≡ self.old) }
         ensures journal_err { OnErr result (D.journal device.new ≡ D.journal device.old) }
+        ensures events_err { OnErr result (D.events device.new ≡ D.events device.old) }
         ensures spare_err { OnErr result (D.spare device.new ≡ D.spare device.old) }
+        ensures flight { D.flight device.new ≡ D.flight device.old }
         ensures slot_count { D.slot_count device.new ≡ D.slot_count device.old }
         ensures due { OnErr result (IsSome (next_of self.old.held)) }
         ensures cause { HasCause (D.faults device.old) (D.faults device.new) result }
@@ -340,7 +374,7 @@ impl Manager {
         self.serving();
         match self.next_write() {
             None => {
-                let step = self.finish();
+                let step = self.end(device);
                 self.serving();
                 Ok(step)
             }
@@ -355,6 +389,35 @@ impl Manager {
         }
     }
 
+    /// Turns the plan that is held round: from now on `step` and `carry_out` undo the writes that were made, the last one
+    /// first, each by writing what its slot or table word held before it, and without a drain. With the last of them the
+    /// rules are the old ones, and no plan is held. The answer is how many undo writes there are: none where no write was
+    /// made. The way back passes no state but those that the commit passed, so each key is answered as the old rules or the
+    /// new ones do all along. It writes nothing and takes no memory, and over a device that `prepare` reserved there is
+    /// room for the way back.
+    ///
+    /// The writes that are undone are those that were answered Ok. Where the last `step` answered a failure and the
+    /// hardware may have made that write all the same, make it first (`step` until it is answered Ok): no undo write goes
+    /// to its slot. Over a device whose failed write did nothing, as `Writable` has it, `abort` may come at once.
+    ///
+    /// `Idle` comes exactly where no plan is held, and `Back` exactly where the plan is turned round already, with the
+    /// undo writes that are left. Nothing changes then.
+    pub fn abort(&mut self) -> Result<u64, AbortFault>
+        ensures aborts { Aborts self.old self.old.held result self.new }
+        ensures way_back { (begun : State) → WayBackFrom begun self.old → WayBackFrom begun self.new }
+        ensures goes_back { (begun : State) → WayBackFrom begun self.old → GoesBackFrom begun self.new }
+        ensures room { (spare : ℕ) → HasRoomBothWays self.old.held spare → HasRoomLeft self.new.held spare }
+        ensures both_ways { (spare : ℕ) → HasRoomBothWays self.old.held spare → HasRoomBothWays self.new.held spare }
+        ensures state { self.new.state ≡ self.old.state }
+        ensures slots { self.new.slots ≡ self.old.slots }
+        ensures current { live_now self.new ≡ live_now self.old }
+    {
+        match &mut self.held {
+            None => Err(AbortFault::Idle),
+            Some(held) => held.turn(),
+        }
+    }
+
     /// Makes all writes that are left of the commit under way, in their order, over the device that `prepare` reserved,
     /// each tried up to `tries` times, at least once: 1 tries none again. With the last of them the rules become the
     /// new set, and the answer has the numbers of the commit. With no commit under way they are all 0, and nothing
@@ -365,21 +428,30 @@ impl Manager {
     /// the commit has finished no other batch is taken, and nothing else may be written. A device that stays stuck is
     /// blanked, and gets a new manager.
     ///
+    /// `Waiting` comes exactly where the drain is next and words are in flight, with their number: what came before was
+    /// made, and once they have been searched the call is made again. `Reverted` comes where the commit was turned round:
+    /// its undo writes were made, and the rules are the old ones.
+    ///
     /// Each key is answered, by the device's journal, as the old rules or the new ones do before the first write and after
     /// each, also where the write that failed was made all the same; and once the commit has finished as the new ones do.
-    pub fn carry_out<D: Writable>(&mut self, device: &mut D, tries: u32) -> Result<Done, Stuck>
+    pub fn carry_out<D: Writable>(&mut self, device: &mut D, tries: u32) -> Result<Done, Unfinished>
         requires slots { self.old.slots ≤ D.slot_count device.old }
         requires room { HasRoomLeft self.old.held (D.spare device.old) }
         requires tries { 1 ≤ tries }
         ensures done { IfOk result (λ done. done ≡ done_of self.old.held) }
+        ensures was_forward { OnOk result (GoesForward self.old.held) }
+        ensures forward { GoesForward self.old.held → GoesForward self.new.held }
         ensures finished { OnOk result (self.new ≡ finished self.old) }
         ensures rules { OnOk result ((was : Managed) → (batch : List Command) → (ready : Ready) → Holds was batch ready self.old → self.new.rules ≡ set_after was.rules batch) }
         ensures journal { OnOk result (D.journal device.new ≡ D.journal device.old ++ writes_left self.old.held) }
-        ensures stuck { IfErr result (λ stuck. StopsAt self.old self.new (D.journal device.old) (D.journal device.new) stuck.left) }
-        ensures spare { D.spare device.new + length (writes_left self.old.held) ≡ D.spare device.old + length (writes_left self.new.held) }
+        ensures events { OnOk result (D.events device.new ≡ D.events device.old ++ actions_left self.old.held) }
+        ensures stopped { IfErr result (λ halt. StopsBy self.old self.new (D.journal device.old) (D.journal device.new) (length (D.flight device.old)) halt) }
+        ensures spare { D.spare device.new + length (actions_left self.old.held) ≡ D.spare device.old + length (actions_left self.new.held) }
         ensures room { HasRoomLeft self.new.held (D.spare device.new) }
+        ensures both_ways { HasRoomBothWays self.old.held (D.spare device.old) → HasRoomBothWays self.new.held (D.spare device.new) }
+        ensures flight { D.flight device.new ≡ D.flight device.old }
         ensures slot_count { D.slot_count device.new ≡ D.slot_count device.old }
-        ensures tried { IsTried tries (length (D.journal device.new) - length (D.journal device.old)) (IsErr result) (D.faults device.old) (D.faults device.new) }
+        ensures tried { IsTried tries (length (D.journal device.new) - length (D.journal device.old)) (IsStuckBy result) (D.faults device.old) (D.faults device.new) }
         ensures stays_on { IsOn (D.slot_count device.old) (D.journal device.old) self.old → IsOn (D.slot_count device.new) (D.journal device.new) self.new }
         ensures hitless { IsOn (D.slot_count device.old) (D.journal device.old) self.old → IsServed (D.slot_count device.new) (D.journal device.old) (D.journal device.new) self.old.rules (ahead self.old) }
         ensures serves { IsOn (D.slot_count device.old) (D.journal device.old) self.old → Serves (replay (D.slot_count device.new) (D.journal device.new)) self.new.rules self.new.held }
@@ -390,13 +462,19 @@ impl Manager {
         'carrying: loop {
             match self.step(device) {
                 Ok(Step::Wrote(_)) => failures = 0,
+                Ok(Step::Drained) => {}
                 Ok(Step::Finished(done)) => return Ok(done),
                 Ok(Step::Idle) => return Ok(NOTHING_DONE),
+                Ok(Step::Waiting(words)) => {
+                    let left = self.left().unwrap_or(0);
+                    return Err(Unfinished::Waiting { words, left });
+                }
+                Ok(Step::Reverted(undone)) => return Err(Unfinished::Reverted { undone }),
                 Err(DeviceFault) => {
                     failures += 1;
                     if failures == tries {
                         let left = self.left().unwrap_or(0);
-                        return Err(Stuck { left });
+                        return Err(Unfinished::Stuck { left });
                     }
                 }
             }
@@ -405,67 +483,12 @@ impl Manager {
 
     /// A device that holds what the manager's writes left serves each key, and so it does where the next write was
     /// made already.
-    fn serving(&self)
+    pub fn serving(&self)
         ensures serves { (device_slots : ℕ) → self.now.slots ≤ device_slots → Serves (on_device device_slots self.now.state) self.now.rules self.now.held }
+        ensures now { ServesNow self.now }
+        ensures right { IsHeldRight self.now }
         ensures ahead { (write : Write) → next_of self.now.held ≡ Some write → (device_slots : ℕ) → self.now.slots ≤ device_slots → Serves (on_device device_slots (apply self.now.state write)) self.now.rules self.now.held }
     {
         let _rules = &self.rules;
-    }
-
-    /// The next write, if a commit is under way and has one left.
-    fn next_write(&self) -> Option<Write>
-        ensures next { result ≡ next_of self.now.held }
-        ensures in_use { IfSome result (IsInUse self.now.slots) }
-        ensures size { length self.now.state.slots ≡ self.now.slots }
-    {
-        match &self.held {
-            None => None,
-            Some(held) => match held.writes.get(held.made) {
-                None => None,
-                Some(planned) => Some(write_of(planned, &self.live, &held.rewrites)),
-            },
-        }
-    }
-
-    /// The next write, this one, was made.
-    fn advance(&mut self, write: Write) -> Step
-        requires { next_of self.old.held ≡ Some write }
-        ensures { Steps self.old self.old.held result self.new }
-    {
-        match &mut self.held {
-            None => Step::Idle,
-            Some(held) => {
-                held.made += 1;
-                Step::Wrote(write)
-            }
-        }
-    }
-
-    /// With a commit under way that has no write left, the rules become the new set.
-    fn finish(&mut self) -> Step
-        requires { IfSome self.old.held (λ held. held.writes ≡ []) }
-        ensures { Steps self.old self.old.held result self.new }
-    {
-        match self.held.take() {
-            None => Step::Idle,
-            Some(held) => {
-                let Held {
-                    writes,
-                    made: _,
-                    counts,
-                    bits,
-                    batch,
-                    rewrites,
-                    erased,
-                    arrangement,
-                } = held;
-                self.rules.apply(&batch);
-                translate(&mut self.translation, &bits, &self.rules, &writes);
-                self.live.rewrite_all(&rewrites);
-                self.live.forget_each(&erased);
-                self.arrangement = arrangement;
-                Step::Finished(counts)
-            }
-        }
     }
 }

@@ -1,6 +1,6 @@
 //! The plan of a commit: its writes, planned before the first of them goes out.
 
-ghost use Rattle.std.specs.Prelude.{◌≡◌, ◌≤◌, ◌*◌, ◌^◌, ◌++◌, [], OnOk, List, length, map, max, nat_eq};
+ghost use Rattle.std.specs.Prelude.{◌≡◌, ◌+◌, ◌≤◌, ◌*◌, ◌^◌, ◌++◌, [], OnOk, List, length, map, max, nat_eq};
 ghost use Rattle.std.specs.List.{AllByRecursion, IsDistinct};
 ghost use Rattle.commit_writes.specs.declared.Rewrite.{Rewrite};
 ghost use Rattle.commit_writes.specs.Planned.{IdEntries};
@@ -122,15 +122,18 @@ pub(crate) fn plan_changes<D: Writable>(
     ensures words { OnOk result (plan.new.words ≡ plan.old.words) }
     ensures most { OnOk result (plan.new.most ≡ plan.old.most) }
     ensures span { OnOk result (plan.new.span ≡ plan.old.span) }
-    ensures enough { OnOk result (length plan.new.writes.items ≤ D.spare device.new) }
+    ensures enough { OnOk result (2 * length plan.new.writes.items + 1 ≤ D.spare device.new) }
     ensures least { D.spare device.old ≤ D.spare device.new }
     ensures journal { D.journal device.new ≡ D.journal device.old }
+    ensures events { D.events device.new ≡ D.events device.old }
+    ensures flight { D.flight device.new ≡ D.flight device.old }
     ensures slot_count { D.slot_count device.new ≡ D.slot_count device.old }
     ensures faults { D.faults device.new ≡ D.faults device.old }
 {
     plan_rewrites(&parts.rewrites, arrangement, &mut plan.writes)?;
     plan_erases(&parts.erased, arrangement, &mut plan.writes)?;
-    device.reserve(plan.writes.len() as u64)
+    // The writes, those that undo them, and a drain.
+    device.reserve(2 * plan.writes.len() as u64 + 1)
 }
 
 /// The write of each new entry to where its id stands.

@@ -5,10 +5,11 @@ ghost use Rattle.rule_store.specs.Verdict.{field_bits};
 ghost use Rattle.range_bits.specs.FieldMap.{live_count};
 ghost use Rattle.tcam_device.specs.State.{IsState, apply, blank, state_after};
 ghost use Rattle.commit_writes.specs.declared.Rewrite.{Rewrite};
-ghost use Rattle.commit_writes.specs.Bits.{no_bits};
+ghost use Rattle.commit_writes.specs.Actions.{have_bits};
+ghost use Rattle.commit_writes.specs.Bits.{new_bits, no_bits};
 ghost use Rattle.commit_writes.specs.Planned.{IdEntries};
 ghost use Rattle.translation_tables.specs.Needed.{ranges_in, ranges_needed};
-ghost use Rattle.batch_order.specs.Kept.{bits_of, mode_of, tables_of, translated_by};
+ghost use Rattle.batch_order.specs.Kept.{bits_of, coded_by, during_of, mode_of, tables_of, translated_by};
 ghost use Rattle.batch_order.specs.Planning.{as_write, as_writes};
 
 use crate::planned_writes::PlannedWrite;
@@ -49,6 +50,17 @@ pub(crate) fn encoding(translation: &Option<Translation>) -> Mode
     match translation {
         None => Mode::Cover,
         Some(_) => Mode::Bits,
+    }
+}
+
+/// Whether a range is live meanwhile that wasn't before.
+pub(crate) fn gives_bits(translation: &Option<Translation>, during: &Option<FieldBits>) -> bool
+    requires { coded_by during.now ≡ mode_of translation.now }
+    ensures { result ≡ have_bits (new_bits (bits_of translation.now) (during_of during.now)) }
+{
+    match (translation, during) {
+        (Some(kept), Some(bits)) => bits.new_since(&kept.bits).any(),
+        _ => false,
     }
 }
 

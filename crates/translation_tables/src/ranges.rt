@@ -8,6 +8,7 @@ ghost use Rattle.rule_store.specs.Verdict.{coded_ranges, field_bits};
 ghost use Rattle.rule_store.specs.Batch.{additions};
 ghost use Rattle.range_bits.specs.LiveRanges.{kept_ranges, with_ranges};
 ghost use Rattle.range_bits.specs.FieldMap.{live_count};
+ghost use Rattle.commit_writes.specs.Actions.{have_bits};
 ghost use Rattle.commit_writes.specs.Bits.{bits_left, new_bits, no_bits, with_bits};
 ghost use Rattle.translation_tables.specs.Needed as needed;
 ghost use Rattle.translation_tables.specs.Needed.{ranges_in, ranges_needed, ranges_without, with_needed};
@@ -90,6 +91,13 @@ impl FieldBits {
             src: self.src.newer_than(&before.src),
             dst: self.dst.newer_than(&before.dst),
         }
+    }
+
+    /// Whether a range is live in either field.
+    pub fn any(&self) -> bool
+        ensures { result ≡ have_bits self.now }
+    {
+        self.src.live() > 0 || self.dst.live() > 0
     }
 
     /// The live ranges that some rule of a set has, under the same bits; the others have given up theirs.

@@ -1,9 +1,11 @@
 //! The words of both translation tables.
 
-ghost use Rattle.std.specs.Prelude.{◌≡◌, ◌+◌, ◌≤◌, ◌^◌, ◌*◌, ◌++◌, IfOk, OnOk, length};
+ghost use Rattle.std.specs.Prelude.{◌≡◌, true, ◌+◌, ◌≤◌, ◌^◌, ◌*◌, ◌++◌, IfOk, OnOk, length};
+ghost use Rattle.tcam_device.specs.Insertion.{is_table_write};
 ghost use Rattle.tcam_device.specs.State.{apply, blank};
 ghost use Rattle.commit_writes.specs.Shape as shape;
 ghost use Rattle.commit_writes.specs.Shape.{bit_writes, field_writes};
+ghost use Rattle.commit_writes.specs.Undo.{restoring};
 
 use crate::FieldBits;
 use range_bits::BitMap;
@@ -91,6 +93,44 @@ impl Tables {
             Field::Src => self.src[word.port as usize] = word.word,
             Field::Dst => self.dst[word.port as usize] = word.word,
         }
+    }
+
+    /// A word was written to the device. Answers the word that puts back what its port had before.
+    pub fn replace(&mut self, word: TableWord) -> TableWord
+        ensures set { self.new ≡ apply self.old word }
+        ensures before { result ≡ restoring self.old word }
+        ensures is_word { is_table_write word ≡ true }
+    {
+        let before = self.before(word);
+        self.set(word);
+        before
+    }
+
+    /// The word that puts back what a word's port has now.
+    fn before(&self, word: TableWord) -> TableWord
+        ensures { result ≡ restoring self.now word }
+    {
+        match word.field {
+            Field::Src => TableWord {
+                field: Field::Src,
+                port: word.port,
+                word: self.src[word.port as usize],
+            },
+            Field::Dst => TableWord {
+                field: Field::Dst,
+                port: word.port,
+                word: self.dst[word.port as usize],
+            },
+        }
+    }
+
+    /// Makes a copy of its own memory. It fails only for want of memory, of 256 KiB.
+    pub fn try_copy(&self, alloc: Global) -> Result<Tables, AllocError>
+        ensures { IfOk result (λ copy. copy ≡ self.now) }
+    {
+        let src = Vec::from_slice(alloc, &self.src)?;
+        let dst = Vec::from_slice(alloc, &self.dst)?;
+        Ok(Tables { src, dst })
     }
 }
 

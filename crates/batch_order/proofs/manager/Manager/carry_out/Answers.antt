@@ -1,17 +1,21 @@
-use Rattle.std.proofs.Common.{◌≡◌, ◌+◌, ◌++◌, [], ◌∷◌, ℕ, List, Option, Some, None, IsSome, length, refl, ap, subst, ◌∙◌, arith}
+use Rattle.std.proofs.Common.{◌≡◌, ◌+◌, ◌++◌, [], ◌∷◌, ℕ, List, Option, Some, None, IsSome, length, refl, ap, subst, ◌∙◌, arith, append-nil}
 use Rattle.std.specs.Prelude.{option_map, unwrap_or}
 use Rattle.rule_model.specs.declared.Rule.{Rule}
 use Rattle.tcam_device.specs.declared.Write.{Write}
+use Rattle.tcam_device.specs.declared.Action.TheVariants.{Written, Drained}
 use Rattle.tcam_device.specs.State.{replay}
+use Rattle.tcam_device.specs.Flight.{writes_in}
 use Rattle.tcam_device.specs.Hitless.{ShowsOldOrNew}
 use Rattle.batch_order.specs.declared.Step.{Step}
-use Rattle.batch_order.specs.declared.Step.TheVariants.{Wrote}
-use Rattle.batch_order.specs.Managed.{Managed, HeldCommit, Steps, next_of, writes_of}
-use Rattle.batch_order.specs.CarriedOut.{IsServed, StopsAt, ahead, writes_left}
+use Rattle.batch_order.specs.declared.Step.TheVariants as step
+use Rattle.batch_order.specs.Managed.{Managed, HeldCommit, writes_due}
+use Rattle.batch_order.specs.Steps.{Steps, actions_of, next_of}
+use Rattle.batch_order.specs.CarriedOut.{IsServed, ahead, writes_left}
 use Rattle.batch_order.proofs.Ahead.{by_journal}
-use Rattle.batch_order.proofs.Onward.{IsSame, same, stops}
+use Rattle.batch_order.proofs.Onward.{IsSame, reverted, same}
 use Rattle.batch_order.proofs.Served.{at-first, either, more}
-use Rattle.batch_order.proofs.Tried.{goes-start, goes-wrote}
+use Rattle.batch_order.proofs.Stepped.{none_drained}
+use Rattle.batch_order.proofs.Tried.{goes-drained, goes-start, goes-wrote}
 use Rattle.batch_order.proofs.manager.Manager.carry_out.Goals as goal
 
 pub carrying-init : goal.carrying-init
@@ -20,8 +24,13 @@ carrying-init g c =
     let journal = g.D.Writable.journal c.args.device.now in
     let m : Managed = c.args.self.now in
     record {
-      goes = goes-start m journal (g.D.Writable.spare c.args.device.now) c.args.tries (g.D.Writable.faults c.args.device.now);
+      goes = goes-start m journal (g.D.Writable.events c.args.device.now) (g.D.Writable.spare c.args.device.now) c.args.tries (g.D.Writable.faults c.args.device.now);
       slot_count = refl;
+      flight = refl;
+      slots = refl;
+      room = c.requires.room;
+      both = λ both. both;
+      forward = λ forward. forward;
       on = λ on. on;
       served = λ on. at-first slots journal m.rules (ahead m) (either (replay slots journal) m.rules m.held (by_journal slots journal m c.requires.slots c.serving.ensures.serves on));
       below = c.requires.tries;
@@ -36,19 +45,27 @@ carrying-preserved-in-Ok-Wrote g c =
     let m' : Managed = c.step.new.self in
     let old : Managed = c.args.self.now in
     let write : Write = c.in-Ok-Wrote.field-0-0 in
+    let flying : ℕ = length (g.D.Writable.flight c.carrying.device) in
     let slots = g.D.Writable.slot_count c.step.new.device in
     let journal' : List Write = g.D.Writable.journal c.step.new.device in
-    let steps : Steps m m.held (Wrote write) m' = subst (λ (step : Step). Steps m m.held step m') c.in-Ok-Wrote.field-0-is made.stepped in
+    let steps : Steps m flying m.held (step.Wrote write) m' = subst (λ (s : Step). Steps m flying m.held s m') c.in-Ok-Wrote.field-0-is made.stepped in
     let longer : journal' ≡ g.D.Writable.journal c.carrying.device ++ write ∷ [] =
-    made.journal ∙ ap (λ (step : Step). g.D.Writable.journal c.carrying.device ++ writes_of step) c.in-Ok-Wrote.field-0-is in
+    made.journal ∙ ap (λ (s : Step). g.D.Writable.journal c.carrying.device ++ writes_in (actions_of s)) c.in-Ok-Wrote.field-0-is in
+    let logged : g.D.Writable.events c.step.new.device ≡ g.D.Writable.events c.carrying.device ++ Written write ∷ [] =
+    made.events ∙ ap (λ (s : Step). g.D.Writable.events c.carrying.device ++ actions_of s) c.in-Ok-Wrote.field-0-is in
     let fewer : g.D.Writable.spare c.step.new.device + 1 ≡ g.D.Writable.spare c.carrying.device =
-    subst (λ (step : Step). g.D.Writable.spare c.step.new.device + length (writes_of step) ≡ g.D.Writable.spare c.carrying.device) c.in-Ok-Wrote.field-0-is made.spare in
+    subst (λ (s : Step). g.D.Writable.spare c.step.new.device + length (actions_of s) ≡ g.D.Writable.spare c.carrying.device) c.in-Ok-Wrote.field-0-is made.spare in
     let count : g.D.Writable.faults c.step.new.device ≡ g.D.Writable.faults c.carrying.device = made.cause.stayed in
-    let goes = goes-wrote old m m' _ _ journal' _ _ _ c.args.tries c.carrying.failures _ _ write inv.goes steps longer fewer inv.below in
+    let goes = goes-wrote old m m' flying write _ _ journal' _ _ _ _ _ _ c.args.tries c.carrying.failures _ _ inv.goes steps longer logged fewer inv.below in
     let keeps : IsSame old m' = same old m' old.held goes.made refl goes.onward in
     record {
       goes = rw count goes;
       slot_count = made.slot_count ∙ inv.slot_count;
+      flight = made.flight ∙ inv.flight;
+      slots = keeps.slots;
+      room = made.room;
+      both = λ both. made.both_ways (inv.both both);
+      forward = λ forward. made.forward (inv.forward forward);
       on = λ on. made.stays_on (inv.on on);
       served = λ on.
           let shown : ShowsOldOrNew (replay slots journal') m'.rules (ahead m') = either (replay slots journal') m'.rules m'.held (made.serves (inv.on on)) in
@@ -60,19 +77,57 @@ carrying-preserved-in-Ok-Wrote g c =
       due = λ some. absurd (omega arith);
     }
 
--- how many writes are left where the next is due
-left-of : (held : Option HeldCommit) → IsSome (next_of held) → unwrap_or (option_map (λ (one : HeldCommit). length one.writes) held) 0 ≡ length (writes_left held)
-left-of None due = absurd (let no = due in cc)
-left-of (Some held) due = refl
+pub carrying-preserved-in-Ok-Drained : goal.carrying-preserved-in-Ok-Drained
+carrying-preserved-in-Ok-Drained g c =
+    let made = c.in-Ok-Drained.ensures in
+    let inv = c.carrying.invariant in
+    let m : Managed = c.carrying.self in
+    let m' : Managed = c.step.new.self in
+    let old : Managed = c.args.self.now in
+    let flying : ℕ = length (g.D.Writable.flight c.carrying.device) in
+    let journal' : List Write = g.D.Writable.journal c.step.new.device in
+    let steps : Steps m flying m.held step.Drained m' = subst (λ (s : Step). Steps m flying m.held s m') c.in-Ok-Drained.field-0-is made.stepped in
+    let same_journal : journal' ≡ g.D.Writable.journal c.carrying.device ++ [] =
+    made.journal ∙ ap (λ (s : Step). g.D.Writable.journal c.carrying.device ++ writes_in (actions_of s)) c.in-Ok-Drained.field-0-is in
+    let logged : g.D.Writable.events c.step.new.device ≡ g.D.Writable.events c.carrying.device ++ Drained ∷ [] =
+    made.events ∙ ap (λ (s : Step). g.D.Writable.events c.carrying.device ++ actions_of s) c.in-Ok-Drained.field-0-is in
+    let fewer : g.D.Writable.spare c.step.new.device + 1 ≡ g.D.Writable.spare c.carrying.device =
+    subst (λ (s : Step). g.D.Writable.spare c.step.new.device + length (actions_of s) ≡ g.D.Writable.spare c.carrying.device) c.in-Ok-Drained.field-0-is made.spare in
+    let count : g.D.Writable.faults c.step.new.device ≡ g.D.Writable.faults c.carrying.device = made.cause.stayed in
+    let goes = goes-drained old m m' flying _ _ journal' _ _ _ _ _ _ c.args.tries c.carrying.failures _ _ inv.goes steps same_journal logged fewer in
+    let keeps : IsSame old m' = same old m' old.held goes.made refl goes.onward in
+    let none : next_of m.held ≡ None = none_drained m flying m.held m' steps in
+    let stays : journal' ≡ g.D.Writable.journal c.carrying.device = same_journal ∙ append-nil _ in
+    record {
+      goes = rw count goes;
+      slot_count = made.slot_count ∙ inv.slot_count;
+      flight = made.flight ∙ inv.flight;
+      slots = keeps.slots;
+      room = made.room;
+      both = λ both. made.both_ways (inv.both both);
+      forward = λ forward. made.forward (inv.forward forward);
+      on = λ on. made.stays_on (inv.on on);
+      served = λ on. rw (made.slot_count, stays) (inv.served on);
+      below = inv.below;
+      due = λ some. absurd (let clash : IsSome (next_of m.held) = inv.due some in let no : IsSome {T = Write} None = subst (λ (n : Option Write). IsSome n) none clash in cc);
+    }
 
-pub returns-then-failures-tries-clause-stuck : goal.returns-then-failures-tries-clause-stuck
-returns-then-failures-tries-clause-stuck g c =
+-- how many writes are left where a commit is under way
+left-of : (held : Option HeldCommit) → unwrap_or (option_map (λ (one : HeldCommit). length (writes_due one)) held) 0 ≡ length (writes_left held)
+left-of None = refl
+left-of (Some held) = refl
+
+pub returns-in-Ok-Reverted-clause-stopped : goal.returns-in-Ok-Reverted-clause-stopped
+returns-in-Ok-Reverted-clause-stopped g c =
+    let made = c.in-Ok-Reverted.ensures in
     let inv = c.carrying.invariant in
     let m : Managed = c.carrying.self in
     let old : Managed = c.args.self.now in
-    let before = g.D.Writable.journal c.args.device.now in
-    let held : c.step.new.self ≡ m = c.in-Err.ensures.failed in
-    let stopped : StopsAt old m before (g.D.Writable.journal c.carrying.device) (length (writes_left m.held)) = stops old m old.held inv.goes.made before _ refl inv.goes.onward c.in-Err.ensures.due inv.goes.journal in
-    let left : c.unwrap_or-left.result ≡ length (writes_left m.held) =
-    c.unwrap_or-left.ensures ∙ (ap (λ (n : Option ℕ). unwrap_or n 0) (c.left.ensures ∙ ap (λ (n : Managed). option_map (λ (one : HeldCommit). length one.writes) n.held) held) ∙ left-of m.held c.in-Err.ensures.due) in
-    rw (left, held, c.in-Err.ensures.journal_err) stopped
+    let undone : ℕ = c.in-Ok-Reverted.undone in
+    let flying : ℕ = length (g.D.Writable.flight c.carrying.device) in
+    let did : Step = c.in-Ok-Reverted.field-0 in
+    let is : did ≡ step.Reverted undone = c.in-Ok-Reverted.field-0-is in
+    let steps : Steps m flying m.held (step.Reverted undone) c.step.new.self = subst (λ (s : Step). Steps m flying m.held s c.step.new.self) is made.stepped in
+    let journal : g.D.Writable.journal c.step.new.device ≡ g.D.Writable.journal c.carrying.device =
+    made.journal ∙ ap (λ (s : Step). g.D.Writable.journal c.carrying.device ++ writes_in (actions_of s)) is ∙ append-nil _ in
+    (reverted old m c.step.new.self flying undone old.held inv.goes.made (g.D.Writable.journal c.args.device.now) (g.D.Writable.journal c.step.new.device) refl inv.goes.onward steps (journal ∙ inv.goes.journal)).reverts

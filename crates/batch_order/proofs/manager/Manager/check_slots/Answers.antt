@@ -10,7 +10,7 @@ use Rattle.batch_order.proofs.manager.Manager.check_slots.Goals as goal
 pub returns-then-need-free-clause-short : goal.returns-then-need-free-clause-short
 returns-then-need-free-clause-short c =
     let i = c.self.inside in
-    let idle : option_map (held_of i.rules.rules i.live.entries) i.held ≡ None = rw (← c.self.view_is) at c.requires.idle in
+    let idle : option_map (held_of i.translation i.arrangement i.rules.rules i.live.entries) i.held ≡ None = rw (← c.self.view_is) at c.requires.idle in
     let need : c.entries_added-need.result ≡ entries_added (mode_of i.translation) i.rules.rules c.args.batch.now =
     c.entries_added-need.ensures.count ∙ ap (λ (m : Mode). entries_added m i.rules.rules c.args.batch.now) c.encoding.ensures in
     let free : c.free_count-free.result ≡ free_slots i.arrangement = c.free_count-free.ensures in
@@ -20,7 +20,7 @@ returns-then-need-free-clause-short c =
 pub returns-clause-fits : goal.returns-clause-fits
 returns-clause-fits c =
     let i = c.self.inside in
-    let idle : option_map (held_of i.rules.rules i.live.entries) i.held ≡ None = rw (← c.self.view_is) at c.requires.idle in
+    let idle : option_map (held_of i.translation i.arrangement i.rules.rules i.live.entries) i.held ≡ None = rw (← c.self.view_is) at c.requires.idle in
     let need : c.entries_added-need.result ≡ entries_added (mode_of i.translation) i.rules.rules c.args.batch.now =
     c.entries_added-need.ensures.count ∙ ap (λ (m : Mode). entries_added m i.rules.rules c.args.batch.now) c.encoding.ensures in
     let free : c.free_count-free.result ≡ free_slots i.arrangement = c.free_count-free.ensures in

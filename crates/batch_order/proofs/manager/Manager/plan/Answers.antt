@@ -1,4 +1,4 @@
-use Rattle.std.proofs.Common.{◌≡◌, ℕ, ◌≤◌, ◌+◌, ◌*◌, ◌^◌, ◌∙◌, List, length, map, IsTrue, Option, Some, None, Ok, Err, OnErr, Result, refl, sym, ap, subst, arith}
+use Rattle.std.proofs.Common.{◌≡◌, ℕ, ◌≤◌, ◌+◌, ◌*◌, ◌^◌, ◌∙◌, false, List, length, map, IsTrue, Option, Some, None, Ok, Err, OnErr, Result, refl, sym, ap, subst, arith}
 use Rattle.std.specs.List.{AllByRecursion, AllZip}
 use Rattle.std.proofs.lemmas.List.{length-map}
 use Rattle.slot_pool.specs.Arrangement.{Slots}
@@ -17,7 +17,7 @@ use Rattle.commit_writes.specs.Shape.{set_pieces, inserted_pieces, rewritten_pie
 use Rattle.commit_writes.specs.PlannedBatch.{IsIdOf, IsRewriteOf, erased_slots}
 use Rattle.commit_writes.proofs.TableWrites.{bit_writes-tables, tables_in_use}
 use Rattle.batch_order.specs.declared.Placement.{Placement}
-use Rattle.batch_order.specs.declared.manager.Held.{Held}
+use Rattle.batch_order.specs.declared.held.Held.{Held}
 use Rattle.batch_order.specs.declared.plan.Plan.{Plan}
 use Rattle.batch_order.specs.declared.planned_writes.PlannedWrite.{PlannedWrite}
 use Rattle.batch_order.specs.declared.planned_writes.PlannedWrite.TheVariants.{Tabled}
@@ -25,7 +25,8 @@ use Rattle.batch_order.specs.declared.translation.Translation.{Translation}
 use Rattle.batch_order.specs.Entries.{AddsIds, Entries, HaveIds, KeepEntries}
 use Rattle.batch_order.specs.Kept.{IsManaged, bits_of, coded_by, during_of, held_of, mode_of, settled_state}
 use Rattle.batch_order.specs.Placing.{aims_of, words_of}
-use Rattle.batch_order.specs.Planning.{ArePlannedSince, IsWithin}
+use Rattle.batch_order.specs.Planning.{ArePlannedSince, IsWithin, as_writes}
+use Rattle.batch_order.specs.Restoring.{restorings}
 use Rattle.batch_order.specs.Managed.{Managed, Holds}
 use Rattle.batch_order.proofs.Parted.{inserted_encodable, rewritten_encodable}
 use Rattle.batch_order.proofs.Numbered.{arranged_number}
@@ -36,7 +37,7 @@ use Rattle.batch_order.proofs.Carried.{view_of}
 use Rattle.batch_order.proofs.Refused.{adds_first, managed_same, view_same}
 use Rattle.batch_order.proofs.Taken.{ArePartsOf, IsCoded, IsTaken, behind_by, behind_serves, during_by, inserted_room, kept_so, pieces_have_ids, plan_made, plan_words, said_so, words_by}
 use Rattle.batch_order.proofs.Leading.{AreLiveParts, changed_stand, few_rewrites, live_parts}
-use Rattle.batch_order.proofs.Holding.{IsHeldPlan, holds_plan, managed_held}
+use Rattle.batch_order.proofs.Holding.{IsHeldPlan, held_room, holds_plan, managed_held}
 use Rattle.batch_order.proofs.manager.Manager.plan.Given.{Over}
 use Rattle.batch_order.proofs.manager.Manager.plan.Goals as goal
 
@@ -45,7 +46,7 @@ taken_as : (placement : Placement) (translation : Option Translation) (rules : S
     → view_of placement translation rules kept slots held ≡ now → now.held ≡ None → AllByRecursion ChangesRules batch → batch_fault now.rules batch ≡ None → verdict now.slots now.mode now.rules batch ≡ Accepted
     → IsTaken translation rules kept slots batch
 taken_as placement translation rules kept slots held now batch is view idle changes sound fits =
-    let none : held ≡ None = idle_held (held_of rules.rules kept.entries) held (rw (← view) at idle) in
+    let none : held ≡ None = idle_held (held_of translation slots rules.rules kept.entries) held (rw (← view) at idle) in
     let sound_so : batch_fault rules.rules batch ≡ None = rw (← view) at sound in
     let fits_so : verdict (length slots) (mode_of translation) rules.rules batch ≡ Accepted = rw (← view) at fits in
     record {
@@ -64,7 +65,7 @@ coded_as placement translation rules kept slots held now batch bits view are =
 words_as : (placement : Placement) (translation : Option Translation) (rules : StoredRules) (kept : Entries) (slots : Slots) (held : Option Held) (now : Managed) (batch : List Command) (writes : List PlannedWrite)
     → view_of placement translation rules kept slots held ≡ now → now.held ≡ None → writes ≡ map Tabled (words_of now.mode now.bits now.rules batch now.state) → writes ≡ map Tabled (words_by translation rules kept slots batch)
 words_as placement translation rules kept slots held now batch writes view idle are =
-    let none : held ≡ None = idle_held (held_of rules.rules kept.entries) held (rw (← view) at idle) in
+    let none : held ≡ None = idle_held (held_of translation slots rules.rules kept.entries) held (rw (← view) at idle) in
     let said : writes ≡ map Tabled (words_of (mode_of translation) (bits_of translation) rules.rules batch (view_of placement translation rules kept slots held).state) = rw (← view) at are in
     subst (λ (h : Option Held). writes ≡ map Tabled (words_of (mode_of translation) (bits_of translation) rules.rules batch (view_of placement translation rules kept slots h).state)) none said
 
@@ -150,6 +151,15 @@ plan_changes-requires g c =
       within = subst (λ (n : ℕ). AllByRecursion (IsWithin n) c.plan_additions.new.plan.writes.items) (sym plannable.settled.size) plannable.within;
     }
 
+pub plan_undo-requires : goal.plan_undo-requires
+plan_undo-requires g c =
+    let i = c.self.inside in
+    let batch = c.args.batch.now in
+    let t = taken_as i.placement i.translation i.rules i.live i.arrangement i.held c.args.self.now batch c.self.invariant c.self.view_is c.requires.idle c.requires.changes c.requires.sound c.requires.fits in
+    let size : length c.plan_additions.new.arrangement ≡ length i.arrangement =
+    c.in_ok-ids.ensures.plannable.settled.size ∙ c.plan_additions.ensures.slots ∙ sym t.managed.carried.settled.size in
+    record { within = rw c.deref-2.ensures.value (subst (λ (n : ℕ). AllByRecursion (IsWithin n) c.plan_changes.new.plan.writes.items) size c.in-Ok.ensures.within) }
+
 pub erase_all-requires : goal.erase_all-requires
 erase_all-requires g c =
     let i = c.self.inside in
@@ -161,8 +171,8 @@ erase_all-requires g c =
     let parts = parts_live i.translation i.rules i.live c.plan_additions.new.live i.arrangement batch c.in_ok-ids.ids.items rewrites erased t c.in_ok-ids.ensures.adds
     (parts_as i.translation i.rules batch c.in_ok-bits.bits i.live.live rewrites erased coded c.in_ok-parts.ensures.rewrites c.in_ok-parts.ensures.erased) in
     record {
-      distinct = rw c.deref-2.ensures.value parts.once;
-      standing = rw c.deref-2.ensures.value (all_stand c.plan_additions.new.live c.plan_additions.new.arrangement erased c.in_ok-ids.ensures.plannable.settled parts.gone);
+      distinct = rw c.deref-3.ensures.value parts.once;
+      standing = rw c.deref-3.ensures.value (all_stand c.plan_additions.new.live c.plan_additions.new.arrangement erased c.in_ok-ids.ensures.plannable.settled parts.gone);
     }
 
 -- the entries of the old ids are as they were where the new ones were forgotten
@@ -172,13 +182,24 @@ kept_back old mid new one two back id now = two id (subst (λ (l : List LivePiec
 pub invariant_of-self-in-Err : goal.invariant_of-self-in-Err
 invariant_of-self-in-Err g c =
     let i = c.self.inside in
-    let none = idle_held (held_of i.rules.rules i.live.entries) i.held (rw (← c.self.view_is) at c.requires.idle) in
+    let none = idle_held (held_of i.translation i.arrangement i.rules.rules i.live.entries) i.held (rw (← c.self.view_is) at c.requires.idle) in
     let managed : IsManaged i.translation i.rules i.live i.arrangement None = subst (IsManaged i.translation i.rules i.live i.arrangement) none c.self.invariant in
     let back = c.forget_all.ensures.live ∙ adds_first i.live c.plan_additions.new.live c.in_ok-ids.ids.items c.in_ok-ids.ensures.adds in
     let size = c.forget_all.ensures.slots ∙ c.plan_additions.ensures.slots in
     let kept = kept_back i.live c.plan_additions.new.live c.forget_all.new.live c.plan_additions.ensures.kept c.forget_all.ensures.kept back in
     subst (IsManaged i.translation c.reserve.new.self c.forget_all.new.live i.arrangement) (sym none)
     (managed_same i.translation i.rules c.reserve.new.self i.live c.forget_all.new.live i.arrangement managed c.reserve.ensures.rules back size kept)
+
+pub invariant_of-self-in-Err-plan_undo : goal.invariant_of-self-in-Err-plan_undo
+invariant_of-self-in-Err-plan_undo g c =
+    let i = c.self.inside in
+    let none = idle_held (held_of i.translation i.arrangement i.rules.rules i.live.entries) i.held (rw (← c.self.view_is) at c.requires.idle) in
+    let managed : IsManaged i.translation i.rules i.live i.arrangement None = subst (IsManaged i.translation i.rules i.live i.arrangement) none c.self.invariant in
+    let back = c.forget_all-in-Err-plan_undo.ensures.live ∙ adds_first i.live c.plan_additions.new.live c.in_ok-ids.ids.items c.in_ok-ids.ensures.adds in
+    let size = c.forget_all-in-Err-plan_undo.ensures.slots ∙ c.plan_additions.ensures.slots in
+    let kept = kept_back i.live c.plan_additions.new.live c.forget_all-in-Err-plan_undo.new.live c.plan_additions.ensures.kept c.forget_all-in-Err-plan_undo.ensures.kept back in
+    subst (IsManaged i.translation c.reserve.new.self c.forget_all-in-Err-plan_undo.new.live i.arrangement) (sym none)
+    (managed_same i.translation i.rules c.reserve.new.self i.live c.forget_all-in-Err-plan_undo.new.live i.arrangement managed c.reserve.ensures.rules back size kept)
 
 -- what holds of a refusal wherever it comes
 at_err : {A B : Type 0} (result : Result A B) (P : Type 0) → P → OnErr result P
@@ -188,7 +209,7 @@ at_err (Err fault) P holds = holds
 pub invariant_of-self-in_err-ids : goal.invariant_of-self-in_err-ids
 invariant_of-self-in_err-ids g c =
     let i = c.self.inside in
-    let none = idle_held (held_of i.rules.rules i.live.entries) i.held (rw (← c.self.view_is) at c.requires.idle) in
+    let none = idle_held (held_of i.translation i.arrangement i.rules.rules i.live.entries) i.held (rw (← c.self.view_is) at c.requires.idle) in
     let managed : IsManaged i.translation i.rules i.live i.arrangement None = subst (IsManaged i.translation i.rules i.live i.arrangement) none c.self.invariant in
     subst (IsManaged i.translation c.reserve.new.self c.plan_additions.new.live i.arrangement) (sym none)
     (managed_same i.translation i.rules c.reserve.new.self i.live c.plan_additions.new.live i.arrangement managed c.reserve.ensures.rules c.in_err-ids.ensures.refused c.plan_additions.ensures.slots c.plan_additions.ensures.kept)
@@ -196,7 +217,7 @@ invariant_of-self-in_err-ids g c =
 pub returns-in_err-ids-clause-refused : goal.returns-in_err-ids-clause-refused
 returns-in_err-ids-clause-refused g c =
     let i = c.self.inside in
-    let none = idle_held (held_of i.rules.rules i.live.entries) i.held (rw (← c.self.view_is) at c.requires.idle) in
+    let none = idle_held (held_of i.translation i.arrangement i.rules.rules i.live.entries) i.held (rw (← c.self.view_is) at c.requires.idle) in
     let managed : IsManaged i.translation i.rules i.live i.arrangement None = subst (IsManaged i.translation i.rules i.live i.arrangement) none c.self.invariant in
     let view : view_of i.placement i.translation i.rules i.live i.arrangement i.held ≡ c.args.self.now = c.self.view_is in
     let same : view_of i.placement i.translation c.reserve.new.self c.plan_additions.new.live i.arrangement i.held ≡ view_of i.placement i.translation i.rules i.live i.arrangement i.held =
@@ -207,7 +228,7 @@ returns-in_err-ids-clause-refused g c =
 pub returns-in-Err-clause-refused : goal.returns-in-Err-clause-refused
 returns-in-Err-clause-refused g c =
     let i = c.self.inside in
-    let none = idle_held (held_of i.rules.rules i.live.entries) i.held (rw (← c.self.view_is) at c.requires.idle) in
+    let none = idle_held (held_of i.translation i.arrangement i.rules.rules i.live.entries) i.held (rw (← c.self.view_is) at c.requires.idle) in
     let managed : IsManaged i.translation i.rules i.live i.arrangement None = subst (IsManaged i.translation i.rules i.live i.arrangement) none c.self.invariant in
     let view : view_of i.placement i.translation i.rules i.live i.arrangement i.held ≡ c.args.self.now = c.self.view_is in
     let back = c.forget_all.ensures.live ∙ adds_first i.live c.plan_additions.new.live c.in_ok-ids.ids.items c.in_ok-ids.ensures.adds in
@@ -215,6 +236,19 @@ returns-in-Err-clause-refused g c =
     let same : view_of i.placement i.translation c.reserve.new.self c.forget_all.new.live i.arrangement i.held ≡ view_of i.placement i.translation i.rules i.live i.arrangement i.held =
     subst (λ (h : Option Held). view_of i.placement i.translation c.reserve.new.self c.forget_all.new.live i.arrangement h ≡ view_of i.placement i.translation i.rules i.live i.arrangement h) (sym none)
     (view_same i.placement i.translation i.rules c.reserve.new.self i.live c.forget_all.new.live i.arrangement managed c.reserve.ensures.rules kept) in
+    same ∙ view
+
+pub returns-in-Err-plan_undo-clause-refused : goal.returns-in-Err-plan_undo-clause-refused
+returns-in-Err-plan_undo-clause-refused g c =
+    let i = c.self.inside in
+    let none = idle_held (held_of i.translation i.arrangement i.rules.rules i.live.entries) i.held (rw (← c.self.view_is) at c.requires.idle) in
+    let managed : IsManaged i.translation i.rules i.live i.arrangement None = subst (IsManaged i.translation i.rules i.live i.arrangement) none c.self.invariant in
+    let view : view_of i.placement i.translation i.rules i.live i.arrangement i.held ≡ c.args.self.now = c.self.view_is in
+    let back = c.forget_all-in-Err-plan_undo.ensures.live ∙ adds_first i.live c.plan_additions.new.live c.in_ok-ids.ids.items c.in_ok-ids.ensures.adds in
+    let kept = kept_back i.live c.plan_additions.new.live c.forget_all-in-Err-plan_undo.new.live c.plan_additions.ensures.kept c.forget_all-in-Err-plan_undo.ensures.kept back in
+    let same : view_of i.placement i.translation c.reserve.new.self c.forget_all-in-Err-plan_undo.new.live i.arrangement i.held ≡ view_of i.placement i.translation i.rules i.live i.arrangement i.held =
+    subst (λ (h : Option Held). view_of i.placement i.translation c.reserve.new.self c.forget_all-in-Err-plan_undo.new.live i.arrangement h ≡ view_of i.placement i.translation i.rules i.live i.arrangement h) (sym none)
+    (view_same i.placement i.translation i.rules c.reserve.new.self i.live c.forget_all-in-Err-plan_undo.new.live i.arrangement managed c.reserve.ensures.rules kept) in
     same ∙ view
 
 -- insertions that were planned over a copy, for the same rules, mode and pieces
@@ -230,12 +264,17 @@ planned_from old new slots copy middle plan plan' placement mode coded rules set
 abbrev held_now : (g : Over) (c : goal.After-drop-parts-2 g) → Held
 held_now g c = record {
   writes = c.plan_changes.new.plan.writes;
+  undo = c.in-Ok-plan_undo.undo;
   made = 0;
+  turned = None;
+  awaits = c.gives_bits-awaits.result;
+  drained = false;
   counts = c.counts-counts.result;
   bits = c.in_ok-bits.bits;
   batch = c.in_ok-copy.copy;
   rewrites = c.in_ok-parts.parts.rewrites;
   erased = c.in_ok-parts.parts.erased;
+  ids = c.in_ok-ids.ids;
   arrangement = c.erase_all.new.arrangement;
 }
 
@@ -276,6 +315,12 @@ plan_now g c =
           };
       same = c.reserve.ensures.rules;
       made = refl;
+      awaits = c.gives_bits-awaits.ensures;
+      undrained = refl;
+      forward = refl;
+      undo = c.in-Ok-plan_undo.ensures c.plan_additions.new.live.entries parts.rewrites.items
+          ∙ ap (λ (some : List PlannedWrite). restorings (settled_state i.translation c.plan_additions.new.live.entries i.arrangement) (as_writes c.plan_additions.new.live.entries parts.rewrites.items some)) c.deref-2.ensures.value;
+      adds = c.in_ok-ids.ensures.adds;
       batch_is = c.in_ok-copy.ensures;
       coded = coded;
     }
@@ -285,16 +330,29 @@ invariant_of-self-2 g c =
     let i = c.self.inside in
     let spare : length c.args.batch.now ≤ c.reserve.new.self.spare = (let n : c.len.result ≡ length c.args.batch.now = c.len.ensures.count in let e : c.len.result ≤ c.reserve.new.self.spare = c.in_ok-reserve.ensures.enough in omega arith) in
     managed_held i.placement i.translation i.rules c.reserve.new.self i.live c.plan_additions.new.live i.arrangement c.plan_additions.new.arrangement c.args.batch.now (held_now g c) (plan_now g c) spare
-    (c.erase_all.ensures ∙ ap (erased_slots c.plan_additions.new.arrangement) c.deref-2.ensures.value)
+    (c.erase_all.ensures ∙ ap (erased_slots c.plan_additions.new.arrangement) c.deref-3.ensures.value)
 
 pub returns-clause-ready : goal.returns-clause-ready
 returns-clause-ready g c =
     let i = c.self.inside in
     let batch = c.args.batch.now in
-    let none = idle_held (held_of i.rules.rules i.live.entries) i.held (rw (← c.self.view_is) at c.requires.idle) in
+    let none = idle_held (held_of i.translation i.arrangement i.rules.rules i.live.entries) i.held (rw (← c.self.view_is) at c.requires.idle) in
     let view : view_of i.placement i.translation i.rules i.live i.arrangement i.held ≡ c.args.self.now = c.self.view_is in
     let new = view_of i.placement i.translation c.reserve.new.self c.plan_additions.new.live i.arrangement (Some (held_now g c)) in
     let holds : Holds (view_of i.placement i.translation i.rules i.live i.arrangement None) batch c.ready.result new =
     holds_plan i.placement i.translation i.rules c.reserve.new.self i.live c.plan_additions.new.live i.arrangement c.plan_additions.new.arrangement batch (held_now g c) (plan_now g c) c.ready.result c.ready.ensures in
     subst (λ (old : Managed). Holds old batch c.ready.result new) view
     (subst (λ (h : Option Held). Holds (view_of i.placement i.translation i.rules i.live i.arrangement h) batch c.ready.result new) (sym none) holds)
+
+pub returns-clause-reserved : goal.returns-clause-reserved
+returns-clause-reserved g c =
+    let i = c.self.inside in
+    held_room i.placement i.translation i.rules c.reserve.new.self i.live c.plan_additions.new.live i.arrangement c.plan_additions.new.arrangement c.args.batch.now (held_now g c) (plan_now g c)
+    (g.D.Writable.spare c.plan_changes.new.device) c.in-Ok.ensures.enough
+
+pub returns-clause-enough : goal.returns-clause-enough
+returns-clause-enough g c =
+    let enough : 2 * length c.plan_changes.new.plan.writes.items + 1 ≤ g.D.Writable.spare c.plan_changes.new.device = c.in-Ok.ensures.enough in
+    let number : c.counts-counts.result.writes ≡ length c.plan_changes.new.plan.writes.items = c.counts-counts.ensures.writes in
+    let same : c.ready.result.writes ≡ c.counts-counts.result.writes = ap (λ r. r.writes) c.ready.ensures in
+    omega arith

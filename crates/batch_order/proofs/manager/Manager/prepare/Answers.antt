@@ -4,14 +4,14 @@ use Rattle.rule_store.specs.declared.Command.{Command}
 use Rattle.rule_store.specs.declared.BatchFault.{BatchFault}
 use Rattle.rule_store.specs.Batch.{batch_fault}
 use Rattle.rule_store.specs.Verdict.{verdict_by, room_verdict}
-use Rattle.batch_order.specs.Managed.{Managed, HeldCommit, Judges, Answers, refusal_of}
+use Rattle.batch_order.specs.Managed.{Managed, HeldCommit, Judges, Answers, refusal_of, writes_due}
 use Rattle.batch_order.proofs.Ahead.{by_journal}
 use Rattle.batch_order.proofs.manager.Manager.prepare.Goals as goal
 
 -- no commit is under way where none has a number of writes left
-idle_from : (held : Option HeldCommit) (left : Option ℕ) → left ≡ option_map (λ one. length one.writes) held → ((n : ℕ) → left ≡ Some n → ⊥) → held ≡ None
+idle_from : (held : Option HeldCommit) (left : Option ℕ) → left ≡ option_map (λ one. length (writes_due one)) held → ((n : ℕ) → left ≡ Some n → ⊥) → held ≡ None
 idle_from None left is none = refl
-idle_from (Some held) left is none = absurd (none (length held.writes) is)
+idle_from (Some held) left is none = absurd (none (length (writes_due held)) is)
 
 -- an unsound batch is refused for its fault
 unsound_answer : (manager : Managed) (held : Option HeldCommit) (batch : List Command) (fault : BatchFault) → held ≡ None → batch_fault manager.rules batch ≡ Some fault

@@ -2,10 +2,12 @@ use Rattle.std.proofs.Common.{◌≡◌, ◌≤◌, ℕ, Option, Some, None, len
 use Rattle.std.specs.Prelude.{IfSome}
 use Rattle.tcam_device.specs.State.{Shows, on_device}
 use Rattle.tcam_device.specs.Hitless.{ShowsOldOrNew}
-use Rattle.batch_order.specs.declared.manager.Held.{Held}
+use Rattle.batch_order.specs.declared.held.Held.{Held}
 use Rattle.batch_order.specs.Kept.{IsManaged}
 use Rattle.batch_order.specs.Managed.{Managed}
+use Rattle.batch_order.specs.Steps.{ServesNow}
 use Rattle.batch_order.proofs.Carried.{view_of}
+use Rattle.batch_order.proofs.Resting.{serves_now}
 use Rattle.batch_order.proofs.Answered.{idle_answers, held_answers}
 use Rattle.batch_order.proofs.manager.Manager.rules.Goals as goal
 
@@ -32,3 +34,9 @@ returns-clause-on_the_way c =
         → ShowsOldOrNew (on_device device_slots (view_of c.self.inside.placement c.self.inside.translation c.self.inside.rules c.self.inside.live c.self.inside.arrangement h).state) c.self.inside.rules.rules held.rules)
     go None managed = tt
     go (Some held) managed = held_answers c.self.inside.translation c.self.inside.rules c.self.inside.live c.self.inside.arrangement held managed
+
+pub returns-clause-serves : goal.returns-clause-serves
+returns-clause-serves c =
+    let i = c.self.inside in
+    let view : view_of i.placement i.translation i.rules i.live i.arrangement i.held ≡ c.args.self.now = c.self.view_is in
+    subst ServesNow view (serves_now i.placement i.translation i.rules i.live i.arrangement i.held c.self.invariant)

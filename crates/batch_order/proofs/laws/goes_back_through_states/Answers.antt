@@ -1,0 +1,5 @@
+use Rattle.batch_order.proofs.Passed.{goes_back_through_states}
+use Rattle.batch_order.proofs.laws.goes_back_through_states.Goals as goal
+
+pub returns : goal.returns
+returns c = goes_back_through_states

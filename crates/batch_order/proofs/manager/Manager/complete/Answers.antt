@@ -1,0 +1,87 @@
+use Rattle.std.proofs.Common.{◌≡◌, false, [], List, Option, Some, None, drop, sym, ap₂, subst, ◌∙◌}
+use Rattle.rule_model.specs.declared.Rule.{Rule}
+use Rattle.commit_writes.specs.Actions.{with_drain}
+use Rattle.batch_order.specs.declared.Step.TheVariants.{Finished}
+use Rattle.batch_order.specs.declared.held.Held.{Held}
+use Rattle.batch_order.specs.declared.planned_writes.PlannedWrite.{PlannedWrite}
+use Rattle.batch_order.specs.Kept.{IsManaged, held_of, held_writes, translated_by, translation_after}
+use Rattle.batch_order.specs.Planning.{as_writes}
+use Rattle.batch_order.specs.Managed.{Managed}
+use Rattle.batch_order.specs.Steps.{IsAllMade, Steps, is_turned}
+use Rattle.batch_order.proofs.Carried.{view_of, managed_after, finish_steps, IsFinished}
+use Rattle.batch_order.proofs.Left.{forward_actions, forward_due, forward_of, steps_forward}
+use Rattle.batch_order.proofs.manager.Manager.complete.Goals as goal
+
+pub apply-requires-clause-sound : goal.apply-requires-clause-sound
+apply-requires-clause-sound c =
+    let was : c.self.inside.held ≡ Some c.in-Some.held = cc in
+    let before = subst (IsManaged c.self.inside.translation c.self.inside.rules c.self.inside.live c.self.inside.arrangement) was c.self.invariant in
+    before.carried.sound
+
+pub apply-requires-clause-room : goal.apply-requires-clause-room
+apply-requires-clause-room c =
+    let was : c.self.inside.held ≡ Some c.in-Some.held = cc in
+    let before = subst (IsManaged c.self.inside.translation c.self.inside.rules c.self.inside.live c.self.inside.arrangement) was c.self.invariant in
+    before.carried.room
+
+pub rewrite_all-requires : goal.rewrite_all-requires
+rewrite_all-requires c =
+    let was : c.self.inside.held ≡ Some c.in-Some.held = cc in
+    let before = subst (IsManaged c.self.inside.translation c.self.inside.rules c.self.inside.live c.self.inside.arrangement) was c.self.invariant in
+    rw c.deref-in-Some.ensures.value before.carried.changed
+
+pub forget_each-requires-clause-distinct : goal.forget_each-requires-clause-distinct
+forget_each-requires-clause-distinct c =
+    let was : c.self.inside.held ≡ Some c.in-Some.held = cc in
+    let before = subst (IsManaged c.self.inside.translation c.self.inside.rules c.self.inside.live c.self.inside.arrangement) was c.self.invariant in
+    rw c.deref-in-Some-2.ensures.value before.carried.once
+
+pub forget_each-requires-clause-live : goal.forget_each-requires-clause-live
+forget_each-requires-clause-live c =
+    let was : c.self.inside.held ≡ Some c.in-Some.held = cc in
+    let before = subst (IsManaged c.self.inside.translation c.self.inside.rules c.self.inside.live c.self.inside.arrangement) was c.self.invariant in
+    rw (c.deref-in-Some-2.ensures.value, c.rewrite_all.ensures.live) before.carried.gone
+
+pub invariant_of-self-in-Some : goal.invariant_of-self-in-Some
+invariant_of-self-in-Some c =
+    let i = c.self.inside in
+    let held = c.in-Some.held in
+    let was : i.held ≡ Some held = cc in
+    let before = subst (IsManaged i.translation i.rules i.live i.arrangement) was c.self.invariant in
+    let finished : IsFinished i.live c.forget_each.new.self held = record {
+      live = rw (← c.deref-in-Some-2.ensures.value, ← c.rewrite_all.ensures.live) c.forget_each.ensures.live;
+      entries = rw (← c.deref-in-Some.ensures.value, ← c.rewrite_all.ensures.entries) c.forget_each.ensures.kept;
+      slots = c.forget_each.ensures.slots ∙ c.rewrite_all.ensures.slots;
+    } in
+    let turned : c.translate.new.translation ≡ translation_after i.translation i.rules.rules i.live.entries held =
+    c.translate.ensures i.live.entries held.rewrites.items
+    ∙ ap₂ (λ (rules : List Rule) (writes : List PlannedWrite). translated_by i.translation held.bits rules (as_writes i.live.entries held.rewrites.items writes)) c.apply.ensures.rules c.deref.ensures.value in
+    rw c.take.ensures.after (managed_after i.translation c.translate.new.translation i.rules c.apply.new.self i.live c.forget_each.new.self i.arrangement held before turned c.apply.ensures.rules finished)
+
+pub returns-in-Some : goal.returns-in-Some
+returns-in-Some c words =
+    let i = c.self.inside in
+    let held = c.in-Some.held in
+    let was : i.held ≡ Some held = cc in
+    let before = subst (IsManaged i.translation i.rules i.live i.arrangement) was c.self.invariant in
+    let finished : IsFinished i.live c.forget_each.new.self held = record {
+      live = rw (← c.deref-in-Some-2.ensures.value, ← c.rewrite_all.ensures.live) c.forget_each.ensures.live;
+      entries = rw (← c.deref-in-Some.ensures.value, ← c.rewrite_all.ensures.entries) c.forget_each.ensures.kept;
+      slots = c.forget_each.ensures.slots ∙ c.rewrite_all.ensures.slots;
+    } in
+    let turned : c.translate.new.translation ≡ translation_after i.translation i.rules.rules i.live.entries held =
+    c.translate.ensures i.live.entries held.rewrites.items
+    ∙ ap₂ (λ (rules : List Rule) (writes : List PlannedWrite). translated_by i.translation held.bits rules (as_writes i.live.entries held.rewrites.items writes)) c.apply.ensures.rules c.deref.ensures.value in
+    let view : view_of i.placement i.translation i.rules i.live i.arrangement i.held ≡ c.args.self.now = c.self.view_is in
+    let requires : IsAllMade (view_of i.placement i.translation i.rules i.live i.arrangement i.held).held = rw (← c.self.view_is) at c.requires.made in
+    let straight : is_turned (view_of i.placement i.translation i.rules i.live i.arrangement i.held).held ≡ false = rw (← c.self.view_is) at c.requires.forward in
+    let forward : held.turned ≡ None = forward_of held.turned (subst (λ (h : Option Held). is_turned (view_of i.placement i.translation i.rules i.live i.arrangement h).held ≡ false) was straight) in
+    let none : with_drain held.awaits (drop held.made (held_writes i.live.entries held)) ≡ [] =
+    sym (forward_due i.translation i.rules i.live i.arrangement held forward) ∙ subst (λ (h : Option Held). IsAllMade (view_of i.placement i.translation i.rules i.live i.arrangement h).held) was requires in
+    let new = view_of i.placement c.translate.new.translation c.apply.new.self c.forget_each.new.self held.arrangement None in
+    let steps : Steps (view_of i.placement i.translation i.rules i.live i.arrangement i.held) words (view_of i.placement i.translation i.rules i.live i.arrangement i.held).held (Finished held.counts) new =
+    subst (λ (h : Option Held). Steps (view_of i.placement i.translation i.rules i.live i.arrangement h) words (view_of i.placement i.translation i.rules i.live i.arrangement h).held (Finished held.counts) new) (sym was)
+    (steps_forward (view_of i.placement i.translation i.rules i.live i.arrangement (Some held)) (held_of i.translation i.arrangement i.rules.rules i.live.entries held) words (with_drain held.awaits (drop held.made (held_writes i.live.entries held))) (Finished held.counts) new
+    forward (forward_actions i.translation i.rules i.live i.arrangement held forward)
+    (finish_steps i.translation c.translate.new.translation i.rules c.apply.new.self i.live c.forget_each.new.self i.arrangement held before turned c.apply.ensures.rules finished i.placement words none)) in
+    rw c.take.ensures.after (subst (λ (old : Managed). Steps old words old.held (Finished held.counts) new) view steps)

@@ -1,0 +1,85 @@
+//! The commit under way.
+
+ghost use Rattle.std.specs.Prelude.{◌≡◌, ◌≤◌, None, Ok, Err, IsSome, length};
+ghost use Rattle.batch_order.specs.Kept.{drains_at, left_of, one_less, turned_at};
+
+use crate::planned_writes::PlannedWrite;
+use crate::{AbortFault, Done};
+use commit_writes::Rewrite;
+use rule_store::Batch;
+use slot_pool::Arrangement;
+use translation_tables::FieldBits;
+
+/// A commit under way: its planned writes and how many of them were made, its numbers, and what is to be done once its
+/// writes are made: the batch that takes the rules to the new set, the ids that get another entry, the ids that go, by
+/// rising priority, and where the entries stand then.
+#[derive(Drop)]
+pub(crate) struct Held {
+    pub(crate) writes: Vec<PlannedWrite>,
+    /// What restores each of the writes, in their order.
+    pub(crate) undo: Vec<PlannedWrite>,
+    /// How many of the writes stand: it falls once the plan is turned round.
+    pub(crate) made: usize,
+    /// How many stood when the plan was turned round.
+    pub(crate) turned: Option<usize>,
+    /// Whether the drain is still to come, behind the words of the tables.
+    pub(crate) awaits: bool,
+    /// Whether it was made.
+    pub(crate) drained: bool,
+    pub(crate) counts: Done,
+    /// The live ranges meanwhile, those of the old set and of the new one: none by covers.
+    pub(crate) bits: Option<FieldBits>,
+    pub(crate) batch: Batch,
+    pub(crate) rewrites: Vec<Rewrite>,
+    pub(crate) erased: Vec<u32>,
+    /// The ids of its new entries.
+    pub(crate) ids: Vec<u32>,
+    pub(crate) arrangement: Arrangement,
+}
+
+impl Held {
+    /// Whether the drain is next.
+    pub(crate) fn drains_next(&self) -> bool
+        ensures { result ≡ drains_at self.now.awaits self.now.made self.now.counts }
+    {
+        self.awaits && self.made == self.counts.words as usize
+    }
+
+    /// How many writes are left, forward or back.
+    pub(crate) fn left(&self) -> usize
+        requires { self.now.made ≤ length self.now.writes.items }
+        ensures { result ≡ left_of self.now }
+    {
+        match self.turned {
+            None => self.writes.len() - self.made,
+            Some(_) => self.made,
+        }
+    }
+
+    /// Turns the plan round, unless it is already, and answers how many undo writes there are.
+    pub(crate) fn turn(&mut self) -> Result<u64, AbortFault>
+        ensures turns { self.old.turned ≡ None → (result ≡ Ok self.old.made) × (self.new ≡ turned_at self.old) }
+        ensures stays { IsSome self.old.turned → (result ≡ Err (AbortFault.Back self.old.made)) × (self.new ≡ self.old) }
+    {
+        match self.turned {
+            None => {
+                self.turned = Some(self.made);
+                Ok(self.made as u64)
+            }
+            Some(_) => Err(AbortFault::Back {
+                left: self.made as u64,
+            }),
+        }
+    }
+
+    /// The last write that stood was undone. With a table word undone, words in flight may lack the new bits again.
+    pub(crate) fn go_back(&mut self)
+        requires { 1 ≤ self.old.made }
+        ensures { self.new ≡ one_less self.old }
+    {
+        self.made -= 1;
+        if self.made < self.counts.words as usize {
+            self.drained = false;
+        }
+    }
+}

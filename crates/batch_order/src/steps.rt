@@ -1,0 +1,239 @@
+//! What a step does of the commit under way: the next write, the drain, or the end, and all of it back once the commit is
+//! turned round.
+
+ghost use Rattle.std.specs.Prelude.{◌≡◌, ◌+◌, ◌++◌, [], ℕ, true, false, Some, None, IfSome, IsSome, IsTrue, length};
+ghost use Rattle.tcam_device.specs.State.{IsInUse};
+ghost use Rattle.tcam_device.specs.Flight.{writes_in};
+ghost use Rattle.batch_order.specs.Steps.{IsAllMade, Steps, actions_of, awaits_drain, is_turned, next_of};
+ghost use Rattle.batch_order.specs.CarriedOut.{HasRoomLeft};
+
+use crate::Step;
+use crate::held::Held;
+use crate::insertions::forget_all;
+use crate::manager::Manager;
+use crate::planned_writes::write_of;
+use crate::translation::translate;
+use tcam_device::{Writable, Write};
+
+impl Manager {
+    /// The next write, forward or back, if a commit is under way and one is due: the one that the next `step` makes.
+    /// Whoever makes the writes outside of this program, as a driver in C, is told here which one is due.
+    pub fn next_write(&self) -> Option<Write>
+        ensures next { result ≡ next_of self.now.held }
+        ensures in_use { IfSome result (IsInUse self.now.slots) }
+        ensures size { length self.now.state.slots ≡ self.now.slots }
+    {
+        if self.is_turned() {
+            self.next_undo()
+        } else {
+            self.next_forward()
+        }
+    }
+
+    /// Whether a commit is under way and turned round.
+    fn is_turned(&self) -> bool
+        ensures { result ≡ is_turned self.now.held }
+    {
+        match &self.held {
+            None => false,
+            Some(held) => held.turned.is_some(),
+        }
+    }
+
+    /// The next write of a commit that isn't turned round.
+    fn next_forward(&self) -> Option<Write>
+        requires { is_turned self.now.held ≡ false }
+        ensures next { result ≡ next_of self.now.held }
+        ensures in_use { IfSome result (IsInUse self.now.slots) }
+        ensures size { length self.now.state.slots ≡ self.now.slots }
+    {
+        match &self.held {
+            None => None,
+            Some(held) => {
+                if held.drains_next() {
+                    return None;
+                }
+                match held.writes.get(held.made) {
+                    None => None,
+                    Some(planned) => Some(write_of(planned, &self.live, &held.rewrites)),
+                }
+            }
+        }
+    }
+
+    /// The next undo write of one that is: what restores the last write that stands.
+    fn next_undo(&self) -> Option<Write>
+        requires { is_turned self.now.held ≡ true }
+        ensures next { result ≡ next_of self.now.held }
+        ensures in_use { IfSome result (IsInUse self.now.slots) }
+        ensures size { length self.now.state.slots ≡ self.now.slots }
+    {
+        match &self.held {
+            None => None,
+            Some(held) => {
+                if held.made == 0 {
+                    return None;
+                }
+                match held.undo.get(held.made - 1) {
+                    None => None,
+                    Some(planned) => Some(write_of(planned, &self.live, &held.rewrites)),
+                }
+            }
+        }
+    }
+
+    /// The next write, this one, was made.
+    pub(crate) fn advance(&mut self, write: Write) -> Step
+        requires { next_of self.old.held ≡ Some write }
+        ensures stepped { (words : ℕ) → Steps self.old words self.old.held result self.new }
+        ensures wrote { result ≡ Step.Wrote write }
+    {
+        if self.is_turned() {
+            self.go_back();
+        } else {
+            self.go_on();
+        }
+        Step::Wrote(write)
+    }
+
+    /// The next write of a commit that isn't turned round was made.
+    fn go_on(&mut self)
+        requires next { IsSome (next_of self.old.held) }
+        requires forward { is_turned self.old.held ≡ false }
+        ensures { (words : ℕ) → (write : Write) → next_of self.old.held ≡ Some write → Steps self.old words self.old.held (Step.Wrote write) self.new }
+    {
+        match &mut self.held {
+            None => {}
+            Some(held) => held.made += 1,
+        }
+    }
+
+    /// The next undo write of one that is was made.
+    fn go_back(&mut self)
+        requires next { IsSome (next_of self.old.held) }
+        requires turned { is_turned self.old.held ≡ true }
+        ensures { (words : ℕ) → (write : Write) → next_of self.old.held ≡ Some write → Steps self.old words self.old.held (Step.Wrote write) self.new }
+    {
+        match &mut self.held {
+            None => {}
+            Some(held) => held.go_back(),
+        }
+    }
+
+    /// Where no write is due: the drain where it is next, or the end, forward or back.
+    pub(crate) fn end<D: Writable>(&mut self, device: &mut D) -> Step
+        requires next { next_of self.old.held ≡ None }
+        requires room { HasRoomLeft self.old.held (D.spare device.old) }
+        ensures stepped { Steps self.old (length (D.flight device.old)) self.old.held result self.new }
+        ensures state { self.new.state ≡ self.old.state }
+        ensures wrote { writes_in (actions_of result) ≡ [] }
+        ensures journal { D.journal device.new ≡ D.journal device.old }
+        ensures events { D.events device.new ≡ D.events device.old ++ actions_of result }
+        ensures spare { D.spare device.new + length (actions_of result) ≡ D.spare device.old }
+        ensures flight { D.flight device.new ≡ D.flight device.old }
+        ensures slot_count { D.slot_count device.new ≡ D.slot_count device.old }
+        ensures faults { D.faults device.new ≡ D.faults device.old }
+    {
+        if !self.drains_next() {
+            return self.finish();
+        }
+        let words = device.in_flight();
+        if words > 0 {
+            return Step::Waiting(words);
+        }
+        device.drain();
+        self.pass_drain()
+    }
+
+    /// Whether the drain is next: a commit is under way, forward, and the next `step` drains, or waits while words are in
+    /// flight. Where it is, no write is due.
+    pub fn drains_next(&self) -> bool
+        ensures { result ≡ awaits_drain self.now.held }
+    {
+        match &self.held {
+            None => false,
+            Some(held) => match held.turned {
+                None => held.drains_next(),
+                Some(_) => false,
+            },
+        }
+    }
+
+    /// The drain was made.
+    fn pass_drain(&mut self) -> Step
+        requires { IsTrue (awaits_drain self.old.held) }
+        ensures stepped { Steps self.old 0 self.old.held result self.new }
+        ensures drained { result ≡ Step.Drained }
+    {
+        match &mut self.held {
+            None => Step::Idle,
+            Some(held) => {
+                held.awaits = false;
+                held.drained = true;
+                Step::Drained
+            }
+        }
+    }
+
+    /// With a commit under way that has no write left it ends, forward or back.
+    fn finish(&mut self) -> Step
+        requires { IsAllMade self.old.held }
+        ensures { (words : ℕ) → Steps self.old words self.old.held result self.new }
+    {
+        if self.is_turned() {
+            self.revert()
+        } else {
+            self.complete()
+        }
+    }
+
+    /// With a commit under way that isn't turned round and has no write left, the rules become the new set.
+    fn complete(&mut self) -> Step
+        requires made { IsAllMade self.old.held }
+        requires forward { is_turned self.old.held ≡ false }
+        ensures { (words : ℕ) → Steps self.old words self.old.held result self.new }
+    {
+        match self.held.take() {
+            None => Step::Idle,
+            Some(held) => {
+                let Held {
+                    writes,
+                    undo: _,
+                    made: _,
+                    turned: _,
+                    awaits: _,
+                    drained: _,
+                    counts,
+                    bits,
+                    batch,
+                    rewrites,
+                    erased,
+                    ids: _,
+                    arrangement,
+                } = held;
+                self.rules.apply(&batch);
+                translate(&mut self.translation, &bits, &self.rules, &writes);
+                self.live.rewrite_all(&rewrites);
+                self.live.forget_each(&erased);
+                self.arrangement = arrangement;
+                Step::Finished(counts)
+            }
+        }
+    }
+
+    /// With a commit that is turned round and has no undo write left, the new ids go, and the rules are the old ones.
+    fn revert(&mut self) -> Step
+        requires made { IsAllMade self.old.held }
+        requires turned { is_turned self.old.held ≡ true }
+        ensures { (words : ℕ) → Steps self.old words self.old.held result self.new }
+    {
+        match self.held.take() {
+            None => Step::Idle,
+            Some(held) => {
+                let undone = held.turned.unwrap_or(0) as u64;
+                forget_all(&mut self.live, held.ids);
+                Step::Reverted(undone)
+            }
+        }
+    }
+}

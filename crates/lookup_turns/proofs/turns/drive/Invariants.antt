@@ -1,0 +1,20 @@
+use Rattle.std.proofs.Common.{◌≡◌, ◌≤◌, length, take, vec_capacity}
+use Rattle.commit_writes.specs.InFlight.{AreCurrent}
+use Rattle.batch_order.specs.Managed.{IsOn, live_now}
+use Rattle.batch_order.specs.CarriedOut.{HasRoomLeft}
+use Rattle.lookup_turns.specs.Turns.{IsDriven}
+use Rattle.lookup_turns.proofs.turns.drive.Given as goal
+
+abbrev pub invariant-loop-place : goal.invariant-loop-place
+invariant-loop-place g l = record {
+  driven : IsDriven (g.D.Writable.slot_count l.initial.device) (g.D.Writable.events l.initial.device) (g.D.Writable.events l.device) l.initial.manager (g.D.Writable.flight l.initial.device)
+      (take l.place l.turns) l.answers.items l.manager (g.D.Writable.flight l.device);
+  few : length l.answers.items ≤ l.place;
+  capacity : length l.turns ≤ vec_capacity l.answers;
+  slots : l.manager.slots ≤ g.D.Writable.slot_count l.device;
+  room : HasRoomLeft l.manager.held (g.D.Writable.spare l.device);
+  on : IsOn (g.D.Writable.slot_count l.device) (g.D.Writable.journal l.device) l.manager;
+  current : AreCurrent (live_now l.manager) (g.D.Writable.flight l.device);
+  slot_count : g.D.Writable.slot_count l.device ≡ g.D.Writable.slot_count l.initial.device;
+  later : g.D.Writable.faults l.initial.device ≤ g.D.Writable.faults l.device;
+}

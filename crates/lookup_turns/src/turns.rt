@@ -1,0 +1,137 @@
+// The turns of a list, one after the other.
+ghost use Rattle.std.specs.Prelude.{◌≡◌, ◌+◌, ◌<◌, ◌≤◌, ◌^◌, ◌++◌, ℕ, List, Err, IfOk, OnErr, length, vec_len, vec_capacity};
+ghost use Rattle.call_history.specs.Cause.{Rose, HasCause};
+ghost use Rattle.rule_model.specs.Key.{IsKey};
+ghost use Rattle.tcam_device.specs.State.{replay};
+ghost use Rattle.commit_writes.specs.InFlight.{AreCurrent};
+ghost use Rattle.batch_order.specs.Managed.{IsOn, live_now};
+ghost use Rattle.batch_order.specs.CarriedOut.{HasRoomLeft};
+ghost use Rattle.lookup_turns.specs.Turns.{IsTurned, IsDriven, StandsBefore, numbered, translated};
+
+use crate::{DriveFault, Turn};
+use batch_order::Manager;
+use rule_model::{Key, Rank, key_fields};
+use std::alloc::{AllocError, Global};
+use tcam_device::{Device, DeviceFault, MOST_IN_FLIGHT};
+
+/// Makes one turn, and answers what a search found.
+fn turn_once<D: Device>(
+    manager: &mut Manager,
+    turn: &Turn,
+    device: &mut D,
+) -> Result<Option<Option<(Rank, u32)>>, DeviceFault>
+    requires slots { manager.old.slots ≤ D.slot_count device.old }
+    requires room { HasRoomLeft manager.old.held (D.spare device.old) }
+    requires on { IsOn (D.slot_count device.old) (D.journal device.old) manager.old }
+    requires current { AreCurrent (live_now manager.old) (D.flight device.old) }
+    ensures turned { IfOk result (λ answered. IsTurned (D.slot_count device.old) (D.events device.old) (D.events device.new)
+        manager.old (D.flight device.old) turn.now answered manager.new (D.flight device.new)) }
+    ensures slots { manager.new.slots ≤ D.slot_count device.new }
+    ensures room { HasRoomLeft manager.new.held (D.spare device.new) }
+    ensures on { IsOn (D.slot_count device.new) (D.journal device.new) manager.new }
+    ensures current { AreCurrent (live_now manager.new) (D.flight device.new) }
+    ensures failed { OnErr result (manager.new ≡ manager.old) }
+    ensures events_err { OnErr result (D.events device.new ≡ D.events device.old) }
+    ensures flight_err { OnErr result (D.flight device.new ≡ D.flight device.old) }
+    ensures slot_count { D.slot_count device.new ≡ D.slot_count device.old }
+    ensures cause { HasCause (D.faults device.old) (D.faults device.new) result }
+{
+    manager.serving();
+    match turn {
+        Turn::Step => {
+            manager.step(device)?;
+            Ok(None)
+        }
+        Turn::Translate(key) => {
+            translate(key, device);
+            Ok(None)
+        }
+        Turn::Search => Ok(device.search()),
+    }
+}
+
+/// Puts a key's word into flight, where there is room.
+fn translate<D: Device>(key: &Key, device: &mut D)
+    ensures valid { IsKey key.now }
+    ensures flight { D.flight device.new
+        ≡ translated (replay (D.slot_count device.old) (D.journal device.old)) key.now (D.flight device.old) }
+    ensures journal { D.journal device.new ≡ D.journal device.old }
+    ensures events { D.events device.new ≡ D.events device.old }
+    ensures spare { D.spare device.new ≡ D.spare device.old }
+    ensures slot_count { D.slot_count device.new ≡ D.slot_count device.old }
+    ensures faults { D.faults device.new ≡ D.faults device.old }
+{
+    key_fields(key);
+    if device.in_flight() < MOST_IN_FLIGHT {
+        device.translate(key);
+    }
+}
+
+/// Notes what the turn of this number answered, if it was a search.
+fn note(
+    answers: &mut Vec<(u32, Option<(Rank, u32)>)>,
+    place: usize,
+    answered: Option<Option<(Rank, u32)>>,
+)
+    requires number { place < 2 ^ 32 }
+    requires room { vec_len answers.old < vec_capacity answers.old }
+    ensures items { answers.new.items ≡ answers.old.items ++ numbered place answered }
+    ensures capacity { vec_capacity answers.new ≡ vec_capacity answers.old }
+{
+    match answered {
+        None => {}
+        Some(found) => answers.push_reserved((place as u32, found)),
+    }
+}
+
+/// Makes the turns in order, over the device that the manager's steps have, and answers each search with its turn's number,
+/// counted from 0: tag and result of the entry that it found, or None where it found none.
+///
+/// A translation with 256 words in flight and a search with none are passed over. A step makes what
+/// [`Manager::step`] does, which may be to wait for the words in flight.
+///
+/// Each search answers what an undivided look-up of its key would at that moment, which is the old rules' answer or that
+/// of the new ones, and the words that are in flight in the end are current again. For that those in the beginning have to
+/// be, as they are where none is in flight, and the device has to hold what the manager's writes left.
+///
+/// `Memory` comes only before the first turn, and nothing is done then. `Device` comes only where the device's count of
+/// failures rose: the turns before the one that failed stand, and that one changed nothing. After either the same
+/// manager and device may be driven on.
+pub fn drive<D: Device>(
+    alloc: Global,
+    manager: &mut Manager,
+    turns: &[Turn],
+    device: &mut D,
+) -> Result<Vec<(u32, Option<(Rank, u32)>)>, DriveFault>
+    requires few { length turns.now < 2 ^ 32 }
+    requires slots { manager.old.slots ≤ D.slot_count device.old }
+    requires room { HasRoomLeft manager.old.held (D.spare device.old) }
+    requires on { IsOn (D.slot_count device.old) (D.journal device.old) manager.old }
+    requires current { AreCurrent (live_now manager.old) (D.flight device.old) }
+    ensures driven { IfOk result (λ answers. IsDriven (D.slot_count device.old) (D.events device.old) (D.events device.new)
+        manager.old (D.flight device.old) turns.now answers.items manager.new (D.flight device.new)) }
+    ensures stands { (result ≡ Err DriveFault.Device) → StandsBefore (D.slot_count device.old) (D.events device.old)
+        (D.events device.new) manager.old (D.flight device.old) turns.now manager.new (D.flight device.new) }
+    ensures cause { (result ≡ Err DriveFault.Device) → Rose (D.faults device.old) (D.faults device.new) }
+    ensures memory { (result ≡ Err DriveFault.Memory) → (manager.new ≡ manager.old) × (device.new ≡ device.old) }
+    ensures later { D.faults device.old ≤ D.faults device.new }
+    ensures slots { manager.new.slots ≤ D.slot_count device.new }
+    ensures room { HasRoomLeft manager.new.held (D.spare device.new) }
+    ensures on { IsOn (D.slot_count device.new) (D.journal device.new) manager.new }
+    ensures current { AreCurrent (live_now manager.new) (D.flight device.new) }
+    ensures slot_count { D.slot_count device.new ≡ D.slot_count device.old }
+{
+    let mut answers = Vec::new(alloc);
+    match answers.reserve(turns.len()) {
+        Ok(()) => {}
+        Err(AllocError) => return Err(DriveFault::Memory),
+    }
+    for place in 0..turns.len() {
+        let answered = match turn_once(manager, &turns[place], device) {
+            Ok(answered) => answered,
+            Err(DeviceFault) => return Err(DriveFault::Device),
+        };
+        note(&mut answers, place, answered);
+    }
+    Ok(answers)
+}
