@@ -3,6 +3,8 @@
 #![tactic(auto)]
 
 #[cfg(test)]
+mod ipv6;
+#[cfg(test)]
 mod lists;
 #[cfg(test)]
 mod made;

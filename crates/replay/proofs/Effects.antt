@@ -25,9 +25,9 @@ printed-append (Writes write ∷ a) b = printed-append a b
 printed-append (Prints line ∷ a) b = ap (λ text. line ++ text) (printed-append a b) ∙ sym (append_assoc line (printed a) (printed b))
 
 -- the lines of a write are no writes
-written-trace : (trace : Bool) (number : ℕ) (write : Write) → written (trace_of trace number write) ≡ []
-written-trace true number write = refl
-written-trace false number write = refl
+written-trace : (family : Family) (trace : Bool) (number : ℕ) (write : Write) → written (trace_of family trace number write) ≡ []
+written-trace family true number write = refl
+written-trace family false number write = refl
 
 written-probes : (family : Family) (number : ℕ) (state : State) (probe : ℕ) (keys : List Key) → written (probes_of family number state probe keys) ≡ []
 written-probes family number state probe [] = refl
@@ -35,8 +35,8 @@ written-probes family number state probe (key ∷ keys) = written-probes family 
 
 pub written-lines : (setting : Setting) (probes : List Key) (number : ℕ) (state : State) (write : Write) → written (lines_of setting probes number state write) ≡ []
 written-lines setting probes number state write =
-    written-append (trace_of setting.trace number write) (probes_of setting.family number state 1 probes)
-    ∙ ap (λ writes. writes ++ written (probes_of setting.family number state 1 probes)) (written-trace setting.trace number write)
+    written-append (trace_of setting.family setting.trace number write) (probes_of setting.family number state 1 probes)
+    ∙ ap (λ writes. writes ++ written (probes_of setting.family number state 1 probes)) (written-trace setting.family setting.trace number write)
     ∙ written-probes setting.family number state 1 probes
 
 pub written-writes : (setting : Setting) (probes : List Key) (number : ℕ) (state : State) (made : List Write) → written (write_effects setting probes number state made) ≡ made

@@ -1,18 +1,18 @@
 -- Lines of reports and the ends of scripts, by computation.
-use Rattle.std.proofs.Common.{◌≡◌, ℕ, [], ◌∷◌, ◌++◌, Ok, Some, None, refl}
+use Rattle.std.proofs.Common.{◌≡◌, ℕ, ◌*◌, ◌^◌, [], ◌∷◌, ◌++◌, Ok, Some, None, refl}
 use Rattle.std.specs.Prelude.{codes}
 use Rattle.std.specs.Fmt.{digits}
-use Rattle.rule_model.specs.AddressBlock.{ipv4_block}
-use Rattle.rule_model.specs.Rank.{ipv4_route_rank, list_rank}
+use Rattle.rule_model.specs.AddressBlock.{AddressBlock, ipv4_block}
+use Rattle.rule_model.specs.Rank.{ipv4_route_rank, ipv6_route_rank, list_rank}
 use Rattle.rule_model.specs.declared.Field.TheVariants.{Dst}
 use Rattle.ternary_word.specs.declared.Word.{Word}
 use Rattle.tcam_device.specs.declared.Write.TheVariants.{Slot, Table}
 use Rattle.rule_store.specs.declared.BatchFault.TheVariants.{Twice, Absent}
 use Rattle.rule_store.specs.Verdict.{Unsound, OutOfBits, OutOfSlots}
-use Rattle.replay.specs.declared.Family.TheVariants.{Route, Acl}
+use Rattle.replay.specs.declared.Family.TheVariants.{Route, Acl, Route6, Acl6}
 use Rattle.replay.specs.declared.Act.TheVariants.{Commit}
 use Rattle.replay.specs.Script.{Reading, Whole, FaultAt, script_of}
-use Rattle.replay.specs.Text.{packet_line, probe_line, trace_line, lane_text, tag_text, accepted_line, refused_line, fault_line, end_line, usage_line}
+use Rattle.replay.specs.Text.{packet_line, probe_line, trace_line, lane_text, number_text, tag_text, accepted_line, refused_line, fault_line, end_line, usage_line}
 
 packet : packet_line Route (Some (ipv4_route_rank (ipv4_block 0x0a000000 8), 7)) ≡ codes "packet 10.0.0.0/8 7" ++ 10 ∷ []
 unfolding digits
@@ -53,7 +53,7 @@ probed-none = refl
 lane : lane_text 0x0a01ffff ≡ codes "0a01ffff"
 lane = refl
 
-tag : tag_text (ipv4_route_rank (ipv4_block 0x0a010000 16)) ≡ codes "68887314432"
+tag : number_text (ipv4_route_rank (ipv4_block 0x0a010000 16)) ≡ codes "68887314432"
 unfolding digits
 tag = refl
 
@@ -61,16 +61,37 @@ tag = refl
 abbrev destination : ℕ → Word
 destination address = record { lane = 0 ∷ 0 ∷ 0 ∷ 0 ∷ address ∷ 0 ∷ 0 ∷ 0 ∷ 0 ∷ 0 ∷ 0 ∷ [] }
 
-set : trace_line 1 (Slot 3 (Some (record { value = destination 0x0a010000; mask = destination 0xffff0000; tag = ipv4_route_rank (ipv4_block 0x0a010000 16); result = 7 })))
+set : trace_line Route 1 (Slot 3 (Some (record { value = destination 0x0a010000; mask = destination 0xffff0000; tag = ipv4_route_rank (ipv4_block 0x0a010000 16); result = 7 })))
     ≡ codes "w 1 slot 3 set 000000000a010000000000000000000000000000 00000000ffff0000000000000000000000000000 68887314432 7" ++ 10 ∷ []
 unfolding digits
 set = refl
 
-erased : trace_line 2 (Slot 4095 None) ≡ codes "w 2 slot 4095 erase" ++ 10 ∷ []
+-- routes of IPv6 are named by their prefix, in the form that is recommended, and traced with all lanes
+abbrev documentation : AddressBlock
+documentation = record { addr = 0x20010db8 * 2 ^ 96; len = 32 }
+
+packet-six : packet_line Route6 (Some (ipv6_route_rank documentation, 7)) ≡ codes "packet 2001:db8::/32 7" ++ 10 ∷ []
+unfolding digits
+packet-six = refl
+
+permitted-six : packet_line Acl6 (Some (list_rank 10, 1)) ≡ codes "packet 10 permit" ++ 10 ∷ []
+unfolding digits
+permitted-six = refl
+
+set-six : trace_line Route6 1 (Slot 3 (Some (record { value = destination 0x20010db8; mask = destination 0xffffffff; tag = ipv6_route_rank documentation; result = 7 })))
+    ≡ codes "w 1 slot 3 set 0000000000000000000000000000000020010db8000000000000000000000000000000000000000000000000 00000000000000000000000000000000ffffffff000000000000000000000000000000000000000000000000 2001:db8::/32 7" ++ 10 ∷ []
+unfolding digits
+set-six = refl
+
+tag-six : tag_text Acl6 (list_rank 10) ≡ codes "10"
+unfolding digits
+tag-six = refl
+
+erased : trace_line Acl 2 (Slot 4095 None) ≡ codes "w 2 slot 4095 erase" ++ 10 ∷ []
 unfolding digits
 erased = refl
 
-table : trace_line 3 (Table Dst 80 5) ≡ codes "w 3 table dst 80 5" ++ 10 ∷ []
+table : trace_line Acl 3 (Table Dst 80 5) ≡ codes "w 3 table dst 80 5" ++ 10 ∷ []
 unfolding digits
 table = refl
 

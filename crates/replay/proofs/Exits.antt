@@ -2,16 +2,17 @@
 use Rattle.std.proofs.Common.{refl, ◌≡◌, ◌≢◌, ◌⊎◌, inl, inr, ℕ, ◌+◌, ◌≤◌, false, List, [], ◌++◌, Option, Some, None, IsSome, Result, Ok, Err, IfErr, OnOk, OnErr, length, sym, ap, ◌∙◌, subst}
 use Rattle.std.specs.Io.KnownBytes.{Appends}
 use Rattle.std.specs.List.{AllByRecursion}
-use Rattle.rule_model.specs.Routes.{IsIpv4Route}
+use Rattle.rule_model.specs.declared.IpVersion.{IpVersion}
 use Rattle.rule_store.specs.Verdict.{Verdict, Accepted, Unsound, OutOfBits, OutOfSlots, entries_of}
 use Rattle.tcam_device.specs.declared.Write.{Write}
+use Rattle.tcam_device.specs.Flight.{writes_in}
 use Rattle.commit_writes.specs.declared.Done.{Done}
+use Rattle.commit_writes.specs.Routes.{IsRoute}
 use Rattle.batch_order.specs.declared.Ready.{Ready}
 use Rattle.batch_order.specs.declared.Refusal.{Refusal}
 use Rattle.batch_order.specs.declared.Refusal.TheVariants as refusal
-use Rattle.batch_order.specs.Managed.{Managed, HeldCommit, Holds, Judges, Answers}
+use Rattle.batch_order.specs.Managed.{Managed, HeldCommit, Holds, Judges, Answers, commit_of}
 use Rattle.replay.specs.declared.Act.TheVariants.{Commit}
-use Rattle.replay.specs.declared.Family.TheVariants.{Route}
 use Rattle.replay.specs.declared.RunFault.{RunFault}
 use Rattle.replay.specs.declared.RunFault.TheVariants as fault
 use Rattle.replay.specs.Run.{Progress, Effect, Writes, Prints, HasEffects, IsCutStep, ending}
@@ -19,17 +20,17 @@ use Rattle.replay.specs.Text.{accepted_line, refused_line, end_line}
 use Rattle.replay.specs.Told.{verdict_told}
 use Rattle.replay.specs.Outside.{AppendsPart}
 use Rattle.replay.specs.Carried.{IsAt}
-use Rattle.replay.specs.Running.{Running, Watching, IsRun, IsHalfway, IsUnfinished, ComesTo, Finishes, StaysUnfinished, BreaksOff, ResumesTo, Makes, MakesAll, MakesSome, Tells, breaks, watching, setting_of, progress_of, verdict_of}
+use Rattle.replay.specs.Running.{Running, Watching, IsRun, IsHalfway, IsUnfinished, ComesTo, Finishes, StaysUnfinished, BreaksOff, ResumesTo, Makes, MakesAll, MakesSome, Tells, breaks, watching, setting_of, progress_of, routes_of, verdict_of}
 use Rattle.replay.proofs.Refusals.{told-verdict, told-refused}
 use Rattle.replay.proofs.Runs.{run_after}
 use Rattle.replay.proofs.Halfway.{run_begun, begun-holds, halfway-none, cut-run, left-same, counts-same, after-writes}
-use Rattle.replay.proofs.Resuming.{stays-unfinished, breaks-off, finishes, breaks-last, as-unfinished}
+use Rattle.replay.proofs.Resuming.{setting-more, stays-unfinished, breaks-off, finishes, breaks-last, as-unfinished}
 use Rattle.replay.proofs.Acts.{run_refused, refuse-carries, refuse-cuts}
 
 -- some of its writes were made, and it was cut at a line or at a write
 pub cut-some : (why : RunFault) (begun now : Managed) (watch : Watching) (slots told told_now : ℕ) (journal_old journal_new : List Write) (old taken : Option (List ℕ))
     → Makes begun now watch slots told told_now (Err why) journal_old journal_new old taken
-    → (some : MakesSome begun now) × (told_now ≡ told + length some.made) × ((why ≡ fault.Sink) ⊎ (why ≡ fault.Device))
+    → (some : MakesSome begun now) × (told_now ≡ told + length (writes_in some.made)) × ((why ≡ fault.Sink) ⊎ (why ≡ fault.Device))
 cut-some fault.Sink begun now watch slots told told_now journal_old journal_new old taken stops = (stops.some, stops.number, inl refl)
 cut-some fault.Device begun now watch slots told told_now journal_old journal_new old taken stops = (stops.some, stops.number, inr refl)
 cut-some fault.BatchFull begun now watch slots told told_now journal_old journal_new old taken stops = absurd stops
@@ -43,6 +44,11 @@ pub cut-held : (why : RunFault) (run : Running) (now : Managed) (watch : Watchin
 cut-held why run now watch slots told_now journal_old journal_new old taken is held makes =
     let cut = cut-some why run.manager now watch slots run.told told_now journal_old journal_new old taken makes in
     cut-run run now told_now is (is.halfway held) cut.0 cut.1
+
+pub cut-setting : (why : RunFault) (run : Running) (now : Managed) (watch : Watching) (slots told_now : ℕ) (journal_old journal_new : List Write) (old taken : Option (List ℕ)) → IsRun run
+    → Makes run.manager now watch slots run.told told_now (Err why) journal_old journal_new old taken → setting_of (record run { manager = now; told = told_now }) ≡ setting_of run
+cut-setting why run now watch slots told_now journal_old journal_new old taken is makes =
+    setting-more run now told_now (cut-some why run.manager now watch slots run.told told_now journal_old journal_new old taken makes).0
 
 module _ (slots : ℕ) (before : Progress) (front : List Effect) (inside run : Running) (same : inside ≡ run) (is : IsRun inside) (within : run.manager.slots ≤ slots) (journal_old journal_new : List Write)
     (unfinished : IsUnfinished slots before front run) (at : IsAt slots journal_old (progress_of slots run)) where
@@ -77,18 +83,18 @@ module _ (slots : ℕ) (before : Progress) (front : List Effect) (inside run : R
     abbrev run_now : Running
     run_now = record counted { writes = counted.writes + done.writes }
 
-    grown-left : journal_new ≡ journal_old ++ half.some.left
-    grown-left = all.journal ∙ ap (λ (held : HeldCommit). journal_old ++ held.writes) (left-same inside half (watching inside) slots inside.told told done now journal_old journal_new old mid all)
+    grown-left : journal_new ≡ journal_old ++ (writes_in half.some.left)
+    grown-left = all.journal ∙ ap (λ (held : HeldCommit). journal_old ++ writes_in held.actions) (left-same inside half (watching inside) slots inside.told told done now journal_old journal_new old mid all)
 
-    told-left : Tells inside.manager (watching inside) slots inside.told journal_old half.some.left old mid
+    told-left : Tells inside.manager (watching inside) slots inside.told journal_old (writes_in half.some.left) old mid
     told-left =
-        subst (λ (held : HeldCommit). Tells inside.manager (watching inside) slots inside.told journal_old held.writes old mid)
+        subst (λ (held : HeldCommit). Tells inside.manager (watching inside) slots inside.told journal_old (writes_in held.actions) old mid)
         (left-same inside half (watching inside) slots inside.told told done now journal_old journal_new old mid all) all.report
 
-    new-is : run_now ≡ run_after (run_begun inside half) (begun-holds inside half).held
+    new-is : run_now ≡ run_after (run_begun inside half) (begun-holds inside half).made (begun-holds inside half).counts
     new-is = after-writes inside half (watching inside) slots inside.told told done now journal_old journal_new old mid all counted closed
 
-    line-same : accepted_line counted.commits done ≡ accepted_line (inside.commits + 1) (begun-holds inside half).held.counts
+    line-same : accepted_line counted.commits done ≡ accepted_line (inside.commits + 1) (begun-holds inside half).counts
     line-same =
         ap (λ (r : Running). accepted_line r.commits done) closed
         ∙ ap (accepted_line (inside.commits + 1)) (counts-same inside half (watching inside) slots inside.told told done now journal_old journal_new old mid all)
@@ -134,10 +140,10 @@ module _ (inside : Running) (ready : Ready) (manager : Managed) (is : IsRun insi
   pub taken-run : IsRun (record inside { manager = manager })
   taken-run = record {
     changes = is.changes;
-    routes = subst (λ (m : Managed). inside.family ≡ Route → AllByRecursion IsIpv4Route m.rules) (sym holds.new_is) is.routes;
+    routes = subst (λ (m : Managed). (version : IpVersion) → inside.family ≡ routes_of version → AllByRecursion (IsRoute version) m.rules) (sym holds.new_is) is.routes;
     size = subst (λ (m : Managed). length m.state.slots ≡ m.slots) (sym holds.new_is) is.size;
     few = is.few;
-    shows = λ none. absurd (let bad : Some holds.held ≡ None = sym (ap (λ (m : Managed). m.held) holds.new_is) ∙ none in cc);
+    shows = λ none. absurd (let bad : Some (commit_of inside.manager inside.pending holds.made holds.counts) ≡ None = sym (ap (λ (m : Managed). m.held) holds.new_is) ∙ none in cc);
     halfway = λ some. half-taken;
     idle = λ none. is.idle idle;
   }

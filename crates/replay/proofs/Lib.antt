@@ -2,6 +2,7 @@ pub mod Lines
 pub mod Refusals
 pub mod Effects
 pub mod RouteSets
+pub mod Acting
 pub mod Runs
 pub mod Halfway
 pub mod Acts

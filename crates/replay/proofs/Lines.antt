@@ -46,6 +46,11 @@ five_parts line a b c d e =
       append_assoc a b (c ++ (d ++ e)),
     ) refl
 
+-- eleven texts behind a line and a space
+pub eleven_parts : (line a b c d e f g h i j k : List ℕ) → (((((((((((line ++ 32 ∷ []) ++ a) ++ b) ++ c) ++ d) ++ e) ++ f) ++ g) ++ h) ++ i) ++ j) ++ k
+    ≡ line ++ 32 ∷ (a ++ (b ++ (c ++ (d ++ (e ++ (f ++ (g ++ (h ++ (i ++ (j ++ k))))))))))
+eleven_parts line a b c d e f g h i j k = simp append_assoc
+
 -- a number whose last digit is written apart, behind a line and a space
 pub last_digit : (line : List ℕ) (tens ones number : ℕ) → number ≡ 10 * tens + ones → ones < 10 → 0 < tens → number < 10 ^ 64
     → ((line ++ 32 ∷ []) ++ decimal tens) ++ decimal ones ≡ line ++ 32 ∷ decimal number

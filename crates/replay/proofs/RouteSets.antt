@@ -2,34 +2,44 @@
 use Rattle.std.proofs.Common.{◌≡◌, List, [], ◌∷◌, ◌++◌, inl, inr, sym, ap, subst}
 use Rattle.std.specs.List.{AllByRecursion}
 use Rattle.slot_order.proofs.Lists.{all_append, AllByRecursion-member}
+use Rattle.rule_model.specs.declared.IpVersion.{IpVersion}
+use Rattle.rule_model.specs.declared.IpVersion.TheVariants.{V4, V6}
 use Rattle.rule_model.specs.declared.Rule.{Rule}
-use Rattle.rule_model.specs.Routes.{IsIpv4Route}
 use Rattle.rule_store.specs.declared.Command.{Command as Change}
 use Rattle.rule_store.specs.Batch.{additions, result_after, with_result_after, set_after}
 use Rattle.rule_store.proofs.Members.{set_after-member}
 use Rattle.rule_store.proofs.Sound.{additions-append}
+use Rattle.commit_writes.specs.Routes.{IsRoute}
 use Rattle.commit_writes.proofs.Filters.{all_members}
 use Rattle.batch_order.specs.Managed.{OnlyChangesRoutes}
 use Rattle.replay.specs.declared.Family.{Family}
-use Rattle.replay.specs.declared.Family.TheVariants.{Route}
-use Rattle.replay.specs.Running.{IsChangeOf}
+use Rattle.replay.specs.Running.{IsChangeOf, routes_of}
 
-pub routes_after : (rules : List Rule) (batch : List Change) → AllByRecursion IsIpv4Route rules → OnlyChangesRoutes batch → AllByRecursion IsIpv4Route (set_after rules batch)
-routes_after rules batch routes changes = all_members IsIpv4Route (set_after rules batch) (λ rule member. elim ((set_after-member rules batch rule).0 member) [
-  | inl new ↦ AllByRecursion-member IsIpv4Route (additions batch) rule changes new
-  | inr kept ↦ subst IsIpv4Route (sym kept.3) (with_result kept.0 (AllByRecursion-member IsIpv4Route rules kept.0 routes kept.1))
+-- a route with another result is one
+with_result : (version : IpVersion) (batch : List Change) (old : Rule) → IsRoute version old → IsRoute version (with_result_after batch old)
+with_result V4 batch old is = record {
+  block = is.block;
+  ipv4 = is.ipv4;
+  route = ap (λ (r : Rule). record r { result = result_after batch old.priority old.result }) is.route;
+}
+with_result V6 batch old is =
+    record { block = is.block; route = ap (λ (r : Rule). record r { result = result_after batch old.priority old.result }) is.route }
+
+pub routes_after : (version : IpVersion) (rules : List Rule) (batch : List Change) → AllByRecursion (IsRoute version) rules → OnlyChangesRoutes version batch
+    → AllByRecursion (IsRoute version) (set_after rules batch)
+routes_after version rules batch routes changes = all_members (IsRoute version) (set_after rules batch) (λ rule member. elim ((set_after-member rules batch rule).0 member) [
+  | inl new ↦ AllByRecursion-member (IsRoute version) (additions batch) rule changes new
+  | inr kept ↦ subst (IsRoute version) (sym kept.3) (with_result version batch kept.0 (AllByRecursion-member (IsRoute version) rules kept.0 routes kept.1))
 ])
-  where
-    with_result : (old : Rule) → IsIpv4Route old → IsIpv4Route (with_result_after batch old)
-    with_result old is = record {
-      block = is.block;
-      ipv4 = is.ipv4;
-      route = ap (λ (r : Rule). record r { result = result_after batch old.priority old.result }) is.route;
-    }
+
+-- a change in a script of routes is one of routes of its version
+change_of : (version : IpVersion) (change : Change) → IsChangeOf (routes_of version) change → OnlyChangesRoutes version (change ∷ [])
+change_of V4 change is = is
+change_of V6 change is = is
 
 -- a change of a script of routes more
-pub changes_more : (family : Family) (pending : List Change) (change : Change) → (family ≡ Route → OnlyChangesRoutes pending) → IsChangeOf family change
-    → family ≡ Route → OnlyChangesRoutes (pending ++ change ∷ [])
-changes_more family pending change changes is route =
-    subst (AllByRecursion IsIpv4Route) (sym (additions-append pending (change ∷ [])))
-    (all_append IsIpv4Route (additions pending) (additions (change ∷ [])) (changes route) (subst (λ f. IsChangeOf f change) route is))
+pub changes_more : (family : Family) (pending : List Change) (change : Change) → ((version : IpVersion) → family ≡ routes_of version → OnlyChangesRoutes version pending)
+    → IsChangeOf family change → (version : IpVersion) → family ≡ routes_of version → OnlyChangesRoutes version (pending ++ change ∷ [])
+changes_more family pending change changes is version route =
+    subst (AllByRecursion (IsRoute version)) (sym (additions-append pending (change ∷ [])))
+    (all_append (IsRoute version) (additions pending) (additions (change ∷ [])) (changes version route) (change_of version change (subst (λ f. IsChangeOf f change) route is)))

@@ -2,25 +2,27 @@
 use Rattle.std.proofs.Common.{Bool, true, false, ◌≡◌, ℕ, ◌+◌, ◌-◌, ◌*◌, ◌^◌, ◌≤◌, length, List, [], ◌∷◌, ◌++◌, Option, None, IsSome, replicate, take, Result, Ok, Err, OnOk, OnErr, refl, sym, ap, ◌∙◌, subst, arith}
 use Rattle.std.proofs.Math.Seq.{take-append_seam}
 use Rattle.std.specs.List.{AllByRecursion}
+use Rattle.rule_model.specs.declared.IpVersion.{IpVersion}
+use Rattle.rule_model.specs.declared.IpVersion.TheVariants.{V4, V6}
 use Rattle.rule_model.specs.declared.Key.{Key}
-use Rattle.rule_model.specs.declared.Rule.{Rule}
-use Rattle.rule_model.specs.Routes.{IsIpv4Route}
 use Rattle.rule_store.specs.Batch.{set_after}
 use Rattle.rule_store.specs.declared.Mode.{Mode}
 use Rattle.rule_store.specs.declared.Command.{Command as Change}
 use Rattle.ternary_word.specs.declared.Entry.{Entry}
 use Rattle.tcam_device.specs.State.{State, Shows, IsInUse, blank, state_after, on_device}
 use Rattle.tcam_device.specs.Insertion.{Insertion, IsUncrossed}
-use Rattle.commit_writes.specs.Bits.{FieldBits, bits_with, bits_left}
+use Rattle.commit_writes.specs.Bits.{bits_with, bits_left}
 use Rattle.batch_order.specs.declared.Placement.{Placement}
 use Rattle.batch_order.specs.declared.Ready.{Ready}
+use Rattle.commit_writes.specs.declared.Done.{Done}
+use Rattle.tcam_device.specs.declared.Write.{Write}
 use Rattle.batch_order.specs.Managed.{HeldCommit, Holds, OnlyChangesRoutes}
 use Rattle.batch_order.specs.Placing.{IsPlacedBy}
 use Rattle.replay.specs.declared.Family.{Family}
-use Rattle.replay.specs.declared.Family.TheVariants.{Route, Acl}
+use Rattle.replay.specs.declared.Family.TheVariants.{Route, Acl, Route6, Acl6}
 use Rattle.replay.specs.Run.{Setting, Progress, Effect, Prints, Commits, OfFamily, slots_in_use, write_effects, after_segment}
 use Rattle.replay.specs.Text.{accepted_line}
-use Rattle.replay.specs.Running.{Running, IsHalfway, IsRun, setting_of, progress_of, begun, IsChangeOf}
+use Rattle.replay.specs.Running.{Running, IsHalfway, IsRun, setting_of, progress_of, begun, routes_of, IsChangeOf}
 use Rattle.replay.proofs.RouteSets.{routes_after, changes_more}
 use Rattle.tcam_device.proofs.Wider.{slots-after, state_after-on_device, Shows-padded, blank_shows}
 use Rattle.std.proofs.lemmas.List.{length-replicate}
@@ -28,8 +30,8 @@ use Rattle.std.proofs.lemmas.List.{length-replicate}
 -- a run before its first act
 pub begun-run : (slots : ℕ) (mode : Mode) (placement : Placement) (family : Family) (trace : Bool) → IsRun (begun slots mode placement family trace)
 begun-run slots mode placement family trace = record {
-  changes = λ route. tt;
-  routes = λ route. tt;
+  changes = λ version route. tt;
+  routes = λ version route. tt;
   size = length-replicate slots None;
   few = omega arith;
   shows = λ idle device_slots within. Shows-padded (device_slots - length (blank slots).slots) (blank slots) [] (blank_shows slots);
@@ -80,13 +82,18 @@ marked-run run broken is = record {
 }
 
 -- the run after its commit
-abbrev pub run_after : Running → HeldCommit → Running
-run_after run held =
+abbrev pub run_after : Running → List Write → Done → Running
+run_after run made counts =
     record run {
-      manager = record run.manager { state = state_after run.manager.state held.writes; rules = held.rules; bits = held.bits; held = None };
+      manager = record run.manager {
+        state = state_after run.manager.state made;
+        rules = set_after run.manager.rules run.pending;
+        bits = bits_left (set_after run.manager.rules run.pending) (bits_with run.manager.mode run.manager.rules run.pending run.manager.bits);
+        held = None;
+      };
       pending = [];
       commits = run.commits + 1;
-      writes = run.writes + held.counts.writes;
+      writes = run.writes + counts.writes;
       told = 0;
     }
 
@@ -101,72 +108,59 @@ wider [] all = tt
 wider (one ∷ made) all = let few = all.0.1 in ((all.0.0, omega arith), wider made all.1)
 
 module _ (run : Running) (ready : Ready) (is : IsRun run) (holds : Holds (record run.manager { held = None }) run.pending ready run.manager) where
-  after-state : (slots : ℕ) → on_device slots (state_after run.manager.state holds.held.writes) ≡ state_after (on_device slots run.manager.state) holds.held.writes
+  after-state : (slots : ℕ) → on_device slots (state_after run.manager.state holds.made) ≡ state_after (on_device slots run.manager.state) holds.made
   after-state slots =
-      sym (state_after-on_device slots run.manager.state holds.held.writes
-      (subst (λ size. AllByRecursion (IsInUse size) holds.held.writes) (sym is.size) holds.in_use))
+      sym (state_after-on_device slots run.manager.state holds.made
+      (subst (λ size. AllByRecursion (IsInUse size) holds.made) (sym is.size) holds.in_use))
 
   -- the run once the writes are made
-  pub made-run : (pending : List Change) (commits writes : ℕ) → (run.family ≡ Route → OnlyChangesRoutes pending) → writes ≤ commits * 2 ^ 39
-      → IsRun (record (run_after run holds.held) { pending = pending; commits = commits; writes = writes })
+  pub made-run : (pending : List Change) (commits writes : ℕ) → ((version : IpVersion) → run.family ≡ routes_of version → OnlyChangesRoutes version pending) → writes ≤ commits * 2 ^ 39
+      → IsRun (record (run_after run holds.made holds.counts) { pending = pending; commits = commits; writes = writes })
   made-run pending commits writes changes few = record {
     changes = changes;
-    routes = λ route. subst (AllByRecursion IsIpv4Route) (sym holds.rules) (routes_after run.manager.rules run.pending (is.routes route) (is.changes route));
-    size = slots-after run.manager.state holds.held.writes ∙ is.size;
+    routes = λ version route. routes_after version run.manager.rules run.pending (is.routes version route) (is.changes version route);
+    size = slots-after run.manager.state holds.made ∙ is.size;
     few = few;
     shows = λ idle slots within.
-        subst (λ rules. Shows (on_device slots (state_after run.manager.state holds.held.writes)) rules) (sym holds.rules)
-        (subst (λ state. Shows state (set_after run.manager.rules run.pending)) (sym (after-state slots)) (holds.segment slots within).hitless.after);
+        subst (λ state. Shows state (set_after run.manager.rules run.pending)) (sym (after-state slots)) (holds.segment slots within).hitless.after;
     halfway = λ some. absurd (let none : false ≡ true = some in cc);
     idle = λ none. refl;
   }
 
-  pub after-run : IsRun (run_after run holds.held)
+  pub after-run : IsRun (run_after run holds.made holds.counts)
   after-run =
       let few = is.few in
       let more = holds.few in
       let same = (holds.numbers run.manager.slots (omega arith)).writes in
-      made-run [] (run.commits + 1) (run.writes + holds.held.counts.writes) (λ route. tt) (omega arith)
+      made-run [] (run.commits + 1) (run.writes + holds.counts.writes) (λ version route. tt) (omega arith)
 
   after-progress : (slots : ℕ) → run.manager.slots ≤ slots
-      → progress_of slots (run_after run holds.held) ≡ after_segment (setting_of run) (progress_of slots run) holds.held.writes
+      → progress_of slots (run_after run holds.made holds.counts) ≡ after_segment (setting_of run) (progress_of slots run) holds.made
   after-progress slots within =
-      let at : List Rule → FieldBits → State → ℕ → Progress = λ rules bits state writes. record {
-        rules = rules;
-        batch = [];
-        probes = run.probes;
-        bits = bits;
-        state = state;
-        commits = run.commits + 1;
-        writes = writes;
-        refused = run.refused;
-      } in
-      let state : State = on_device slots (state_after run.manager.state holds.held.writes) in
-      let writes : ℕ = run.writes + holds.held.counts.writes in
-      let left : FieldBits = bits_left (set_after run.manager.rules run.pending) (bits_with run.manager.mode run.manager.rules run.pending run.manager.bits) in
-      ap (λ rules. at rules holds.held.bits state writes) holds.rules
-      ∙ ap (λ bits. at (set_after run.manager.rules run.pending) bits state writes) holds.bits
-      ∙ ap (λ after. at (set_after run.manager.rules run.pending) left after writes) (after-state slots)
-      ∙ ap (λ count. at (set_after run.manager.rules run.pending) left (state_after (on_device slots run.manager.state) holds.held.writes) (run.writes + count)) (holds.numbers slots within).writes
+      let at : State → ℕ → Progress = λ state writes. record (progress_of slots (run_after run holds.made holds.counts)) { state = state; writes = writes } in
+      ap (λ after. at after (run.writes + holds.counts.writes)) (after-state slots)
+      ∙ ap (λ count. at (state_after (on_device slots run.manager.state) holds.made) (run.writes + count)) (holds.numbers slots within).writes
 
-  of-family : (slots : ℕ) → run.manager.slots ≤ slots → OfFamily run.family (on_device slots run.manager.state) holds.held.writes
+  of-family : (slots : ℕ) → run.manager.slots ≤ slots → OfFamily run.family (on_device slots run.manager.state) holds.made
   of-family slots within = go run.family refl
     where
-      go : (family : Family) → run.family ≡ family → OfFamily family (on_device slots run.manager.state) holds.held.writes
+      go : (family : Family) → run.family ≡ family → OfFamily family (on_device slots run.manager.state) holds.made
       go Route route =
-          let least = holds.uncrossed slots within (is.routes route) (is.changes route) in
+          let least = holds.uncrossed slots within V4 (is.routes V4 route) (is.changes V4 route) in
           (wider _ least, least)
       go Acl other = tt
+      go Route6 route = holds.uncrossed slots within V6 (is.routes V6 route) (is.changes V6 route)
+      go Acl6 other = tt
 
   -- the commit, as what it writes and prints
   pub commits-with : (slots : ℕ) → run.manager.slots ≤ slots → (effects : List Effect)
-      → effects ≡ write_effects (setting_of run) run.probes 1 (on_device slots run.manager.state) holds.held.writes ++ Prints (accepted_line (run.commits + 1) holds.held.counts) ∷ []
-      → Commits (setting_of run) (progress_of slots run) effects (progress_of slots (run_after run holds.held))
+      → effects ≡ write_effects (setting_of run) run.probes 1 (on_device slots run.manager.state) holds.made ++ Prints (accepted_line (run.commits + 1) holds.counts) ∷ []
+      → Commits (setting_of run) (progress_of slots run) effects (progress_of slots (run_after run holds.made holds.counts))
   commits-with slots within effects same = record {
-    made = holds.held.writes;
-    counts = holds.held.counts;
+    made = holds.made;
+    counts = holds.counts;
     segment = holds.segment slots within;
-    placed = subst (λ (state : State). IsPlacedBy run.manager.placement run.manager.mode run.manager.bits run.manager.rules run.pending state holds.held.writes)
+    placed = subst (λ (state : State). IsPlacedBy run.manager.placement run.manager.mode run.manager.bits run.manager.rules run.pending state holds.made)
         (sym (in-use (setting_of run) slots run.manager.state is.size)) holds.placed;
     of_family = of-family slots within;
     in_use = holds.in_use;

@@ -1,8 +1,11 @@
 -- A line, and the lines behind it.
-use Rattle.std.proofs.Common.{ℕ, List, [], ◌∷◌, ◌++◌, Option, Result, Ok, Err, IsErr, OnOk, OnErr, sym, ap, subst, append_assoc}
+use Rattle.std.proofs.Common.{◌≡◌, ℕ, List, [], ◌∷◌, ◌++◌, Option, Result, Ok, Err, IsErr, OnOk, OnErr, sym, ap, subst, append_assoc}
 use Rattle.std.specs.Io.KnownBytes.{Appends}
 use Rattle.std.proofs.KnownBytes.{Appends-trans}
 use Rattle.call_history.specs.Cause.{HasCause}
+use Rattle.tcam_device.specs.declared.Write.{Write}
+use Rattle.replay.specs.declared.Family.{Family}
+use Rattle.replay.specs.Text.{trace_line}
 use Rattle.replay.specs.Run.{Effect, Prints, printed}
 use Rattle.replay.specs.Outside.{WritesLine, WritesLines, CutsLines}
 
@@ -46,3 +49,9 @@ line-cut taken accepted faults line more (Err other) old new fault failed front 
   told = front.told;
   cause = record { later = front.cause.later; once = front.cause.once; failed = front.cause.failed; stayed = tt };
 }
+
+-- a write's line names its rule by the family that is told
+pub trace-named : {S T E : Type 0} (taken : S → Option (List ℕ)) (accepted : S → List ℕ) (faults : S → ℕ) (old new : S) (result : Result T E) (family told : Family) (number : ℕ) (write : Write)
+    → told ≡ family → WritesLine taken accepted faults old new (trace_line told number write) result → WritesLine taken accepted faults old new (trace_line family number write) result
+trace-named taken accepted faults old new result family told number write same line =
+    subst (λ (named : Family). WritesLine taken accepted faults old new (trace_line named number write) result) same line

@@ -17,7 +17,7 @@ use Rattle.commit_writes.specs.Commit.{AreCounts, IsSegment}
 use Rattle.batch_order.specs.declared.Placement.{Placement}
 use Rattle.batch_order.specs.Placing.{IsPlacedBy}
 use Rattle.replay.specs.declared.Family.{Family}
-use Rattle.replay.specs.declared.Family.TheVariants.{Route, Acl}
+use Rattle.replay.specs.declared.Family.TheVariants.{Route, Acl, Route6, Acl6}
 use Rattle.replay.specs.declared.Act.{Act}
 use Rattle.replay.specs.declared.Act.TheVariants.{Command, Probe, Packet, Commit}
 use Rattle.replay.specs.Text.{packet_line, probe_line, trace_line, accepted_line, refused_line, end_line}
@@ -74,8 +74,8 @@ start slots =
     }
 
 -- a write's trace line, where a trace is wanted
-abbrev pub trace_of : Bool → ℕ → Write → List Effect
-trace_of trace number write = if trace then Prints (trace_line number write) ∷ [] else []
+abbrev pub trace_of : Family → Bool → ℕ → Write → List Effect
+trace_of family trace number write = if trace then Prints (trace_line family number write) ∷ [] else []
 
 -- each probe's look-up, in the order of the probes
 abbrev pub probes_of : Family → ℕ → State → ℕ → List Key → List Effect
@@ -86,7 +86,7 @@ probes_of family number state probe (key ∷ keys) =
 -- the lines of a write, which led to this state
 abbrev pub lines_of : Setting → List Key → ℕ → State → Write → List Effect
 lines_of setting probes number state write =
-    trace_of setting.trace number write ++ probes_of setting.family number state 1 probes
+    trace_of setting.family setting.trace number write ++ probes_of setting.family number state 1 probes
 
 -- the writes of a commit from the one of a number on, each with its lines
 abbrev pub write_effects : Setting → List Key → ℕ → State → List Write → List Effect
@@ -111,10 +111,13 @@ after_segment setting old made =
 abbrev pub after_refusal : Progress → Progress
 after_refusal old = record old { batch = []; commits = old.commits + 1; refused = true }
 
--- Of routes no insertion crosses others, and none takes more than 67 writes, nor more than 33 where moves overwrite.
+-- Of routes no insertion crosses others, and none takes more than 67 writes, nor more than 33 where moves overwrite; of
+-- IPv6 none takes more than 129.
 abbrev pub OfFamily : Family → State → List Write → Type 0
 OfFamily Route state made = IsUncrossed 67 (insertions state made) × IsUncrossed 33 (insertions state made)
 OfFamily Acl state made = Unit {0}
+OfFamily Route6 state made = IsUncrossed 129 (insertions state made)
+OfFamily Acl6 state made = Unit {0}
 
 -- the slots in use of a device, with its tables
 abbrev pub slots_in_use : Setting → State → State

@@ -3,20 +3,27 @@ use Rattle.std.specs.Prelude.{◌≡◌, ◌≢◌, ℕ, ◌+◌, ◌*◌, ◌^�
 use Rattle.std.specs.Io.KnownBytes.{Appends}
 use Rattle.std.specs.List.{AllByRecursion}
 use Rattle.rule_model.specs.declared.Key.{Key}
-use Rattle.rule_model.specs.Routes.{IsIpv4Route}
+use Rattle.rule_model.specs.declared.IpVersion.{IpVersion}
+use Rattle.rule_model.specs.declared.IpVersion.TheVariants.{V4, V6}
 use Rattle.rule_store.specs.declared.Mode.{Mode}
 use Rattle.rule_store.specs.declared.Command.{Command as Change}
 use Rattle.rule_store.specs.Verdict.{Verdict, Accepted, verdict}
 use Rattle.tcam_device.specs.declared.Write.{Write}
+use Rattle.tcam_device.specs.declared.Action.{Action}
+use Rattle.tcam_device.specs.declared.Action.TheVariants.{Written}
 use Rattle.tcam_device.specs.State.{Shows, replay, state_after, on_device}
+use Rattle.tcam_device.specs.Flight.{writes_in}
 use Rattle.commit_writes.specs.declared.Done.{Done}
+use Rattle.commit_writes.specs.Routes.{IsRoute}
 use Rattle.batch_order.specs.declared.Placement.{Placement}
 use Rattle.batch_order.specs.declared.Ready.{Ready}
-use Rattle.batch_order.specs.Managed.{Managed, HeldCommit, Holds, OnlyChangesRoutes, fresh, next_of}
+use Rattle.batch_order.specs.Managed.{Managed, HeldCommit, Holds, OnlyChangesRoutes, fresh, writes_due}
+use Rattle.batch_order.specs.Steps.{next_of}
+use Rattle.batch_order.specs.CarriedOut.{acted}
 use Rattle.replay.specs.declared.Act.{Act}
 use Rattle.replay.specs.declared.Act.TheVariants.{Command, Probe, Packet, Commit}
 use Rattle.replay.specs.declared.Family.{Family}
-use Rattle.replay.specs.declared.Family.TheVariants.{Route, Acl}
+use Rattle.replay.specs.declared.Family.TheVariants.{Route, Acl, Route6, Acl6}
 use Rattle.replay.specs.Run.{Setting, Effect, Writes, Prints, Progress, HasEffects, IsCutStep, printed, write_effects}
 use Rattle.replay.specs.declared.RunFault.{RunFault}
 use Rattle.replay.specs.declared.RunFault.TheVariants.{BatchFull, ProbesFull, Sink, Device, Memory, Held}
@@ -100,14 +107,15 @@ verdict_of run = verdict run.manager.slots run.manager.mode run.manager.rules ru
 abbrev pub HoldsPending : Running → Type 0
 HoldsPending run = (ready : Ready) × Holds (record run.manager { held = None }) run.pending ready run.manager
 
--- some of the writes of a commit under way are made
+-- some of the actions of a commit under way, which isn't turned round, are made
 pub record MakesSome (begun now : Managed) : Type 0 where
   pub held : HeldCommit
-  pub made : List Write
-  pub left : List Write
+  pub made : List Action
+  pub left : List Action
   pub held_is : begun.held ≡ Some held
-  pub whole : held.writes ≡ made ++ left
-  pub now_is : now ≡ record begun { state = state_after begun.state made; held = Some (record held { writes = left }) }
+  pub forward : held.turned ≡ None
+  pub whole : held.actions ≡ made ++ left
+  pub now_is : now ≡ acted begun made
 
 -- A commit is unfinished: it was accepted, some of its writes were made, and the rest of them is held.
 pub record IsHalfway (run : Running) : Type 0 where
@@ -115,23 +123,30 @@ pub record IsHalfway (run : Running) : Type 0 where
   pub holds : HoldsPending (record run { manager = begun })
   pub accepted : verdict_of (record run { manager = begun }) ≡ Accepted
   pub some : MakesSome begun run.manager
-  pub told : run.told ≡ length some.made
+  pub told : run.told ≡ length (writes_in some.made)
 
--- A run between two calls: each commit made few writes. In a script of routes the rules are routes, and the pending
--- changes are changes of routes. A commit under way is that of the pending batch.
+-- the family of routes of a version of IP
+abbrev pub routes_of : IpVersion → Family
+routes_of V4 = Route
+routes_of V6 = Route6
+
+-- A run between two calls: each commit made few writes. In a script of routes the rules are routes of its version, and the
+-- pending changes are changes of such routes. A commit under way is that of the pending batch.
 pub record IsRun (run : Running) : Type 0 where
-  pub changes : run.family ≡ Route → OnlyChangesRoutes run.pending
-  pub routes : run.family ≡ Route → AllByRecursion IsIpv4Route run.manager.rules
+  pub changes : (version : IpVersion) → run.family ≡ routes_of version → OnlyChangesRoutes version run.pending
+  pub routes : (version : IpVersion) → run.family ≡ routes_of version → AllByRecursion (IsRoute version) run.manager.rules
   pub size : length run.manager.state.slots ≡ run.manager.slots
   pub few : run.writes ≤ run.commits * 2 ^ 39
   pub shows : ShowsRules run.manager
   pub halfway : IsSome run.manager.held → IsHalfway run
   pub idle : run.manager.held ≡ None → run.told ≡ 0
 
--- a change in a script of the family: a route that is added is one of IPv4, and an access list takes any rule
+-- a change in a script of the family: a route that is added is one of its version, and an access list takes any rule
 abbrev pub IsChangeOf : Family → Change → Type 0
-IsChangeOf Route change = OnlyChangesRoutes (change ∷ [])
+IsChangeOf Route change = OnlyChangesRoutes V4 (change ∷ [])
 IsChangeOf Acl change = Unit {0}
+IsChangeOf Route6 change = OnlyChangesRoutes V6 (change ∷ [])
+IsChangeOf Acl6 change = Unit {0}
 
 -- an act of a script of the family
 abbrev pub IsActOf : Family → Act → Type 0
@@ -170,7 +185,7 @@ ComesTo device_slots old act new (Err (Held left)) journal_old journal_new taken
 
 -- An act is taken only while no commit is unfinished. Else the answer has the number of the writes that are left.
 abbrev pub AnswersHeld : Option HeldCommit → Result (Unit {0}) RunFault → Type 0
-AnswersHeld (Some held) result = result ≡ Err (Held (length held.writes))
+AnswersHeld (Some held) result = result ≡ Err (Held (length (writes_due held)))
 AnswersHeld None result = (left : ℕ) → result ≢ Err (Held left)
 
 -- the sink failed, and no call may follow
@@ -220,27 +235,27 @@ pub record MakesAll (begun : Managed) (watch : Watching) (device_slots told told
   pub held : HeldCommit
   pub held_is : begun.held ≡ Some held
   pub done_is : done ≡ held.counts
-  pub now_is : now ≡ record begun { state = state_after begun.state held.writes; rules = held.rules; bits = held.bits; held = None }
-  pub number : told_now ≡ told + length held.writes
-  pub journal : journal_now ≡ journal_begun ++ held.writes
-  pub report : Tells begun watch device_slots told journal_begun held.writes taken_begun taken_now
+  pub now_is : now ≡ record begun { state = state_after begun.state (writes_in held.actions); rules = held.rules; bits = held.bits; held = None }
+  pub number : told_now ≡ told + length (writes_in held.actions)
+  pub journal : journal_now ≡ journal_begun ++ writes_in held.actions
+  pub report : Tells begun watch device_slots told journal_begun (writes_in held.actions) taken_begun taken_now
 
 -- some of them are made and told, and the next one isn't made
 pub record StopsAtWrite (begun now : Managed) (watch : Watching) (device_slots told told_now : ℕ) (journal_begun journal_now : List Write) (taken_begun taken_now : Option (List ℕ)) : Type 0 where
   pub some : MakesSome begun now
   pub due : Write
-  pub left : List Write
-  pub left_is : some.left ≡ due ∷ left
-  pub number : told_now ≡ told + length some.made
-  pub journal : journal_now ≡ journal_begun ++ some.made
-  pub report : Tells begun watch device_slots told journal_begun some.made taken_begun taken_now
+  pub left : List Action
+  pub left_is : some.left ≡ Written due ∷ left
+  pub number : told_now ≡ told + length (writes_in some.made)
+  pub journal : journal_now ≡ journal_begun ++ writes_in some.made
+  pub report : Tells begun watch device_slots told journal_begun (writes_in some.made) taken_begun taken_now
 
 -- some of them are made, and the last one of these isn't told whole
 pub record StopsAtLine (begun now : Managed) (watch : Watching) (device_slots told told_now : ℕ) (journal_begun journal_now : List Write) (taken_begun taken_now : Option (List ℕ)) : Type 0 where
   pub some : MakesSome begun now
-  pub number : told_now ≡ told + length some.made
-  pub journal : journal_now ≡ journal_begun ++ some.made
-  pub cuts : CutsEffects (effects_on begun watch device_slots told journal_begun some.held.writes) journal_begun journal_now taken_begun taken_now
+  pub number : told_now ≡ told + length (writes_in some.made)
+  pub journal : journal_now ≡ journal_begun ++ writes_in some.made
+  pub cuts : CutsEffects (effects_on begun watch device_slots told journal_begun (writes_in some.held.actions)) journal_begun journal_now taken_begun taken_now
 
 -- what comes of the writes that are left of a commit under way, by the answer
 abbrev pub Makes : Managed → Managed → Watching → ℕ → ℕ → ℕ → Result Done RunFault → List Write → List Write → Option (List ℕ) → Option (List ℕ) → Type 0
@@ -260,7 +275,7 @@ Makes begun now watch device_slots told told_now (Err (Held left)) journal_begun
 pub record IsUnfinished (device_slots : ℕ) (before : Progress) (front : List Effect) (run : Running) : Type 0 where
   pub halfway : IsHalfway run
   pub before_is : before ≡ progress_of device_slots (record run { manager = halfway.begun })
-  pub front_is : front ≡ write_effects (setting_of run) run.probes 1 before.state halfway.some.made
+  pub front_is : front ≡ write_effects (setting_of run) run.probes 1 before.state (writes_in halfway.some.made)
 
 -- Some effects more of it came about, each write told, and it is cut at the write that is next. The device is where the
 -- run stands then.

@@ -1,6 +1,8 @@
 -- The lines of a report.
-use Rattle.std.specs.Prelude.{ℕ, ◌+◌, ◌-◌, ◌*◌, ◌/◌, ◌%◌, ◌^◌, ◌==◌, nat_lt, Some, None, List, [], ◌∷◌, ◌++◌, codes, decimal, map, flat_map, slice_index, if◌then◌else◌}
+use Rattle.std.specs.Prelude.{ℕ, ◌+◌, ◌-◌, ◌*◌, ◌/◌, ◌%◌, ◌^◌, ◌==◌, Some, None, List, [], ◌∷◌, ◌++◌, codes, decimal, map, flat_map, slice_index, if◌then◌else◌}
 use Rattle.rule_model.specs.Rank.{high_of, low_of}
+use Rattle.rule_model.specs.declared.IpVersion.{IpVersion}
+use Rattle.rule_model.specs.declared.IpVersion.TheVariants.{V4, V6}
 use Rattle.rule_model.specs.declared.Field.{Field}
 use Rattle.rule_model.specs.declared.Field.TheVariants.{Src, Dst}
 use Rattle.rule_model.specs.RuleSet.{Answer}
@@ -10,9 +12,17 @@ use Rattle.rule_store.specs.Verdict.{Verdict, Accepted, Unsound, OutOfBits, OutO
 use Rattle.ternary_word.specs.declared.Word.{Word}
 use Rattle.tcam_device.specs.declared.Write.{Write}
 use Rattle.tcam_device.specs.declared.Write.TheVariants.{Slot, Table}
+use Rattle.line_words.specs.Shown.{hex_digit, ipv6_prefix_text}
 use Rattle.batch_order.specs.declared.Done.{Done}
 use Rattle.replay.specs.declared.Family.{Family}
-use Rattle.replay.specs.declared.Family.TheVariants.{Route, Acl}
+use Rattle.replay.specs.declared.Family.TheVariants.{Route, Acl, Route6, Acl6}
+
+-- the version of IP of a family
+abbrev pub version_of : Family → IpVersion
+version_of Route = V4
+version_of Acl = V4
+version_of Route6 = V6
+version_of Acl6 = V6
 
 -- words with one space between them, and a line feed behind the last
 abbrev pub line_text : List (List ℕ) → List ℕ
@@ -26,15 +36,31 @@ dotted address =
     decimal (address / 2 ^ 24) ++ 46 ∷ decimal (address / 2 ^ 16 % 256) ++ 46 ∷ decimal (address / 2 ^ 8 % 256)
     ++ 46 ∷ decimal (address % 256)
 
+-- the prefix of an IPv4 route: its address and its length
+abbrev pub ipv4_prefix_text : ℕ → List ℕ
+ipv4_prefix_text rank = dotted (low_of rank) ++ 47 ∷ decimal (high_of rank)
+
+-- the sequence number of a rule of an access list
+abbrev pub sequence_text : ℕ → List ℕ
+sequence_text rank = decimal (2 ^ 32 - low_of rank)
+
 -- a rule's name: the prefix of a route, or the sequence number of a rule of an access list
 abbrev pub rule_name : Family → ℕ → List ℕ
-rule_name Route rank = dotted (low_of rank) ++ 47 ∷ decimal (high_of rank)
-rule_name Acl rank = decimal (2 ^ 32 - low_of rank)
+rule_name Route rank = ipv4_prefix_text rank
+rule_name Acl rank = sequence_text rank
+rule_name Route6 rank = ipv6_prefix_text rank
+rule_name Acl6 rank = sequence_text rank
+
+-- the action of a rule of an access list
+abbrev pub action_text : ℕ → List ℕ
+action_text answer = if answer == 1 then codes "permit" else codes "deny"
 
 -- a result: the number of a route, or the action of a rule of an access list
 abbrev pub result_name : Family → ℕ → List ℕ
 result_name Route answer = decimal answer
-result_name Acl answer = if answer == 1 then codes "permit" else codes "deny"
+result_name Acl answer = action_text answer
+result_name Route6 answer = decimal answer
+result_name Acl6 answer = action_text answer
 
 -- what a look-up answered, as words
 abbrev pub answer_words : Family → Answer → List (List ℕ)
@@ -50,22 +76,30 @@ abbrev pub probe_line : Family → ℕ → ℕ → Answer → List ℕ
 probe_line family write probe found =
     line_text (codes "w" ∷ decimal write ∷ codes "p" ∷ decimal probe ∷ answer_words family found)
 
--- the code of a lower hexadecimal digit
-abbrev pub hex_digit : ℕ → ℕ
-hex_digit digit = if nat_lt digit 10 then digit + 48 else digit + 87
-
 -- a lane in eight lower hexadecimal digits
 abbrev pub lane_text : ℕ → List ℕ
 lane_text lane =
     map (λ place. hex_digit (lane / 16 ^ place % 16)) (7 ∷ 6 ∷ 5 ∷ 4 ∷ 3 ∷ 2 ∷ 1 ∷ 0 ∷ [])
 
--- the lanes that IPv4 has: the first of each address, ports, protocol, and bits
-abbrev pub word_text : Word → List ℕ
-word_text word = flat_map (λ lane. lane_text (slice_index word.lane lane)) (0 ∷ 4 ∷ 8 ∷ 9 ∷ 10 ∷ [])
+-- the lanes that a version has: of IPv4 the first of each address, ports, protocol, and bits, and of IPv6 all
+abbrev pub lanes_shown : IpVersion → List ℕ
+lanes_shown V4 = 0 ∷ 4 ∷ 8 ∷ 9 ∷ 10 ∷ []
+lanes_shown V6 = 0 ∷ 1 ∷ 2 ∷ 3 ∷ 4 ∷ 5 ∷ 6 ∷ 7 ∷ 8 ∷ 9 ∷ 10 ∷ []
+
+-- a word, lane by lane
+abbrev pub word_text : IpVersion → Word → List ℕ
+word_text version word = flat_map (λ lane. lane_text (slice_index word.lane lane)) (lanes_shown version)
 
 -- a tag as one number of its two parts
-abbrev pub tag_text : ℕ → List ℕ
-tag_text tag = decimal (high_of tag * 2 ^ 32 + low_of tag)
+abbrev pub number_text : ℕ → List ℕ
+number_text tag = decimal (high_of tag * 2 ^ 32 + low_of tag)
+
+-- a tag: of IPv4 as one number, and of IPv6 as the rule's name
+abbrev pub tag_text : Family → ℕ → List ℕ
+tag_text Route tag = number_text tag
+tag_text Acl tag = number_text tag
+tag_text Route6 tag = ipv6_prefix_text tag
+tag_text Acl6 tag = sequence_text tag
 
 -- the name of a field of ports
 abbrev pub field_text : Field → List ℕ
@@ -73,16 +107,16 @@ field_text Src = codes "src"
 field_text Dst = codes "dst"
 
 -- a device write, as words
-abbrev pub write_words : Write → List (List ℕ)
-write_words (Slot slot (Some entry)) =
-    codes "slot" ∷ decimal slot ∷ codes "set" ∷ word_text entry.value ∷ word_text entry.mask ∷ tag_text entry.tag
-    ∷ decimal entry.result ∷ []
-write_words (Slot slot None) = codes "slot" ∷ decimal slot ∷ codes "erase" ∷ []
-write_words (Table field port word) = codes "table" ∷ field_text field ∷ decimal port ∷ decimal word ∷ []
+abbrev pub write_words : Family → Write → List (List ℕ)
+write_words family (Slot slot (Some entry)) =
+    codes "slot" ∷ decimal slot ∷ codes "set" ∷ word_text (version_of family) entry.value
+    ∷ word_text (version_of family) entry.mask ∷ tag_text family entry.tag ∷ decimal entry.result ∷ []
+write_words family (Slot slot None) = codes "slot" ∷ decimal slot ∷ codes "erase" ∷ []
+write_words family (Table field port word) = codes "table" ∷ field_text field ∷ decimal port ∷ decimal word ∷ []
 
 -- one write of a commit, by its number
-abbrev pub trace_line : ℕ → Write → List ℕ
-trace_line write made = line_text (codes "w" ∷ decimal write ∷ write_words made)
+abbrev pub trace_line : Family → ℕ → Write → List ℕ
+trace_line family write made = line_text (codes "w" ∷ decimal write ∷ write_words family made)
 
 -- an accepted commit, by its number and its counts
 abbrev pub accepted_line : ℕ → Done → List ℕ

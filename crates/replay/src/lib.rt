@@ -12,8 +12,8 @@
 //! is tried again at once, [`TRIES`] times in all.
 //!
 //! # How it stands
-//! `run` has the acts and the commit's loop, `watch` what is told after a write, `report` the lines in fixed room. Each
-//! line goes to the sink, with its line feed, before the next effect.
+//! `run` has the acts and the commit's loop, `watch` what is told after a write, `report` the lines, and `report_line` how
+//! they are made of words, in fixed room. Each line goes to the sink, with its line feed, before the next effect.
 //!
 //! # What it cost
 //! A line is written as soon as it is known, so a trace takes a call of the sink for each line. A failed line of a
@@ -29,13 +29,17 @@
 //! its failures.
 #![tactic(auto)]
 
+ghost use Rattle.std.specs.Prelude.{◌≡◌};
+ghost use Rattle.replay.specs.Text.{version_of};
+
 mod report;
+mod report_line;
 mod run;
 mod watch;
 
 pub use batch_order::{Mode, Placement};
 pub use report::{write_fault, write_text};
-use rule_model::Key;
+use rule_model::{IpVersion, Key};
 use rule_store::Command;
 pub use run::Run;
 use std::alloc::AllocError;
@@ -45,14 +49,30 @@ use thiserror::Error;
 /// has passed by then, and a lasting one is told soon.
 pub const TRIES: u32 = 4;
 
-/// What the rules of a script are. It decides how lines are read, how the report names rules, and which bounds hold:
-/// among routes nothing is crossed, and an insertion takes at most 33 writes.
+/// What the rules of a script are, and of which version of IP. It decides how lines are read, how the report names rules,
+/// and which bounds hold: among routes nothing is crossed, and an insertion takes at most 33 writes of IPv4, 129 of IPv6.
 #[derive(Clone, Copy, Debug, PartialEq, Eq)]
 pub enum Family {
-    /// Routes, named by their prefix.
+    /// Routes of IPv4, named by their prefix.
     Route,
-    /// Rules of an access list, named by their sequence number.
+    /// Rules of an access list of IPv4, named by their sequence number.
     Acl,
+    /// Routes of IPv6, named by their prefix.
+    Route6,
+    /// Rules of an access list of IPv6, named by their sequence number.
+    Acl6,
+}
+
+impl Family {
+    /// The version of IP of its addresses, prefixes and frames.
+    pub fn version(self) -> IpVersion
+        ensures { result ≡ version_of self }
+    {
+        match self {
+            Family::Route | Family::Acl => IpVersion::V4,
+            Family::Route6 | Family::Acl6 => IpVersion::V6,
+        }
+    }
 }
 
 /// What one line of a script does.

@@ -4,8 +4,10 @@ ghost use Rattle.std.specs.Prelude.{Bool, true, false, ⊤, ◌≡◌, ◌≢◌
 ghost use Rattle.script_lines.specs.Given.{counted};
 ghost use Rattle.call_history.specs.Cause.{HasCause};
 ghost use Rattle.rule_store.specs.Verdict.{Accepted};
-ghost use Rattle.batch_order.specs.CarriedOut.{HasRoomLeft, IsTried};
-ghost use Rattle.batch_order.specs.Managed.{Steps, next_of, writes_of};
+ghost use Rattle.tcam_device.specs.Flight.{writes_in};
+ghost use Rattle.batch_order.specs.CarriedOut.{GoesForward, HasRoomLeft, IsTried};
+ghost use Rattle.batch_order.specs.Managed.{writes_due};
+ghost use Rattle.batch_order.specs.Steps.{Steps, actions_of, next_of};
 ghost use Rattle.replay.specs.Text.{refused_line};
 ghost use Rattle.replay.specs.Told.{verdict_told};
 ghost use Rattle.replay.specs.Run.{Effect, Progress, ending};
@@ -109,6 +111,8 @@ impl Run {
     /// where one write failed four times, and the device's count of failures rose by that: the writes of the commit before
     /// the failed one were made and told, and its line wasn't written. The rest of it is held, and `resume` goes on with it.
     /// A write that fails less often is made, once, and nothing tells of its failures.
+    ///
+    /// No word is in flight, before and after it: so a commit's drain never waits. A drain is no write, and has no line.
     pub fn apply<K: Sink, D: Device>(
         &mut self,
         act: &Act,
@@ -116,6 +120,7 @@ impl Run {
         device: &mut D,
     ) -> Result<(), RunFault>
         requires slots { self.old.manager.slots ≤ D.slot_count device.old }
+        requires none_in_flight { D.flight device.old ≡ [] }
         requires act { IsActOf self.old.family act.now }
         requires whole { self.old.broken ≡ false }
         requires commits { self.old.commits < 2 ^ 24 }
@@ -131,6 +136,7 @@ impl Run {
         ensures room { HasRoomLeft self.old.manager.held (D.spare device.old) → HasRoomLeft self.new.manager.held (D.spare device.new) }
         ensures setting { setting_of self.new ≡ setting_of self.old }
         ensures commits { self.new.commits ≤ self.old.commits + 1 }
+        ensures none_in_flight { D.flight device.new ≡ [] }
         ensures leaves { Leaves K.taken K.faults sink.old sink.new D.slot_count D.journal D.faults device.old device.new (result ≡ Err RunFault.Sink) (result ≡ Err RunFault.Device) }
     {
         if let Some(left) = self.manager.left() {
@@ -143,7 +149,8 @@ impl Run {
 
     /// Goes on with a commit that is unfinished after `Device`, from the write that failed, which has four tries again,
     /// through the commit's line. Its writes keep their numbers, and no write and no line comes twice. `Ok` says that no
-    /// commit is unfinished, and where none was, nothing is done. It asks for the device as `apply` left it.
+    /// commit is unfinished, and where none was, nothing is done. It asks for the device as `apply` left it, with no word in
+    /// flight.
     ///
     /// `Device` comes as in `apply`, and then `resume` may be called again: the caller says how often, and how long it
     /// waits between. `Sink` comes as there, too, and no call may follow it. Nothing else comes, since all memory for the
@@ -154,6 +161,7 @@ impl Run {
         device: &mut D,
     ) -> Result<(), RunFault>
         requires slots { self.old.manager.slots ≤ D.slot_count device.old }
+        requires none_in_flight { D.flight device.old ≡ [] }
         requires whole { self.old.broken ≡ false }
         requires room { HasRoomLeft self.old.manager.held (D.spare device.old) }
         requires commits { self.old.commits < 2 ^ 24 }
@@ -169,6 +177,7 @@ impl Run {
         ensures room { HasRoomLeft self.new.manager.held (D.spare device.new) }
         ensures setting { setting_of self.new ≡ setting_of self.old }
         ensures commits { self.new.commits ≤ self.old.commits + 1 }
+        ensures none_in_flight { D.flight device.new ≡ [] }
         ensures leaves { Leaves K.taken K.faults sink.old sink.new D.slot_count D.journal D.faults device.old device.new (result ≡ Err RunFault.Sink) (result ≡ Err RunFault.Device) }
     {
         if self.manager.left().is_none() {
@@ -194,6 +203,7 @@ impl Run {
         device: &mut D,
     ) -> Result<(), RunFault>
         requires slots { self.old.manager.slots ≤ D.slot_count device.old }
+        requires none_in_flight { D.flight device.old ≡ [] }
         requires act { IsActOf self.old.family act.now }
         requires idle { self.old.manager.held ≡ None }
         requires commits { self.old.commits < 2 ^ 24 }
@@ -209,6 +219,7 @@ impl Run {
         ensures room { HasRoomLeft self.new.manager.held (D.spare device.new) }
         ensures setting { setting_of self.new ≡ setting_of self.old }
         ensures commits { self.new.commits ≤ self.old.commits + 1 }
+        ensures none_in_flight { D.flight device.new ≡ [] }
         ensures leaves { Leaves K.taken K.faults sink.old sink.new D.slot_count D.journal D.faults device.old device.new (result ≡ Err RunFault.Sink) (result ≡ Err RunFault.Device) }
     {
         match *act {
@@ -275,6 +286,7 @@ impl Run {
     // Commits the pending batch, which is empty afterwards unless memory was wanting.
     fn commit<K: Sink, D: Device>(&mut self, sink: &mut K, device: &mut D) -> Result<(), RunFault>
         requires slots { self.old.manager.slots ≤ D.slot_count device.old }
+        requires none_in_flight { D.flight device.old ≡ [] }
         requires idle { self.old.manager.held ≡ None }
         requires commits { self.old.commits < 2 ^ 24 }
         ensures acts { (which : Bool) → ComesTo (D.slot_count device.old) self.old Act.Commit self.new result
@@ -289,6 +301,7 @@ impl Run {
         ensures room { HasRoomLeft self.new.manager.held (D.spare device.new) }
         ensures setting { setting_of self.new ≡ setting_of self.old }
         ensures commits { self.new.commits ≤ self.old.commits + 1 }
+        ensures none_in_flight { D.flight device.new ≡ [] }
         ensures leaves { Leaves K.taken K.faults sink.old sink.new D.slot_count D.journal D.faults device.old device.new (result ≡ Err RunFault.Sink) (result ≡ Err RunFault.Device) }
     {
         match self.manager.prepare(&self.pending, device) {
@@ -332,6 +345,7 @@ impl Run {
         device: &mut D,
     ) -> Result<(), RunFault>
         requires slots { self.old.manager.slots ≤ D.slot_count device.old }
+        requires none_in_flight { D.flight device.old ≡ [] }
         requires held { IsSome self.old.manager.held }
         requires room { HasRoomLeft self.old.manager.held (D.spare device.old) }
         requires commits { self.old.commits < 2 ^ 24 }
@@ -345,6 +359,7 @@ impl Run {
         ensures room { HasRoomLeft self.new.manager.held (D.spare device.new) }
         ensures setting { setting_of self.new ≡ setting_of self.old }
         ensures commits { self.new.commits ≤ self.old.commits + 1 }
+        ensures none_in_flight { D.flight device.new ≡ [] }
         ensures leaves { Leaves K.taken K.faults sink.old sink.new D.slot_count D.journal D.faults device.old device.new (result ≡ Err RunFault.Sink) (result ≡ Err RunFault.Device) }
     {
         let done = match make_writes(&mut self.manager, &self.watch, &mut self.told, sink, device) {
@@ -394,12 +409,15 @@ fn make_writes<K: Sink, D: Device>(
     device: &mut D,
 ) -> Result<Done, RunFault>
     requires slots { manager.old.slots ≤ D.slot_count device.old }
+    requires none_in_flight { D.flight device.old ≡ [] }
     requires held { IsSome manager.old.held }
+    requires forward { GoesForward manager.old.held }
     requires room { HasRoomLeft manager.old.held (D.spare device.old) }
-    requires few { IfSome manager.old.held (λ held. told.old + length held.writes ≤ 2 ^ 39) }
+    requires few { IfSome manager.old.held (λ held. told.old + length (writes_due held) ≤ 2 ^ 39) }
     ensures makes { (which : Bool) → Makes manager.old manager.new watch.now (D.slot_count device.old) told.old told.new result
         (D.journal device.old) (D.journal device.new) (counted which (K.taken sink.old) (K.accepted sink.old)) (counted which (K.taken sink.new) (K.accepted sink.new)) }
     ensures room { HasRoomLeft manager.new.held (D.spare device.new) }
+    ensures none_in_flight { D.flight device.new ≡ [] }
     ensures leaves { Leaves K.taken K.faults sink.old sink.new D.slot_count D.journal D.faults device.old device.new (result ≡ Err RunFault.Sink) (result ≡ Err RunFault.Device) }
 {
     'making: loop {
@@ -411,8 +429,12 @@ fn make_writes<K: Sink, D: Device>(
                     Err(Failed) => return Err(RunFault::Sink),
                 }
             }
+            Ok(Step::Drained) => {}
             Ok(Step::Finished(done)) => return Ok(done),
+            // A commit is under way, no word is in flight, and no plan of a run is turned round.
             Ok(Step::Idle) => unreachable!(),
+            Ok(Step::Waiting(_)) => unreachable!(),
+            Ok(Step::Reverted(_)) => unreachable!(),
             Err(DeviceFault) => return Err(RunFault::Device),
         }
     }
@@ -422,16 +444,18 @@ fn make_writes<K: Sink, D: Device>(
 // says that each of them failed, and nothing has changed then.
 fn step_tried<D: Writable>(manager: &mut Manager, device: &mut D) -> Result<Step, DeviceFault>
     requires slots { manager.old.slots ≤ D.slot_count device.old }
+    requires none_in_flight { D.flight device.old ≡ [] }
     requires room { HasRoomLeft manager.old.held (D.spare device.old) }
-    ensures stepped { IfOk result (λ step. Steps manager.old manager.old.held step manager.new) }
-    ensures journal { IfOk result (λ step. D.journal device.new ≡ D.journal device.old ++ writes_of step) }
-    ensures spare { IfOk result (λ step. D.spare device.new + length (writes_of step) ≡ D.spare device.old) }
+    ensures stepped { IfOk result (λ step. Steps manager.old 0 manager.old.held step manager.new) }
+    ensures journal { IfOk result (λ step. D.journal device.new ≡ D.journal device.old ++ writes_in (actions_of step)) }
+    ensures spare { IfOk result (λ step. D.spare device.new + length (actions_of step) ≡ D.spare device.old) }
     ensures failed { OnErr result (manager.new ≡ manager.old) }
     ensures journal_err { OnErr result (D.journal device.new ≡ D.journal device.old) }
     ensures spare_err { OnErr result (D.spare device.new ≡ D.spare device.old) }
     ensures due { OnErr result (IsSome (next_of manager.old.held)) }
+    ensures none_in_flight { D.flight device.new ≡ [] }
     ensures slot_count { D.slot_count device.new ≡ D.slot_count device.old }
-    ensures tried { IfOk result (λ step. IsTried 4 (length (writes_of step)) ⊥ (D.faults device.old) (D.faults device.new)) }
+    ensures tried { IfOk result (λ step. IsTried 4 (length (writes_in (actions_of step))) ⊥ (D.faults device.old) (D.faults device.new)) }
     ensures tried_err { OnErr result (IsTried 4 0 ⊤ (D.faults device.old) (D.faults device.new)) }
 {
     let mut failures = 0;

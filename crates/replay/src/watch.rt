@@ -80,10 +80,10 @@ impl Watch {
         sink: &mut K,
         device: &D,
     ) -> Result<(), Failed>
-        ensures { WritesLines K.taken K.accepted K.faults sink.old sink.new (trace_of self.now.trace number write.now ++ probes_of self.now.family number (replay (D.slot_count device.now) (D.journal device.now)) 1 self.now.probes) result }
+        ensures { WritesLines K.taken K.accepted K.faults sink.old sink.new (trace_of self.now.family self.now.trace number write.now ++ probes_of self.now.family number (replay (D.slot_count device.now) (D.journal device.now)) 1 self.now.probes) result }
     {
         if self.trace {
-            write_trace(sink, number, write)?;
+            write_trace(sink, self.family, number, write)?;
         }
         self.look_up(number, sink, device)
     }

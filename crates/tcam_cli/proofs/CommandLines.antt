@@ -4,14 +4,14 @@ use Rattle.std.specs.Prelude.{⊤, codes}
 use Rattle.clap.proofs.OnLiterals.{clap_on_literals}
 use Rattle.rule_store.specs.declared.Mode.TheVariants.{Cover, Bits}
 use Rattle.batch_order.specs.declared.Placement.TheVariants.{Middle, Rank}
-use Rattle.replay.specs.declared.Family.TheVariants.{Route, Acl}
-use Rattle.tcam_cli.specs.CommandLine.{acl_command, gen_command, job_of, number_position, placement_option, ranges_option, route_command, script_setting, slots_option, tcam_command, trace_flag}
+use Rattle.replay.specs.declared.Family.TheVariants.{Route, Acl, Route6, Acl6}
+use Rattle.tcam_cli.specs.CommandLine.{acl_command, gen_command, job_of, number_position, placement_option, ranges_option, route_command, script_setting, slots_option, tcam_command, tcam_top, trace_flag}
 use Rattle.tcam_cli.specs.Headline.{NoJob, Tells, Reads, Makes}
-use Rattle.tcam_cli.specs.OwnTexts.{acl_help, gen_help, help_text, route_help, version_text}
+use Rattle.tcam_cli.specs.OwnTexts.{acl_help, acl6_help, gen_help, help_text, route_help, version_text}
 
 -- what a proof unfolds to compute what words ask for
 unfoldable the_declaration : ⊤
-unfolding clap_on_literals tcam_command route_command acl_command gen_command slots_option ranges_option placement_option trace_flag number_position
+unfolding clap_on_literals tcam_command tcam_top route_command acl_command gen_command slots_option ranges_option placement_option trace_flag number_position
 the_declaration = tt
 
 unknown : job_of (codes "tcam" ∷ codes "frob" ∷ []) ≡ NoJob
@@ -37,6 +37,22 @@ routes = refl
 some-slots : job_of (codes "tcam" ∷ codes "route" ∷ codes "--slots" ∷ codes "8" ∷ []) ≡ Reads (script_setting Route 8 Cover Middle false)
 unfolding the_declaration
 some-slots = refl
+
+routes-of-six : job_of (codes "tcam" ∷ codes "route6" ∷ codes "--trace" ∷ codes "--slots" ∷ codes "8" ∷ []) ≡ Reads (script_setting Route6 8 Cover Middle true)
+unfolding the_declaration
+routes-of-six = refl
+
+lists-of-six : job_of (codes "tcam" ∷ codes "acl6" ∷ codes "--ranges" ∷ codes "bits" ∷ codes "--placement" ∷ codes "rank" ∷ []) ≡ Reads (script_setting Acl6 4096 Bits Rank false)
+unfolding the_declaration
+lists-of-six = refl
+
+no-ranges-of-six : job_of (codes "tcam" ∷ codes "route6" ∷ codes "--ranges" ∷ codes "bits" ∷ []) ≡ NoJob
+unfolding the_declaration
+no-ranges-of-six = refl
+
+help-of-six : job_of (codes "tcam" ∷ codes "acl6" ∷ codes "--help" ∷ []) ≡ Tells acl6_help
+unfolding the_declaration
+help-of-six = refl
 
 version : job_of (codes "tcam" ∷ codes "--version" ∷ []) ≡ Tells version_text
 unfolding the_declaration

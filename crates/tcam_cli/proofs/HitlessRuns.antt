@@ -64,7 +64,7 @@ for-memory setting slots script effects (inr at) = (at.done, after-acts setting 
 quiet-writes : (setting : Setting) (number : ℕ) (state : State) (made : List Write) → setting.trace ≡ false → write_effects setting [] number state made ≡ map Writes made
 quiet-writes setting number state [] quiet = refl
 quiet-writes setting number state (write ∷ made) quiet =
-    ap (λ trace. Writes write ∷ ((trace_of trace number write ++ []) ++ write_effects setting [] (number + 1) (apply state write) made)) quiet
+    ap (λ trace. Writes write ∷ ((trace_of setting.family trace number write ++ []) ++ write_effects setting [] (number + 1) (apply state write) made)) quiet
     ∙ ap (λ effects. Writes write ∷ effects) (quiet-writes setting (number + 1) (apply state write) made quiet)
 
 not-none : (front : List Effect) (effect : Effect) (back : List Effect) → front ++ effect ∷ back ≡ [] → ⊥

@@ -6,6 +6,7 @@ mod TakenRows
 mod NumbersTaken
 mod Words
 mod WholeLines
+mod RouteLines
 mod OneMore
 mod Decided
 mod Endings
@@ -15,7 +16,6 @@ mod FaultCounts
 mod Exits
 mod WholeRun
 mod TopCall
-mod Ipv4Lines
 mod Closings
 mod Begun
 mod Corners

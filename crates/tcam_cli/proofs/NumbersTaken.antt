@@ -9,8 +9,8 @@ use Rattle.clap.specs.Walk.{Row, Rule, Text, nothing_held, rows_after, with_defa
 use Rattle.clap.specs.Simple.{Shape, argument_words, built, filled, help_rule, subcommand_of}
 use Rattle.clap.specs.Faults.{fault_of, level_fault}
 use Rattle.replay.specs.declared.Family.{Family}
-use Rattle.replay.specs.declared.Family.TheVariants.{Route, Acl}
-use Rattle.tcam_cli.specs.CommandLine.{acl_command, gen_command, is_traced, job_at, job_of_rows, job_of_subcommand, made_at, mode_by, number_of, number_position, placed_by, placement_option, ranges_option, route_command, slots_option, tcam_command, text_of, trace_flag}
+use Rattle.replay.specs.declared.Family.TheVariants.{Route, Acl, Route6, Acl6}
+use Rattle.tcam_cli.specs.CommandLine.{acl_command, gen_command, is_traced, job_at, job_of_rows, job_of_subcommand, made_at, mode_by, number_of, number_position, placed_by, placement_option, ranges_option, route_command, slots_option, tcam_command, tcam_top, text_of, trace_flag}
 use Rattle.tcam_cli.specs.Asked.{job_by, tested_job, tested_job_of_rows, tested_made, tested_script}
 use Rattle.tcam_cli.specs.Headline.{Job}
 use Rattle.tcam_cli.proofs.ArgumentRows.{AllKeep, Good, HasNumber, apart-keeps, has-apart, number-given, or_no, position, position-keeps, slots-default, slots-keep, slots_id}
@@ -170,10 +170,16 @@ module _ (s : Shape) (are : s.rules ≡ gen_rules) (once : s.args_override_self 
 
 -- where clap finds no fault, the tests of the numbers pass
 pub tested : (words : List Text) → fault_of tcam_command words ≡ [] → (o : Option (Text × List Row)) → subcommand_of tcam_command words ≡ o → job_of_subcommand o ≡ tested_job o
-unfolding tcam_command route_command acl_command gen_command slots_option ranges_option placement_option trace_flag number_position
+unfolding tcam_command tcam_top route_command acl_command gen_command slots_option ranges_option placement_option trace_flag number_position
 tested words none None are = refl
 tested words none (Some (name, rows)) are =
     built-gives (λ name rows. job_of_rows name rows ≡ tested_job_of_rows name rows) (built tcam_command) (
       λ words none. script-tested Route (rows_after (filled slots_option ∷ route_rest) [] words) (script-slots _ route_rest refl refl refl words none),
-      (λ words none. script-tested Acl (rows_after (filled slots_option ∷ list_rest) [] words) (script-slots _ list_rest refl refl refl words none), (λ words none. gen-made _ refl refl words none, tt)),
+      (
+        λ words none. script-tested Acl (rows_after (filled slots_option ∷ list_rest) [] words) (script-slots _ list_rest refl refl refl words none),
+        (
+          λ words none. script-tested Route6 (rows_after (filled slots_option ∷ route_rest) [] words) (script-slots _ route_rest refl refl refl words none),
+          (λ words none. script-tested Acl6 (rows_after (filled slots_option ∷ list_rest) [] words) (script-slots _ list_rest refl refl refl words none), (λ words none. gen-made _ refl refl words none, tt)),
+        ),
+      ),
     ) (argument_words tcam_command words) name rows none are

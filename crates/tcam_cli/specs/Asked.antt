@@ -4,7 +4,7 @@ use Rattle.std.specs.Str.{bytes_eq}
 use Rattle.clap.specs.Walk.{Row, Text}
 use Rattle.clap.specs.ValueTests.{is_unsigned_in}
 use Rattle.replay.specs.declared.Family.{Family}
-use Rattle.replay.specs.declared.Family.TheVariants.{Route, Acl}
+use Rattle.replay.specs.declared.Family.TheVariants.{Route, Acl, Route6, Acl6}
 use Rattle.tcam_cli.specs.declared.command_line.Asked.{Asked}
 use Rattle.tcam_cli.specs.declared.command_line.Asked.TheVariants as asked
 use Rattle.tcam_cli.specs.CommandLine.{is_traced, job_at, made_at, mode_by, number_in, placed_by, script_setting, text_of}
@@ -42,6 +42,8 @@ abbrev pub tested_job_of_rows : Text → List Row → Job
 tested_job_of_rows name rows =
     if bytes_eq name (codes "route") then tested_script Route rows
     else if bytes_eq name (codes "acl") then tested_script Acl rows
+    else if bytes_eq name (codes "route6") then tested_script Route6 rows
+    else if bytes_eq name (codes "acl6") then tested_script Acl6 rows
     else if bytes_eq name (codes "gen") then tested_made rows
     else NoJob
 

@@ -15,7 +15,7 @@ use Rattle.rule_store.specs.declared.Mode.TheVariants.{Cover, Bits}
 use Rattle.batch_order.specs.declared.Placement.{Placement}
 use Rattle.batch_order.specs.declared.Placement.TheVariants.{Middle, Rank}
 use Rattle.replay.specs.declared.Family.{Family}
-use Rattle.replay.specs.declared.Family.TheVariants.{Route, Acl}
+use Rattle.replay.specs.declared.Family.TheVariants.{Route, Acl, Route6, Acl6}
 use Rattle.replay.specs.Run.{Setting}
 use Rattle.tcam_cli.specs.declared.own_texts.Topic.{Topic}
 use Rattle.tcam_cli.specs.declared.own_texts.Topic.TheVariants as about
@@ -57,14 +57,14 @@ placement_option = record (new_rule (codes "placement")) {
 unfoldable pub trace_flag : Rule
 trace_flag = record (new_rule (codes "trace")) { long = Some (codes "trace"); action = Some SetTrue }
 
--- the subcommand for route scripts
-unfoldable pub route_command : App
-route_command = with_rule (with_rule (with_rule (new_app (codes "route")) slots_option) placement_option) trace_flag
+-- a subcommand for route scripts, by its name
+unfoldable pub route_command : Text → App
+route_command name = with_rule (with_rule (with_rule (new_app name) slots_option) placement_option) trace_flag
 
--- the subcommand for access-list scripts
-unfoldable pub acl_command : App
-acl_command =
-    with_rule (with_rule (with_rule (with_rule (new_app (codes "acl")) slots_option) ranges_option) placement_option) trace_flag
+-- a subcommand for access-list scripts, by its name
+unfoldable pub acl_command : Text → App
+acl_command name =
+    with_rule (with_rule (with_rule (with_rule (new_app name) slots_option) ranges_option) placement_option) trace_flag
 
 -- a required number of a range, which stands behind the subcommand in its order
 unfoldable pub number_position : Text → ℕ → ℕ → Rule
@@ -81,12 +81,18 @@ gen_command =
     (number_position (codes "rules") 1 256)) (number_position (codes "batches") 1 64)) slots_option) ranges_option) placement_option
 
 -- tcam with a required subcommand and a version; help is asked for by its flag alone
-unfoldable pub tcam_command : App
-tcam_command = with_subcommand (with_subcommand (with_subcommand (on_top (λ top. record top {
+unfoldable pub tcam_top : App
+tcam_top = on_top (λ top. record top {
   has_version = true;
   subcommand_required = true;
   disable_help_subcommand = true;
-}) (new_app (codes "tcam"))) route_command.top) acl_command.top) gen_command.top
+}) (new_app (codes "tcam"))
+
+-- and with its subcommands
+unfoldable pub tcam_command : App
+tcam_command =
+    with_subcommand (with_subcommand (with_subcommand (with_subcommand (with_subcommand tcam_top (route_command (codes "route")).top)
+    (acl_command (codes "acl")).top) (route_command (codes "route6")).top) (acl_command (codes "acl6")).top) gen_command.top
 
 -- the text that an argument was given, or has by default
 abbrev pub text_of : Text → List Row → Text
@@ -117,6 +123,8 @@ mode_in text =
 abbrev pub mode_by : Family → List Row → Option Mode
 mode_by Route rows = Some Cover
 mode_by Acl rows = mode_in (text_of (codes "ranges") rows)
+mode_by Route6 rows = Some Cover
+mode_by Acl6 rows = mode_in (text_of (codes "ranges") rows)
 
 -- the placement that a word names
 abbrev pub placement_in : Text → Option Placement
@@ -139,11 +147,17 @@ made_at slots None placement seed rules batches = NoJob
 made_at slots (Some mode) None seed rules batches = NoJob
 made_at slots (Some mode) (Some placement) seed rules batches = Makes (script_setting Acl slots mode placement false) seed rules batches
 
+-- a script of a family, by its arguments
+abbrev pub script_by : Family → List Row → Job
+script_by family rows = job_at family (number_of (codes "slots") rows) (mode_by family rows) (placed_by rows) (is_traced rows)
+
 -- what a subcommand and its arguments ask for: a script of its family over so many slots, or made commands
 abbrev pub job_of_rows : Text → List Row → Job
 job_of_rows name rows =
-    if bytes_eq name (codes "route") then job_at Route (number_of (codes "slots") rows) (mode_by Route rows) (placed_by rows) (is_traced rows)
-    else if bytes_eq name (codes "acl") then job_at Acl (number_of (codes "slots") rows) (mode_by Acl rows) (placed_by rows) (is_traced rows)
+    if bytes_eq name (codes "route") then script_by Route rows
+    else if bytes_eq name (codes "acl") then script_by Acl rows
+    else if bytes_eq name (codes "route6") then script_by Route6 rows
+    else if bytes_eq name (codes "acl6") then script_by Acl6 rows
     else if bytes_eq name (codes "gen") then made_at (number_of (codes "slots") rows) (mode_by Acl rows) (placed_by rows) (number_of (codes "seed") rows)
     (number_of (codes "rules") rows) (number_of (codes "batches") rows)
     else NoJob
@@ -158,6 +172,8 @@ abbrev pub topic_named : Text → Option Topic
 topic_named word =
     if bytes_eq word (codes "route") then Some about.Route
     else if bytes_eq word (codes "acl") then Some about.Acl
+    else if bytes_eq word (codes "route6") then Some about.Route6
+    else if bytes_eq word (codes "acl6") then Some about.Acl6
     else if bytes_eq word (codes "gen") then Some about.Gen
     else None
 

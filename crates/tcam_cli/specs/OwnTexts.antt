@@ -11,17 +11,21 @@ help_text = codes "tcam: the table manager of a ternary content-addressable memo
     ++ 10 ∷ codes "output."
     ++ 10 ∷ 10 ∷ codes "    tcam route [OPTIONS] < FILE    a script of routes"
     ++ 10 ∷ codes "    tcam acl [OPTIONS] < FILE      a script of an access list"
+    ++ 10 ∷ codes "    tcam route6 [OPTIONS] < FILE   a script of IPv6 routes"
+    ++ 10 ∷ codes "    tcam acl6 [OPTIONS] < FILE     a script of an IPv6 access list"
     ++ 10 ∷ codes "    tcam gen SEED RULES BATCHES [OPTIONS]"
     ++ 10 ∷ codes "                                   changes of an access list, made from SEED"
     ++ 10 ∷ codes "    tcam route --help              the commands of a script of routes"
     ++ 10 ∷ codes "    tcam acl --help                the commands of a script of an access list"
+    ++ 10 ∷ codes "    tcam route6 --help             those of a script of IPv6 routes"
+    ++ 10 ∷ codes "    tcam acl6 --help               those of a script of an IPv6 access list"
     ++ 10 ∷ codes "    tcam gen --help                what SEED, RULES and BATCHES make"
     ++ 10 ∷ codes "    tcam --help                    this text"
     ++ 10 ∷ codes "    tcam --version                 name and version"
     ++ 10 ∷ 10 ∷ codes "Options:"
     ++ 10 ∷ codes "    --slots N        N slots in use, 1 to 4096, by default 4096"
-    ++ 10 ∷ codes "    --ranges R       of acl and gen, how port ranges are tested: cover, by an"
-    ++ 10 ∷ codes "                     entry for each block of a range, which is the default,"
+    ++ 10 ∷ codes "    --ranges R       of acl, acl6 and gen, how port ranges are tested: cover, by"
+    ++ 10 ∷ codes "                     an entry for each block of a range, which is the default,"
     ++ 10 ∷ codes "                     and has no limit but slots; or bits, by one entry a rule,"
     ++ 10 ∷ codes "                     for at most 16 distinct ranges a field that come seldom:"
     ++ 10 ∷ codes "                     words of a table are written when one comes"
@@ -43,12 +47,41 @@ help_text = codes "tcam: the table manager of a ternary content-addressable memo
     ++ 10 ∷ 10 ∷ codes "The manual is docs/SCRIPT.md."
     ++ 10 ∷ []
 
--- the commands that scripts of both families have, as their helps list them
-unfoldable pub script_commands : List ℕ
-script_commands = codes "    commit                     carries out all changes since the last, or none"
+-- what the helps of a version of IP name: itself, prefixes, an address, and the addresses of two packets
+pub record Named : Type 0 where
+  pub version : List ℕ
+  pub prefix : List ℕ
+  pub host : List ℕ
+  pub address : List ℕ
+  pub to_route : List ℕ
+  pub to_list : List ℕ
+
+unfoldable pub ipv4_named : Named
+ipv4_named = record {
+  version = codes "IPv4";
+  prefix = codes "10.0.0.0/8";
+  host = codes "10.0.0.1/32";
+  address = codes "10.1.2.3";
+  to_route = codes "0.0.0.0 10.1.2.3";
+  to_list = codes "192.0.2.1 10.1.2.3";
+}
+
+unfoldable pub ipv6_named : Named
+ipv6_named = record {
+  version = codes "IPv6";
+  prefix = codes "2001:db8::/32";
+  host = codes "::1/128";
+  address = codes "2001:db8::1";
+  to_route = codes ":: 2001:db8::1";
+  to_list = codes "2001:db8:1::1 2001:db8::1";
+}
+
+-- the commands that all scripts have, as their helps list them
+unfoldable pub script_commands : Named → List ℕ
+script_commands named = codes "    commit                     carries out all changes since the last, or none"
     ++ 10 ∷ codes "    packet SRC DST PROTO SPORT DPORT    looks this packet up"
     ++ 10 ∷ codes "    probe SRC DST PROTO SPORT DPORT     looks it up after each later write"
-    ++ 10 ∷ codes "    frame HEX                           looks up an IPv4 packet in hexadecimal"
+    ++ 10 ∷ codes "    frame HEX                           looks up an " ++ named.version ++ codes " packet in hexadecimal"
     ++ 10 ∷ codes "    # TEXT                              a comment"
 
 -- the options, as the helps of subcommands list them
@@ -67,59 +100,71 @@ list_options = slots_line
     ++ 10 ∷ codes "    --ranges R       how port ranges are tested: cover, the default, or bits"
     ++ 10 ∷ placement_line
 
--- the help of a script of routes: its commands, their words, options and an example
-unfoldable pub route_help : List ℕ
-route_help = codes "tcam route: carries out a script of routes, and writes a report."
-    ++ 10 ∷ 10 ∷ codes "    tcam route [--slots N] [--placement P] [--trace] < FILE"
+-- the help of a script of routes, by its subcommand: its commands, their words, options and an example
+unfoldable pub route_help_of : List ℕ → List ℕ → Named → List ℕ
+route_help_of command rules named = codes "tcam " ++ command ++ codes ": carries out a script of " ++ rules ++ codes ", and writes a report."
+    ++ 10 ∷ 10 ∷ codes "    tcam " ++ command ++ codes " [--slots N] [--placement P] [--trace] < FILE"
     ++ 10 ∷ 10 ∷ codes "Commands of a script, one a line:"
     ++ 10 ∷ codes "    route add PREFIX RESULT    a new route: packets to the prefix get RESULT,"
     ++ 10 ∷ codes "                               unless a route of a longer prefix holds"
     ++ 10 ∷ codes "    route set PREFIX RESULT    the route of this prefix gives RESULT"
     ++ 10 ∷ codes "    route del PREFIX           the route of this prefix goes"
-    ++ 10 ∷ script_commands
-    ++ 10 ∷ 10 ∷ codes "    PREFIX         an address, / and a length, as 10.0.0.0/8 or 10.0.0.1/32"
+    ++ 10 ∷ script_commands named
+    ++ 10 ∷ 10 ∷ codes "    PREFIX         an address, / and a length, as " ++ named.prefix ++ codes " or " ++ named.host
     ++ 10 ∷ codes "    RESULT         a number up to 4294967295"
-    ++ 10 ∷ codes "    SRC, DST       an address, as 10.1.2.3"
+    ++ 10 ∷ codes "    SRC, DST       an address, as " ++ named.address
     ++ 10 ∷ codes "    PROTO          icmp, tcp, udp, or a number up to 255"
     ++ 10 ∷ codes "    SPORT, DPORT   a number up to 65535"
     ++ 10 ∷ 10 ∷ codes "Options, of which tcam --help says more:"
     ++ 10 ∷ slots_line
     ++ 10 ∷ placement_line
     ++ 10 ∷ trace_line
-    ++ 10 ∷ 10 ∷ codes "Example of a script, whose packet gets the answer 10.0.0.0/8 7:"
-    ++ 10 ∷ codes "    route add 10.0.0.0/8 7"
+    ++ 10 ∷ 10 ∷ codes "Example of a script, whose packet gets the answer " ++ named.prefix ++ codes " 7:"
+    ++ 10 ∷ codes "    route add " ++ named.prefix ++ codes " 7"
     ++ 10 ∷ codes "    commit"
-    ++ 10 ∷ codes "    packet 0.0.0.0 10.1.2.3 tcp 1024 443"
+    ++ 10 ∷ codes "    packet " ++ named.to_route ++ codes " tcp 1024 443"
     ++ 10 ∷ 10 ∷ codes "The manual is docs/SCRIPT.md."
     ++ 10 ∷ []
 
+unfoldable pub route_help : List ℕ
+route_help = route_help_of (codes "route") (codes "routes") ipv4_named
+
+unfoldable pub route6_help : List ℕ
+route6_help = route_help_of (codes "route6") (codes "IPv6 routes") ipv6_named
+
 -- the help of a script of an access list, likewise
-unfoldable pub acl_help : List ℕ
-acl_help = codes "tcam acl: carries out a script of an access list, and writes a report."
-    ++ 10 ∷ 10 ∷ codes "    tcam acl [--slots N] [--ranges R] [--placement P] [--trace] < FILE"
+unfoldable pub acl_help_of : List ℕ → List ℕ → Named → List ℕ
+acl_help_of command rules named = codes "tcam " ++ command ++ codes ": carries out a script of " ++ rules ++ codes ", and writes a report."
+    ++ 10 ∷ 10 ∷ codes "    tcam " ++ command ++ codes " [--slots N] [--ranges R] [--placement P] [--trace] < FILE"
     ++ 10 ∷ 10 ∷ codes "Commands of a script, one a line, with the source's side and ports first:"
     ++ 10 ∷ codes "    acl add SEQ ACTION SIDE SIDE PROTOSPEC PORTSPEC PORTSPEC"
     ++ 10 ∷ codes "                               a new rule: packets that meet its conditions"
     ++ 10 ∷ codes "                               get ACTION, unless a rule of lower SEQ holds"
     ++ 10 ∷ codes "    acl set SEQ ACTION         the rule of this number gives ACTION"
     ++ 10 ∷ codes "    acl del SEQ                the rule of this number goes"
-    ++ 10 ∷ script_commands
+    ++ 10 ∷ script_commands named
     ++ 10 ∷ 10 ∷ codes "    SEQ            the rule's place in the list, from 1 to 4294967295"
     ++ 10 ∷ codes "    ACTION         permit or deny"
-    ++ 10 ∷ codes "    SIDE           any, or a prefix as 10.0.0.0/8 or 10.0.0.1/32"
+    ++ 10 ∷ codes "    SIDE           any, or a prefix as " ++ named.prefix ++ codes " or " ++ named.host
     ++ 10 ∷ codes "    PROTOSPEC      any, or a PROTO: icmp, tcp, udp, or a number up to 255"
     ++ 10 ∷ codes "    PORTSPEC       any, a port up to 65535, or two of them as 1024-65535"
-    ++ 10 ∷ codes "    SRC, DST       an address, as 10.1.2.3"
+    ++ 10 ∷ codes "    SRC, DST       an address, as " ++ named.address
     ++ 10 ∷ codes "    SPORT, DPORT   a number up to 65535"
     ++ 10 ∷ 10 ∷ codes "Options, of which tcam --help says more:"
     ++ 10 ∷ list_options
     ++ 10 ∷ trace_line
     ++ 10 ∷ 10 ∷ codes "Example of a script, whose packet gets the answer 10 permit:"
-    ++ 10 ∷ codes "    acl add 10 permit any 10.0.0.0/8 tcp any 443"
+    ++ 10 ∷ codes "    acl add 10 permit any " ++ named.prefix ++ codes " tcp any 443"
     ++ 10 ∷ codes "    commit"
-    ++ 10 ∷ codes "    packet 192.0.2.1 10.1.2.3 tcp 1024 443"
+    ++ 10 ∷ codes "    packet " ++ named.to_list ++ codes " tcp 1024 443"
     ++ 10 ∷ 10 ∷ codes "The manual is docs/SCRIPT.md."
     ++ 10 ∷ []
+
+unfoldable pub acl_help : List ℕ
+acl_help = acl_help_of (codes "acl") (codes "an access list") ipv4_named
+
+unfoldable pub acl6_help : List ℕ
+acl6_help = acl_help_of (codes "acl6") (codes "an IPv6 access list") ipv6_named
 
 -- the help of made commands
 unfoldable pub gen_help : List ℕ
@@ -143,6 +188,8 @@ abbrev pub help_on : Option Topic → List ℕ
 help_on None = help_text
 help_on (Some about.Route) = route_help
 help_on (Some about.Acl) = acl_help
+help_on (Some about.Route6) = route6_help
+help_on (Some about.Acl6) = acl6_help
 help_on (Some about.Gen) = gen_help
 
 -- the name and the version

@@ -1,10 +1,13 @@
 -- How the lines of a script are read, by the kind of script.
 use Rattle.std.specs.Prelude.{ℕ, Result, Ok, Err, Option, List, option_map}
-use Rattle.rule_model.specs.Rank.{ipv4_route_rank, list_rank}
+use Rattle.rule_model.specs.declared.IpVersion.{IpVersion}
+use Rattle.rule_model.specs.declared.IpVersion.TheVariants.{V4, V6}
+use Rattle.rule_model.specs.AddressBlock.{AddressBlock}
+use Rattle.rule_model.specs.Rank.{ipv4_route_rank, ipv6_route_rank, list_rank}
 use Rattle.rule_model.specs.Rule.{route_rule}
 use Rattle.rule_store.specs.declared.Command.TheVariants.{Add as Adds, Set as Sets, Del as Dels}
 use Rattle.line_words.specs.declared.WordFault.{WordFault}
-use Rattle.line_words.specs.Kinds.{ipv4_notation}
+use Rattle.line_words.specs.Notations.{notation_for}
 use Rattle.line_words.specs.Texts.{word_fault_text}
 use Rattle.line_words.specs.declared.commands.CommonCommand.{CommonCommand}
 use Rattle.line_words.specs.declared.commands.CommonCommand.TheVariants as common
@@ -17,7 +20,7 @@ use Rattle.acl_reader.specs.Grammar.{acl_line}
 use Rattle.replay.specs.declared.Act.{Act}
 use Rattle.replay.specs.declared.Act.TheVariants.{Command, Probe, Packet, Commit}
 use Rattle.replay.specs.declared.Family.{Family}
-use Rattle.replay.specs.declared.Family.TheVariants.{Route, Acl}
+use Rattle.replay.specs.declared.Family.TheVariants.{Route, Acl, Route6, Acl6}
 use Rattle.replay.specs.Script.{Reading}
 
 -- a command that both kinds of script have
@@ -26,12 +29,17 @@ common_act (common.Probe key) = Probe key
 common_act (common.Packet key) = Packet key
 common_act common.Commit = Commit
 
+-- the priority of a route of a version of IP, by its prefix
+abbrev pub route_rank : IpVersion → AddressBlock → ℕ
+route_rank V4 block = ipv4_route_rank block
+route_rank V6 block = ipv6_route_rank block
+
 -- a route's rule has its prefix as its priority
-abbrev pub route_act : RouteCommand → Act
-route_act (route.Add block answer) = Command (Adds (route_rule (ipv4_route_rank block) block answer))
-route_act (route.Set block answer) = Command (Sets (ipv4_route_rank block) answer)
-route_act (route.Del block) = Command (Dels (ipv4_route_rank block))
-route_act (route.Common command) = common_act command
+abbrev pub route_act : IpVersion → RouteCommand → Act
+route_act version (route.Add block answer) = Command (Adds (route_rule (route_rank version block) block answer))
+route_act version (route.Set block answer) = Command (Sets (route_rank version block) answer)
+route_act version (route.Del block) = Command (Dels (route_rank version block))
+route_act version (route.Common command) = common_act command
 
 -- a rule of an access list has its sequence number as its priority
 abbrev pub acl_act : AclCommand → Act
@@ -45,7 +53,17 @@ abbrev pub reading_of : {C : Type 0} → (C → Act) → Result (Option C) WordF
 reading_of act (Ok found) = Ok (option_map act found)
 reading_of act (Err fault) = Err (word_fault_text fault)
 
+-- how the lines of a script of routes are read
+abbrev pub route_reading : IpVersion → Reading
+route_reading version line = reading_of (route_act version) (route_line (notation_for version) line)
+
+-- how those of an access list are
+abbrev pub acl_reading : IpVersion → Reading
+acl_reading version line = reading_of acl_act (acl_line (notation_for version) line)
+
 -- How a family's lines are read.
 abbrev pub reading : Family → Reading
-reading Route line = reading_of route_act (route_line ipv4_notation line)
-reading Acl line = reading_of acl_act (acl_line ipv4_notation line)
+reading Route line = route_reading V4 line
+reading Acl line = acl_reading V4 line
+reading Route6 line = route_reading V6 line
+reading Acl6 line = acl_reading V6 line

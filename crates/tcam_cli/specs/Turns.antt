@@ -4,7 +4,9 @@ use Rattle.std.specs.Io.KnownBytes.{Appends}
 use Rattle.call_history.specs.Cause.{IsCounted}
 use Rattle.script_lines.specs.Given.{HasEnd, MayGive, counted}
 use Rattle.script_lines.specs.Lines.{limits, ScriptLines, lines_from, lines_of}
-use Rattle.rule_model.specs.AddressBlock.{IsIpv4Block}
+use Rattle.rule_model.specs.declared.IpVersion.{IpVersion}
+use Rattle.rule_model.specs.declared.IpVersion.TheVariants.{V4, V6}
+use Rattle.rule_model.specs.AddressBlock.{AddressBlock, IsIpv4Block}
 use Rattle.tcam_device.specs.declared.Write.{Write}
 use Rattle.route_reader.specs.declared.RouteCommand.{RouteCommand}
 use Rattle.route_reader.specs.declared.RouteCommand.TheVariants as route
@@ -24,12 +26,17 @@ use Rattle.script_lines.specs.declared.Over.{Over}
 use Rattle.script_lines.specs.declared.Over.TheVariants as over
 use Rattle.script_lines.specs.Reader.{HeldBytes, LastAtOpenLine}
 
--- what a command of a route script adds is a route of IPv4
-abbrev pub IsIpv4Command : RouteCommand → Type 0
-IsIpv4Command (route.Add block answer) = IsIpv4Block block
-IsIpv4Command (route.Set block answer) = Unit {0}
-IsIpv4Command (route.Del block) = Unit {0}
-IsIpv4Command (route.Common command) = Unit {0}
+-- the prefix is one of this version of IP
+abbrev pub IsBlockOf : IpVersion → AddressBlock → Type 0
+IsBlockOf V4 block = IsIpv4Block block
+IsBlockOf V6 block = Unit {0}
+
+-- what a command of a route script adds is a route of its version
+abbrev pub IsCommandOf : IpVersion → RouteCommand → Type 0
+IsCommandOf version (route.Add block answer) = IsBlockOf version block
+IsCommandOf version (route.Set block answer) = Unit {0}
+IsCommandOf version (route.Del block) = Unit {0}
+IsCommandOf version (route.Common command) = Unit {0}
 
 -- a script with these acts at its front
 abbrev pub onto_all : List NumberedAct → Script → Script

@@ -96,26 +96,26 @@ fn trace_arg<'a>(alloc: Global) -> Arg<'a>
         .action(ArgAction::SetTrue)
 }
 
-/// The subcommand for route scripts.
-fn route_command<'a>(alloc: Global) -> Result<Command<'a>, AllocError>
-    ensures app { IfOk result (λ c. app_of c ≡ route_app) }
+/// A subcommand for route scripts, by its name.
+fn route_command<'a>(alloc: Global, name: &'a str) -> Result<Command<'a>, AllocError>
+    ensures app { IfOk result (λ c. app_of c ≡ route_app name.entry.now) }
     ensures local { IfOk result (λ c. (out-Command c).has_globals ≡ false) }
 {
     Ok(
-        Command::new(alloc, "route")
+        Command::new(alloc, name)
             .arg(slots_arg(alloc))?
             .arg(placement_arg(alloc))?
             .arg(trace_arg(alloc))?,
     )
 }
 
-/// The subcommand for access-list scripts.
-fn acl_command<'a>(alloc: Global) -> Result<Command<'a>, AllocError>
-    ensures app { IfOk result (λ c. app_of c ≡ acl_app) }
+/// A subcommand for access-list scripts, by its name.
+fn acl_command<'a>(alloc: Global, name: &'a str) -> Result<Command<'a>, AllocError>
+    ensures app { IfOk result (λ c. app_of c ≡ acl_app name.entry.now) }
     ensures local { IfOk result (λ c. (out-Command c).has_globals ≡ false) }
 {
     Ok(
-        Command::new(alloc, "acl")
+        Command::new(alloc, name)
             .arg(slots_arg(alloc))?
             .arg(ranges_arg(alloc))?
             .arg(placement_arg(alloc))?
@@ -159,8 +159,10 @@ fn tcam_command<'a>(alloc: Global) -> Result<Command<'a>, AllocError>
             .version("0.1.0")
             .subcommand_required(true)
             .disable_help_subcommand(true)
-            .subcommand(route_command(alloc)?)?
-            .subcommand(acl_command(alloc)?)?
+            .subcommand(route_command(alloc, "route")?)?
+            .subcommand(acl_command(alloc, "acl")?)?
+            .subcommand(route_command(alloc, "route6")?)?
+            .subcommand(acl_command(alloc, "acl6")?)?
             .subcommand(gen_command(alloc)?)?,
     )
 }
@@ -195,6 +197,8 @@ fn job_of_matches(matches: &ArgMatches) -> Option<Asked>
     match matches.subcommand() {
         Some((name, found)) if name == "route" => job_of_script(Family::Route, found),
         Some((name, found)) if name == "acl" => job_of_script(Family::Acl, found),
+        Some((name, found)) if name == "route6" => job_of_script(Family::Route6, found),
+        Some((name, found)) if name == "acl6" => job_of_script(Family::Acl6, found),
         Some((name, found)) if name == "gen" => job_of_made(found),
         _ => None,
     }
@@ -243,8 +247,8 @@ fn mode_of(family: Family, found: &ArgMatches) -> Option<Mode>
     ensures { result ≡ mode_by family (rows_of (found_of found.now)) }
 {
     match family {
-        Family::Route => Some(Mode::Cover),
-        Family::Acl => mode_named(text_of(found, "ranges")),
+        Family::Route | Family::Route6 => Some(Mode::Cover),
+        Family::Acl | Family::Acl6 => mode_named(text_of(found, "ranges")),
     }
 }
 
@@ -296,6 +300,8 @@ fn topic_by(word: &str) -> Option<Topic>
     match word {
         "route" => Some(Topic::Route),
         "acl" => Some(Topic::Acl),
+        "route6" => Some(Topic::Route6),
+        "acl6" => Some(Topic::Acl6),
         "gen" => Some(Topic::Gen),
         _ => None,
     }

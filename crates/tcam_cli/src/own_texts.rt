@@ -6,10 +6,14 @@ ghost use Rattle.tcam_cli.specs.OwnTexts.{help_on};
 /// A subcommand, whose help is asked for.
 #[derive(Clone, Copy, Debug, PartialEq, Eq)]
 pub enum Topic {
-    /// A script of routes.
+    /// A script of routes of IPv4.
     Route,
-    /// A script of an access list.
+    /// A script of an access list of IPv4.
     Acl,
+    /// A script of routes of IPv6.
+    Route6,
+    /// A script of an access list of IPv6.
+    Acl6,
     /// Made commands.
     Gen,
 }
@@ -23,18 +27,22 @@ output.
 
     tcam route [OPTIONS] < FILE    a script of routes
     tcam acl [OPTIONS] < FILE      a script of an access list
+    tcam route6 [OPTIONS] < FILE   a script of IPv6 routes
+    tcam acl6 [OPTIONS] < FILE     a script of an IPv6 access list
     tcam gen SEED RULES BATCHES [OPTIONS]
                                    changes of an access list, made from SEED
     tcam route --help              the commands of a script of routes
     tcam acl --help                the commands of a script of an access list
+    tcam route6 --help             those of a script of IPv6 routes
+    tcam acl6 --help               those of a script of an IPv6 access list
     tcam gen --help                what SEED, RULES and BATCHES make
     tcam --help                    this text
     tcam --version                 name and version
 
 Options:
     --slots N        N slots in use, 1 to 4096, by default 4096
-    --ranges R       of acl and gen, how port ranges are tested: cover, by an
-                     entry for each block of a range, which is the default,
+    --ranges R       of acl, acl6 and gen, how port ranges are tested: cover, by
+                     an entry for each block of a range, which is the default,
                      and has no limit but slots; or bits, by one entry a rule,
                      for at most 16 distinct ranges a field that come seldom:
                      words of a table are written when one comes
@@ -134,6 +142,82 @@ Example of a script, whose packet gets the answer 10 permit:
 The manual is docs/SCRIPT.md.
 ";
 
+/// The help of a script of IPv6 routes.
+const ROUTE6_HELP: &str = "\
+tcam route6: carries out a script of IPv6 routes, and writes a report.
+
+    tcam route6 [--slots N] [--placement P] [--trace] < FILE
+
+Commands of a script, one a line:
+    route add PREFIX RESULT    a new route: packets to the prefix get RESULT,
+                               unless a route of a longer prefix holds
+    route set PREFIX RESULT    the route of this prefix gives RESULT
+    route del PREFIX           the route of this prefix goes
+    commit                     carries out all changes since the last, or none
+    packet SRC DST PROTO SPORT DPORT    looks this packet up
+    probe SRC DST PROTO SPORT DPORT     looks it up after each later write
+    frame HEX                           looks up an IPv6 packet in hexadecimal
+    # TEXT                              a comment
+
+    PREFIX         an address, / and a length, as 2001:db8::/32 or ::1/128
+    RESULT         a number up to 4294967295
+    SRC, DST       an address, as 2001:db8::1
+    PROTO          icmp, tcp, udp, or a number up to 255
+    SPORT, DPORT   a number up to 65535
+
+Options, of which tcam --help says more:
+    --slots N        N slots in use, 1 to 4096, by default 4096
+    --placement P    where a new entry aims: middle, the default, or rank
+    --trace          a line for each device write
+
+Example of a script, whose packet gets the answer 2001:db8::/32 7:
+    route add 2001:db8::/32 7
+    commit
+    packet :: 2001:db8::1 tcp 1024 443
+
+The manual is docs/SCRIPT.md.
+";
+
+/// The help of a script of an IPv6 access list.
+const ACL6_HELP: &str = "\
+tcam acl6: carries out a script of an IPv6 access list, and writes a report.
+
+    tcam acl6 [--slots N] [--ranges R] [--placement P] [--trace] < FILE
+
+Commands of a script, one a line, with the source's side and ports first:
+    acl add SEQ ACTION SIDE SIDE PROTOSPEC PORTSPEC PORTSPEC
+                               a new rule: packets that meet its conditions
+                               get ACTION, unless a rule of lower SEQ holds
+    acl set SEQ ACTION         the rule of this number gives ACTION
+    acl del SEQ                the rule of this number goes
+    commit                     carries out all changes since the last, or none
+    packet SRC DST PROTO SPORT DPORT    looks this packet up
+    probe SRC DST PROTO SPORT DPORT     looks it up after each later write
+    frame HEX                           looks up an IPv6 packet in hexadecimal
+    # TEXT                              a comment
+
+    SEQ            the rule's place in the list, from 1 to 4294967295
+    ACTION         permit or deny
+    SIDE           any, or a prefix as 2001:db8::/32 or ::1/128
+    PROTOSPEC      any, or a PROTO: icmp, tcp, udp, or a number up to 255
+    PORTSPEC       any, a port up to 65535, or two of them as 1024-65535
+    SRC, DST       an address, as 2001:db8::1
+    SPORT, DPORT   a number up to 65535
+
+Options, of which tcam --help says more:
+    --slots N        N slots in use, 1 to 4096, by default 4096
+    --ranges R       how port ranges are tested: cover, the default, or bits
+    --placement P    where a new entry aims: middle, the default, or rank
+    --trace          a line for each device write
+
+Example of a script, whose packet gets the answer 10 permit:
+    acl add 10 permit any 2001:db8::/32 tcp any 443
+    commit
+    packet 2001:db8:1::1 2001:db8::1 tcp 1024 443
+
+The manual is docs/SCRIPT.md.
+";
+
 /// The help of made commands.
 const GEN_HELP: &str = "\
 tcam gen: carries out changes of an access list that it makes from a number, and
@@ -171,6 +255,8 @@ pub fn help_of(topic: Option<Topic>) -> &'static str
         Some(topic) => match topic {
             Topic::Route => ROUTE_HELP,
             Topic::Acl => ACL_HELP,
+            Topic::Route6 => ROUTE6_HELP,
+            Topic::Acl6 => ACL6_HELP,
             Topic::Gen => GEN_HELP,
         },
     }

@@ -8,17 +8,18 @@ ghost use Rattle.script_lines.specs.Given.{GivesPieces, counted};
 ghost use Rattle.script_lines.specs.declared.Over.TheVariants.{Going};
 ghost use Rattle.tcam_cli.specs.Given.{IsPromisedByGiven, ReadsInTime};
 ghost use Rattle.line_words.specs.Texts.{word_fault_text};
+ghost use Rattle.rule_model.specs.Rule.{route_rule};
 ghost use Rattle.replay.specs.Run.{start, ending};
 ghost use Rattle.replay.specs.Outside.{Leaves};
-ghost use Rattle.replay.specs.Running.{progress_of, limit_text, setting_of, IsActOf};
+ghost use Rattle.replay.specs.Running.{progress_of, limit_text, setting_of, routes_of, IsActOf};
 ghost use Rattle.replay.specs.Script.{Whole};
 ghost use Rattle.replay.specs.Text.{fault_line};
 ghost use Rattle.tcam_cli.specs.AllTheWay.{IsHitlessJob};
 ghost use Rattle.tcam_cli.specs.CommandLine.{job_of};
 ghost use Rattle.tcam_cli.specs.Headline.{IsCarriedOut, HasCauses, Makes, Reads, status_of};
 ghost use Rattle.tcam_cli.specs.MadeScript.{made_act};
-ghost use Rattle.tcam_cli.specs.Readings.{acl_act, common_act, reading, route_act};
-ghost use Rattle.tcam_cli.specs.Turns.{ClosesReport, IsBetweenLines, IsIpv4Command, TurnsBy, status_of_fault};
+ghost use Rattle.tcam_cli.specs.Readings.{acl_act, acl_reading, common_act, reading, route_act, route_rank, route_reading};
+ghost use Rattle.tcam_cli.specs.Turns.{ClosesReport, IsBetweenLines, IsBlockOf, IsCommandOf, TurnsBy, status_of_fault};
 
 use crate::Status;
 use crate::command_line::{Asked, WordsFault, read_words};
@@ -28,15 +29,19 @@ use line_words::{CommonCommand, WordFault};
 use replay::{Act, Family, Run, RunFault, write_fault, write_text};
 use route_reader::{RouteCommand, read_route};
 use rule_gen::{Made, Maker};
-use rule_model::{ipv4_route_rank, list_rank, route_rule, rule_conditions};
+use rule_model::{
+    IpVersion, Prefix, Rank, ipv4_route_rank, ipv6_route_rank, ipv6_route_rule, list_rank,
+    route_rule, rule_conditions,
+};
 use rule_store::Command;
 use script_lines::{Failed, Line, LineFault, Lines, Sink, Source};
 use std::alloc::Global;
 use tcam_device::Device;
 
 /// Runs what the words of a command line ask for, the program's name first, over a blank device of at least 4,096
-/// slots: a script of routes or of an access list from the source, commands of an access list that are made from a seed,
-/// of which the same holds as of a script and which leave the source as it is, or one of the product's own texts.
+/// slots with no word in flight: a script of routes or of an access list from the source, commands of an access list
+/// that are made from a seed, of which the same holds as of a script and which leave the source as it is, or one of the
+/// product's own texts.
 ///
 /// After every single device write each packet key has the answer of the set before the commit or of the one after it,
 /// and after a commit's last write that of the one after it; a refused commit writes nothing. The answer is `Done` or
@@ -57,6 +62,7 @@ pub fn run<S: Source, K: Sink, D: Device>(
 ) -> Status
     requires slots { 4096 ≤ D.slot_count device.old }
     requires blank { D.journal device.old ≡ [] }
+    requires none_in_flight { D.flight device.old ≡ [] }
     ensures carried_out { IsCarriedOut (job_of (map (λ w. string_bytes w) words.now)) (D.slot_count device.old) result
         (S.left source.old) (S.left source.new) (K.taken sink.old) (K.taken sink.new) (D.journal device.new) }
     ensures hitless { IsHitlessJob (job_of (map (λ w. string_bytes w) words.now)) (D.slot_count device.old) result
@@ -116,6 +122,7 @@ fn run_script<S: Source, K: Sink, D: Device>(
     requires whole { run.old.broken ≡ false }
     requires begun { progress_of (D.slot_count device.old) run.old ≡ start (D.slot_count device.old) }
     requires blank { D.journal device.old ≡ [] }
+    requires none_in_flight { D.flight device.old ≡ [] }
     ensures carried_out { IsCarriedOut (Reads (setting_of run.old)) (D.slot_count device.old) result
         (S.left source.old) (S.left source.new) (K.taken sink.old) (K.taken sink.new) (D.journal device.new) }
     ensures given { (which : Bool) → IsPromisedByGiven (Reads (setting_of run.old)) (D.slot_count device.old) result
@@ -147,6 +154,7 @@ fn turn<S: Source, K: Sink, D: Device>(
     device: &mut D,
 ) -> Option<Status>
     requires slots { run.old.manager.slots ≤ D.slot_count device.old }
+    requires none_in_flight { D.flight device.old ≡ [] }
     requires stands { IsBetweenLines lines.old run.old }
     ensures goes { IfNone result ((lines.old.before < lines.new.before) × IsBetweenLines lines.new run.new) }
     ensures setting { setting_of run.new ≡ setting_of run.old }
@@ -155,6 +163,7 @@ fn turn<S: Source, K: Sink, D: Device>(
         lines.new (progress_of (D.slot_count device.old) run.new) (D.journal device.old) (D.journal device.new) (counted which (K.taken sink.old) (K.accepted sink.old)) (counted which (K.taken sink.new) (K.accepted sink.new))) }
     ensures rests { lines.old.over ≢ Going → (S.left source.new ≡ S.left source.old) × (lines.new ≡ lines.old) }
     ensures no_usage { result ≢ Some Status.Usage }
+    ensures none_in_flight { D.flight device.new ≡ [] }
     ensures read { IsCounted (result ≡ Some Status.ReadFault) (S.faults source.old) (S.faults source.new) }
     ensures leaves { Leaves K.taken K.faults sink.old sink.new D.slot_count D.journal D.faults device.old device.new (result ≡ Some Status.WriteFault) (result ≡ Some Status.DeviceFault) }
 {
@@ -200,6 +209,7 @@ fn run_made<K: Sink, D: Device>(
     requires whole { run.old.broken ≡ false }
     requires begun { progress_of (D.slot_count device.old) run.old ≡ start (D.slot_count device.old) }
     requires blank { D.journal device.old ≡ [] }
+    requires none_in_flight { D.flight device.old ≡ [] }
     ensures carried_out { (which : Bool) → (left : Option (List ℕ)) → IsCarriedOut (Makes (setting_of run.old) seed rules batches) (D.slot_count device.old) result
         left left (counted which (K.taken sink.old) (K.accepted sink.old)) (counted which (K.taken sink.new) (K.accepted sink.new)) (D.journal device.new) }
     ensures leaves { Leaves K.taken K.faults sink.old sink.new D.slot_count D.journal D.faults device.old device.new (result ≡ Status.WriteFault) (result ≡ Status.DeviceFault) }
@@ -251,35 +261,38 @@ fn read_act(run: &Run, line: &Line) -> Result<Option<Act>, &'static str>
     ensures short { IfErr result (λ text. length text.now ≤ 32) }
 {
     match run.family() {
-        Family::Route => read_route_act(line),
-        Family::Acl => read_acl_act(line),
+        Family::Route => read_route_act(line, IpVersion::V4),
+        Family::Acl => read_acl_act(line, IpVersion::V4),
+        Family::Route6 => read_route_act(line, IpVersion::V6),
+        Family::Acl6 => read_acl_act(line, IpVersion::V6),
     }
 }
 
-/// What a line of a route script does, or the text of its fault.
-fn read_route_act(line: &Line) -> Result<Option<Act>, &'static str>
+/// What a line of a script of routes does, or the text of its fault.
+fn read_route_act(line: &Line, version: IpVersion) -> Result<Option<Act>, &'static str>
     requires { line.now.len ≤ 512 }
-    ensures ok { IfOk result (λ found. reading Family.Route (numbered line.now).text ≡ Ok found) }
-    ensures err { IfErr result (λ text. reading Family.Route (numbered line.now).text ≡ Err text.now) }
-    ensures act { IfOk result (λ found. IfSome found (IsActOf Family.Route)) }
+    ensures ok { IfOk result (λ found. route_reading version (numbered line.now).text ≡ Ok found) }
+    ensures err { IfErr result (λ text. route_reading version (numbered line.now).text ≡ Err text.now) }
+    ensures act { IfOk result (λ found. IfSome found (IsActOf (routes_of version))) }
     ensures short { IfErr result (λ text. length text.now ≤ 32) }
 {
-    match read_route(line) {
+    match read_route(line, version) {
         Ok(None) => Ok(None),
-        Ok(Some(command)) => Ok(Some(route_act(&command))),
+        Ok(Some(command)) => Ok(Some(route_act(&command, version))),
         Err(fault) => Err(fault_text(&fault)),
     }
 }
 
-/// What a line of an access-list script does, or the text of its fault.
-fn read_acl_act(line: &Line) -> Result<Option<Act>, &'static str>
+/// What a line of a script of an access list does, or the text of its fault.
+fn read_acl_act(line: &Line, version: IpVersion) -> Result<Option<Act>, &'static str>
     requires { line.now.len ≤ 512 }
-    ensures ok { IfOk result (λ found. reading Family.Acl (numbered line.now).text ≡ Ok found) }
-    ensures err { IfErr result (λ text. reading Family.Acl (numbered line.now).text ≡ Err text.now) }
-    ensures act { IfOk result (λ found. IfSome found (IsActOf Family.Acl)) }
+    ensures ok { IfOk result (λ found. acl_reading version (numbered line.now).text ≡ Ok found) }
+    ensures err { IfErr result (λ text. acl_reading version (numbered line.now).text ≡ Err text.now) }
+    ensures list { IfOk result (λ found. IfSome found (IsActOf Family.Acl)) }
+    ensures list_six { IfOk result (λ found. IfSome found (IsActOf Family.Acl6)) }
     ensures short { IfErr result (λ text. length text.now ≤ 32) }
 {
-    match read_acl(line) {
+    match read_acl(line, version) {
         Ok(None) => Ok(None),
         Ok(Some(command)) => Ok(Some(acl_act(&command))),
         Err(fault) => Err(fault_text(&fault)),
@@ -290,6 +303,7 @@ fn read_acl_act(line: &Line) -> Result<Option<Act>, &'static str>
 fn acl_act(command: &AclCommand) -> Act
     ensures act { result ≡ acl_act command.now }
     ensures list { IsActOf Family.Acl result }
+    ensures list_six { IsActOf Family.Acl6 result }
 {
     match command {
         AclCommand::Add(rule) => Act::Command(Command::Add(*rule)),
@@ -302,24 +316,44 @@ fn acl_act(command: &AclCommand) -> Act
     }
 }
 
-/// The act that a command of a route script is. What it adds is a route of IPv4.
-fn route_act(command: &RouteCommand) -> Act
-    requires { IsIpv4Command command.now }
-    ensures act { result ≡ route_act command.now }
-    ensures route { IsActOf Family.Route result }
+/// The act that a command of a script of routes is. What it adds is a route of its version of IP.
+fn route_act(command: &RouteCommand, version: IpVersion) -> Act
+    requires { IsCommandOf version command.now }
+    ensures act { result ≡ route_act version command.now }
+    ensures route { IsActOf (routes_of version) result }
 {
     match command {
-        RouteCommand::Add(prefix, answer) => {
-            let rule = route_rule(*prefix, *answer);
-            rule_conditions(&rule);
-            Act::Command(Command::Add(rule))
-        }
+        RouteCommand::Add(prefix, answer) => route_addition(*prefix, *answer, version),
         RouteCommand::Set(prefix, answer) => Act::Command(Command::Set {
-            priority: ipv4_route_rank(prefix),
+            priority: route_rank(prefix, version),
             result: *answer,
         }),
-        RouteCommand::Del(prefix) => Act::Command(Command::Del(ipv4_route_rank(prefix))),
+        RouteCommand::Del(prefix) => Act::Command(Command::Del(route_rank(prefix, version))),
         RouteCommand::Common(command) => common_act(command),
+    }
+}
+
+/// The act that adds a route of a version of IP.
+fn route_addition(prefix: Prefix, answer: u32, version: IpVersion) -> Act
+    requires { IsBlockOf version prefix }
+    ensures act { result ≡ Act.Command (Command.Add (route_rule (route_rank version prefix) prefix answer)) }
+    ensures route { IsActOf (routes_of version) result }
+{
+    let rule = match version {
+        IpVersion::V4 => route_rule(prefix, answer),
+        IpVersion::V6 => ipv6_route_rule(prefix, answer),
+    };
+    rule_conditions(&rule);
+    Act::Command(Command::Add(rule))
+}
+
+/// The priority of a route of a version of IP.
+fn route_rank(prefix: &Prefix, version: IpVersion) -> Rank
+    ensures { result ≡ route_rank version prefix.now }
+{
+    match version {
+        IpVersion::V4 => ipv4_route_rank(prefix),
+        IpVersion::V6 => ipv6_route_rank(prefix),
     }
 }
 

@@ -6,6 +6,6 @@ use Rattle.replay.proofs.report.write_trace.Goals as goal
 
 pub returns : goal.returns
 returns g c =
-    let same : c.device_write.result ++ 10 ∷ [] ≡ trace_line c.args.number c.args.write.now =
-    rw (c.device_write.ensures.text, c.number.ensures.text, c.new.ensures) (with_words-line (codes "w") (decimal c.args.number ∷ write_words c.args.write.now)) in
+    let same : c.device_write.result ++ 10 ∷ [] ≡ trace_line c.args.family c.args.number c.args.write.now =
+    rw (c.device_write.ensures.text, c.number.ensures.text, c.new.ensures) (with_words-line (codes "w") (decimal c.args.number ∷ write_words c.args.family c.args.write.now)) in
     rw same at c.write.ensures

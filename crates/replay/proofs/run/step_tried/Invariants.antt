@@ -1,5 +1,5 @@
-use Rattle.std.proofs.Common.{◌≡◌, ◌+◌, ◌-◌, ◌^◌, ◌<◌, ◌≤◌, min, IsSome}
-use Rattle.batch_order.specs.Managed.{next_of}
+use Rattle.std.proofs.Common.{◌≡◌, ◌+◌, ◌-◌, ◌^◌, ◌<◌, ◌≤◌, [], min, IsSome}
+use Rattle.batch_order.specs.Steps.{next_of}
 use Rattle.replay.proofs.run.step_tried.Given as goal
 
 abbrev pub invariant-trying : goal.invariant-trying
@@ -7,6 +7,7 @@ invariant-trying g l = record {
   manager : l.manager ≡ l.fn.manager;
   journal : g.D.Writable.journal l.device ≡ g.D.Writable.journal l.fn.device;
   spare : g.D.Writable.spare l.device ≡ g.D.Writable.spare l.fn.device;
+  none_in_flight : g.D.Writable.flight l.device ≡ [];
   slot_count : g.D.Writable.slot_count l.device ≡ g.D.Writable.slot_count l.fn.device;
   below : l.failures < 4;
   due : 0 < l.failures → IsSome (next_of l.manager.held);

@@ -1,8 +1,8 @@
 use Rattle.std.proofs.Common.{take, Ok, sym, ◌∙◌, ap}
-use Rattle.tcam_cli.proofs.Ipv4Lines.{line-ipv4}
+use Rattle.tcam_cli.proofs.RouteLines.{line-of}
 use Rattle.tcam_cli.proofs.top.read_route_act.Goals as goal
 
 pub route_act-requires : goal.route_act-requires
 route_act-requires c =
     let line = c.args.line.now in
-    line-ipv4 (take line.len line.bytes) c.in-Ok-Some.command (sym c.read_route.ensures ∙ c.in-Ok-Some.is ∙ ap Ok c.in-Ok-Some.field-0-is)
+    line-of c.args.version (take line.len line.bytes) c.in-Ok-Some.command (sym c.read_route.ensures ∙ c.in-Ok-Some.is ∙ ap Ok c.in-Ok-Some.field-0-is)

@@ -28,6 +28,7 @@ acts-init g c =
       commits = omega (arith, none, few, most);
       room = subst (λ come. AreBatches (2 * c.args.rules) come c.new-maker.result) (sym empty) c.new-maker.ensures.batches;
       made = λ which. made-first _ _ _ _ _ _ _ c.new-maker.ensures.commands c.requires.begun c.requires.blank;
+      none_in_flight = c.requires.none_in_flight;
       leaves = leaves-line _ _ _ _ _ _ _ _ _ ⊥ ⊥ (λ some. some) refl refl refl (uncounted ⊥ _ _ (λ e. e) refl) (λ e. e);
     }
 
@@ -41,6 +42,7 @@ apply-requires g c =
     let few = i.commits in
     record {
       slots = omega (arith, slots, count, within);
+      none_in_flight = i.none_in_flight;
       act = subst (λ (family : Family). IsActOf family c.act_of_made.result) (sym family) c.act_of_made.ensures.list;
       whole = i.whole;
       commits = omega (arith, few);
@@ -78,6 +80,7 @@ acts-preserved g c =
       commits = omega (arith, one, few, more);
       room = subst (λ come. AreBatches (2 * c.args.rules) come c.next.new.self) (sym (step-pending (setting_of c.acts.run) (progress_of (g.D.Writable.slot_count c.acts.device) c.acts.run) (made_act c.in-Some.made) (carried true).effects (progress_of (g.D.Writable.slot_count c.acts.device) c.apply.new.self) (carried true).step)) (made-pending (2 * c.args.rules) c.in-Some.made c.next.new.self (length c.acts.run.pending) are);
       made = λ which. rw (← i.setting, ← i.leaves.slot_count) (made-more _ _ _ _ c.in-Some.made _ _ _ _ _ _ _ (here which) (carried which));
+      none_in_flight = a.none_in_flight;
       leaves = leaves-then _ _ _ _ _ _ _ _ _ _ _ ⊥ ⊥ ⊥ ⊥ (λ e. e) (λ e. e) i.leaves (leaves-none _ _ _ _ _ _ _ _ _ _ _ a.leaves (λ e. cc) (λ e. cc));
     }
 

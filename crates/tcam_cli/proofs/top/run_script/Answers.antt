@@ -23,6 +23,7 @@ acts-init g c = record {
     within = let none = ap (λ (h : HeldBytes). h.before) c.new-lines.ensures in omega (arith, none);
   };
   gives = ([], gives-none _ _, λ e. absurd e, λ which left now may. stands-first _ _ _ _ _ _ _ _ _ (starts _ _ left _ now _ _ _ c.new-lines.ensures (ap Some may.bytes) c.requires.begun c.requires.blank), in-time-none _ _ _ _ _);
+  none_in_flight = c.requires.none_in_flight;
   leaves = leaves-line _ _ _ _ _ _ _ _ _ ⊥ ⊥ (λ some. some) refl refl refl (uncounted ⊥ _ _ (λ e. e) refl) (λ e. e);
   reads = refl;
 }
@@ -49,6 +50,7 @@ acts-preserved g c =
             turn-in-time (setting_of c.args.run.now) (g.D.Writable.slot_count c.args.device.now) i.gives.0 t.gives.0 c.acts.lines (progress_of (g.D.Writable.slot_count c.args.device.now) c.acts.run) (g.D.Writable.journal c.acts.device) _ _ _ _ (λ left now may. (i.gives.3 false left now may).so_far) stays turn.rests turn.last
             (turn.grows (concat (i.gives.0 ++ t.gives.0)) (concat t.gives.0 ++ []) [] (Some (g.K.Sink.accepted c.args.sink.now)) (may-second _ [] i.gives.0 t.gives.0 may) (rw (i.setting, i.leaves.slot_count) s.so_far)) i.gives.4,
       );
+      none_in_flight = t.none_in_flight;
       leaves = leaves-then _ _ _ _ _ _ _ _ _ _ _ ⊥ ⊥ ⊥ ⊥ (λ e. e) (λ e. e) i.leaves (leaves-none _ _ _ _ _ _ _ _ _ _ _ t.leaves (λ e. cc) (λ e. cc));
       reads = t.read.stayed (λ e. cc) ∙ i.reads;
     }

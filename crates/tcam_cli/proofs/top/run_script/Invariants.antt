@@ -1,4 +1,4 @@
-use Rattle.std.proofs.Common.{◌≡◌, ◌-◌, ℕ, Bool, List}
+use Rattle.std.proofs.Common.{◌≡◌, ◌-◌, ℕ, [], Bool, List}
 use Rattle.script_lines.specs.Given.{HasEnd, MayGive, GivesPieces, counted}
 use Rattle.script_lines.specs.declared.Over.TheVariants as over
 use Rattle.replay.specs.Outside.{Leaves}
@@ -17,6 +17,7 @@ invariant-acts g l = record {
       → StandsAt (setting_of l.fn.run) (g.D.Writable.slot_count l.fn.device) pieces left l.lines now (progress_of (g.D.Writable.slot_count l.fn.device) l.run)
       (g.D.Writable.journal l.device) (counted which (g.K.Sink.taken l.fn.sink) (g.K.Sink.accepted l.fn.sink)) (counted which (g.K.Sink.taken l.sink) (g.K.Sink.accepted l.sink)))
       × InTime (setting_of l.fn.run) (g.D.Writable.slot_count l.fn.device) pieces (g.D.Writable.journal l.device) (g.K.Sink.accepted l.fn.sink) (g.K.Sink.accepted l.sink);
+  none_in_flight : g.D.Writable.flight l.device ≡ [];
   leaves : Leaves g.K.Sink.taken g.K.Sink.faults l.fn.sink l.sink g.D.Writable.slot_count g.D.Writable.journal g.D.Writable.faults l.fn.device l.device ⊥ ⊥;
   reads : g.S.Source.faults l.source ≡ g.S.Source.faults l.fn.source;
 }

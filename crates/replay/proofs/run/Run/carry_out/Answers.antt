@@ -1,10 +1,18 @@
 -- The writes are those that are left of the commit, and a part of them where sink or device fails.
-use Rattle.std.proofs.Common.{true, rules, IsSome, sym, ◌∙◌, subst}
-use Rattle.replay.specs.Running.{Running}
-use Rattle.replay.proofs.Halfway.{few-made, made-run_held, after-writes_run}
-use Rattle.replay.proofs.Exits.{cut-held, cut-some, resumes-cut, resumes-all, resumes-last}
+use Rattle.std.proofs.Common.{true, rules, IsSome, ap, sym, ◌∙◌, subst}
+use Rattle.replay.specs.Running.{Running, setting_of}
+use Rattle.replay.proofs.Halfway.{few-left, few-made, goes-forward, made-run_held, after-writes_run}
+use Rattle.replay.proofs.Exits.{cut-held, cut-setting, cut-some, resumes-cut, resumes-all, resumes-last}
 use Rattle.replay.proofs.run.Run.carry_out.Goals as goal
 use Rattle.replay.proofs.run.Run.carry_out.Goals.{in-Ok-write_accepted, in-Err-write_accepted}
+
+pub make_writes-requires-clause-forward : goal.make_writes-requires-clause-forward
+make_writes-requires-clause-forward g c =
+    goes-forward _ (c.self.invariant.halfway (subst (λ (run : Running). IsSome run.manager.held) (sym c.self.view_is) c.requires.held))
+
+pub make_writes-requires-clause-few : goal.make_writes-requires-clause-few
+make_writes-requires-clause-few g c =
+    few-left _ (c.self.invariant.halfway (subst (λ (run : Running). IsSome run.manager.held) (sym c.self.view_is) c.requires.held))
 
 pub invariant_of-self : goal.invariant_of-self
 invariant_of-self g c =
@@ -19,7 +27,7 @@ pub returns-in-Err-clause-kind : goal.returns-in-Err-clause-kind
 returns-in-Err-clause-kind g c = (cut-some c.in-Err.fault _ _ _ _ _ _ _ _ _ _ (c.in-Err.ensures.makes true)).2
 
 pub returns-in-Err-clause-setting : goal.returns-in-Err-clause-setting
-returns-in-Err-clause-setting g c = let some = (cut-some c.in-Err.fault _ _ _ _ _ _ _ _ _ _ (c.in-Err.ensures.makes true)).0 in search rules
+returns-in-Err-clause-setting g c = cut-setting c.in-Err.fault _ c.make_writes.new.manager _ _ _ _ _ _ _ c.self.invariant (c.in-Err.ensures.makes true) ∙ ap setting_of c.self.view_is
 
 pub invariant_of-self-2 : goal.invariant_of-self-2
 invariant_of-self-2 g c =

@@ -1,5 +1,6 @@
 -- What the rest of the commit comes to, once it is marked whether the sink failed.
-use Rattle.std.proofs.Common.{◌∙◌}
+use Rattle.std.proofs.Common.{rules, ◌≡◌, None, ◌∙◌}
+use Rattle.replay.proofs.Halfway.{never-idle}
 use Rattle.replay.proofs.Exits.{marked-resumes}
 use Rattle.replay.proofs.run.Run.resume.Goals as goal
 
@@ -7,3 +8,8 @@ pub returns-clause-resumes : goal.returns-clause-resumes
 returns-clause-resumes g c = λ which before front unfinished at.
     marked-resumes c.carry_out-result.result _ before front c.carry_out-result.new.self c.mark.new.self _ _ _ _ c.mark.ensures (c.carry_out-result.ensures.broken ∙ c.requires.whole)
     (c.carry_out-result.ensures.resumes which before front unfinished at)
+
+pub returns-then-is_none-clause-resumes : goal.returns-then-is_none-clause-resumes
+returns-then-is_none-clause-resumes g c = λ which before front unfinished at.
+    let none : c.args.self.now.manager.held ≡ None = search rules in
+    absurd (never-idle c.args.self.now unfinished.halfway none)

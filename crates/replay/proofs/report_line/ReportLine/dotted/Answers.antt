@@ -1,6 +1,6 @@
 -- The parts of the address stand one behind the other.
 use Rattle.replay.proofs.Lines.{four_parts}
-use Rattle.replay.proofs.report.ReportLine.dotted.Goals as goal
+use Rattle.replay.proofs.report_line.ReportLine.dotted.Goals as goal
 
 pub returns-clause-text : goal.returns-clause-text
 returns-clause-text c =

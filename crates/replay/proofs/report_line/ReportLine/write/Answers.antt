@@ -1,7 +1,7 @@
 -- The bytes handed over are the line with its line feed.
 use Rattle.std.proofs.Common.{◌∙◌}
 use Rattle.replay.proofs.Handing.{writes-line}
-use Rattle.replay.proofs.report.ReportLine.write.Goals as goal
+use Rattle.replay.proofs.report_line.ReportLine.write.Goals as goal
 
 pub returns : goal.returns
 returns g c =

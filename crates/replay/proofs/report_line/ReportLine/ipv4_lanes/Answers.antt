@@ -2,7 +2,7 @@
 use Rattle.std.proofs.Common.{slice_index}
 use Rattle.replay.specs.Text.{lane_text}
 use Rattle.replay.proofs.Lines.{five_parts}
-use Rattle.replay.proofs.report.ReportLine.lanes.Goals as goal
+use Rattle.replay.proofs.report_line.ReportLine.ipv4_lanes.Goals as goal
 
 pub returns-clause-text : goal.returns-clause-text
 returns-clause-text c =
