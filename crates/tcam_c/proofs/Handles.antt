@@ -1,0 +1,104 @@
+-- The machine values of a `Loose`. Assumes `Logic`.
+use Rattle.std.proofs.Common.{◌≡◌, ℕ, List, [], ◌∷◌, ◌++◌, refl, subst, lit<}
+use mathlib.Core.Bool.{Bool, true, false, ◌&&◌}
+use lib.Dec.{T}
+use seplogic.Ra.Ura.{Ura}
+use mir.Syntax.{impl, tnil, dnil}
+use mir.Raw.{raw as bare}
+use mir.Val.{Val, vptr, vstruct, vcons, vnil, of_list, has_ty, WT}
+use base.Logic.{never, fst∗}
+use types.Logic.{Logic, sem}
+use types.Kit.{Item, Goal, Seq, Step, step, ‵, ◌$◌, move, drop, fsplit, fjoin, fpick, fpack, rewrite, feq_i, feq_l}
+use denote.RattleType.{RattleType, Valss}
+use denote.Builtin.{RawPtr}
+use denote.Memory.{lone}
+use denote.RawPtr.{Ptr, block_ptr, null_ptr, ptr_val, in_a_block}
+use denote.Steps.{nothing}
+use denote.Param.{layout}
+use denote.Param.Laws.{Laws}
+use denote.Struct.Struct.{within}
+use denote.Struct.Owning.{shape}
+use Rattle.core.specs.declared.alloc.Allocator.{Ghosts}
+use Rattle.core.proofs.alloc.Calls.{Al, handle_tells}
+use Rattle.core.proofs.cell.Inside.{Good}
+use Rattle.std_alloc.specs.Box.Ownership.{box_owns}
+use Rattle.std_alloc.proofs.ResultValues.{and_tt}
+use Rattle.std.specs.Prelude.{Option, Some, None, IsSome}
+use Rattle.std.specs.contracts.alloc.Global as heap
+use Rattle.std.proofs.alloc.Global.TheLaws as heap_laws
+use Rattle.std.specs.contracts.impls.GlobalAllocator.TheImpl.{ghosts}
+use Rattle.tcam_c.specs.Owned.{held_owns}
+use Rattle.tcam_c.specs.contracts.session.Session as session
+use Rattle.tcam_c.specs.contracts.loose.Loose as loose
+use Rattle.tcam_c.specs.contracts.handle.Held as held
+
+abbrev pub both : Val → Val → Val
+both v w = vstruct (vcons v (vcons w vnil))
+
+pub both_tt : (x y : Bool) → T x → T y → T (x && (y && true))
+both_tt true true s t = tt
+both_tt true false s t = absurd t
+both_tt false y s t = absurd s
+
+module _ (R Z : RattleType) (L : Laws Z) (g : Ghosts Z.Denot) where
+  abbrev pub Loose : RattleType
+  Loose = loose.the_row R Z g
+
+  abbrev al : Al
+  al = record { row = Z; laws = L; g = g; d = impl [] tnil dnil; drops = impl [] tnil dnil }
+
+  pub loose_good : (b o : ℕ) (h : Val) → Good (layout Z) h → T (has_ty (layout Z) h && true) × WT (both (vptr b o) h)
+  loose_good b o h fits = (and_tt (has_ty (layout Z) h) fits.0, (tt, (fits.1, tt)))
+
+  module _ {M : Type 1} {𝓤 : Ura M} {𝓛 : Logic 𝓤} {K : Type 0} {Γ : List (Item 𝓤)} {G : Goal 𝓤 𝓛.H} where
+    pub loose_out : K → (d : Loose.Denot) (vs : List Val)
+        → ((b o : ℕ) (h : Val) → d.at ≡ block_ptr b o → vs ≡ both (vptr b o) h ∷ [] → Good (layout Z) h → Seq K 𝓛 (‵ (box_owns (g.dealloc_token d.alloc) R (block_ptr b o) d.value) ∷ ‵ (Z.own_val d.alloc (h ∷ [])) ∷ Γ) G)
+        → Seq K 𝓛 (‵ (Loose.own_val d vs) ∷ Γ) G
+    loose_out t d vs k =
+        fsplit t $ fpick t (λ vss. fsplit t $ feq_l t (λ ev. fsplit t $ feq_l t (λ ep. fsplit t $ handle_tells al t d.alloc vss.1.0 (λ h ea fits. move t (1 ∷ []) $ drop t $ move t (1 ∷ []) $
+        in_a_block t d.at (λ p. box_owns (g.dealloc_token d.alloc) R p d.value) (fst∗ 𝓤 (never 𝓤) (sem 𝓛 (g.dealloc_token d.alloc (bare (lone R.mir)) null_ptr))) (λ b o e. k b o h e
+        (subst (λ (p : Ptr). vs ≡ vstruct (of_list (ptr_val p ∷ h ∷ [])) ∷ []) e
+        (subst (λ (ws : List Val). vs ≡ vstruct (of_list (ptr_val d.at ∷ (ws ++ []))) ∷ []) ea (subst (λ (ps : List Val). vs ≡ vstruct (of_list (ps ++ (vss.1.0 ++ []))) ∷ []) ep ev))) fits)))))
+
+    pub loose_in : K → (b o : ℕ) (h : Val) (a : Z.Denot) (x : R.Denot)
+        → Step K 𝓛 (‵ (Loose.own_val (record { at = block_ptr b o; alloc = a; value = x }) (both (vptr b o) h ∷ [])) ∷ Γ) G (‵ (box_owns (g.dealloc_token a) R (block_ptr b o) x) ∷ ‵ (Z.own_val a (h ∷ [])) ∷ Γ) G
+    loose_in t b o h a x = step (λ s. let v : Val = both (vptr b o) h in
+        nothing t $ move t (2 ∷ 0 ∷ []) $ fjoin t $ feq_i t (List Val) (vptr b o ∷ []) (vptr b o ∷ []) refl $ fjoin t $ feq_i t (List Val) (v ∷ []) (v ∷ []) refl $ fjoin t $
+        fpack t (Valss (RawPtr ∷ Z ∷ [])) (within (shape (loose.the_type R Z g)) (block_ptr b o, (a, tt)) (v ∷ [])) (vptr b o ∷ [], (h ∷ [], tt)) $ fjoin t $ s)
+
+-- what C holds: a pointer alone
+abbrev pub Heap : RattleType
+Heap = heap.the_row
+
+abbrev pub heap_al : Al
+heap_al = record { row = Heap; laws = heap_laws.the_row_laws; g = ghosts; d = impl [] tnil dnil; drops = impl [] tnil dnil }
+
+abbrev pub S : RattleType
+S = session.the_row
+
+pub some_of : (o : Option S.Denot) → IsSome o → (s : S.Denot) × (o ≡ Some s)
+some_of (Some s) t = (s, refl)
+some_of None t = cc
+
+abbrev pub lone_word : Val → Val
+lone_word v = vstruct (vcons v vnil)
+
+pub held_good : (p : Ptr) → T (has_ty (layout held.the_row) (lone_word (ptr_val p))) × WT (lone_word (ptr_val p))
+held_good (block_ptr b o) = (tt, (tt, tt))
+held_good null_ptr = (tt, (record { fits = lit< tt }, tt))
+
+module _ {M : Type 1} {𝓤 : Ura M} {𝓛 : Logic 𝓤} {K : Type 0} {Γ : List (Item 𝓤)} {G : Goal 𝓤 𝓛.H} where
+  pub held_in : K → (p : Ptr) (o : Option S.Denot)
+      → Step K 𝓛 (‵ ((held.the_row).own_val (record { at = p; session = o }) (lone_word (ptr_val p) ∷ [])) ∷ Γ) G (‵ (held_owns p o) ∷ Γ) G
+  held_in t p o = step (λ s. let v : Val = lone_word (ptr_val p) in
+      nothing t $ feq_i t (List Val) (ptr_val p ∷ []) (ptr_val p ∷ []) refl $ fjoin t $ feq_i t (List Val) (v ∷ []) (v ∷ []) refl $ fjoin t $
+      fpack t (Valss (RawPtr ∷ [])) (within (shape held.the_type) (p, tt) (v ∷ [])) (ptr_val p ∷ [], tt) $ fjoin t $ s)
+
+  pub held_out : K → (d : (held.the_row).Denot) (vs : List Val) (x : S.Denot) (a : Heap.Denot) → d.session ≡ Some x
+      → ((b o : ℕ) → d.at ≡ block_ptr b o → vs ≡ lone_word (vptr b o) ∷ [] → Seq K 𝓛 (‵ (box_owns (ghosts.dealloc_token a) S (block_ptr b o) x) ∷ Γ) G)
+      → Seq K 𝓛 (‵ ((held.the_row).own_val d vs) ∷ Γ) G
+  held_out t d vs x a is k =
+      fsplit t $ fpick t (λ vss. fsplit t $ feq_l t (λ ev. fsplit t $ feq_l t (λ ep. drop t $
+      rewrite t 0 (λ (k : Option S.Denot). ‵ (held_owns d.at k)) is refl $
+      in_a_block t d.at (λ p. box_owns (ghosts.dealloc_token a) S p x) (fst∗ 𝓤 (never 𝓤) (sem 𝓛 (ghosts.dealloc_token a (bare (lone S.mir)) null_ptr))) (λ b o e. k b o e
+      (subst (λ (p : Ptr). vs ≡ lone_word (ptr_val p) ∷ []) e (subst (λ (ps : List Val). vs ≡ vstruct (of_list (ps ++ [])) ∷ []) ep ev))))))

@@ -1,0 +1,18 @@
+use Rattle.std.proofs.Common.{arith}
+use Rattle.tcam_device.specs.Flight.{writes_in}
+use Rattle.batch_order.specs.Managed.{Managed}
+use Rattle.batch_order.proofs.Ahead.{by_journal}
+use Rattle.tcam_c.proofs.Due.{due_ahead}
+use Rattle.tcam_c.proofs.session.Session.due.Goals as goal
+
+pub returns-clause-serves : goal.returns-clause-serves
+returns-clause-serves c =
+    let m : Managed = c.self.inside.manager in
+    rw (← c.self.view_is) (c.self.invariant.on, by_journal m.slots (writes_in c.self.inside.device.events) m (omega arith) c.serving.ensures.serves c.self.invariant.on)
+
+pub returns-clause-ahead : goal.returns-clause-ahead
+returns-clause-ahead c =
+    let m : Managed = c.self.inside.manager in
+    let next = c.next_write-write.ensures in
+    rw (← c.self.view_is) (due_ahead m c.self.inside.device.events c.self.inside.batch c.due.result c.due.ensures.due c.self.invariant.forward
+    c.next_write-write.result next.next next.in_use next.size c.self.invariant.on c.serving.ensures.ahead)

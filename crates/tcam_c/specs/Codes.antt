@@ -1,0 +1,108 @@
+-- What plain numbers stand for: codes, and what is made of numbers that come from C.
+use Rattle.std.specs.Prelude.{◌≡◌, ◌≢◌, ℕ, ◌-◌, ◌%◌, ◌^◌, ◌<◌, ◌≤◌, ◌⊎◌, Result, Ok, Err, Option, Some, None, nat_eq, if◌then◌else◌}
+use Rattle.rule_model.specs.declared.Rule.{Rule}
+use Rattle.rule_model.specs.AddressBlock.{AddressBlock, ipv4_block}
+use Rattle.rule_model.specs.Rank.{ipv4_route_rank, list_rank}
+use Rattle.rule_model.specs.Rule.{route_rule}
+use Rattle.rule_store.specs.declared.Command.{Command}
+use Rattle.rule_store.specs.declared.Command.TheVariants.{Add, Set, Del}
+use Rattle.rule_store.specs.declared.Mode.{Mode}
+use Rattle.rule_store.specs.declared.Mode.TheVariants as mode
+use Rattle.rule_store.specs.declared.PushFault.{PushFault}
+use Rattle.rule_store.specs.declared.PushFault.TheVariants as push
+use Rattle.batch_order.specs.declared.Placement.{Placement}
+use Rattle.batch_order.specs.declared.Placement.TheVariants as placement
+use Rattle.batch_order.specs.declared.Refusal.{Refusal}
+use Rattle.batch_order.specs.declared.Refusal.TheVariants.{Busy, Twice, Taken, Absent, Bits, Slots, Memory}
+use Rattle.tcam_c.specs.declared.plain.TcamRule.{TcamRule}
+
+-- the code of a push
+abbrev pub push_code : Result (Unit {0}) PushFault → ℕ
+push_code (Ok done) = 0
+push_code (Err push.Full) = 10
+push_code (Err push.Memory) = 11
+
+-- the code of a refusal
+abbrev pub refusal_code : Refusal → ℕ
+refusal_code (Busy left) = 12
+refusal_code (Twice rank) = 13
+refusal_code (Taken rank) = 14
+refusal_code (Absent rank) = 15
+refusal_code (Bits field needed free) = 16
+refusal_code (Slots needed free) = 17
+refusal_code Memory = 11
+
+-- a prefix of IPv4: no bit of the address past the length is set
+abbrev pub IsPrefix : ℕ → ℕ → Type 0
+IsPrefix address len = (len ≤ 32) × (address % 2 ^ (32 - len) ≡ 0)
+
+-- the code of an address and a length that are none
+abbrev pub IsPrefixFault : ℕ → ℕ → ℕ → Type 0
+IsPrefixFault address len code =
+    ((code ≡ 6) × (32 < len)) ⊎ ((code ≡ 7) × (len ≤ 32) × (address % 2 ^ (32 - len) ≢ 0))
+
+abbrev pub IsPrefixOr : ℕ → ℕ → Result AddressBlock ℕ → Type 0
+IsPrefixOr address len (Ok block) = IsPrefix address len × (block ≡ ipv4_block address len)
+IsPrefixOr address len (Err code) = IsPrefixFault address len code
+
+-- the priority of the route of a prefix
+abbrev pub route_priority : ℕ → ℕ → ℕ
+route_priority address len = ipv4_route_rank (ipv4_block address len)
+
+-- a route is added, changed or removed: the command, or the code of a prefix that is none
+abbrev pub AddsRoute : ℕ → ℕ → ℕ → Result Command ℕ → Type 0
+AddsRoute address len given (Ok command) = IsPrefix address len × (command ≡ Add (route_rule (route_priority address len) (ipv4_block address len) given))
+AddsRoute address len given (Err code) = IsPrefixFault address len code
+
+abbrev pub SetsRoute : ℕ → ℕ → ℕ → Result Command ℕ → Type 0
+SetsRoute address len given (Ok command) = IsPrefix address len × (command ≡ Set (route_priority address len) given)
+SetsRoute address len given (Err code) = IsPrefixFault address len code
+
+abbrev pub DelsRoute : ℕ → ℕ → Result Command ℕ → Type 0
+DelsRoute address len (Ok command) = IsPrefix address len × (command ≡ Del (route_priority address len))
+DelsRoute address len (Err code) = IsPrefixFault address len code
+
+-- a protocol, of which 256 is any
+abbrev pub protocol_of : ℕ → Option ℕ
+protocol_of protocol = if nat_eq protocol 256 then None else Some protocol
+
+-- a rule of an access list as plain numbers that are right
+pub record IsRule (rule : TcamRule) : Type 0 where
+  pub source : IsPrefix rule.source rule.source_length
+  pub destination : IsPrefix rule.destination rule.destination_length
+  pub source_ports : rule.source_port_first ≤ rule.source_port_last
+  pub destination_ports : rule.destination_port_first ≤ rule.destination_port_last
+  pub protocol : rule.protocol ≤ 256
+
+-- and as the rule
+abbrev pub list_rule : TcamRule → Rule
+list_rule rule =
+    record {
+      priority = list_rank rule.number;
+      src = ipv4_block rule.source rule.source_length;
+      dst = ipv4_block rule.destination rule.destination_length;
+      proto = protocol_of rule.protocol;
+      sport = record { lo = rule.source_port_first; hi = rule.source_port_last };
+      dport = record { lo = rule.destination_port_first; hi = rule.destination_port_last };
+      result = rule.result;
+    }
+
+-- the code of what is wrong with plain numbers that are no rule
+abbrev pub IsRuleFault : TcamRule → ℕ → Type 0
+IsRuleFault rule code =
+    IsPrefixFault rule.source rule.source_length code
+    ⊎ (IsPrefixFault rule.destination rule.destination_length code
+    ⊎ (((code ≡ 8) × (rule.source_port_last < rule.source_port_first))
+    ⊎ (((code ≡ 8) × (rule.destination_port_last < rule.destination_port_first))
+    ⊎ ((code ≡ 9) × (256 < rule.protocol)))))
+
+abbrev pub AddsRule : TcamRule → Result Command ℕ → Type 0
+AddsRule rule (Ok command) = IsRule rule × (command ≡ Add (list_rule rule))
+AddsRule rule (Err code) = IsRuleFault rule code
+
+-- the mode and the placement of a number
+abbrev pub mode_by : ℕ → Option Mode
+mode_by number = if nat_eq number 0 then Some mode.Cover else (if nat_eq number 1 then Some mode.Bits else None)
+
+abbrev pub placement_by : ℕ → Option Placement
+placement_by number = if nat_eq number 0 then Some placement.Middle else (if nat_eq number 1 then Some placement.Rank else None)

@@ -1,0 +1,5 @@
+pub mod Driven
+pub mod Owned
+pub mod Plain
+pub mod Codes
+pub mod Calls

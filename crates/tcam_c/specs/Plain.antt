@@ -1,0 +1,91 @@
+-- What the structs that cross to C say.
+use Rattle.std.specs.Prelude.{◌≡◌, ℕ, ◌+◌, ◌*◌, ◌^◌, Option, Some, None, replicate}
+use Rattle.rule_model.specs.Rank.{rank_of}
+use Rattle.rule_model.specs.RuleSet.{Answer}
+use Rattle.rule_model.specs.declared.Field.{Field}
+use Rattle.rule_model.specs.declared.Field.TheVariants.{Src, Dst}
+use Rattle.ternary_word.specs.declared.Entry.{Entry}
+use Rattle.tcam_device.specs.declared.Action.{Action}
+use Rattle.tcam_device.specs.declared.Action.TheVariants.{Written, Drained}
+use Rattle.tcam_device.specs.declared.Write.TheVariants.{Slot, Table}
+use Rattle.batch_order.specs.declared.Refusal.{Refusal}
+use Rattle.batch_order.specs.declared.Refusal.TheVariants.{Busy, Twice, Taken, Absent, Bits, Slots, Memory}
+use Rattle.tcam_c.specs.declared.plain.TcamTag.{TcamTag}
+use Rattle.tcam_c.specs.declared.plain.TcamWrite.{TcamWrite}
+use Rattle.tcam_c.specs.declared.plain.TcamAnswer.{TcamAnswer}
+use Rattle.tcam_c.specs.declared.plain.TcamRefusal.{TcamRefusal}
+
+-- the number that a tag stands for
+abbrev pub tag_number : TcamTag → ℕ
+tag_number tag = rank_of tag.high (tag.low_upper * 2 ^ 64 + tag.low_lower)
+
+-- the tag of a priority
+abbrev pub IsTag : ℕ → TcamTag → Type 0
+IsTag rank tag = tag_number tag ≡ rank
+
+-- a field as a number
+abbrev pub field_code : Field → ℕ
+field_code Src = 0
+field_code Dst = 1
+
+-- a tag that tells nothing, and what is due and what a refusal tells where no field is named
+abbrev pub no_tag : TcamTag
+no_tag = record { high = 0; low_upper = 0; low_lower = 0 }
+
+abbrev pub no_write : TcamWrite
+no_write =
+    record {
+      kind = 0;
+      slot = 0;
+      value = replicate 11 0;
+      mask = replicate 11 0;
+      tag = no_tag;
+      result = 0;
+      field = 0;
+      port = 0;
+      word = 0;
+    }
+
+abbrev pub no_refusal : TcamRefusal
+no_refusal = record { left = 0; tag = no_tag; field = 0; need = 0; free = 0 }
+
+-- an entry that a slot gets
+pub record IsPut (slot : ℕ) (entry : Entry) (write : TcamWrite) : Type 0 where
+  pub kind : write.kind ≡ 1
+  pub slot_is : write.slot ≡ slot
+  pub value : write.value ≡ entry.value.lane
+  pub mask : write.mask ≡ entry.mask.lane
+  pub tag : IsTag entry.tag write.tag
+  pub result : write.result ≡ entry.result
+  pub no_field : write.field ≡ 0
+  pub no_port : write.port ≡ 0
+  pub no_word : write.word ≡ 0
+
+-- what is due, with 0 in the fields that its kind doesn't name
+abbrev pub IsDue : Option Action → TcamWrite → Type 0
+IsDue None write = write ≡ no_write
+IsDue (Some (Written (Slot slot None))) write = write ≡ record no_write { kind = 2; slot = slot }
+IsDue (Some (Written (Slot slot (Some entry)))) write = IsPut slot entry write
+IsDue (Some (Written (Table field port word))) write =
+    write ≡ record no_write { kind = 3; field = field_code field; port = port; word = word }
+IsDue (Some Drained) write = write ≡ record no_write { kind = 4 }
+
+-- what a key is answered
+abbrev pub IsAnswer : Answer → TcamAnswer → Type 0
+IsAnswer None answer = answer ≡ record { found = 0; result = 0; tag = no_tag }
+IsAnswer (Some (tag, given)) answer = (answer.found ≡ 1) × IsTag tag answer.tag × (answer.result ≡ given)
+
+-- the tag of a rule alone
+abbrev pub IsTagged : ℕ → TcamRefusal → Type 0
+IsTagged rank told = IsTag rank told.tag × (told ≡ record no_refusal { tag = told.tag })
+
+-- what a refusal tells besides its code, and 0 else
+abbrev pub IsTold : Refusal → TcamRefusal → Type 0
+IsTold (Busy left) told = told ≡ record no_refusal { left = left }
+IsTold (Twice rank) told = IsTagged rank told
+IsTold (Taken rank) told = IsTagged rank told
+IsTold (Absent rank) told = IsTagged rank told
+IsTold (Bits field needed free) told =
+    told ≡ record no_refusal { field = field_code field; need = needed; free = free }
+IsTold (Slots needed free) told = told ≡ record no_refusal { need = needed; free = free }
+IsTold Memory told = told ≡ no_refusal

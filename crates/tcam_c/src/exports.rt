@@ -1,0 +1,316 @@
+//! The functions that C calls.
+
+ghost use Rattle.std.specs.Prelude.{◌≡◌, ◌≤◌, Some, None, IfSome, IsSome, IsNone};
+ghost use Rattle.tcam_c.specs.Calls.{Answers, Called, Clears, DelsRule, Enters, Entered, IsFreed, IsMade, IsServing, MakesOf, Nexts, Prepared, SetsRule, Tells, TellsDrain, fresh_driven};
+ghost use Rattle.tcam_c.specs.Codes.{AddsRoute, AddsRule, DelsRoute, SetsRoute};
+
+use crate::changes::{adds_route, adds_rule, dels_route, sets_route};
+use crate::codes::{
+    DRAIN_DUE, MADE_ALREADY, MEMORY, NO_MANAGER, NO_MODE, NO_PLACEMENT, NOTHING_DUE, OK,
+    SLOTS_RANGE, WRITE_DUE, code_of_push, code_of_refusal, mode_of, placement_of,
+};
+use crate::handle::TcamManager;
+use crate::plain::{
+    TcamAnswer, TcamKey, TcamNumbers, TcamRefusal, TcamRule, TcamWrite, answer_of, due_of,
+    numbers_of, refusal_of,
+};
+use crate::session::Session;
+use crate::steps::DueKind;
+use batch_order::{Mode, Placement};
+use rule_model::{Key, list_rank};
+use rule_store::Command;
+use std::alloc::Global;
+
+/// Makes a manager of a blank memory with so many slots, 1 to 4,096, and no rules. Mode 0 cuts port ranges by covers, 1 by
+/// bits; placement 0 aims at the middle of a gap, 1 at the slot of a rule's rank. A handle that has a manager stays as it
+/// is, and so does one for which an argument is wrong or memory is wanting.
+#[unsafe(no_mangle)]
+pub extern "C" fn tcam_c_new(
+    manager: &mut TcamManager,
+    slots: u32,
+    mode: u32,
+    placement: u32,
+    alloc: Global,
+) -> u32
+    ensures { IsMade slots mode placement manager.old.held.session manager.new.held.session result }
+{
+    if manager.made {
+        return MADE_ALREADY;
+    }
+    if slots < 1 || slots > 4096 {
+        return SLOTS_RANGE;
+    }
+    let Some(mode) = mode_of(mode) else {
+        return NO_MODE;
+    };
+    let Some(placement) = placement_of(placement) else {
+        return NO_PLACEMENT;
+    };
+    make(manager, alloc, slots, mode, placement)
+}
+
+/// Makes a manager of right numbers behind a handle that has none.
+fn make(
+    manager: &mut TcamManager,
+    alloc: Global,
+    slots: u32,
+    mode: Mode,
+    placement: Placement,
+) -> u32
+    requires none { manager.old.held.session ≡ None }
+    requires least { 1 ≤ slots }
+    requires most { slots ≤ 4096 }
+    ensures { MakesOf slots (Some mode) (Some placement) manager.new.held.session result }
+{
+    match boxed(alloc, slots, mode, placement) {
+        None => MEMORY,
+        Some(session) => {
+            manager.put(session);
+            OK
+        }
+    }
+}
+
+/// What stands behind a new handle, or None for want of memory.
+fn boxed(alloc: Global, slots: u32, mode: Mode, placement: Placement) -> Option<Box<Session>>
+    requires least { 1 ≤ slots }
+    requires most { slots ≤ 4096 }
+    ensures fresh { IfSome result (λ session. session.value ≡ fresh_driven slots mode placement) }
+    ensures serves { IsSome result → IsServing (fresh_driven slots mode placement) }
+{
+    let Ok(session) = Session::new(alloc, slots, mode, placement) else {
+        return None;
+    };
+    match Box::new(alloc, session) {
+        Ok(session) => Some(session),
+        Err(_) => None,
+    }
+}
+
+/// Frees the manager of a handle, with a commit that is under way. The handle has none then.
+#[unsafe(no_mangle)]
+pub extern "C" fn tcam_c_free(manager: &mut TcamManager, alloc: Global) -> u32
+    ensures { IsFreed manager.old.held.session manager.new.held.session result }
+{
+    match manager.take(alloc) {
+        None => NO_MANAGER,
+        Some(_session) => OK,
+    }
+}
+
+/// A change joins the batch.
+fn enter(manager: &mut TcamManager, alloc: Global, wanted: Result<Command, u32>) -> u32
+    ensures { Called (Enters wanted) manager.old.held.session manager.new.held.session result }
+{
+    let Some(mut session) = manager.take(alloc) else {
+        return NO_MANAGER;
+    };
+    let code = match wanted {
+        Ok(command) => code_of_push(session.push(command)),
+        Err(code) => code,
+    };
+    manager.put(session);
+    code
+}
+
+/// Adds a route in the batch.
+#[unsafe(no_mangle)]
+pub extern "C" fn tcam_c_add_route(
+    manager: &mut TcamManager,
+    address: u32,
+    length: u8,
+    answer: u32,
+    alloc: Global,
+) -> u32
+    ensures { Entered (AddsRoute address length answer) manager.old.held.session manager.new.held.session result }
+{
+    enter(manager, alloc, adds_route(address, length, answer))
+}
+
+/// Changes the result of a route in the batch.
+#[unsafe(no_mangle)]
+pub extern "C" fn tcam_c_set_route(
+    manager: &mut TcamManager,
+    address: u32,
+    length: u8,
+    answer: u32,
+    alloc: Global,
+) -> u32
+    ensures { Entered (SetsRoute address length answer) manager.old.held.session manager.new.held.session result }
+{
+    enter(manager, alloc, sets_route(address, length, answer))
+}
+
+/// Removes a route in the batch.
+#[unsafe(no_mangle)]
+pub extern "C" fn tcam_c_del_route(
+    manager: &mut TcamManager,
+    address: u32,
+    length: u8,
+    alloc: Global,
+) -> u32
+    ensures { Entered (DelsRoute address length) manager.old.held.session manager.new.held.session result }
+{
+    enter(manager, alloc, dels_route(address, length))
+}
+
+/// Adds a rule of an access list in the batch.
+#[unsafe(no_mangle)]
+pub extern "C" fn tcam_c_add_rule(manager: &mut TcamManager, rule: &TcamRule, alloc: Global) -> u32
+    ensures { Entered (AddsRule rule.now) manager.old.held.session manager.new.held.session result }
+{
+    enter(manager, alloc, adds_rule(rule))
+}
+
+/// Changes the result of a rule of an access list in the batch.
+#[unsafe(no_mangle)]
+pub extern "C" fn tcam_c_set_rule(
+    manager: &mut TcamManager,
+    number: u32,
+    answer: u32,
+    alloc: Global,
+) -> u32
+    ensures { Called (SetsRule number answer) manager.old.held.session manager.new.held.session result }
+{
+    let change = Command::Set {
+        priority: list_rank(number),
+        result: answer,
+    };
+    enter(manager, alloc, Ok(change))
+}
+
+/// Removes a rule of an access list in the batch.
+#[unsafe(no_mangle)]
+pub extern "C" fn tcam_c_del_rule(manager: &mut TcamManager, number: u32, alloc: Global) -> u32
+    ensures { Called (DelsRule number) manager.old.held.session manager.new.held.session result }
+{
+    enter(manager, alloc, Ok(Command::Del(list_rank(number))))
+}
+
+/// Takes every change out of the batch.
+#[unsafe(no_mangle)]
+pub extern "C" fn tcam_c_clear(manager: &mut TcamManager, alloc: Global) -> u32
+    ensures { Called Clears manager.old.held.session manager.new.held.session result }
+{
+    let Some(mut session) = manager.take(alloc) else {
+        return NO_MANAGER;
+    };
+    session.clear();
+    manager.put(session);
+    OK
+}
+
+/// Has the batch judged and planned, and takes all memory that its commit needs. Where it is taken the numbers are written,
+/// and the batch is empty then; else what the refusal tells is, and the batch and all else stay as they were.
+#[unsafe(no_mangle)]
+pub extern "C" fn tcam_c_prepare(
+    manager: &mut TcamManager,
+    numbers: &mut TcamNumbers,
+    refusal: &mut TcamRefusal,
+    alloc: Global,
+) -> u32
+    ensures prepared { Called (Prepared numbers.old numbers.new refusal.old refusal.new) manager.old.held.session manager.new.held.session result }
+    ensures untold { IsNone manager.old.held.session → (numbers.new ≡ numbers.old) × (refusal.new ≡ refusal.old) }
+{
+    let Some(mut session) = manager.take(alloc) else {
+        return NO_MANAGER;
+    };
+    let code = match session.prepare() {
+        Ok(ready) => {
+            *numbers = numbers_of(&ready);
+            OK
+        }
+        Err(fault) => {
+            *refusal = refusal_of(&fault);
+            code_of_refusal(&fault)
+        }
+    };
+    manager.put(session);
+    code
+}
+
+/// Tells what is due: a write, a drain, or nothing where no commit is under way. It changes nothing else, and takes no memory.
+#[unsafe(no_mangle)]
+pub extern "C" fn tcam_c_next(
+    manager: &mut TcamManager,
+    write: &mut TcamWrite,
+    alloc: Global,
+) -> u32
+    ensures told { Called (Nexts write.new) manager.old.held.session manager.new.held.session result }
+    ensures untold { IsNone manager.old.held.session → write.new ≡ write.old }
+{
+    let Some(session) = manager.take(alloc) else {
+        return NO_MANAGER;
+    };
+    *write = due_of(session.due());
+    manager.put(session);
+    OK
+}
+
+/// The write that is due was made: what comes behind it is due then, or the commit has finished. Where a drain is due, or
+/// nothing, the code says so, and nothing changes. It takes no memory.
+#[unsafe(no_mangle)]
+pub extern "C" fn tcam_c_made(manager: &mut TcamManager, alloc: Global) -> u32
+    ensures { Called Tells manager.old.held.session manager.new.held.session result }
+{
+    let Some(mut session) = manager.take(alloc) else {
+        return NO_MANAGER;
+    };
+    let code = match session.kind_due() {
+        DueKind::Nothing => NOTHING_DUE,
+        DueKind::Drain => DRAIN_DUE,
+        DueKind::Write => {
+            session.go_on();
+            OK
+        }
+    };
+    manager.put(session);
+    code
+}
+
+/// The drain that is due was made: no look-up whose word was made before is still to be searched. Where a write is due, or
+/// nothing, the code says so, and nothing changes. It takes no memory.
+#[unsafe(no_mangle)]
+pub extern "C" fn tcam_c_drained(manager: &mut TcamManager, alloc: Global) -> u32
+    ensures { Called TellsDrain manager.old.held.session manager.new.held.session result }
+{
+    let Some(mut session) = manager.take(alloc) else {
+        return NO_MANAGER;
+    };
+    let code = match session.kind_due() {
+        DueKind::Nothing => NOTHING_DUE,
+        DueKind::Write => WRITE_DUE,
+        DueKind::Drain => {
+            session.go_on();
+            OK
+        }
+    };
+    manager.put(session);
+    code
+}
+
+/// Tells what a packet is answered by the writes that were made. It changes nothing else, and takes no memory.
+#[unsafe(no_mangle)]
+pub extern "C" fn tcam_c_answer(
+    manager: &mut TcamManager,
+    key: &TcamKey,
+    answer: &mut TcamAnswer,
+    alloc: Global,
+) -> u32
+    ensures told { Called (Answers key.now answer.new) manager.old.held.session manager.new.held.session result }
+    ensures untold { IsNone manager.old.held.session → answer.new ≡ answer.old }
+{
+    let Some(session) = manager.take(alloc) else {
+        return NO_MANAGER;
+    };
+    let asked = Key::v4(
+        key.source,
+        key.destination,
+        key.protocol,
+        key.source_port,
+        key.destination_port,
+    );
+    *answer = answer_of(session.look(&asked));
+    manager.put(session);
+    OK
+}

@@ -1,0 +1,137 @@
+//! A manager, the batch that waits for it, and the shadow of the caller's memory.
+
+ghost use Rattle.std.specs.Prelude.{◌≡◌, ◌≤◌, ◌++◌, ◌∷◌, [], ◌↔◌, Err, IfOk, OnOk, OnErr, IfSome, IsSome, length};
+ghost use Rattle.tcam_device.specs.State.{lookup, replay};
+ghost use Rattle.batch_order.specs.Managed.{Judges};
+ghost use Rattle.batch_order.specs.CarriedOut.{GoesForward};
+ghost use Rattle.batch_order.specs.Steps.{ServesNow};
+ghost use Rattle.tcam_c.specs.Calls.{IsServing, IsServingAhead, fresh_driven};
+ghost use Rattle.tcam_c.specs.Driven.{Prepares, GoesOn, IsEnded, KeepsLive, due_of, journal_of, kind_of_due};
+
+use crate::outside::Outside;
+use crate::steps::{DueKind, due, go_on, kind_due, prepare};
+use batch_order::{Manager, Mode, Placement, Ready, Refusal};
+use memory_tcam::Shadowed;
+use rule_model::{Key, Rank};
+use rule_store::{Batch, Command, PushFault};
+use std::alloc::{AllocError, Global};
+use std::marker::Model;
+use tcam_device::{Action, Device};
+
+/// What stands behind a handle. Between two calls a commit is under way exactly where a write or
+/// a drain is due.
+#[derive(Drop)]
+pub(crate) struct Session {
+    manager: Manager,
+    device: Shadowed<Outside>,
+    batch: Batch,
+}
+
+impl Model for Session {
+    ghost use Rattle.tcam_c.specs.Driven.{Driven, IsDriven};
+
+    ghost Value = { Driven };
+
+    ghost view = { λ s. record { manager = s.manager; events = s.device.events; batch = s.batch } };
+
+    ghost invariant = { λ s. IsDriven s.manager s.device.slots s.device.events s.device.flight s.device.spare };
+}
+
+impl Session {
+    /// A manager of a blank memory with so many slots in use and no rules, and an empty batch. It fails only for want of
+    /// memory.
+    pub(crate) fn new(
+        alloc: Global,
+        slots: u32,
+        mode: Mode,
+        placement: Placement,
+    ) -> Result<Session, AllocError>
+        requires least { 1 ≤ slots }
+        requires most { slots ≤ 4096 }
+        ensures fresh { IfOk result (λ session. session ≡ fresh_driven slots mode placement) }
+        ensures serves { OnOk result (IsServing (fresh_driven slots mode placement)) }
+    {
+        let manager = Manager::new(alloc, slots, mode, placement)?;
+        manager.serving();
+        let device = Shadowed::new(alloc, Outside { slots })?;
+        let batch = Batch::new(alloc);
+        Ok(Session {
+            manager,
+            device,
+            batch,
+        })
+    }
+
+    /// Puts a change behind the others of the batch.
+    pub(crate) fn push(&mut self, command: Command) -> Result<(), PushFault>
+        ensures pushed { OnOk result (self.new ≡ record self.old { batch = self.old.batch ++ command ∷ [] }) }
+        ensures full { (result ≡ Err PushFault.Full) ↔ (length self.old.batch ≡ 4096) }
+        ensures same { OnErr result (self.new ≡ self.old) }
+    {
+        self.batch.push(command)
+    }
+
+    /// Takes every change out of the batch.
+    pub(crate) fn clear(&mut self)
+        ensures { self.new ≡ record self.old { batch = [] } }
+    {
+        self.batch.clear();
+    }
+
+    /// Has the batch judged and planned. Where it is taken the batch is empty then, and a commit with nothing to make
+    /// has finished. A refusal leaves all as it was.
+    pub(crate) fn prepare(&mut self) -> Result<Ready, Refusal>
+        ensures judged { Judges self.old.manager self.old.manager.held self.old.batch result }
+        ensures ready { IfOk result (λ ready. Prepares self.old ready self.new) }
+        ensures refused { OnErr result (self.new ≡ self.old) }
+        ensures keeps { KeepsLive self.old.manager self.new.manager }
+        ensures before { IsServing self.old }
+        ensures serves { IsServing self.new }
+    {
+        let ready = prepare(&mut self.manager, &self.batch, &mut self.device)?;
+        self.batch.clear();
+        Ok(ready)
+    }
+
+    /// The write or the drain that is due, or None where no commit is under way.
+    pub(crate) fn due(&self) -> Option<Action>
+        ensures due { result ≡ due_of self.now.manager.held }
+        ensures ended { IsEnded self.now.manager.held result }
+        ensures forward { GoesForward self.now.manager.held }
+        ensures serves { IsServing self.now }
+        ensures now { ServesNow self.now.manager }
+        ensures ahead { IsServingAhead self.now result }
+    {
+        self.manager.serving();
+        let _write = self.manager.next_write();
+        due(&self.manager)
+    }
+
+    /// What kind of thing is due.
+    pub(crate) fn kind_due(&self) -> DueKind
+        ensures kind { result ≡ kind_of_due (due_of self.now.manager.held) }
+        ensures serves { IsServing self.now }
+    {
+        self.manager.serving();
+        kind_due(&self.manager)
+    }
+
+    /// The write or the drain that is due was made: what comes behind it is due then, or the commit has finished. It takes
+    /// no memory.
+    pub(crate) fn go_on(&mut self)
+        requires { IsSome (due_of self.old.manager.held) }
+        ensures on { GoesOn self.old self.new }
+        ensures serves { IsServing self.new }
+    {
+        go_on(&mut self.manager, &mut self.device);
+    }
+
+    /// What a key is answered by the writes that were made.
+    pub(crate) fn look(&self, key: &Key) -> Option<(Rank, u32)>
+        ensures answer { result ≡ lookup (replay self.now.manager.slots (journal_of self.now)) key.now }
+        ensures serves { IsServing self.now }
+    {
+        let _rules = self.manager.rules();
+        self.device.look(key)
+    }
+}

@@ -1,0 +1,132 @@
+//! The manager's calls over memory that the caller writes.
+
+ghost use Rattle.std.specs.Prelude.{◌≡◌, ◌++◌, [], IfOk, IsSome, OnErr};
+ghost use Rattle.tcam_device.specs.State.{replay};
+ghost use Rattle.tcam_device.specs.Flight.{writes_in};
+ghost use Rattle.batch_order.specs.Managed.{Judges, Serves, IsOn};
+ghost use Rattle.batch_order.specs.CarriedOut.{GoesForward, HasRoomLeft};
+ghost use Rattle.tcam_c.specs.Driven.{IsDriven, KeepsLive, KeepsWords, Plans, due_actions, due_of, made_of, settled, stepped_of, kind_of_due};
+
+use crate::outside::Outside;
+use batch_order::{Manager, Ready, Refusal};
+use memory_tcam::Shadowed;
+use rule_store::Batch;
+use tcam_device::{Action, DeviceFault};
+
+/// Has a batch judged and planned. A plan with nothing to make has finished.
+pub(crate) fn prepare(
+    manager: &mut Manager,
+    batch: &Batch,
+    device: &mut Shadowed<Outside>,
+) -> Result<Ready, Refusal>
+    requires driven { IsDriven manager.old device.old.slots device.old.events device.old.flight device.old.spare }
+    ensures judged { Judges manager.old manager.old.held batch.now result }
+    ensures ready { IfOk result (λ ready. Plans manager.old batch.now ready manager.new) }
+    ensures refused { OnErr result (manager.new ≡ manager.old) }
+    ensures keeps { KeepsLive manager.old manager.new }
+    ensures events { device.new.events ≡ device.old.events }
+    ensures driven { IsDriven manager.new device.new.slots device.new.events device.new.flight device.new.spare }
+    ensures before { Serves (replay manager.old.slots (writes_in device.old.events)) manager.old.rules manager.old.held }
+    ensures serves { Serves (replay manager.new.slots (writes_in device.new.events)) manager.new.rules manager.new.held }
+{
+    let ready = manager.prepare(batch, device)?;
+    settle(manager, device);
+    Ok(ready)
+}
+
+/// What is due of a commit under way: its next write, or its drain. None comes where it has nothing left, and where no
+/// commit is under way.
+pub(crate) fn due(manager: &Manager) -> Option<Action>
+    requires forward { GoesForward manager.now.held }
+    ensures due { result ≡ due_of manager.now.held }
+{
+    if manager.drains_next() {
+        return Some(Action::Drained);
+    }
+    match manager.next_write() {
+        None => None,
+        Some(write) => Some(Action::Written(write)),
+    }
+}
+
+/// What kind of thing is due.
+#[derive(Clone, Copy)]
+pub(crate) enum DueKind {
+    /// No commit is under way, or it has nothing left.
+    Nothing,
+    Write,
+    Drain,
+}
+
+/// What kind of thing is due, which takes less than to say what.
+pub(crate) fn kind_due(manager: &Manager) -> DueKind
+    requires forward { GoesForward manager.now.held }
+    ensures { result ≡ kind_of_due (due_of manager.now.held) }
+{
+    if manager.drains_next() {
+        return DueKind::Drain;
+    }
+    match manager.left() {
+        None | Some(0) => DueKind::Nothing,
+        Some(_) => DueKind::Write,
+    }
+}
+
+/// The write or the drain that is due was made: what comes behind it is due then, or the commit has finished.
+pub(crate) fn go_on(manager: &mut Manager, device: &mut Shadowed<Outside>)
+    requires driven { IsDriven manager.old device.old.slots device.old.events device.old.flight device.old.spare }
+    requires due { IsSome (due_of manager.old.held) }
+    ensures made { manager.new ≡ made_of manager.old.held manager.old }
+    ensures keeps { KeepsWords (due_of manager.old.held) manager.old manager.new }
+    ensures events { device.new.events ≡ device.old.events ++ due_actions (due_of manager.old.held) }
+    ensures driven { IsDriven manager.new device.new.slots device.new.events device.new.flight device.new.spare }
+    ensures serves { Serves (replay manager.new.slots (writes_in device.new.events)) manager.new.rules manager.new.held }
+{
+    advance(manager, device);
+    settle(manager, device);
+}
+
+/// A commit under way that has nothing left finishes.
+fn settle(manager: &mut Manager, device: &mut Shadowed<Outside>)
+    requires slots { device.old.slots ≡ manager.old.slots }
+    requires on { IsOn manager.old.slots (writes_in device.old.events) manager.old }
+    requires room { HasRoomLeft manager.old.held device.old.spare }
+    requires still { device.old.flight ≡ [] }
+    requires forward { GoesForward manager.old.held }
+    ensures settled { manager.new ≡ settled manager.old }
+    ensures keeps { KeepsLive manager.old manager.new }
+    ensures events { device.new.events ≡ device.old.events }
+    ensures driven { IsDriven manager.new device.new.slots device.new.events device.new.flight device.new.spare }
+    ensures serves { Serves (replay manager.new.slots (writes_in device.new.events)) manager.new.rules manager.new.held }
+{
+    let _rules = manager.rules();
+    if let DueKind::Nothing = kind_due(manager) {
+        advance(manager, device);
+    }
+}
+
+/// The manager's next step over memory in which what is due was made. No word is in flight, so a drain never waits.
+fn advance(manager: &mut Manager, device: &mut Shadowed<Outside>)
+    requires slots { device.old.slots ≡ manager.old.slots }
+    requires on { IsOn manager.old.slots (writes_in device.old.events) manager.old }
+    requires room { HasRoomLeft manager.old.held device.old.spare }
+    requires still { device.old.flight ≡ [] }
+    requires forward { GoesForward manager.old.held }
+    ensures stepped { manager.new ≡ stepped_of manager.old.held manager.old }
+    ensures keeps { KeepsWords (due_of manager.old.held) manager.old manager.new }
+    ensures events { device.new.events ≡ device.old.events ++ due_actions (due_of manager.old.held) }
+    ensures slots { device.new.slots ≡ manager.new.slots }
+    ensures on { IsOn manager.new.slots (writes_in device.new.events) manager.new }
+    ensures room { HasRoomLeft manager.new.held device.new.spare }
+    ensures still { device.new.flight ≡ [] }
+    ensures forward { GoesForward manager.new.held }
+    ensures serves { Serves (replay manager.new.slots (writes_in device.new.events)) manager.new.rules manager.new.held }
+{
+    let _before = device.hardware();
+    let step = manager.step(device);
+    let _after = device.hardware();
+    match step {
+        Ok(_) => {}
+        Err(DeviceFault) => unreachable!(),
+    }
+}

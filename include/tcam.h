@@ -1,0 +1,329 @@
+/* The table manager of a TCAM for drivers in C. docs/C.md says what is proved of it, and what the C side owes.
+ *
+ * Who does what: the memory is the caller's. Changes to the rules join a pending batch; tcam_prepare has it judged
+ * and plans every write of its commit; then the caller asks tcam_next which write is due, makes it, and says so by
+ * tcam_made, until nothing is due. A write that fails is asked for again: tcam_next tells the same one until
+ * tcam_made comes, and it may be made twice. A commit by TCAM_BY_BITS that brings new port ranges drains once,
+ * behind the words of the tables: tcam_next tells TCAM_DRAIN, the caller waits until no look-up whose search word
+ * was made before is still to be searched, and says so by tcam_drained. Where a look-up makes its word and searches
+ * the slots in one, there is nothing to wait for. Packets may be looked up between any two calls: before the first
+ * write and after each of them, also where the write that is due was made and not told yet, each packet gets the
+ * answer of the old rules or that of the new ones, and after the last tcam_made that of the new ones.
+ *
+ * Every function answers a code: TCAM_NULL where a pointer is null, and else TCAM_NO_MANAGER where the handle has
+ * none, but for tcam_new. With any code but TCAM_OK all is as it was before the call, and nothing was written
+ * through a pointer, but what tcam_prepare tells of a refusal. After any code any call may come.
+ *
+ * No call locks, waits, prints, calls back, or keeps a pointer that it is given. tcam_new, the functions that put a
+ * change into the batch, and tcam_prepare take memory by malloc, realloc and free, and say so by TCAM_MEMORY where
+ * it is wanting. No call takes memory between a tcam_prepare and the last tcam_made of its commit, but those that
+ * put changes into the next batch: so a commit that is under way can't fail for memory. The last tcam_made gives
+ * back what the commit took.
+ *
+ * Addresses, ports and protocols are numbers as the processor has them: 10.0.0.0 is 0x0a000000. A result is any
+ * number, and a look-up answers it: an output port, a next hop, permit or deny. Routes and rules of an access list
+ * may stand in one memory: each route but the one of length 0 goes before every rule, and that one behind them all.
+ *
+ * What the C side keeps, and nothing here can test:
+ *  - A struct tcam_manager is set by TCAM_MANAGER_NONE (all zeros) before the first call, and after that changed by
+ *    these functions alone. It may be moved, but there is one copy that is used: a copy that was taken before a
+ *    tcam_free isn't.
+ *  - A pointer points to one struct of its type, and two pointers of one call to two different ones.
+ *  - One manager is in one call at a time. Managers have nothing in common, so two threads may have one each, and
+ *    hand one over by a lock, or by a start or join of a thread. No call comes from a signal handler, or in a forked
+ *    child of a process with threads.
+ *  - malloc, realloc and free come from one allocator, and a block is aligned to 16 bytes.
+ *  - The memory is blank when tcam_new is called: each slot empty, and each word of both tables 0. Nobody else
+ *    writes it.
+ *  - tcam_made comes where the write that tcam_next told was made, whole, behind those before it; and tcam_drained
+ *    where no look-up is left that made its search word before, and has not been searched. */
+#ifndef TCAM_H
+#define TCAM_H
+
+#include <stdbool.h>
+#include <stddef.h>
+#include <stdint.h>
+
+#ifdef __cplusplus
+extern "C" {
+#endif
+
+/* What a function answers. */
+enum tcam_error {
+    TCAM_OK = 0,
+    TCAM_NO_MANAGER = 1,    /* the handle is zeroed, or its manager was freed */
+    TCAM_MADE_ALREADY = 2,  /* the handle has a manager */
+    TCAM_SLOTS_RANGE = 3,   /* 1 to 4,096 slots */
+    TCAM_NO_MODE = 4,       /* none of enum tcam_mode */
+    TCAM_NO_PLACEMENT = 5,  /* none of enum tcam_placement */
+    TCAM_PREFIX_LENGTH = 6, /* a prefix longer than 32 bits */
+    TCAM_HOST_BITS = 7,     /* a bit of the address past the length is set */
+    TCAM_PORTS = 8,         /* a range ends before it begins */
+    TCAM_PROTOCOL = 9,      /* past TCAM_ANY_PROTOCOL */
+    TCAM_BATCH_FULL = 10,   /* the batch has 4,096 changes */
+    TCAM_MEMORY = 11,       /* want of memory */
+    TCAM_BUSY = 12,         /* a commit is under way */
+    TCAM_TWICE = 13,        /* an earlier change of the batch names the rule */
+    TCAM_TAKEN = 14,        /* a rule that is to be added is there */
+    TCAM_ABSENT = 15,       /* a rule that is to be changed or removed isn't there */
+    TCAM_BITS = 16,         /* too few bits of a field are free for the new port ranges */
+    TCAM_SLOTS = 17,        /* too few slots are free */
+    TCAM_NOTHING_DUE = 18,  /* no commit is under way */
+    TCAM_NULL = 19,         /* a pointer is null */
+    TCAM_DRAIN_DUE = 20,    /* a drain is due, and no write */
+    TCAM_WRITE_DUE = 21     /* a write is due, and no drain */
+};
+
+/* How port ranges are cut: into an entry for each pair of blocks of their covers, up to 900 a rule, or into one
+ * entry whose bits two translation tables of the memory give, up to 16 ranges of each field, beside those that are
+ * one block. Only TCAM_BY_BITS has words of tables and drains among what is due: a memory without such tables takes
+ * TCAM_COVER. */
+enum tcam_mode { TCAM_COVER = 0, TCAM_BY_BITS = 1 };
+
+/* Where a new entry goes: to the middle of its gap, as routes want it, or to the slot of its rank, as access lists
+ * do. */
+enum tcam_placement { TCAM_MIDDLE = 0, TCAM_RANK = 1 };
+
+/* What is due. Later kinds may come: a driver that meets one that it doesn't know makes nothing and tells nothing. */
+enum tcam_kind {
+    TCAM_NOTHING = 0, /* no commit is under way */
+    TCAM_PUT = 1,     /* a slot gets an entry: slot, value, mask, tag, result */
+    TCAM_ERASE = 2,   /* a slot is emptied: slot */
+    TCAM_WORD = 3,    /* a table gets a word at a port: field, port, word */
+    TCAM_DRAIN = 4    /* wait until each word that a look-up made was searched, and tell it by tcam_drained */
+};
+
+enum tcam_field { TCAM_SOURCE = 0, TCAM_DESTINATION = 1 };
+
+#define TCAM_LANES 11
+#define TCAM_ANY_PROTOCOL 256
+
+/* A manager in the caller's own memory. */
+struct tcam_manager {
+    bool made;
+    void *held;
+};
+#define TCAM_MANAGER_NONE { false, NULL }
+
+/* A rule's priority as a number of 136 bits. Of a route: its length, and its address in the last 32 bits; of a rule
+ * of an access list: 0, and 2^32 less its number. */
+struct tcam_tag {
+    uint8_t high;
+    uint64_t low_upper;
+    uint64_t low_lower;
+};
+
+/* What is due, by its kind of enum tcam_kind, in the lanes of the memory. An entry hits a search word where (word ^
+ * value) & mask is 0 in every lane, and the hit of lowest slot wins. Lane 0 has the source address of IPv4 and lane
+ * 4 the destination address, lane 8 the source port times 65,536 and the destination port, lane 9 the protocol times
+ * 2^24, and lane 10 the source table's word at the source port times 65,536 and the destination table's at the
+ * destination port. A memory that is narrower leaves out lanes that no rule tests: a route tests lane 4 alone. The
+ * tag is that of the rule, for the driver's own use, since no look-up needs it. The field is one of enum tcam_field,
+ * and a word has 16 bits. What a kind doesn't name is 0. */
+struct tcam_write {
+    uint32_t kind;
+    uint32_t slot;
+    uint32_t value[TCAM_LANES];
+    uint32_t mask[TCAM_LANES];
+    struct tcam_tag tag;
+    uint32_t result;
+    uint32_t field;
+    uint32_t port;
+    uint32_t word;
+};
+
+/* A packet of IPv4, each address as a number: 10.0.0.1 is 0x0a000001. */
+struct tcam_key {
+    uint32_t source;
+    uint32_t destination;
+    uint16_t source_port;
+    uint16_t destination_port;
+    uint8_t protocol;
+};
+
+/* What a packet is answered: found is 1, with the result and the tag of the rule that decides, or all is 0 where no
+ * rule matches it. */
+struct tcam_answer {
+    uint32_t found;
+    uint32_t result;
+    struct tcam_tag tag;
+};
+
+/* A rule of an access list: of all that match a packet the one of the lowest number decides, which names the rule. A
+ * prefix of length 0 is any address, its address then 0; the protocol is 0 to 255, or TCAM_ANY_PROTOCOL. Both ends
+ * belong to a range of ports, and 0 to 65,535 is any: a rule that is all zeros but for its protocol has port 0
+ * alone. */
+struct tcam_rule {
+    uint32_t number;
+    uint32_t source;
+    uint32_t destination;
+    uint8_t source_length;
+    uint8_t destination_length;
+    uint16_t protocol;
+    uint16_t source_port_first;
+    uint16_t source_port_last;
+    uint16_t destination_port_first;
+    uint16_t destination_port_last;
+    uint32_t result;
+};
+
+/* A commit's writes, those of them to the tables, the writes of its longest insertion, and the greatest crossing
+ * span of one: how many slots the last overlapping entry that must stand before it is past the first one that must
+ * stand behind it, 0 where it isn't, as with routes always. A drain is no write. */
+struct tcam_numbers {
+    uint64_t writes;
+    uint32_t words;
+    uint32_t most;
+    uint32_t span;
+};
+
+/* What a refusal tells: left with TCAM_BUSY, the writes that are left; with TCAM_TWICE, TCAM_TAKEN and TCAM_ABSENT
+ * the tag of the first rule that is at fault; with TCAM_BITS the field of enum tcam_field, and how many bits are
+ * needed and free; with TCAM_SLOTS how many slots. What it doesn't tell is 0. */
+struct tcam_refusal {
+    uint64_t left;
+    struct tcam_tag tag;
+    uint32_t field;
+    uint32_t need;
+    uint32_t free;
+};
+
+/* The functions of the library, which test no pointer. Call those below. */
+uint32_t tcam_c_new(struct tcam_manager *manager, uint32_t slots, uint32_t mode, uint32_t placement);
+uint32_t tcam_c_free(struct tcam_manager *manager);
+uint32_t tcam_c_add_route(struct tcam_manager *manager, uint32_t address, uint8_t length, uint32_t result);
+uint32_t tcam_c_set_route(struct tcam_manager *manager, uint32_t address, uint8_t length, uint32_t result);
+uint32_t tcam_c_del_route(struct tcam_manager *manager, uint32_t address, uint8_t length);
+uint32_t tcam_c_add_rule(struct tcam_manager *manager, const struct tcam_rule *rule);
+uint32_t tcam_c_set_rule(struct tcam_manager *manager, uint32_t number, uint32_t result);
+uint32_t tcam_c_del_rule(struct tcam_manager *manager, uint32_t number);
+uint32_t tcam_c_clear(struct tcam_manager *manager);
+uint32_t tcam_c_prepare(struct tcam_manager *manager, struct tcam_numbers *numbers, struct tcam_refusal *refusal);
+uint32_t tcam_c_next(struct tcam_manager *manager, struct tcam_write *write);
+uint32_t tcam_c_made(struct tcam_manager *manager);
+uint32_t tcam_c_drained(struct tcam_manager *manager);
+uint32_t tcam_c_answer(struct tcam_manager *manager, const struct tcam_key *key, struct tcam_answer *answer);
+
+/* Makes a manager without rules, of a blank memory with so many slots, 0 to slots - 1. It belongs to the handle
+ * until tcam_free. Other answers are TCAM_MADE_ALREADY, TCAM_SLOTS_RANGE, TCAM_NO_MODE, TCAM_NO_PLACEMENT and
+ * TCAM_MEMORY, in this order. */
+static inline enum tcam_error tcam_new(struct tcam_manager *manager, uint32_t slots, enum tcam_mode mode,
+                                       enum tcam_placement placement) {
+    return manager ? (enum tcam_error)tcam_c_new(manager, slots, (uint32_t)mode, (uint32_t)placement) : TCAM_NULL;
+}
+
+/* Frees the manager and all that belongs to it, its batch and a commit that is under way too. The handle has no
+ * manager then, and may get another. The memory stays as it is, and is blanked before another manager has it. */
+static inline enum tcam_error tcam_free(struct tcam_manager *manager) {
+    return manager ? (enum tcam_error)tcam_c_free(manager) : TCAM_NULL;
+}
+
+/* Six changes that join the pending batch, up to 4,096: a route or a rule is added, gets another result, or is
+ * removed. The next batch may be collected while a commit is under way. Other answers are TCAM_PREFIX_LENGTH and
+ * TCAM_HOST_BITS, of an added rule TCAM_PORTS and TCAM_PROTOCOL too, and behind those TCAM_BATCH_FULL and
+ * TCAM_MEMORY. Whether a rule is there is judged by tcam_prepare. A batch names each rule once, or removes it and
+ * then adds another in its place. */
+static inline enum tcam_error tcam_add_route(struct tcam_manager *manager, uint32_t address, uint8_t length,
+                                             uint32_t result) {
+    return manager ? (enum tcam_error)tcam_c_add_route(manager, address, length, result) : TCAM_NULL;
+}
+
+static inline enum tcam_error tcam_set_route(struct tcam_manager *manager, uint32_t address, uint8_t length,
+                                             uint32_t result) {
+    return manager ? (enum tcam_error)tcam_c_set_route(manager, address, length, result) : TCAM_NULL;
+}
+
+static inline enum tcam_error tcam_del_route(struct tcam_manager *manager, uint32_t address, uint8_t length) {
+    return manager ? (enum tcam_error)tcam_c_del_route(manager, address, length) : TCAM_NULL;
+}
+
+static inline enum tcam_error tcam_add_rule(struct tcam_manager *manager, const struct tcam_rule *rule) {
+    return manager && rule ? (enum tcam_error)tcam_c_add_rule(manager, rule) : TCAM_NULL;
+}
+
+static inline enum tcam_error tcam_set_rule(struct tcam_manager *manager, uint32_t number, uint32_t result) {
+    return manager ? (enum tcam_error)tcam_c_set_rule(manager, number, result) : TCAM_NULL;
+}
+
+static inline enum tcam_error tcam_del_rule(struct tcam_manager *manager, uint32_t number) {
+    return manager ? (enum tcam_error)tcam_c_del_rule(manager, number) : TCAM_NULL;
+}
+
+/* Takes every change out of the batch. */
+static inline enum tcam_error tcam_clear(struct tcam_manager *manager) {
+    return manager ? (enum tcam_error)tcam_c_clear(manager) : TCAM_NULL;
+}
+
+/* Judges the batch by the rules, plans every write of its commit, and takes all memory for it. With TCAM_OK the
+ * numbers are written, the batch is empty, and the commit is under way, or has finished already where nothing is to
+ * be made. Else it answers TCAM_BUSY while a commit is under way; by the batch's changes in their order TCAM_TWICE,
+ * TCAM_TAKEN or TCAM_ABSENT; TCAM_BITS; TCAM_SLOTS; or TCAM_MEMORY. Then the refusal is written, nothing is to be
+ * made, and the rules and the batch are as they were: tcam_clear the batch and put other changes into it, or call
+ * again when there is memory. Each packet is answered as before the call. */
+static inline enum tcam_error tcam_prepare(struct tcam_manager *manager, struct tcam_numbers *numbers,
+                                           struct tcam_refusal *refusal) {
+    return manager && numbers && refusal ? (enum tcam_error)tcam_c_prepare(manager, numbers, refusal) : TCAM_NULL;
+}
+
+/* Tells what is due: a write, the same one until tcam_made comes; a drain until tcam_drained comes; and TCAM_NOTHING
+ * where no commit is under way. It changes nothing but what write points to. */
+static inline enum tcam_error tcam_next(struct tcam_manager *manager, struct tcam_write *write) {
+    return manager && write ? (enum tcam_error)tcam_c_next(manager, write) : TCAM_NULL;
+}
+
+/* The write that tcam_next tells was made: what comes behind it is due, and after the last one the rules are the new
+ * set. Call it once for each write, and only where that was made: nothing can test it. TCAM_NOTHING_DUE comes
+ * exactly where no commit is under way, and TCAM_DRAIN_DUE exactly where a drain is due; then nothing changes. */
+static inline enum tcam_error tcam_made(struct tcam_manager *manager) {
+    return manager ? (enum tcam_error)tcam_c_made(manager) : TCAM_NULL;
+}
+
+/* The drain that tcam_next tells was made: no look-up whose search word was made before is still to be searched.
+ * What comes behind it is due. TCAM_NOTHING_DUE comes exactly where no commit is under way, and TCAM_WRITE_DUE
+ * exactly where a write is due; then nothing changes. */
+static inline enum tcam_error tcam_drained(struct tcam_manager *manager) {
+    return manager ? (enum tcam_error)tcam_c_drained(manager) : TCAM_NULL;
+}
+
+/* Tells what the memory answers to a packet by the writes that were told as made: with no commit under way what the
+ * rules do, and with one what the old rules or the new ones do. It asks no memory of the caller's, and changes
+ * nothing but what answer points to. */
+static inline enum tcam_error tcam_answer(struct tcam_manager *manager, const struct tcam_key *key,
+                                          struct tcam_answer *answer) {
+    return manager && key && answer ? (enum tcam_error)tcam_c_answer(manager, key, answer) : TCAM_NULL;
+}
+
+/* An answer's text, a constant that nobody frees. */
+static inline const char *tcam_error_text(enum tcam_error error) {
+    switch (error) {
+    case TCAM_OK: return "done";
+    case TCAM_NO_MANAGER: return "the handle has no manager";
+    case TCAM_MADE_ALREADY: return "the handle has a manager already";
+    case TCAM_SLOTS_RANGE: return "slots are 1 to 4096";
+    case TCAM_NO_MODE: return "no such mode";
+    case TCAM_NO_PLACEMENT: return "no such placement";
+    case TCAM_PREFIX_LENGTH: return "length past the address";
+    case TCAM_HOST_BITS: return "host bits";
+    case TCAM_PORTS: return "a range of ports ends before it begins";
+    case TCAM_PROTOCOL: return "no such protocol";
+    case TCAM_BATCH_FULL: return "batch full";
+    case TCAM_MEMORY: return "out of memory";
+    case TCAM_BUSY: return "a commit is under way";
+    case TCAM_TWICE: return "a rule is named twice";
+    case TCAM_TAKEN: return "a rule is taken";
+    case TCAM_ABSENT: return "a rule is absent";
+    case TCAM_BITS: return "too few bits are free";
+    case TCAM_SLOTS: return "too few slots are free";
+    case TCAM_NOTHING_DUE: return "nothing is due";
+    case TCAM_NULL: return "a pointer is null";
+    case TCAM_DRAIN_DUE: return "a drain is due";
+    case TCAM_WRITE_DUE: return "a write is due";
+    }
+    return "no such answer";
+}
+
+#ifdef __cplusplus
+}
+#endif
+
+#endif
