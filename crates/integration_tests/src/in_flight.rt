@@ -57,7 +57,7 @@ fn translate<D: Device>(rt: &impl Abort, device: &mut D, key: &Key) {
 }
 
 /// A word with the old meaning of bit 0, searched once the bit has a new one without a drain between, finds an entry
-/// that neither the old nor the new rules answer with.
+/// that neither the old nor the new rules answer with. Its twin, searched before these writes, finds what the old ones do.
 #[test]
 fn stale_word(rt: HostRuntime) -> Result<(), Fail> {
     let mut device = MemTcam::new(rt.alloc(), 8)?;
@@ -65,6 +65,8 @@ fn stale_word(rt: HostRuntime) -> Result<(), Fail> {
         assert!(rt; makes(&rt, &mut device, Write::Table(Field::Dst, port, 1))?);
     }
     translate(&rt, &mut device, &to(2));
+    translate(&rt, &mut device, &to(2));
+    assert_eq!(rt; device.search(), Some(None));
     for (port, word) in [(1, 0), (2, 0), (3, 1), (4, 1)] {
         assert!(rt; makes(&rt, &mut device, Write::Table(Field::Dst, port, word))?);
     }

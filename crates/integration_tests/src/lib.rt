@@ -3,14 +3,6 @@
 #![tactic(auto)]
 
 #[cfg(test)]
-mod by_bits;
-#[cfg(test)]
-mod by_rank;
-#[cfg(test)]
-mod carried;
-#[cfg(test)]
-mod commits;
-#[cfg(test)]
 mod devices;
 #[cfg(test)]
 mod in_flight;

@@ -1,11 +1,6 @@
-// A commit over hardware that tells nothing, and that fails a write which it has made.
+// Hardware that tells nothing, and that fails a write which it has made.
 ghost use Rattle.std.specs.Prelude.{◌≡◌};
 
-use crate::commits::fails_once;
-use batch_order::{Manager, Mode, Placement};
-use memory_tcam::Shadowed;
-use std::process::Abort;
-use std::test::Fail;
 use tcam_device::{DeviceFault, Hardware, Write};
 use ternary_word::Entry;
 
@@ -52,13 +47,4 @@ impl Hardware for Late {
     fn drain(&mut self) {
         self.drains = self.drains.saturating_add(1);
     }
-}
-
-#[test]
-fn a_write_that_fails_and_was_made(rt: HostRuntime) -> Result<(), Fail> {
-    let mut manager = Manager::new(rt.alloc(), 8, Mode::Cover, Placement::Middle)?;
-    let mut device = Shadowed::new(rt.alloc(), Late::new())?;
-    fails_once(&rt, rt.alloc(), &mut manager, &mut device)?;
-    assert!(rt; device.hardware().slots[3].is_some());
-    Ok(())
 }

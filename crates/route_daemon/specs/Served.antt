@@ -8,7 +8,8 @@ use Rattle.tcam_device.specs.State.{apply, replay}
 use Rattle.tcam_device.specs.Hitless.{ShowsOldOrNew}
 use Rattle.batch_order.specs.declared.Ready.{Ready}
 use Rattle.batch_order.specs.declared.Refusal.{Refusal}
-use Rattle.batch_order.specs.Managed.{Managed, Answers, Holds, next_of}
+use Rattle.batch_order.specs.Managed.{Managed, Answers, Holds}
+use Rattle.batch_order.specs.Steps.{next_of}
 use Rattle.batch_order.specs.CarriedOut.{ahead, writes_left}
 
 -- A batch is refused as the verdict on it says, and nothing changes.

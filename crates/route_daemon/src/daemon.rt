@@ -5,21 +5,29 @@ ghost use Rattle.call_history.specs.Cause.{HasCause, IsCounted};
 ghost use Rattle.tcam_device.specs.State.{Shows, replay};
 ghost use Rattle.rule_store.specs.Batch.{set_after};
 ghost use Rattle.batch_order.specs.Managed.{IsOn};
-ghost use Rattle.route_daemon.specs.Asked.{IsFull, IsPrefix, route_priority, route_to};
-ghost use Rattle.batch_order.specs.CarriedOut.{HasRoomLeft, IsServed, ahead, writes_left};
+ghost use Rattle.route_daemon.specs.Asked.{IsFull, IsPrefix, address_in, length_in, longest_in, route_priority, route_to};
+ghost use Rattle.batch_order.specs.CarriedOut.{GoesForward, HasRoomLeft, IsServed, ahead, writes_left};
 ghost use Rattle.route_daemon.specs.Served.{IsRefused, IsStuck, IsTaken};
 
-use batch_order::{Manager, Refusal, Stuck};
-use rule_model::{Key, Prefix, PrefixFault, ipv4_route_rank, route_rule};
+use crate::networks::{Network, priority_of, route_of};
+use batch_order::{Manager, Refusal, Unfinished};
+use rule_model::{Addr, Key, PrefixFault};
 use rule_store::{Batch, Command, PushFault};
 use std::io;
 use tcam_device::{Device, DeviceFault};
 use thiserror::Error;
 
+/// A packet that is looked up behind each commit: its destination, as printed and as keys have it.
+#[derive(Clone, Copy, Debug)]
+pub struct Packet {
+    pub name: &'static str,
+    pub address: Addr,
+}
+
 /// Why a change can't join a batch.
 #[derive(Clone, Copy, Debug, PartialEq, Eq, Error)]
 pub enum RouteFault {
-    /// The prefix is none of IPv4.
+    /// The network is no prefix.
     #[error(transparent)]
     Prefix(PrefixFault),
     /// The batch is full, or memory is wanting.
@@ -39,56 +47,49 @@ pub enum CommitFault {
     Stuck,
 }
 
-/// Adds a route in the pending batch: packets to the prefix `address/length` go to `port`. 10.0.0.0/8 is `0x0a00_0000`
-/// and 8. It is refused exactly where that is no prefix, too long or with a bit set past its length, else exactly where
-/// the batch has 4,096 commands, and else only for want of memory. After a refusal the batch is as before.
+/// Adds a route in the pending batch: packets to the network go to `port`. It is refused exactly where that is no
+/// prefix, too long or with a bit set past its length, else exactly where the batch has 4,096 commands, and else only for
+/// want of memory. After a refusal the batch is as before.
 ///
 /// Which routes there are is judged by [`commit`]. It refuses a batch that adds a route for a prefix that has one, or that
 /// changes or withdraws one that there isn't; and one that names a prefix twice, unless it withdraws the route and then
 /// adds another.
-pub fn add_route(batch: &mut Batch, address: u32, length: u8, port: u32) -> Result<(), RouteFault>
-    ensures added { OnOk result (batch.new ≡ batch.old ++ Command.Add (route_to address length port) ∷ []) }
-    ensures length { (result ≡ Err (RouteFault.Prefix PrefixFault.Length)) ↔ (32 < length) }
-    ensures host_bits { (result ≡ Err (RouteFault.Prefix PrefixFault.HostBits)) ↔ ((length ≤ 32) × (address % 2 ^ (32 - length) ≢ 0)) }
-    ensures full { (result ≡ Err (RouteFault.Batch PushFault.Full)) ↔ (IsPrefix address length × IsFull batch.old) }
+pub fn add_route(batch: &mut Batch, network: Network, port: u32) -> Result<(), RouteFault>
+    ensures added { OnOk result (batch.new ≡ batch.old ++ Command.Add (route_to network port) ∷ []) }
+    ensures length { (result ≡ Err (RouteFault.Prefix PrefixFault.Length)) ↔ (longest_in network < length_in network) }
+    ensures host_bits { (result ≡ Err (RouteFault.Prefix PrefixFault.HostBits)) ↔ ((length_in network ≤ longest_in network) × (address_in network % 2 ^ (longest_in network - length_in network) ≢ 0)) }
+    ensures full { (result ≡ Err (RouteFault.Batch PushFault.Full)) ↔ (IsPrefix network × IsFull batch.old) }
     ensures refused { OnErr result (batch.new ≡ batch.old) }
 {
-    let prefix = Prefix::v4(address, length).map_err(RouteFault::Prefix)?;
-    let route = route_rule(prefix, port);
+    let route = route_of(network, port).map_err(RouteFault::Prefix)?;
     batch.push(Command::Add(route)).map_err(RouteFault::Batch)
 }
 
 /// Sends the packets of a route to another port, in the pending batch. It is refused as [`add_route`] is.
-pub fn change_route(
-    batch: &mut Batch,
-    address: u32,
-    length: u8,
-    port: u32,
-) -> Result<(), RouteFault>
-    ensures changed { OnOk result (batch.new ≡ batch.old ++ Command.Set (route_priority address length) port ∷ []) }
-    ensures length { (result ≡ Err (RouteFault.Prefix PrefixFault.Length)) ↔ (32 < length) }
-    ensures host_bits { (result ≡ Err (RouteFault.Prefix PrefixFault.HostBits)) ↔ ((length ≤ 32) × (address % 2 ^ (32 - length) ≢ 0)) }
-    ensures full { (result ≡ Err (RouteFault.Batch PushFault.Full)) ↔ (IsPrefix address length × IsFull batch.old) }
+pub fn change_route(batch: &mut Batch, network: Network, port: u32) -> Result<(), RouteFault>
+    ensures changed { OnOk result (batch.new ≡ batch.old ++ Command.Set (route_priority network) port ∷ []) }
+    ensures length { (result ≡ Err (RouteFault.Prefix PrefixFault.Length)) ↔ (longest_in network < length_in network) }
+    ensures host_bits { (result ≡ Err (RouteFault.Prefix PrefixFault.HostBits)) ↔ ((length_in network ≤ longest_in network) × (address_in network % 2 ^ (longest_in network - length_in network) ≢ 0)) }
+    ensures full { (result ≡ Err (RouteFault.Batch PushFault.Full)) ↔ (IsPrefix network × IsFull batch.old) }
     ensures refused { OnErr result (batch.new ≡ batch.old) }
 {
-    let prefix = Prefix::v4(address, length).map_err(RouteFault::Prefix)?;
+    let priority = priority_of(network).map_err(RouteFault::Prefix)?;
     let change = Command::Set {
-        priority: ipv4_route_rank(&prefix),
+        priority,
         result: port,
     };
     batch.push(change).map_err(RouteFault::Batch)
 }
 
 /// Withdraws a route, in the pending batch. It is refused as [`add_route`] is.
-pub fn withdraw_route(batch: &mut Batch, address: u32, length: u8) -> Result<(), RouteFault>
-    ensures withdrawn { OnOk result (batch.new ≡ batch.old ++ Command.Del (route_priority address length) ∷ []) }
-    ensures length { (result ≡ Err (RouteFault.Prefix PrefixFault.Length)) ↔ (32 < length) }
-    ensures host_bits { (result ≡ Err (RouteFault.Prefix PrefixFault.HostBits)) ↔ ((length ≤ 32) × (address % 2 ^ (32 - length) ≢ 0)) }
-    ensures full { (result ≡ Err (RouteFault.Batch PushFault.Full)) ↔ (IsPrefix address length × IsFull batch.old) }
+pub fn withdraw_route(batch: &mut Batch, network: Network) -> Result<(), RouteFault>
+    ensures withdrawn { OnOk result (batch.new ≡ batch.old ++ Command.Del (route_priority network) ∷ []) }
+    ensures length { (result ≡ Err (RouteFault.Prefix PrefixFault.Length)) ↔ (longest_in network < length_in network) }
+    ensures host_bits { (result ≡ Err (RouteFault.Prefix PrefixFault.HostBits)) ↔ ((length_in network ≤ longest_in network) × (address_in network % 2 ^ (longest_in network - length_in network) ≢ 0)) }
+    ensures full { (result ≡ Err (RouteFault.Batch PushFault.Full)) ↔ (IsPrefix network × IsFull batch.old) }
     ensures refused { OnErr result (batch.new ≡ batch.old) }
 {
-    let prefix = Prefix::v4(address, length).map_err(RouteFault::Prefix)?;
-    let removal = Command::Del(ipv4_route_rank(&prefix));
+    let removal = Command::Del(priority_of(network).map_err(RouteFault::Prefix)?);
     batch.push(removal).map_err(RouteFault::Batch)
 }
 
@@ -103,19 +104,25 @@ pub fn withdraw_route(batch: &mut Batch, address: u32, length: u8) -> Result<(),
 /// planned, and the write that failed comes next. Each packet is still answered as the old routes or the new ones do,
 /// even where that write was made all the same; and `resume` goes on with it. Until it has come to the end no other batch
 /// is taken.
+///
+/// A look-up of this daemon is undivided, so no word is in flight, before and after.
 pub fn commit<D: Device>(
     rt: &HostRuntime,
     manager: &mut Manager,
     batch: &Batch,
     device: &mut D,
+    packet: &Packet,
 ) -> Result<(), CommitFault>
     requires slots { manager.old.slots ≤ D.slot_count device.old }
     requires on { IsOn (D.slot_count device.old) (D.journal device.old) manager.old }
+    requires none_in_flight { D.flight device.old ≡ [] }
     requires idle { manager.old.held ≡ None }
     ensures slots { manager.new.slots ≡ manager.old.slots }
     ensures slot_count { D.slot_count device.new ≡ D.slot_count device.old }
     ensures on { IsOn (D.slot_count device.new) (D.journal device.new) manager.new }
     ensures room { HasRoomLeft manager.new.held (D.spare device.new) }
+    ensures none_in_flight { D.flight device.new ≡ [] }
+    ensures forward { GoesForward manager.new.held }
     ensures before { Shows (replay (D.slot_count device.old) (D.journal device.old)) manager.old.rules }
     ensures hitless { IsServed (D.slot_count device.new) (D.journal device.old) (D.journal device.new) manager.old.rules (set_after manager.old.rules batch.now) }
     ensures idle { OnOk result (manager.new.held ≡ None) }
@@ -132,28 +139,33 @@ pub fn commit<D: Device>(
         }
         Err(refusal) => return Err(CommitFault::Refused(refusal)),
     }
-    match resume(rt, manager, device) {
+    match resume(rt, manager, device, packet) {
         Ok(()) => Ok(()),
         Err(DeviceFault) => Err(CommitFault::Stuck),
     }
 }
 
-/// Makes the writes that are left of the commit under way, in their order, none of them twice, and looks one packet up
+/// Makes the writes that are left of the commit under way, in their order, none of them twice, and looks a packet up
 /// behind them. With none under way there is nothing to do. Each packet is answered as [`commit`] says, before these
 /// writes as well, and a write that fails leaves what it says of `Stuck`: so `resume` may be called again. What can't be
-/// printed changes nothing.
+/// printed changes nothing. The daemon takes no commit back.
 pub fn resume<D: Device>(
     rt: &HostRuntime,
     manager: &mut Manager,
     device: &mut D,
+    packet: &Packet,
 ) -> Result<(), DeviceFault>
     requires slots { manager.old.slots ≤ D.slot_count device.old }
     requires on { IsOn (D.slot_count device.old) (D.journal device.old) manager.old }
+    requires none_in_flight { D.flight device.old ≡ [] }
     requires room { HasRoomLeft manager.old.held (D.spare device.old) }
+    requires forward { GoesForward manager.old.held }
     ensures slots { manager.new.slots ≡ manager.old.slots }
     ensures slot_count { D.slot_count device.new ≡ D.slot_count device.old }
     ensures on { IsOn (D.slot_count device.new) (D.journal device.new) manager.new }
+    ensures none_in_flight { D.flight device.new ≡ [] }
     ensures room { HasRoomLeft manager.new.held (D.spare device.new) }
+    ensures forward { GoesForward manager.new.held }
     ensures hitless { IsServed (D.slot_count device.new) (D.journal device.old) (D.journal device.new) manager.old.rules (ahead manager.old) }
     ensures made { D.journal device.new ++ writes_left manager.new.held ≡ D.journal device.old ++ writes_left manager.old.held }
     ensures idle { OnOk result (manager.new.held ≡ None) }
@@ -163,25 +175,28 @@ pub fn resume<D: Device>(
     ensures cause { HasCause (D.faults device.old) (D.faults device.new) result }
 {
     let carried = manager.carry_out(device, 1);
-    let _ = tell(rt, device);
+    let _ = tell(rt, device, packet);
     match carried {
         Ok(_) => Ok(()),
-        Err(Stuck { .. }) => Err(DeviceFault),
+        Err(Unfinished::Stuck { .. }) => Err(DeviceFault),
+        // No word is ever in flight here, and no commit is turned round.
+        Err(Unfinished::Waiting { .. }) => unreachable!(),
+        Err(Unfinished::Reverted { .. }) => unreachable!(),
     }
 }
 
-/// Prints where a packet to 10.1.2.3 goes.
-fn tell<D: Device>(rt: &HostRuntime, device: &D) -> io::Result<()> {
+/// Prints where a packet goes.
+fn tell<D: Device>(rt: &HostRuntime, device: &D, packet: &Packet) -> io::Result<()> {
     let key = Key {
         src: 0,
-        dst: 0x0a01_0203 << 96,
+        dst: packet.address,
         proto: 0,
         sport: 0,
         dport: 0,
     };
     match device.look(&key) {
-        Some((_, port)) => println!(rt; "  10.1.2.3 goes to {port}")?,
-        None => println!(rt; "  10.1.2.3 goes nowhere")?,
+        Some((_, port)) => println!(rt; "  {} goes to {port}", packet.name)?,
+        None => println!(rt; "  {} goes nowhere", packet.name)?,
     }
     Ok(())
 }

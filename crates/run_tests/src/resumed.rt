@@ -1,5 +1,6 @@
 // A run whose device failed four times at one write, and that goes on.
-ghost use Rattle.std.specs.Prelude.{◌≡◌, ◌≢◌, ℕ, ◌+◌, ◌<◌, ◌≤◌, Err, IfOk, OnOk};
+ghost use Rattle.std.specs.Prelude.{◌≡◌, ◌≢◌, ℕ, ◌+◌, ◌<◌, ◌≤◌, [], Err, IfOk, OnOk};
+ghost use Rattle.tcam_device.specs.Flight.{Flight};
 ghost use Rattle.run_tests.specs.Going.{CanGoOn};
 
 use crate::stuck::{add, apply, change_of, commit, finish, route};
@@ -20,9 +21,9 @@ fn commit_route<D: Device>(
     sink: &mut MemSink,
     device: &mut D,
 ) -> Result<bool, Fail>
-    requires going { CanGoOn run.old (D.slot_count device.old) (D.spare device.old) }
+    requires going { CanGoOn run.old (D.slot_count device.old) (D.spare device.old) (D.flight device.old) }
     requires few { run.old.commits < 98 }
-    ensures going { OnOk result (CanGoOn run.new (D.slot_count device.new) (D.spare device.new)) }
+    ensures going { OnOk result (CanGoOn run.new (D.slot_count device.new) (D.spare device.new) (D.flight device.new)) }
     ensures few { run.new.commits ≤ run.old.commits + 2 }
 {
     add(run, &route(addr, len, [None; 4]), sink, device)?;
@@ -47,9 +48,9 @@ commit 4 ok writes 2 words 0 most 2 span 0
 
 /// Three commits of a route each, and a probe.
 fn begin<D: Device>(run: &mut Run, sink: &mut MemSink, device: &mut D) -> Result<(), Fail>
-    requires going { CanGoOn run.old (D.slot_count device.old) (D.spare device.old) }
+    requires going { CanGoOn run.old (D.slot_count device.old) (D.spare device.old) (D.flight device.old) }
     requires few { run.old.commits < 50 }
-    ensures going { OnOk result (CanGoOn run.new (D.slot_count device.new) (D.spare device.new)) }
+    ensures going { OnOk result (CanGoOn run.new (D.slot_count device.new) (D.spare device.new) (D.flight device.new)) }
     ensures few { run.new.commits ≤ run.old.commits + 7 }
 {
     commit_route(run, 0x0a00_0000, 8, sink, device)?;
@@ -76,9 +77,9 @@ fn see_held(outcome: &Result<(), RunFault>) -> Result<(), Fail>
 
 /// A change isn't taken.
 fn is_held<D: Device>(run: &mut Run, sink: &mut MemSink, device: &mut D) -> Result<(), Fail>
-    requires going { CanGoOn run.old (D.slot_count device.old) (D.spare device.old) }
+    requires going { CanGoOn run.old (D.slot_count device.old) (D.spare device.old) (D.flight device.old) }
     requires few { run.old.commits < 100 }
-    ensures going { OnOk result (CanGoOn run.new (D.slot_count device.new) (D.spare device.new)) }
+    ensures going { OnOk result (CanGoOn run.new (D.slot_count device.new) (D.spare device.new) (D.flight device.new)) }
     ensures few { run.new.commits ≤ run.old.commits + 1 }
 {
     let change = change_of(run.family(), &route(0x0a01_0000, 20, [None; 4]))?;
@@ -93,7 +94,7 @@ fn goes_on<D: Device>(
     sink: &mut MemSink,
     device: &mut D,
 ) -> Result<(), Fail>
-    requires going { CanGoOn run.old (D.slot_count device.old) (D.spare device.old) }
+    requires going { CanGoOn run.old (D.slot_count device.old) (D.spare device.old) (D.flight device.old) }
     requires few { run.old.commits < 50 }
 {
     begin(run, sink, device)?;
@@ -110,7 +111,7 @@ fn goes_on<D: Device>(
 
 /// A run of routes, for a device of eight slots or more.
 fn run_of_routes(alloc: Global) -> Result<Run, Fail>
-    ensures going { IfOk result (λ run. (slots spare : ℕ) → 8 ≤ slots → CanGoOn run slots spare) }
+    ensures going { IfOk result (λ run. (slots spare : ℕ) → (flight : Flight) → 8 ≤ slots → flight ≡ [] → CanGoOn run slots spare flight) }
     ensures begins { IfOk result (λ run. run.commits ≡ 0) }
 {
     Ok(Run::new(
@@ -129,7 +130,8 @@ fn goes_on_over<D: Device>(
     sink: &mut MemSink,
     device: &mut D,
 ) -> Result<(), Fail>
-    requires { 8 ≤ D.slot_count device.old }
+    requires slots { 8 ≤ D.slot_count device.old }
+    requires none_in_flight { D.flight device.old ≡ [] }
 {
     let mut run = run_of_routes(rt.alloc())?;
     goes_on(rt, &mut run, sink, device)

@@ -1,12 +1,15 @@
 // Whole scripts, each once for each of its device writes, which fails at all of its tries. The run goes on behind that,
 // and leaves what it leaves where no write fails.
-ghost use Rattle.std.specs.Prelude.{◌≡◌, ◌≢◌, ℕ, ◌+◌, ◌<◌, ◌≤◌, Err, IfOk, OnOk};
+ghost use Rattle.std.specs.Prelude.{◌≡◌, ◌≢◌, ℕ, ◌+◌, ◌<◌, ◌≤◌, [], Err, IfOk, OnOk};
+ghost use Rattle.tcam_device.specs.Flight.{Flight};
 ghost use Rattle.replay.specs.Running.{IsActOf};
 ghost use Rattle.run_tests.specs.Going.{CanGoOn};
 
 use memory_tcam::{FlakyTcam, MemTcam};
 use replay::{Act, Family, Mode, Placement, Run, RunFault};
-use rule_model::{Key, Ports, Prefix, Rule, list_rank, route_rule, rule_conditions};
+use rule_model::{
+    Key, Ports, Prefix, Rule, ipv6_route_rule, list_rank, route_rule, rule_conditions,
+};
 use rule_store::Command;
 use script_lines::MemSink;
 use std::alloc::Global;
@@ -17,7 +20,7 @@ use tcam_device::{Device, Writable, Write};
 /// The results of a script's four keys.
 pub(crate) type Answers = [Option<u32>; 4];
 
-/// A commit of one rule for the packets to an IPv4 prefix, and the answers behind it. A route takes neither the
+/// A commit of one rule for the packets to a prefix, whose first 32 bits it gives, and the answers behind it. A route takes neither the
 /// sequence number nor the ports.
 #[derive(Clone, Copy)]
 pub(crate) struct Step {
@@ -52,7 +55,13 @@ pub(crate) fn change_of(family: Family, step: &Step) -> Result<Act, Fail>
             rule_conditions(&rule);
             Ok(Act::Command(Command::Add(rule)))
         }
-        Family::Acl => Ok(Act::Command(Command::Add(Rule {
+        Family::Route6 => {
+            let wide = Prefix::v6(u128::from(step.addr) << 96, step.len);
+            let rule = ipv6_route_rule(wide.ok().ok_or("no prefix")?, step.result);
+            rule_conditions(&rule);
+            Ok(Act::Command(Command::Add(rule)))
+        }
+        Family::Acl | Family::Acl6 => Ok(Act::Command(Command::Add(Rule {
             priority: list_rank(step.sequence),
             src: Prefix::any(),
             dst: prefix,
@@ -71,10 +80,10 @@ pub(crate) fn apply<D: Device>(
     sink: &mut MemSink,
     device: &mut D,
 ) -> Result<(), RunFault>
-    requires going { CanGoOn run.old (D.slot_count device.old) (D.spare device.old) }
+    requires going { CanGoOn run.old (D.slot_count device.old) (D.spare device.old) (D.flight device.old) }
     requires act { IsActOf run.old.family act.now }
     requires few { run.old.commits < 100 }
-    ensures going { result ≢ Err RunFault.Sink → CanGoOn run.new (D.slot_count device.new) (D.spare device.new) }
+    ensures going { result ≢ Err RunFault.Sink → CanGoOn run.new (D.slot_count device.new) (D.spare device.new) (D.flight device.new) }
     ensures family { run.new.family ≡ run.old.family }
     ensures few { run.new.commits ≤ run.old.commits + 1 }
 {
@@ -83,9 +92,9 @@ pub(crate) fn apply<D: Device>(
 
 /// Goes on with the commit that is unfinished, if one is.
 fn resume<D: Device>(run: &mut Run, sink: &mut MemSink, device: &mut D) -> Result<(), RunFault>
-    requires going { CanGoOn run.old (D.slot_count device.old) (D.spare device.old) }
+    requires going { CanGoOn run.old (D.slot_count device.old) (D.spare device.old) (D.flight device.old) }
     requires few { run.old.commits < 100 }
-    ensures going { result ≢ Err RunFault.Sink → CanGoOn run.new (D.slot_count device.new) (D.spare device.new) }
+    ensures going { result ≢ Err RunFault.Sink → CanGoOn run.new (D.slot_count device.new) (D.spare device.new) (D.flight device.new) }
     ensures family { run.new.family ≡ run.old.family }
     ensures few { run.new.commits ≤ run.old.commits + 1 }
 {
@@ -126,9 +135,9 @@ pub(crate) fn add<D: Device>(
     sink: &mut MemSink,
     device: &mut D,
 ) -> Result<(), Fail>
-    requires going { CanGoOn run.old (D.slot_count device.old) (D.spare device.old) }
+    requires going { CanGoOn run.old (D.slot_count device.old) (D.spare device.old) (D.flight device.old) }
     requires few { run.old.commits < 100 }
-    ensures going { OnOk result (CanGoOn run.new (D.slot_count device.new) (D.spare device.new)) }
+    ensures going { OnOk result (CanGoOn run.new (D.slot_count device.new) (D.spare device.new) (D.flight device.new)) }
     ensures few { run.new.commits ≤ run.old.commits + 1 }
 {
     let change = change_of(run.family(), step)?;
@@ -142,9 +151,9 @@ pub(crate) fn commit<D: Device>(
     sink: &mut MemSink,
     device: &mut D,
 ) -> Result<bool, Fail>
-    requires going { CanGoOn run.old (D.slot_count device.old) (D.spare device.old) }
+    requires going { CanGoOn run.old (D.slot_count device.old) (D.spare device.old) (D.flight device.old) }
     requires few { run.old.commits < 100 }
-    ensures going { OnOk result (CanGoOn run.new (D.slot_count device.new) (D.spare device.new)) }
+    ensures going { OnOk result (CanGoOn run.new (D.slot_count device.new) (D.spare device.new) (D.flight device.new)) }
     ensures few { run.new.commits ≤ run.old.commits + 1 }
 {
     let outcome = apply(run, &Act::Commit, sink, device);
@@ -157,9 +166,9 @@ pub(crate) fn finish<D: Device>(
     sink: &mut MemSink,
     device: &mut D,
 ) -> Result<(), Fail>
-    requires going { CanGoOn run.old (D.slot_count device.old) (D.spare device.old) }
+    requires going { CanGoOn run.old (D.slot_count device.old) (D.spare device.old) (D.flight device.old) }
     requires few { run.old.commits < 100 }
-    ensures going { OnOk result (CanGoOn run.new (D.slot_count device.new) (D.spare device.new)) }
+    ensures going { OnOk result (CanGoOn run.new (D.slot_count device.new) (D.spare device.new) (D.flight device.new)) }
     ensures few { run.new.commits ≤ run.old.commits + 1 }
 {
     resume(run, sink, device)?;
@@ -176,9 +185,9 @@ fn commit_step<D: Device>(
     sink: &mut MemSink,
     device: &mut D,
 ) -> Result<bool, Fail>
-    requires going { CanGoOn run.old (D.slot_count device.old) (D.spare device.old) }
+    requires going { CanGoOn run.old (D.slot_count device.old) (D.spare device.old) (D.flight device.old) }
     requires few { run.old.commits < 90 }
-    ensures going { OnOk result (CanGoOn run.new (D.slot_count device.new) (D.spare device.new)) }
+    ensures going { OnOk result (CanGoOn run.new (D.slot_count device.new) (D.spare device.new) (D.flight device.new)) }
     ensures few { run.new.commits ≤ run.old.commits + 3 }
 {
     add(run, step, sink, device)?;
@@ -197,7 +206,7 @@ fn carry_out<D: Device>(
     sink: &mut MemSink,
     device: &mut D,
 ) -> Result<bool, Fail>
-    requires going { CanGoOn run.old (D.slot_count device.old) (D.spare device.old) }
+    requires going { CanGoOn run.old (D.slot_count device.old) (D.spare device.old) (D.flight device.old) }
     requires begins { run.old.commits ≡ 0 }
 {
     let steps = script.steps;
@@ -213,7 +222,7 @@ fn carry_out<D: Device>(
 
 /// A traced run of a script's setting, for a device of eight slots or more.
 fn run_of(alloc: Global, script: &Script) -> Result<Run, Fail>
-    ensures going { IfOk result (λ run. (slots spare : ℕ) → 8 ≤ slots → CanGoOn run slots spare) }
+    ensures going { IfOk result (λ run. (slots spare : ℕ) → (flight : Flight) → 8 ≤ slots → flight ≡ [] → CanGoOn run slots spare flight) }
     ensures begins { IfOk result (λ run. run.commits ≡ 0) }
 {
     Ok(Run::new(
@@ -240,7 +249,8 @@ fn report_over<D: Device>(
     device: &mut D,
     wants_cut: bool,
 ) -> Result<MemSink, Fail>
-    requires { 8 ≤ D.slot_count device.old }
+    requires slots { 8 ≤ D.slot_count device.old }
+    requires none_in_flight { D.flight device.old ≡ [] }
 {
     let mut sink = empty_sink(rt.alloc())?;
     let mut run = run_of(rt.alloc(), script)?;
@@ -272,7 +282,8 @@ fn undisturbed(
     script: &Script,
     device: &mut MemTcam,
 ) -> Result<MemSink, Fail>
-    requires { 8 ≤ device.old.slots }
+    requires slots { 8 ≤ device.old.slots }
+    requires none_in_flight { device.old.flight ≡ [] }
 {
     let sink = report_over(rt, script, device, false)?;
     assert_eq!(rt; device.journal().len() as u64, script.writes);
@@ -319,8 +330,8 @@ fn line(sequence: u32, addr: u32, len: u8, after: Answers) -> Step {
     }
 }
 
-#[test]
-fn nested_routes(rt: HostRuntime) -> Result<(), Fail> {
+/// Routes that are nested, of a version of IP: the prefixes of either are the same blocks.
+fn check_nested(rt: &(impl Abort + AllocGlobal), family: Family) -> Result<(), Fail> {
     let steps = [
         route(0x0a00_0000, 8, [Some(8); 4]),
         route(0x0a01_0200, 24, [Some(24), Some(8), Some(8), Some(8)]),
@@ -334,14 +345,20 @@ fn nested_routes(rt: HostRuntime) -> Result<(), Fail> {
         to(0x0a02_0001, 0),
     ];
     let script = Script {
-        family: Family::Route,
+        family,
         mode: Mode::Cover,
         steps: &steps,
         keys,
         writes: 5,
         last_line: "commit 4 ok writes 2 words 0 most 2 span 0\n",
     };
-    cut_at_each(&rt, &script)
+    cut_at_each(rt, &script)
+}
+
+#[test]
+fn nested_routes(rt: HostRuntime) -> Result<(), Fail> {
+    check_nested(&rt, Family::Route)?;
+    check_nested(&rt, Family::Route6)
 }
 
 #[test]

@@ -1,7 +1,0 @@
-use Rattle.std.proofs.Common.{◌≡◌, ◌≤◌, IfSome, length}
-use Rattle.integration_tests.proofs.by_bits.refusals.Given as goal
-
-abbrev pub invariant-loop-count : goal.invariant-loop-count
-invariant-loop-count g l = (l.manager.slots ≡ l.fn.manager.slots)
-    × (l.device.slots ≡ l.fn.device.slots)
-    × IfSome l.manager.held (λ held. length held.writes ≤ l.device.spare)
