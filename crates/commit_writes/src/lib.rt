@@ -15,7 +15,7 @@
 //! A look-up may be two events, a key's translation into a word by the tables and the word's search in the slots, with
 //! writes between them. `specs/InFlight` says which words in flight are current, `specs/Actions` where a commit has to wait
 //! until none is in flight, `specs/Undo` what takes a commit back, and `specs/Segments` what packets see of both, from
-//! what a manager keeps between commits; the laws are proved, and nothing makes such look-ups yet.
+//! what a manager keeps between commits. The laws are proved here; `lookup_turns` makes such look-ups.
 #![tactic(auto)]
 
 mod laws;

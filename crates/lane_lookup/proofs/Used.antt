@@ -1,9 +1,9 @@
 -- The lanes that aren't in use keep no slot from hitting.
-use Rattle.std.proofs.Common.{◌≡◌, ℕ, zero, suc, ◌+◌, ◌<◌, Bool, true, List, [], ◌∷◌, length, set, get_or, drop, refl, sym, ◌∙◌, ap, subst, arith, inl, inr}
+use Rattle.std.proofs.Common.{◌≡◌, ℕ, zero, suc, ◌+◌, ◌<◌, Bool, true, false, List, [], ◌∷◌, length, set, get_or, drop, refl, sym, ◌∙◌, ap, subst, arith, inl, inr}
 use Rattle.std.specs.Prelude.{◌&&◌, ◌==◌, slice_index}
 use Rattle.std.specs.List.{AllByRecursion}
 use Rattle.std.proofs.Math.Bool.{and_assoc}
-use Rattle.std.proofs.lemmas.Bool.{cases_Bool, or_parts, not-false, eqb-true, eq-eqb}
+use Rattle.std.proofs.lemmas.Bool.{and_left, and_right, cases_Bool, or_parts, not-false, eqb-true, eq-eqb}
 use Rattle.std.proofs.lemmas.Nat.{and_le_r}
 use Rattle.std.proofs.lemmas.List.{get_or_default, at_drop_more}
 use Rattle.std.proofs.lemmas.List.Elements.{All-from_recursion}
@@ -88,6 +88,27 @@ used_step used lanes words place j before off now row lane listed below is_lane 
     at_drop_more (λ us. used_agree us lanes words place) used j 0 below ∙ ap (λ x. (x == 0) && used_agree (drop (j + 1) used) lanes words place) (sym here) in
     so_far ∙ ap (λ x. (before == 0) && x) one ∙ sym (and_assoc (before == 0) (off == 0) (used_agree (drop (j + 1) used) lanes words place))
     ∙ ap (λ x. x && used_agree (drop (j + 1) used) lanes words place) (sym both)
+
+-- a lane that keeps the slot from hitting disagrees for all
+disagrees : (lanes : List Lane) (words : List ℕ) (j place : ℕ) (d : Lane) → j < length lanes → j < length words
+    → (lane_off (get_or lanes j d) (get_or words j 0) place == 0) ≡ false → lanes_agree lanes words place ≡ false
+disagrees [] words j place d below within off = absurd (omega arith)
+disagrees (lane ∷ lanes) [] j place d below within off = absurd (omega arith)
+disagrees (lane ∷ lanes) (word ∷ words) zero place d below within off = and_left _ _ off
+disagrees (lane ∷ lanes) (word ∷ words) (suc j) place d below within off =
+    and_right _ _ (disagrees lanes words j place d (omega arith) (omega arith) off)
+
+-- a row doesn't hit where its vacancy or one lane keeps it from that
+pub one_keeps : (lanes : List Lane) (words : List ℕ) (place j vacancy off either : ℕ) (lane : Lane) → j < length lanes → j < length words
+    → lane ≡ get_or lanes j lane → off ≡ lane_off lane (get_or words j 0) place → (either == 0) ≡ ((vacancy == 0) && (off == 0)) → (either == 0) ≡ false
+    → ((vacancy == 0) && lanes_agree lanes words place) ≡ false
+one_keeps lanes words place j vacancy off either lane below within is_lane is_off both kept =
+    elim (cases_Bool (vacancy == 0)) [
+      | inl full ↦ let keeps : (off == 0) ≡ false = ap (λ x. x && (off == 0)) (sym full) ∙ sym both ∙ kept in
+          let here : off ≡ lane_off (get_or lanes j lane) (get_or words j 0) place = is_off ∙ ap (λ x. lane_off x (get_or words j 0) place) is_lane in
+          and_right _ _ (disagrees lanes words j place lane below within (ap (λ x. x == 0) (sym here) ∙ keeps))
+      | inr empty ↦ and_left _ _ empty
+    ]
 
 zeros_set : (xs : List ℕ) (place p : ℕ) → ((q : ℕ) → get_or xs q 0 ≡ 0) → get_or (set xs place 0) p 0 ≡ 0
 zeros_set [] place p zeros = zeros p

@@ -1,12 +1,12 @@
 // A list of slots, kept in columns too.
-ghost use Rattle.std.specs.Prelude.{◌≡◌, ◌<◌, ◌≤◌, None, length, replicate, slice_set, vec_capacity, IfOk};
+ghost use Rattle.std.specs.Prelude.{◌≡◌, ℕ, ◌<◌, ◌≤◌, None, false, length, replicate, slice_set, vec_capacity, IfOk};
 ghost use Rattle.std.specs.List.{AllByRecursion};
 ghost use Rattle.slot_order.specs.Order as order;
-ghost use Rattle.ternary_word.specs.Entry.{first_hitting};
+ghost use Rattle.ternary_word.specs.Entry.{first_hitting, slot_hits};
 ghost use Rattle.lane_lookup.specs.Columns.{HasPlace, blank_lane, used_from, with_row};
 
 use crate::column::Column;
-use crate::eight::first_of_eight;
+use crate::eight::try_eight;
 use std::alloc::{AllocError, Global};
 use std::marker::Model;
 use ternary_word::{Entry, LANES, Word, hits};
@@ -86,13 +86,23 @@ impl Columns {
         ensures { result ≡ first_hitting self.now word.now }
     {
         let eights = self.slots.len() / 8;
+        let mut last: usize = 0;
         for step in 0..eights {
-            let before = first_of_eight(&self.lanes, &self.used, &self.vacant, word, step * 8);
-            if before < 8 {
-                return Some((step * 8) as u32 + before);
+            let tried = try_eight(&self.lanes, &self.used, &self.vacant, word, step * 8, last);
+            if tried.before < 8 {
+                return Some((step * 8) as u32 + tried.before);
             }
+            last = tried.lane;
         }
-        for slot in eights * 8..self.slots.len() {
+        self.first_from(word, eights * 8)
+    }
+
+    /// The least slot that hits the word, where none before `from` does.
+    fn first_from(&self, word: &Word, from: usize) -> Option<u32>
+        requires passed { (k : ℕ) → k < from → slot_hits word.now (order.slot self.now k) ≡ false }
+        ensures { result ≡ first_hitting self.now word.now }
+    {
+        for slot in from..self.slots.len() {
             if let Some(entry) = &self.slots[slot]
                 && hits(entry, word)
             {
@@ -263,6 +273,45 @@ mod tests {
                 );
                 fill(&mut columns, &mut seed, &tested);
                 compare(&rt, &columns, &mut seed);
+            }
+        }
+        Ok(())
+    }
+
+    /// An address of a network.
+    fn address(network: u32, host: u32) -> Word {
+        Word {
+            lane: [0, 0, 0, 0, network, 0, 0, host, 0, 0, 0],
+        }
+    }
+
+    #[test]
+    fn finds_hosts_of_one_network_among_others(rt: HostRuntime) -> Result<(), Fail> {
+        let mask = Word {
+            lane: [0, 0, 0, 0, u32::MAX, u32::MAX, u32::MAX, u32::MAX, 0, 0, 0],
+        };
+        let mut columns = Columns::new(rt.alloc(), 64)?;
+        for slot in 0..columns.len() {
+            let network = if slot % 13 == 5 { 1 } else { 2 };
+            if slot < columns.len() && slot % 17 != 3 {
+                columns.set(
+                    slot,
+                    Some(Entry {
+                        value: address(network, slot),
+                        mask,
+                        ..odd()
+                    }),
+                );
+            }
+        }
+        for host in 0..66 {
+            for network in 0..4 {
+                let word = address(network, host);
+                assert_eq!(rt;
+                    columns.first(&word),
+                    plain_first(&columns, &word),
+                    "{word:?}"
+                );
             }
         }
         Ok(())

@@ -9,7 +9,8 @@
 //!
 //! A lane in which every mask is 0 keeps no slot from hitting. So the lanes in which some mask was ever other
 //! than 0 are listed, and only those are looked at: lanes that IPv4 never uses cost a look-up nothing, and a
-//! table of destination prefixes costs it one lane. A step also ends once no slot of the eight can hit any more.
+//! table of destination prefixes costs it one lane. A step also ends once no slot of the eight can hit any more,
+//! and the next begins with the lane that ended it: hosts of one IPv6 network differ in their last lane alone.
 //! `set` lists the lanes anew, in memory that `new` took.
 //!
 //! The slots that are left after the last full eight are tried one by one, by their entries.

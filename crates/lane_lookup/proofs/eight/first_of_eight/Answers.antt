@@ -46,6 +46,11 @@ returns-then-first_zero-eq8-clause-before c k l =
     c.index-lanes-lane.is (c.off.ensures.lanes k l) (c.either-off.ensures.zeros k l) (c.loop-lane.invariant.same k l)
     ∙ and_left _ _ (c.first_zero.ensures.before k (omega arith))
 
+pub returns-then-first_zero-eq8-clause-lane : goal.returns-then-first_zero-eq8-clause-lane
+returns-then-first_zero-eq8-clause-lane c =
+    let within = used_within c.args.lanes.now c.args.used.now c.loop-lane.lane-index c.requires.listed (omega arith) in
+    let count = c.requires.count in omega arith
+
 pub loop-lane-preserved : goal.loop-lane-preserved
 loop-lane-preserved c = record {
   len = c.either-off.ensures.len;

@@ -4,7 +4,7 @@ use Rattle.ternary_word.specs.Entry.{slot_hits}
 use Rattle.lane_lookup.proofs.columns.Columns.first.Given as goal
 
 abbrev pub invariant-loop-step : goal.invariant-loop-step
-invariant-loop-step l = (k : ℕ) → k < l.step * 8 → slot_hits l.word (slot l.self-inside.slots.items k) ≡ false
-
-abbrev pub invariant-loop-slot : goal.invariant-loop-slot
-invariant-loop-slot l = (k : ℕ) → k < l.slot → slot_hits l.word (slot l.self-inside.slots.items k) ≡ false
+invariant-loop-step l = record {
+  passed : (k : ℕ) → k < l.step * 8 → slot_hits l.word (slot l.self-inside.slots.items k) ≡ false;
+  last : l.last < 11;
+}
