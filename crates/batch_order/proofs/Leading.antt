@@ -49,11 +49,11 @@ use Rattle.batch_order.proofs.Taken.{ArePartsOf, IsPlanOf, behind_by, behind_is,
 use Rattle.batch_order.proofs.Translated.{kept_state, state_by, tables_kept}
 
 -- old ids are live with new ones
-still_live : (live more : List LivePiece) (ids : List ℕ) → AllByRecursion (λ id. IsTrue (is_live live id)) ids → AllByRecursion (λ id. IsTrue (is_live (live ++ more) id)) ids
+pub still_live : (live more : List LivePiece) (ids : List ℕ) → AllByRecursion (λ id. IsTrue (is_live live id)) ids → AllByRecursion (λ id. IsTrue (is_live (live ++ more) id)) ids
 still_live live more [] all = tt
 still_live live more (id ∷ ids) all = (live_more live more id all.0, still_live live more ids all.1)
 
-still_changed : (live more : List LivePiece) (rewrites : List Rewrite) → AllByRecursion (λ rewrite. IsTrue (is_live live rewrite.id)) rewrites
+pub still_changed : (live more : List LivePiece) (rewrites : List Rewrite) → AllByRecursion (λ rewrite. IsTrue (is_live live rewrite.id)) rewrites
     → AllByRecursion (λ rewrite. IsTrue (is_live (live ++ more) rewrite.id)) rewrites
 still_changed live more [] all = tt
 still_changed live more (rewrite ∷ rewrites) all = (live_more live more rewrite.id all.0, still_changed live more rewrites all.1)
@@ -77,6 +77,12 @@ pub changed_stand : (kept : Entries) (slots : Slots) (rewrites : List Rewrite) �
     → AllByRecursion (λ rewrite. IsStanding slots rewrite.id) rewrites
 changed_stand kept slots [] settled all = tt
 changed_stand kept slots (rewrite ∷ rewrites) settled all = (live_stands kept slots rewrite.id settled all.0, changed_stand kept slots rewrites settled all.1)
+
+-- before the new ids come too
+pub parts_live_before : (mode : Mode) (bits : FieldBits) (rules : List Rule) (batch : List Command) (live : List LivePiece) (rewrites : List Rewrite) (erased : List ℕ) → ArePartsOf mode bits rules batch live rewrites erased
+    → AllByRecursion (λ rewrite. IsTrue (is_live live rewrite.id)) rewrites × AllByRecursion (λ id. IsTrue (is_live live id)) erased
+parts_live_before mode bits rules batch live rewrites erased parts =
+    (rewrites_live live (rewritten_pieces mode bits rules batch) rewrites parts.rewrites_are, ids_live live (erased_pieces mode bits rules batch) erased parts.erased_are)
 
 -- by covers a commit writes no words
 pub no_words : (translation : Option Translation) (rules : List Rule) (batch : List Command) (state : State) → ((kept : Translation) → translation ≡ Some kept → ⊥)

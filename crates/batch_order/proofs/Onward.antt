@@ -349,3 +349,27 @@ counted_left old now (Some held) made is was =
     let parts : length (made ++ actions_due was.one) ≡ length (actions_due held) = ap length was.parts in
     let sum : length (made ++ actions_due was.one) ≡ length made + length (actions_due was.one) = length-append made (actions_due was.one) in
     omega arith
+
+-- what was made and what is left are what was due
+pub made_and_left : (old now : Managed) (held : Option HeldCommit) (made : List Action) → old.held ≡ held → Onward old held made now
+    → made ++ actions_left now.held ≡ actions_left old.held
+made_and_left old now None made is was = ap₂ (λ (xs : List Action) (m : Managed). xs ++ actions_left m.held) was.0 was.1
+made_and_left old now (Some held) made is was =
+    ap (λ (h : Option HeldCommit). made ++ actions_left h) was.under_way ∙ was.parts ∙ ap actions_left (sym is)
+
+-- a step that does nothing to the device leaves as much to do
+still_due : (now new : Managed) (words : ℕ) (one : HeldCommit) (did : Step) → now.held ≡ Some one → actions_of did ≡ [] → HasStepped now words one did new
+    → actions_left new.held ≡ actions_left now.held
+still_due now new words one did under acts (HasStepped.End turned actions made is) =
+    ap (λ (m : Managed). actions_left m.held) is ∙ sym (ap actions_left under ∙ due_on one turned ∙ actions)
+still_due now new words one did under acts (HasStepped.On write actions turned rest made is) = absurd (let clash : Written write ∷ [] ≡ [] = ap actions_of (sym made) ∙ acts in cc)
+still_due now new words one did under acts (HasStepped.Drain actions turned rest made is) = absurd (let clash : Drained ∷ [] ≡ [] = ap actions_of (sym made) ∙ acts in cc)
+still_due now new words one did under acts (HasStepped.Wait actions more turned rest flying made is) = ap (λ (m : Managed). actions_left m.held) is
+still_due now new words one did under acts (HasStepped.Back undone write undo turned rest made is) = absurd (let clash : Written write ∷ [] ≡ [] = ap actions_of (sym made) ∙ acts in cc)
+still_due now new words one did under acts (HasStepped.Revert undone turned rest made is) =
+    ap (λ (m : Managed). actions_left m.held) is ∙ sym (ap actions_left under ∙ due_back one undone turned ∙ ap (map Written) rest)
+
+pub still_left : (now new : Managed) (words : ℕ) (did : Step) (held : Option HeldCommit) → now.held ≡ held → actions_of did ≡ [] → Steps now words held did new
+    → actions_left new.held ≡ actions_left now.held
+still_left now new words did None is acts steps = ap (λ (m : Managed). actions_left m.held) steps.1
+still_left now new words did (Some one) is acts steps = still_due now new words one did is acts (stepped now words one did new steps)

@@ -1,5 +1,5 @@
 -- A batch that isn't taken after all: the manager is as it was.
-use Rattle.std.proofs.Common.{◌≡◌, ℕ, ◌+◌, ◌-◌, Option, List, length, map, take, drop, None, sym, ap, ap₂, subst, ◌∙◌, arith}
+use Rattle.std.proofs.Common.{◌≡◌, ℕ, ◌+◌, ◌-◌, Option, List, length, map, take, drop, IsTrue, None, sym, ap, ap₂, subst, ◌∙◌, arith}
 use Rattle.std.specs.List.{AllByRecursion}
 use Rattle.std.proofs.Math.Seq.{drop-append_seam}
 use Rattle.std.proofs.lemmas.List.{length-append, length-map, take_at}
@@ -9,6 +9,7 @@ use Rattle.rule_model.specs.RuleSet.{IsRuleSet}
 use Rattle.rule_model.specs.Rule.{HasConditions}
 use Rattle.rule_store.specs.Store.{StoredRules}
 use Rattle.overlap_index.specs.declared.LivePiece.{LivePiece}
+use Rattle.overlap_index.specs.Live.{is_live}
 use Rattle.ternary_word.specs.declared.Entry.{Entry}
 use Rattle.commit_writes.specs.Serving.{AreBitsOf}
 use Rattle.commit_writes.specs.Planned.{with_slots}
@@ -27,6 +28,10 @@ adds_first old new ids adds =
     let total : length new.live ≡ length old.live + length adds.made = ap length adds.live ∙ length-append old.live adds.made in
     let before : length new.live - length ids ≡ length old.live = omega arith in
     ap (take (length new.live - length ids)) adds.live ∙ take_at old.live adds.made (length new.live - length ids) (sym before)
+
+-- the entries of the old ids are as they were where the new ones were forgotten
+pub kept_back : (old mid new : Entries) → KeepEntries old.live old.entries mid.entries → KeepEntries new.live mid.entries new.entries → new.live ≡ old.live → KeepEntries old.live old.entries new.entries
+kept_back old mid new one two back id now = two id (subst (λ (l : List LivePiece). IsTrue (is_live l id)) (sym back) now) ∙ one id now
 
 -- these ids are the last
 pub adds_last : (old new : Entries) (ids : List ℕ) → AddsIds old new ids → AreLast new.live ids

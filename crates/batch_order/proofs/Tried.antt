@@ -11,7 +11,8 @@ use Rattle.batch_order.specs.declared.Step.{Step}
 use Rattle.batch_order.specs.declared.Step.TheVariants as step
 use Rattle.batch_order.specs.Managed.{Managed}
 use Rattle.batch_order.specs.Steps.{Steps, actions_of}
-use Rattle.batch_order.proofs.Onward.{Onward, acts_on, start}
+use Rattle.batch_order.specs.CarriedOut.{actions_left}
+use Rattle.batch_order.proofs.Onward.{Onward, acts_on, made_and_left, start, still_left}
 
 -- a count of failures: those of the next write, and fewer than the tries of each that was made
 pub record IsCount (tries made failures before now : ℕ) : Type 0 where
@@ -86,3 +87,18 @@ pub goes-drained : (old now new : Managed) (words : ℕ) (before after longer : 
 goes-drained old now new words before after longer events events' logged spare spare' less tries failures faults faults' was steps more told fewer =
     goes-acted old now new words step.Drained Drained before after longer events events' logged spare spare' less tries failures failures faults faults' was refl steps more told fewer
     (subst (λ (n : ℕ). IsCount tries n failures faults faults') (let e : length (writes_in was.made) ≡ length (writes_in was.made) + 0 = omega arith in e) was.counted)
+
+-- what was done to the device and what is left are what was due
+pub done_and_left : (old now : Managed) (before after : List Write) (events events' : List Action) (spare spare' tries failures faults faults' : ℕ)
+    → Goes old now before after events events' spare spare' tries failures faults faults' → events' ++ actions_left now.held ≡ events ++ actions_left old.held
+done_and_left old now before after events events' spare spare' tries failures faults faults' was =
+    ap (λ (told : List Action). told ++ actions_left now.held) was.events_are
+    ∙ (append_assoc events was.made (actions_left now.held) ∙ ap (λ (acts : List Action). events ++ acts) (made_and_left old now old.held was.made refl was.onward))
+
+-- also behind a step that does nothing to it
+pub done_and_still_left : (old now new : Managed) (words : ℕ) (did : Step) (before after : List Write) (events events' told : List Action) (spare spare' tries failures faults faults' : ℕ)
+    → Goes old now before after events events' spare spare' tries failures faults faults' → actions_of did ≡ [] → Steps now words now.held did new → told ≡ events' ++ actions_of did
+    → told ++ actions_left new.held ≡ events ++ actions_left old.held
+done_and_still_left old now new words did before after events events' told spare spare' tries failures faults faults' was none steps same =
+    ap₂ (λ (e acts : List Action). e ++ acts) (same ∙ ap (λ (acts : List Action). events' ++ acts) none ∙ append-nil events') (still_left now new words did now.held refl none steps)
+    ∙ done_and_left old now before after events events' spare spare' tries failures faults faults' was

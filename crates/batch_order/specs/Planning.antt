@@ -13,6 +13,7 @@ use Rattle.tcam_device.specs.declared.Write.{Write}
 use Rattle.tcam_device.specs.declared.Write.TheVariants.{Slot}
 use Rattle.tcam_device.specs.State.{IsInUse}
 use Rattle.commit_writes.specs.declared.Rewrite.{Rewrite}
+use Rattle.commit_writes.specs.PlannedBatch.{erase_write, rewrite_write}
 use Rattle.commit_writes.specs.Planned.{IdEntries, Planned, ArePlanned, ranked_of, live_after, slots_after, write_for, entry_at}
 use Rattle.batch_order.specs.declared.plan.Plan.{Plan}
 use Rattle.batch_order.specs.declared.planned_writes.PlannedWrite.{PlannedWrite}
@@ -97,3 +98,17 @@ pub record ArePlannedSince (old new : Entries) (slots slots' : Slots) (plan plan
   pub words : plan'.words ≡ plan.words
   pub most : plan'.most ≡ fold max plan.most (map (λ insertion. length insertion.moves) planned)
   pub span : plan'.span ≡ fold max plan.span (map (λ insertion. insertion.span) planned)
+
+-- All writes of a commit were planned: insertions of some pieces with these aims, behind them the new entry of each id that
+-- gets one, and last the erase of each id that goes.
+pub record AreAllPlanned (old new : Entries) (slots slots' : Slots) (plan plan' : Plan) (pieces : List RankedPiece) (aims : List Aim)
+    (rewrites : List Rewrite) (erased : List ℕ) : Type 0 where
+  pub between : Plan
+  pub inserted : ArePlannedSince old new slots slots' plan between pieces aims
+  pub settled : IsSettled new slots'
+  pub within : AllByRecursion (IsWithin (length slots')) plan'.writes.items
+  pub writes : (entries : IdEntries) → as_writes entries rewrites plan'.writes.items
+      ≡ as_writes entries rewrites between.writes.items ++ (map (rewrite_write slots') rewrites ++ map (erase_write slots') erased)
+  pub words : plan'.words ≡ between.words
+  pub most : plan'.most ≡ between.most
+  pub span : plan'.span ≡ between.span

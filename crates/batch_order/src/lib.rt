@@ -21,7 +21,8 @@
 //! **A commit is a list of changes** (`changes`): by falling priority, at each priority that the batch names, the rule of
 //! the set and the rule after the batch, where there is one. Each rule is cut into its pieces once (`pieces`): those of
 //! the new rule alone go in, those of both get the new result, those of the old rule alone go; `parts` has the ids of the
-//! latter two. `insertions` plans the first, each where `aims` says, and `plan` the writes of the others.
+//! latter two. `insertions` plans the first, each where `aims` says, and `plan` the writes of the others; `writes` has
+//! both, and what undoes them.
 //!
 //! **A plan is small.** A device write has a whole entry, and a commit may take millions of them. So a plan names the entry
 //! of each by its id, and `planned_writes` makes the device write when its turn comes. It is the write that was planned:
@@ -59,46 +60,42 @@ mod parts;
 mod pieces;
 mod plan;
 mod planned_writes;
+mod refusal_text;
 mod rule_name;
 mod steps;
 mod translation;
 mod undoing;
+mod writes;
 
 pub use commit_writes::Done;
 pub use laws::{goes_back_through_states, reverts_to_the_old_state, steps_keep_the_way_back};
 pub use manager::Manager;
+pub use refusal_text::RefusalText;
 pub use rule_model::Field;
 use rule_model::Rank;
 pub use rule_name::RuleName;
-use rule_name::field_name;
 use rule_store::BatchFault;
 pub use rule_store::Mode;
 use tcam_device::Write;
 use thiserror::Error;
 
-/// Why a batch isn't taken. Nothing was written then, and rules, manager and device are as they were.
+/// Why a batch isn't taken. Nothing was written then, and rules, manager and device are as they were. `Display` names
+/// routes as those of IPv4, [`Refusal::for_version`] as those of either version.
 #[derive(Clone, Copy, Debug, PartialEq, Eq, Error)]
 pub enum Refusal {
     /// A plan is held, with this many writes still to make.
-    #[error("a plan is held with {left} writes to make")]
     Busy { left: u64 },
     /// An earlier command of the batch names the priority.
-    #[error("rule {} is named twice", RuleName(*.0))]
     Twice(Rank),
     /// A rule that is to be added has a priority of the set.
-    #[error("rule {} is taken", RuleName(*.0))]
     Taken(Rank),
     /// The set has no rule of the priority that is to be changed or removed.
-    #[error("rule {} is absent", RuleName(*.0))]
     Absent(Rank),
     /// The additions need more bits for their port ranges than a field has free.
-    #[error("{need} {} bits needed and {free} free", field_name(*.field))]
     Bits { field: Field, need: u32, free: u32 },
     /// The additions need more entries than there are free slots.
-    #[error("{need} slots needed and {free} free")]
     Slots { need: u32, free: u32 },
     /// Want of memory.
-    #[error("out of memory")]
     Memory,
 }
 

@@ -21,12 +21,11 @@ ghost use Rattle.batch_order.specs.CarriedOut.{GoesForward, HasRoomBothWays, Has
 
 use crate::entries::LiveEntries;
 use crate::held::Held;
-use crate::insertions::{forget_all, plan_additions};
 use crate::parts::parts_of;
-use crate::plan::{Plan, erase_all, plan_changes, ready};
+use crate::plan::{Plan, erase_all, ready};
 use crate::planned_writes::PlannedWrite;
 use crate::translation::{Translation, blank_translation, check_field, encoding, gives_bits};
-use crate::undoing::plan_undo;
+use crate::writes::plan_writes;
 use crate::{AbortFault, Done, Field, Placement, Ready, Refusal, Step, Unfinished, refusal_of};
 use rule_store::{Batch, Command, Mode, Store};
 use slot_pool::Arrangement;
@@ -254,41 +253,24 @@ impl Manager {
         let copy = batch.try_copy(self.alloc)?;
         self.rules.reserve(batch.len())?;
         let mut arrangement = self.arrangement.try_copy(self.alloc)?;
-        let ids = plan_additions(
+        let planned = plan_writes(
             self.alloc,
             self.placement,
-            encoding(&self.translation),
+            &self.translation,
             &self.rules,
-            &parts.inserted,
+            &self.arrangement,
+            &parts,
             &mut self.live,
             &mut arrangement,
             &mut plan,
+            device,
         )?;
-        match plan_changes(&parts, &arrangement, &mut plan, device) {
-            Ok(()) => {}
-            Err(fault) => {
-                forget_all(&mut self.live, ids);
-                return Err(fault);
-            }
-        }
-        let undo = match plan_undo(
-            self.alloc,
-            &self.translation,
-            &self.arrangement,
-            &plan.writes,
-        ) {
-            Ok(undo) => undo,
-            Err(fault) => {
-                forget_all(&mut self.live, ids);
-                return Err(fault);
-            }
-        };
         erase_all(&mut arrangement, &parts.erased);
         let counts = plan.counts();
         let awaits = gives_bits(&self.translation, &bits);
         self.held = Some(Held {
             writes: plan.writes,
-            undo,
+            undo: planned.undo,
             made: 0,
             turned: None,
             awaits,
@@ -298,7 +280,7 @@ impl Manager {
             batch: copy,
             rewrites: parts.rewrites,
             erased: parts.erased,
-            ids,
+            ids: planned.ids,
             arrangement,
         });
         Ok(ready(&counts))
@@ -432,6 +414,9 @@ impl Manager {
     /// made, and once they have been searched the call is made again. `Reverted` comes where the commit was turned round:
     /// its undo writes were made, and the rules are the old ones.
     ///
+    /// Wherever it stops, what was done to the device and what is left are together what was left before, and the commit
+    /// that is still under way can be taken back through the states that it passed.
+    ///
     /// Each key is answered, by the device's journal, as the old rules or the new ones do before the first write and after
     /// each, also where the write that failed was made all the same; and once the commit has finished as the new ones do.
     pub fn carry_out<D: Writable>(&mut self, device: &mut D, tries: u32) -> Result<Done, Unfinished>
@@ -445,7 +430,10 @@ impl Manager {
         ensures rules { OnOk result ((was : Managed) → (batch : List Command) → (ready : Ready) → Holds was batch ready self.old → self.new.rules ≡ set_after was.rules batch) }
         ensures journal { OnOk result (D.journal device.new ≡ D.journal device.old ++ writes_left self.old.held) }
         ensures events { OnOk result (D.events device.new ≡ D.events device.old ++ actions_left self.old.held) }
+        ensures events_left { D.events device.new ++ actions_left self.new.held ≡ D.events device.old ++ actions_left self.old.held }
         ensures stopped { IfErr result (λ halt. StopsBy self.old self.new (D.journal device.old) (D.journal device.new) (length (D.flight device.old)) halt) }
+        ensures way_back { (begun : State) → WayBackFrom begun self.old → WayBackFrom begun self.new }
+        ensures goes_back { (begun : State) → WayBackFrom begun self.old → GoesBackFrom begun self.new }
         ensures spare { D.spare device.new + length (actions_left self.old.held) ≡ D.spare device.old + length (actions_left self.new.held) }
         ensures room { HasRoomLeft self.new.held (D.spare device.new) }
         ensures both_ways { HasRoomBothWays self.old.held (D.spare device.old) → HasRoomBothWays self.new.held (D.spare device.new) }

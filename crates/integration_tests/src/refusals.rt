@@ -1,12 +1,18 @@
 // The texts of refusals, as a program prints them.
 use batch_order::{Field, Refusal, RuleName};
-use rule_model::{Prefix, Rank, ipv4_route_rank, list_rank};
+use rule_model::{IpVersion, Prefix, Rank, ipv4_route_rank, ipv6_route_rank, list_rank};
 use std::test::Fail;
 
 /// The priority of the route of an IPv4 prefix.
 fn route(address: u32, length: u8) -> Result<Rank, Fail> {
     let prefix = Prefix::v4(address, length).ok().ok_or("no prefix")?;
     Ok(ipv4_route_rank(&prefix))
+}
+
+/// The priority of the route of an IPv6 prefix.
+fn route6(address: u128, length: u8) -> Result<Rank, Fail> {
+    let prefix = Prefix::v6(address, length).ok().ok_or("no prefix")?;
+    Ok(ipv6_route_rank(&prefix))
 }
 
 #[test]
@@ -21,6 +27,22 @@ fn refusal_names_its_rule(rt: HostRuntime) -> Result<(), Fail> {
         (Refusal::Absent(list_rank(10)), "rule 10 is absent"),
     ] {
         assert_eq!(rt; refusal.to_string(rt.alloc())?.as_str(), text);
+    }
+    Ok(())
+}
+
+#[test]
+fn refusal_names_its_rule_of_ipv6(rt: HostRuntime) -> Result<(), Fail> {
+    let doc = route6(0x2001_0db8 << 96, 32)?;
+    for (refusal, text) in [
+        (Refusal::Twice(doc), "rule 2001:db8::/32 is named twice"),
+        (Refusal::Taken(doc), "rule 2001:db8::/32 is taken"),
+        (Refusal::Absent(doc), "rule 2001:db8::/32 is absent"),
+        (Refusal::Absent(list_rank(10)), "rule 10 is absent"),
+        (Refusal::Memory, "out of memory"),
+    ] {
+        let told = refusal.for_version(IpVersion::V6).to_string(rt.alloc())?;
+        assert_eq!(rt; told.as_str(), text);
     }
     Ok(())
 }
@@ -75,7 +97,27 @@ fn name_is_that_of_a_route_or_of_a_list(rt: HostRuntime) -> Result<(), Fail> {
             "priority 0/4294967297",
         ),
     ] {
-        assert_eq!(rt; RuleName(priority).to_string(rt.alloc())?.as_str(), text);
+        let version = IpVersion::V4;
+        let name = RuleName { priority, version };
+        assert_eq!(rt; name.to_string(rt.alloc())?.as_str(), text);
+    }
+    Ok(())
+}
+
+#[test]
+fn name_is_that_of_a_route_of_ipv6(rt: HostRuntime) -> Result<(), Fail> {
+    for (priority, text) in [
+        (route6(0, 0)?, "::/0"),
+        (route6(0x2001_0db8_0001 << 80, 48)?, "2001:db8:1::/48"),
+        (route6(0xffff_0a00_0000, 104)?, "::ffff:a00:0/104"),
+        (route6(1, 128)?, "::1/128"),
+        (list_rank(0), "0"),
+        (Rank { high: 129, low: 0 }, "priority 129/0"),
+        (Rank { high: 8, low: 1 }, "priority 8/1"),
+    ] {
+        let version = IpVersion::V6;
+        let name = RuleName { priority, version };
+        assert_eq!(rt; name.to_string(rt.alloc())?.as_str(), text);
     }
     Ok(())
 }

@@ -1,5 +1,5 @@
 -- Turns over a commit under way: steps of the manager, translations and searches in any order.
-use Rattle.std.specs.Prelude.{◌≡◌, ℕ, ◌+◌, ◌<◌, ◌++◌, ◌⊎◌, nat_lt, true, false, Option, Some, None, List, [], ◌∷◌, length, take}
+use Rattle.std.specs.Prelude.{◌≡◌, ℕ, ◌+◌, ◌<◌, ◌++◌, ◌⊎◌, nat_lt, true, false, Option, Some, None, IsSome, List, [], ◌∷◌, length, take, slice_get}
 use Rattle.rule_model.specs.declared.Key.{Key}
 use Rattle.rule_model.specs.RuleSet.{Answer, answer}
 use Rattle.tcam_device.specs.declared.Action.{Action}
@@ -7,7 +7,7 @@ use Rattle.tcam_device.specs.State.{State, lookup, on_device}
 use Rattle.tcam_device.specs.Flight.{Flight, with_word, most_in_flight}
 use Rattle.batch_order.specs.declared.Step.{Step as Made}
 use Rattle.batch_order.specs.Managed.{Managed}
-use Rattle.batch_order.specs.Steps.{Steps, actions_of}
+use Rattle.batch_order.specs.Steps.{Steps, actions_of, next_of}
 use Rattle.batch_order.specs.CarriedOut.{ahead}
 use Rattle.lookup_turns.specs.declared.Turn.{Turn}
 use Rattle.lookup_turns.specs.declared.Turn.TheVariants.{Step, Translate, Search}
@@ -74,10 +74,12 @@ pub record IsDriven (slots : ℕ) (before after : List Action) (manager : Manage
   pub driven : Drives slots manager flight 0 turns answers actions last left
   pub events : after ≡ before ++ actions
 
--- the turns before one of them were made, whatever their searches answered
+-- The turns before one of them were made, whatever their searches answered. That one is a step, with a write due.
 pub record StandsBefore (slots : ℕ) (before after : List Action) (manager : Managed) (flight : Flight) (turns : List Turn)
     (last : Managed) (left : Flight) : Type 0 where
   pub place : ℕ
   pub inside : place < length turns
   pub answers : List (ℕ × Answer)
   pub stands : IsDriven slots before after manager flight (take place turns) answers last left
+  pub step : slice_get turns place ≡ Some Step
+  pub due : IsSome (next_of last.held)

@@ -1,11 +1,13 @@
 // The turns of a list, one after the other.
-ghost use Rattle.std.specs.Prelude.{◌≡◌, ◌+◌, ◌<◌, ◌≤◌, ◌^◌, ◌++◌, ℕ, List, Err, IfOk, OnErr, length, vec_len, vec_capacity};
-ghost use Rattle.call_history.specs.Cause.{Rose, HasCause};
+ghost use Rattle.std.specs.Prelude.{◌≡◌, ◌+◌, ◌<◌, ◌≤◌, ◌^◌, ◌++◌, ℕ, List, Err, IfOk, IsSome, OnErr, length, vec_len, vec_capacity};
+ghost use Rattle.call_history.specs.Cause.{HasCause, IsCounted};
 ghost use Rattle.rule_model.specs.Key.{IsKey};
-ghost use Rattle.tcam_device.specs.State.{replay};
+ghost use Rattle.tcam_device.specs.State.{State, replay};
 ghost use Rattle.commit_writes.specs.InFlight.{AreCurrent};
 ghost use Rattle.batch_order.specs.Managed.{IsOn, live_now};
-ghost use Rattle.batch_order.specs.CarriedOut.{HasRoomLeft};
+ghost use Rattle.batch_order.specs.Steps.{next_of};
+ghost use Rattle.batch_order.specs.Passed.{GoesBackFrom, WayBackFrom};
+ghost use Rattle.batch_order.specs.CarriedOut.{HasRoomBothWays, HasRoomLeft};
 ghost use Rattle.lookup_turns.specs.Turns.{IsTurned, IsDriven, StandsBefore, numbered, translated};
 
 use crate::{DriveFault, Turn};
@@ -28,9 +30,13 @@ fn turn_once<D: Device>(
         manager.old (D.flight device.old) turn.now answered manager.new (D.flight device.new)) }
     ensures slots { manager.new.slots ≤ D.slot_count device.new }
     ensures room { HasRoomLeft manager.new.held (D.spare device.new) }
+    ensures both_ways { HasRoomBothWays manager.old.held (D.spare device.old) → HasRoomBothWays manager.new.held (D.spare device.new) }
+    ensures way_back { (begun : State) → WayBackFrom begun manager.old → WayBackFrom begun manager.new }
     ensures on { IsOn (D.slot_count device.new) (D.journal device.new) manager.new }
     ensures current { AreCurrent (live_now manager.new) (D.flight device.new) }
     ensures failed { OnErr result (manager.new ≡ manager.old) }
+    ensures step { OnErr result (turn.now ≡ Turn.Step) }
+    ensures due { OnErr result (IsSome (next_of manager.old.held)) }
     ensures events_err { OnErr result (D.events device.new ≡ D.events device.old) }
     ensures flight_err { OnErr result (D.flight device.new ≡ D.flight device.old) }
     ensures slot_count { D.slot_count device.new ≡ D.slot_count device.old }
@@ -94,9 +100,12 @@ fn note(
 /// of the new ones, and the words that are in flight in the end are current again. For that those in the beginning have to
 /// be, as they are where none is in flight, and the device has to hold what the manager's writes left.
 ///
-/// `Memory` comes only before the first turn, and nothing is done then. `Device` comes only where the device's count of
-/// failures rose: the turns before the one that failed stand, and that one changed nothing. After either the same
-/// manager and device may be driven on.
+/// `Memory` comes only before the first turn, and nothing is done then. `Device` comes exactly where the device's count of
+/// failures rose, by one: the turns before the one that failed stand, and that one, a step with a write due, changed
+/// nothing and isn't tried again. After either the same manager and device may be driven on.
+///
+/// The commit under way can be taken back before these turns and after them, if it could: its way back, and the room for
+/// it, are kept.
 pub fn drive<D: Device>(
     alloc: Global,
     manager: &mut Manager,
@@ -112,11 +121,13 @@ pub fn drive<D: Device>(
         manager.old (D.flight device.old) turns.now answers.items manager.new (D.flight device.new)) }
     ensures stands { (result ≡ Err DriveFault.Device) → StandsBefore (D.slot_count device.old) (D.events device.old)
         (D.events device.new) manager.old (D.flight device.old) turns.now manager.new (D.flight device.new) }
-    ensures cause { (result ≡ Err DriveFault.Device) → Rose (D.faults device.old) (D.faults device.new) }
+    ensures cause { IsCounted (result ≡ Err DriveFault.Device) (D.faults device.old) (D.faults device.new) }
     ensures memory { (result ≡ Err DriveFault.Memory) → (manager.new ≡ manager.old) × (device.new ≡ device.old) }
-    ensures later { D.faults device.old ≤ D.faults device.new }
     ensures slots { manager.new.slots ≤ D.slot_count device.new }
     ensures room { HasRoomLeft manager.new.held (D.spare device.new) }
+    ensures both_ways { HasRoomBothWays manager.old.held (D.spare device.old) → HasRoomBothWays manager.new.held (D.spare device.new) }
+    ensures way_back { (begun : State) → WayBackFrom begun manager.old → WayBackFrom begun manager.new }
+    ensures goes_back { (begun : State) → WayBackFrom begun manager.old → GoesBackFrom begun manager.new }
     ensures on { IsOn (D.slot_count device.new) (D.journal device.new) manager.new }
     ensures current { AreCurrent (live_now manager.new) (D.flight device.new) }
     ensures slot_count { D.slot_count device.new ≡ D.slot_count device.old }

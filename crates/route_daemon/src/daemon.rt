@@ -11,15 +11,16 @@ ghost use Rattle.route_daemon.specs.Served.{IsRefused, IsStuck, IsTaken};
 
 use crate::networks::{Network, priority_of, route_of};
 use batch_order::{Manager, Refusal, Unfinished};
-use rule_model::{Addr, Key, PrefixFault};
+use rule_model::{Addr, IpVersion, Key, PrefixFault};
 use rule_store::{Batch, Command, PushFault};
 use std::io;
 use tcam_device::{Device, DeviceFault};
 use thiserror::Error;
 
-/// A packet that is looked up behind each commit: its destination, as printed and as keys have it.
+/// A packet that is looked up behind each commit: its version of IP, and its destination, as printed and as keys have it.
 #[derive(Clone, Copy, Debug)]
 pub struct Packet {
+    pub version: IpVersion,
     pub name: &'static str,
     pub address: Addr,
 }
@@ -38,8 +39,8 @@ pub enum RouteFault {
 /// Why a commit doesn't come to its end.
 #[derive(Clone, Copy, Debug, PartialEq, Eq, Error)]
 pub enum CommitFault {
-    /// The batch isn't taken. Nothing was written, and the manager is as before. The text has the prefix of the route
-    /// that is at fault.
+    /// The batch isn't taken. Nothing was written, and the manager is as before. The text of the refusal has the prefix of
+    /// the route that is at fault: `Refusal::for_version` writes it for either version.
     #[error(transparent)]
     Refused(Refusal),
     /// A write failed. The commit is still under way: [`resume`] makes that write again, and those behind it.

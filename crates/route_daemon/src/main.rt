@@ -20,12 +20,14 @@ use daemon::{CommitFault, Packet, add_route, change_route, commit, resume, withd
 use memory_tcam::Shadowed;
 use networks::Network;
 use registers::{Registers, SLOTS};
+use rule_model::IpVersion;
 use rule_store::Batch;
 use tcam_device::Device;
 
 /// Routes of IPv4, and the same of IPv6 over another device.
 fn main(rt: HostRuntime) -> anyhow::Result<()> {
     let packet = Packet {
+        version: IpVersion::V4,
         name: "10.1.2.3",
         address: 0x0a01_0203 << 96,
     };
@@ -37,6 +39,7 @@ fn main(rt: HostRuntime) -> anyhow::Result<()> {
     ];
     serve(&rt, networks, &packet)?;
     let packet = Packet {
+        version: IpVersion::V6,
         name: "2001:db8:1:2::3",
         address: 0x2001_0db8_0001_0002_0000_0000_0000_0003,
     };
@@ -106,7 +109,9 @@ fn push_batch<D: Device>(
 {
     match commit(rt, manager, batch, device, packet) {
         Ok(()) => Ok(()),
-        Err(CommitFault::Refused(refusal)) => Err(anyhow!("{refusal}")),
+        Err(CommitFault::Refused(refusal)) => {
+            Err(anyhow!("{}", refusal.for_version(packet.version)))
+        }
         Err(CommitFault::Stuck) => Ok(resume(rt, manager, device, packet)?),
     }
 }

@@ -1,5 +1,8 @@
-use Rattle.std.proofs.Common.{◌+◌, ◌≤◌, ◌∙◌, ℕ, List, take, length, get_or, sym, subst, arith}
+use Rattle.std.proofs.Common.{Some, ap, ◌+◌, ◌≤◌, ◌∙◌, ℕ, List, take, length, get_or, sym, subst}
 use Rattle.std.proofs.lemmas.List.{get_or_default}
+use Rattle.std.proofs.lemmas.Option.{slice_get-get_or}
+use Rattle.batch_order.proofs.Passed.{goes_back}
+use Rattle.lookup_turns.specs.declared.Turn.{Turn}
 use Rattle.rule_model.specs.RuleSet.{Answer}
 use Rattle.lookup_turns.specs.declared.Turn.TheVariants.{Step}
 use Rattle.lookup_turns.specs.Turns.{IsTurned, IsDriven}
@@ -26,5 +29,31 @@ loop-place-preserved g c =
       on = once.on;
       current = once.current;
       slot_count = once.slot_count ∙ before.slot_count;
-      later = let now = once.cause.later in let then = before.later in omega arith;
+      both = λ both. once.both_ways (before.both both);
+      way = λ begun way. once.way_back begun (before.way begun way);
+      faults = c.in-Ok-turn_once.ensures.cause.stayed ∙ before.faults;
     }
+
+pub returns-in-Err-clause-goes_back : goal.returns-in-Err-clause-goes_back
+returns-in-Err-clause-goes_back g c begun way = goes_back begun c.args.manager.now way
+
+pub returns-in-Err-turn_once-clause-stands : goal.returns-in-Err-turn_once-clause-stands
+returns-in-Err-turn_once-clause-stands g c _ =
+    let before = c.loop-place.invariant in
+    let inside = c.loop-place-test.true in
+    let failed = c.in-Err-turn_once.ensures in
+    let turns : List Turn = c.args.turns.now in
+    record {
+      place = c.loop-place.place;
+      inside = inside;
+      answers = c.loop-place.answers.items;
+      stands = rw (failed.failed, failed.events_err, failed.flight_err) before.driven;
+      step = slice_get-get_or turns c.loop-place.place Step inside ∙ ap (λ (turn : Turn). Some turn) failed.step;
+      due = rw failed.failed failed.due;
+    }
+
+pub returns-in-Err-turn_once-clause-goes_back : goal.returns-in-Err-turn_once-clause-goes_back
+returns-in-Err-turn_once-clause-goes_back g c begun way = goes_back begun c.turn_once.new.manager (c.turn_once.ensures.way_back begun (c.loop-place.invariant.way begun way))
+
+pub returns-clause-goes_back : goal.returns-clause-goes_back
+returns-clause-goes_back g c begun way = goes_back begun c.loop-place.manager (c.loop-place.invariant.way begun way)

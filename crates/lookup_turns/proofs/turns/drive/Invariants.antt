@@ -1,7 +1,9 @@
 use Rattle.std.proofs.Common.{◌≡◌, ◌≤◌, length, take, vec_capacity}
+use Rattle.tcam_device.specs.State.{State}
 use Rattle.commit_writes.specs.InFlight.{AreCurrent}
 use Rattle.batch_order.specs.Managed.{IsOn, live_now}
-use Rattle.batch_order.specs.CarriedOut.{HasRoomLeft}
+use Rattle.batch_order.specs.Passed.{WayBackFrom}
+use Rattle.batch_order.specs.CarriedOut.{HasRoomBothWays, HasRoomLeft}
 use Rattle.lookup_turns.specs.Turns.{IsDriven}
 use Rattle.lookup_turns.proofs.turns.drive.Given as goal
 
@@ -16,5 +18,7 @@ invariant-loop-place g l = record {
   on : IsOn (g.D.Writable.slot_count l.device) (g.D.Writable.journal l.device) l.manager;
   current : AreCurrent (live_now l.manager) (g.D.Writable.flight l.device);
   slot_count : g.D.Writable.slot_count l.device ≡ g.D.Writable.slot_count l.initial.device;
-  later : g.D.Writable.faults l.initial.device ≤ g.D.Writable.faults l.device;
+  both : HasRoomBothWays l.initial.manager.held (g.D.Writable.spare l.initial.device) → HasRoomBothWays l.manager.held (g.D.Writable.spare l.device);
+  way : (begun : State) → WayBackFrom begun l.initial.manager → WayBackFrom begun l.manager;
+  faults : g.D.Writable.faults l.device ≡ g.D.Writable.faults l.initial.device;
 }

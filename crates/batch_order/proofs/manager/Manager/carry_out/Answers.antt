@@ -15,7 +15,7 @@ use Rattle.batch_order.proofs.Ahead.{by_journal}
 use Rattle.batch_order.proofs.Onward.{IsSame, reverted, same}
 use Rattle.batch_order.proofs.Served.{at-first, either, more}
 use Rattle.batch_order.proofs.Stepped.{none_drained}
-use Rattle.batch_order.proofs.Tried.{goes-drained, goes-start, goes-wrote}
+use Rattle.batch_order.proofs.Tried.{done_and_still_left, goes-drained, goes-start, goes-wrote}
 use Rattle.batch_order.proofs.manager.Manager.carry_out.Goals as goal
 
 pub carrying-init : goal.carrying-init
@@ -31,6 +31,7 @@ carrying-init g c =
       room = c.requires.room;
       both = λ both. both;
       forward = λ forward. forward;
+      way = λ begun way. way;
       on = λ on. on;
       served = λ on. at-first slots journal m.rules (ahead m) (either (replay slots journal) m.rules m.held (by_journal slots journal m c.requires.slots c.serving.ensures.serves on));
       below = c.requires.tries;
@@ -66,6 +67,7 @@ carrying-preserved-in-Ok-Wrote g c =
       room = made.room;
       both = λ both. made.both_ways (inv.both both);
       forward = λ forward. made.forward (inv.forward forward);
+      way = λ begun way. made.way_back begun (inv.way begun way);
       on = λ on. made.stays_on (inv.on on);
       served = λ on.
           let shown : ShowsOldOrNew (replay slots journal') m'.rules (ahead m') = either (replay slots journal') m'.rules m'.held (made.serves (inv.on on)) in
@@ -106,6 +108,7 @@ carrying-preserved-in-Ok-Drained g c =
       room = made.room;
       both = λ both. made.both_ways (inv.both both);
       forward = λ forward. made.forward (inv.forward forward);
+      way = λ begun way. made.way_back begun (inv.way begun way);
       on = λ on. made.stays_on (inv.on on);
       served = λ on. rw (made.slot_count, stays) (inv.served on);
       below = inv.below;
@@ -131,3 +134,19 @@ returns-in-Ok-Reverted-clause-stopped g c =
     let journal : g.D.Writable.journal c.step.new.device ≡ g.D.Writable.journal c.carrying.device =
     made.journal ∙ ap (λ (s : Step). g.D.Writable.journal c.carrying.device ++ writes_in (actions_of s)) is ∙ append-nil _ in
     (reverted old m c.step.new.self flying undone old.held inv.goes.made (g.D.Writable.journal c.args.device.now) (g.D.Writable.journal c.step.new.device) refl inv.goes.onward steps (journal ∙ inv.goes.journal)).reverts
+
+pub returns-in-Ok-Finished-clause-events_left : goal.returns-in-Ok-Finished-clause-events_left
+returns-in-Ok-Finished-clause-events_left g c = done_and_still_left c.args.self.now c.carrying.self c.step.new.self (length (g.D.Writable.flight c.carrying.device)) c.in-Ok-Finished.field-0 _ _ _ _ _ _ _ _ _ _ _ c.carrying.invariant.goes
+    (ap actions_of c.in-Ok-Finished.field-0-is) c.in-Ok-Finished.ensures.stepped c.in-Ok-Finished.ensures.events
+
+pub returns-in-Ok-Idle-clause-events_left : goal.returns-in-Ok-Idle-clause-events_left
+returns-in-Ok-Idle-clause-events_left g c = done_and_still_left c.args.self.now c.carrying.self c.step.new.self (length (g.D.Writable.flight c.carrying.device)) c.in-Ok-Idle.field-0 _ _ _ _ _ _ _ _ _ _ _ c.carrying.invariant.goes
+    (ap actions_of c.in-Ok-Idle.field-0-is) c.in-Ok-Idle.ensures.stepped c.in-Ok-Idle.ensures.events
+
+pub returns-in-Ok-Waiting-clause-events_left : goal.returns-in-Ok-Waiting-clause-events_left
+returns-in-Ok-Waiting-clause-events_left g c = done_and_still_left c.args.self.now c.carrying.self c.step.new.self (length (g.D.Writable.flight c.carrying.device)) c.in-Ok-Waiting.field-0 _ _ _ _ _ _ _ _ _ _ _ c.carrying.invariant.goes
+    (ap actions_of c.in-Ok-Waiting.field-0-is) c.in-Ok-Waiting.ensures.stepped c.in-Ok-Waiting.ensures.events
+
+pub returns-in-Ok-Reverted-clause-events_left : goal.returns-in-Ok-Reverted-clause-events_left
+returns-in-Ok-Reverted-clause-events_left g c = done_and_still_left c.args.self.now c.carrying.self c.step.new.self (length (g.D.Writable.flight c.carrying.device)) c.in-Ok-Reverted.field-0 _ _ _ _ _ _ _ _ _ _ _ c.carrying.invariant.goes
+    (ap actions_of c.in-Ok-Reverted.field-0-is) c.in-Ok-Reverted.ensures.stepped c.in-Ok-Reverted.ensures.events

@@ -1,6 +1,8 @@
 use Rattle.std.proofs.Common.{◌≡◌, ◌+◌, ◌*◌, ◌-◌, ◌<◌, IsSome, length}
+use Rattle.tcam_device.specs.State.{State}
 use Rattle.batch_order.specs.Managed.{IsOn}
 use Rattle.batch_order.specs.Steps.{next_of}
+use Rattle.batch_order.specs.Passed.{WayBackFrom}
 use Rattle.batch_order.specs.CarriedOut.{GoesForward, HasRoomBothWays, HasRoomLeft, IsServed, actions_left, ahead}
 use Rattle.batch_order.proofs.Tried.{Goes}
 use Rattle.batch_order.proofs.manager.Manager.carry_out.Given as goal
@@ -15,6 +17,7 @@ invariant-carrying g l = record {
   room : HasRoomLeft l.self.held (g.D.Writable.spare l.device);
   both : HasRoomBothWays l.fn.self.held (g.D.Writable.spare l.fn.device) → HasRoomBothWays l.self.held (g.D.Writable.spare l.device);
   forward : GoesForward l.fn.self.held → GoesForward l.self.held;
+  way : (begun : State) → WayBackFrom begun l.fn.self → WayBackFrom begun l.self;
   on : IsOn (g.D.Writable.slot_count l.fn.device) (g.D.Writable.journal l.fn.device) l.fn.self → IsOn (g.D.Writable.slot_count l.device) (g.D.Writable.journal l.device) l.self;
   served : IsOn (g.D.Writable.slot_count l.fn.device) (g.D.Writable.journal l.fn.device) l.fn.self
       → IsServed (g.D.Writable.slot_count l.device) (g.D.Writable.journal l.fn.device) (g.D.Writable.journal l.device) l.fn.self.rules (ahead l.fn.self);

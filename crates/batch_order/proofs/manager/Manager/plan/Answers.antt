@@ -1,10 +1,9 @@
-use Rattle.std.proofs.Common.{◌≡◌, ℕ, ◌≤◌, ◌+◌, ◌*◌, ◌^◌, ◌∙◌, false, List, length, map, IsTrue, Option, Some, None, Ok, Err, OnErr, Result, refl, sym, ap, subst, arith}
+use Rattle.std.proofs.Common.{◌≡◌, ℕ, ◌≤◌, ◌+◌, ◌*◌, ◌^◌, ◌∙◌, false, List, length, map, Option, Some, None, Ok, Err, OnErr, Result, refl, sym, ap, subst, arith}
 use Rattle.std.specs.List.{AllByRecursion, AllZip}
 use Rattle.std.proofs.lemmas.List.{length-map}
 use Rattle.slot_pool.specs.Arrangement.{Slots}
 use Rattle.rule_model.specs.declared.Rule.{Rule}
 use Rattle.overlap_index.specs.declared.LivePiece.{LivePiece}
-use Rattle.overlap_index.specs.Live.{is_live}
 use Rattle.rule_store.specs.declared.Mode.{Mode}
 use Rattle.rule_store.specs.declared.Command.{Command}
 use Rattle.rule_store.specs.Store.{StoredRules}
@@ -22,11 +21,10 @@ use Rattle.batch_order.specs.declared.plan.Plan.{Plan}
 use Rattle.batch_order.specs.declared.planned_writes.PlannedWrite.{PlannedWrite}
 use Rattle.batch_order.specs.declared.planned_writes.PlannedWrite.TheVariants.{Tabled}
 use Rattle.batch_order.specs.declared.translation.Translation.{Translation}
-use Rattle.batch_order.specs.Entries.{AddsIds, Entries, HaveIds, KeepEntries}
+use Rattle.batch_order.specs.Entries.{AddsIds, Entries, HaveIds}
 use Rattle.batch_order.specs.Kept.{IsManaged, bits_of, coded_by, during_of, held_of, mode_of, settled_state}
 use Rattle.batch_order.specs.Placing.{aims_of, words_of}
-use Rattle.batch_order.specs.Planning.{ArePlannedSince, IsWithin, as_writes}
-use Rattle.batch_order.specs.Restoring.{restorings}
+use Rattle.batch_order.specs.Planning.{ArePlannedSince}
 use Rattle.batch_order.specs.Managed.{Managed, Holds}
 use Rattle.batch_order.proofs.Parted.{inserted_encodable, rewritten_encodable}
 use Rattle.batch_order.proofs.Numbered.{arranged_number}
@@ -34,9 +32,9 @@ use Rattle.batch_order.proofs.Needed.{rules_entries}
 use Rattle.batch_order.proofs.Judged.{accepted_room, entries_few, idle_held}
 use Rattle.batch_order.proofs.Cleared.{all_stand}
 use Rattle.batch_order.proofs.Carried.{view_of}
-use Rattle.batch_order.proofs.Refused.{adds_first, managed_same, view_same}
+use Rattle.batch_order.proofs.Refused.{managed_same, view_same}
 use Rattle.batch_order.proofs.Taken.{ArePartsOf, IsCoded, IsTaken, behind_by, behind_serves, during_by, inserted_room, kept_so, pieces_have_ids, plan_made, plan_words, said_so, words_by}
-use Rattle.batch_order.proofs.Leading.{AreLiveParts, changed_stand, few_rewrites, live_parts}
+use Rattle.batch_order.proofs.Leading.{AreLiveParts, few_rewrites, live_parts, parts_live_before}
 use Rattle.batch_order.proofs.Holding.{IsHeldPlan, held_room, holds_plan, managed_held}
 use Rattle.batch_order.proofs.manager.Manager.plan.Given.{Over}
 use Rattle.batch_order.proofs.manager.Manager.plan.Goals as goal
@@ -93,26 +91,6 @@ reserve-requires g c =
     let most : c.len.result ≤ 4096 = c.len.ensures.most in
     omega arith
 
-pub plan_additions-requires : goal.plan_additions-requires
-plan_additions-requires g c =
-    let i = c.self.inside in
-    let batch = c.args.batch.now in
-    let t = taken_as i.placement i.translation i.rules i.live i.arrangement i.held c.args.self.now batch c.self.invariant c.self.view_is c.requires.idle c.requires.changes c.requires.sound c.requires.fits in
-    let coded = coded_as i.placement i.translation i.rules i.live i.arrangement i.held c.args.self.now batch c.in_ok-bits.bits c.self.view_is c.in_ok-bits.ensures.bits in
-    let words = words_as i.placement i.translation i.rules i.live i.arrangement i.held c.args.self.now batch c.plan_words.new.plan.writes.items c.self.view_is c.requires.idle c.in_ok-bits.ensures.writes in
-    let during = during_by i.translation i.rules batch in
-    let room = kept_so i.translation i.rules batch c.in_ok-bits.bits coded (λ m b. length i.live.live + length (inserted_pieces m b i.rules.rules batch) ≤ i.live.slots) (inserted_room i.translation i.rules i.live i.arrangement batch t) in
-    let encodable = kept_so i.translation i.rules batch c.in_ok-bits.bits coded (λ m b. AllByRecursion (λ ranked. IsEncodable ranked.piece) (inserted_pieces m b i.rules.rules batch))
-    (inserted_encodable (mode_of i.translation) during i.rules.rules batch t.change (behind_by i.translation i.rules i.live i.arrangement batch) (behind_serves i.translation i.rules i.live i.arrangement batch t)) in
-    record {
-      standing = arranged_number (mode_of i.translation) (bits_of i.translation) i.rules.rules i.live i.arrangement t.managed.is_set t.managed.carried
-          ∙ (ap (entries_of (mode_of i.translation)) (sym c.reserve.ensures.rules) ∙ ap (λ (m : Mode). entries_of m c.reserve.new.self.rules) (sym c.encoding.ensures));
-      room = rw (c.deref.ensures.value, c.in_ok-parts.ensures.inserted) room;
-      encodable = rw (c.deref.ensures.value, c.in_ok-parts.ensures.inserted) encodable;
-      plannable = rw (c.in_ok-arrangement.ensures, words) (plan_words i.live i.arrangement (words_by i.translation i.rules i.live i.arrangement batch) t.managed.carried.settled
-          (tables_in_use i.live.slots (words_by i.translation i.rules i.live i.arrangement batch) (bit_writes-tables (settled_state i.translation i.live.entries i.arrangement) (new_bits (bits_of i.translation) during))));
-    }
-
 -- the parts of the commit, with the live ranges of the plan
 parts_as : (translation : Option Translation) (rules : StoredRules) (batch : List Command) (bits : Option FieldBits) (live : List LivePiece) (rewrites : List Rewrite) (erased : List ℕ) → IsCoded translation rules batch bits
     → AllZip (IsRewriteOf live) (rewritten_pieces (coded_by bits) (during_of bits) rules.rules batch) rewrites → AllZip (IsIdOf live) (erased_pieces (coded_by bits) (during_of bits) rules.rules batch) erased
@@ -129,36 +107,37 @@ parts_live translation rules old new slots batch ids rewrites erased t adds part
     subst (λ (l : List LivePiece). AreLiveParts l rewrites erased) (sym adds.live)
     (live_parts (mode_of translation) (during_by translation rules batch) rules.rules batch old.slots old.live adds.made rewrites erased t.managed.carried.settled.apart t.change parts)
 
-pub plan_changes-requires : goal.plan_changes-requires
-plan_changes-requires g c =
+pub plan_writes-requires : goal.plan_writes-requires
+plan_writes-requires g c =
     let i = c.self.inside in
     let batch = c.args.batch.now in
     let t = taken_as i.placement i.translation i.rules i.live i.arrangement i.held c.args.self.now batch c.self.invariant c.self.view_is c.requires.idle c.requires.changes c.requires.sound c.requires.fits in
     let coded = coded_as i.placement i.translation i.rules i.live i.arrangement i.held c.args.self.now batch c.in_ok-bits.bits c.self.view_is c.in_ok-bits.ensures.bits in
+    let words = words_as i.placement i.translation i.rules i.live i.arrangement i.held c.args.self.now batch c.plan_words.new.plan.writes.items c.self.view_is c.requires.idle c.in_ok-bits.ensures.writes in
+    let during = during_by i.translation i.rules batch in
     let rewrites = c.in_ok-parts.parts.rewrites.items in
     let erased = c.in_ok-parts.parts.erased.items in
     let of_batch = parts_as i.translation i.rules batch c.in_ok-bits.bits i.live.live rewrites erased coded c.in_ok-parts.ensures.rewrites c.in_ok-parts.ensures.erased in
-    let parts = parts_live i.translation i.rules i.live c.plan_additions.new.live i.arrangement batch c.in_ok-ids.ids.items rewrites erased t c.in_ok-ids.ensures.adds of_batch in
-    let plannable = c.in_ok-ids.ensures.plannable in
+    let live = parts_live_before (mode_of i.translation) during i.rules.rules batch i.live.live rewrites erased of_batch in
+    let room = kept_so i.translation i.rules batch c.in_ok-bits.bits coded (λ m b. length i.live.live + length (inserted_pieces m b i.rules.rules batch) ≤ i.live.slots) (inserted_room i.translation i.rules i.live i.arrangement batch t) in
+    let encodable = kept_so i.translation i.rules batch c.in_ok-bits.bits coded (λ m b. AllByRecursion (λ ranked. IsEncodable ranked.piece) (inserted_pieces m b i.rules.rules batch))
+    (inserted_encodable (mode_of i.translation) during i.rules.rules batch t.change (behind_by i.translation i.rules i.live i.arrangement batch) (behind_serves i.translation i.rules i.live i.arrangement batch t)) in
     record {
+      standing = arranged_number (mode_of i.translation) (bits_of i.translation) i.rules.rules i.live i.arrangement t.managed.is_set t.managed.carried
+          ∙ ap (entries_of (mode_of i.translation)) (sym c.reserve.ensures.rules);
+      room = rw c.in_ok-parts.ensures.inserted room;
+      encodable = rw c.in_ok-parts.ensures.inserted encodable;
+      plannable = rw (c.in_ok-arrangement.ensures, words) (plan_words i.live i.arrangement (words_by i.translation i.rules i.live i.arrangement batch) t.managed.carried.settled
+          (tables_in_use i.live.slots (words_by i.translation i.rules i.live i.arrangement batch) (bit_writes-tables (settled_state i.translation i.live.entries i.arrangement) (new_bits (bits_of i.translation) during))));
+      size = t.managed.carried.settled.size;
       few =
-          let fewer = few_rewrites (mode_of i.translation) (during_by i.translation i.rules batch) i.rules.rules batch i.live.slots i.live.live rewrites erased t.managed.carried.settled.apart t.change of_batch in
+          let fewer = few_rewrites (mode_of i.translation) during i.rules.rules batch i.live.slots i.live.live rewrites erased t.managed.carried.settled.apart t.change of_batch in
           let count = t.managed.carried.settled.count in
           let most = t.managed.carried.settled.few in
           omega arith;
-      rewritten = changed_stand c.plan_additions.new.live c.plan_additions.new.arrangement rewrites plannable.settled parts.changed;
-      erased = all_stand c.plan_additions.new.live c.plan_additions.new.arrangement erased plannable.settled parts.gone;
-      within = subst (λ (n : ℕ). AllByRecursion (IsWithin n) c.plan_additions.new.plan.writes.items) (sym plannable.settled.size) plannable.within;
+      rewritten = live.0;
+      erased = live.1;
     }
-
-pub plan_undo-requires : goal.plan_undo-requires
-plan_undo-requires g c =
-    let i = c.self.inside in
-    let batch = c.args.batch.now in
-    let t = taken_as i.placement i.translation i.rules i.live i.arrangement i.held c.args.self.now batch c.self.invariant c.self.view_is c.requires.idle c.requires.changes c.requires.sound c.requires.fits in
-    let size : length c.plan_additions.new.arrangement ≡ length i.arrangement =
-    c.in_ok-ids.ensures.plannable.settled.size ∙ c.plan_additions.ensures.slots ∙ sym t.managed.carried.settled.size in
-    record { within = rw c.deref-2.ensures.value (subst (λ (n : ℕ). AllByRecursion (IsWithin n) c.plan_changes.new.plan.writes.items) size c.in-Ok.ensures.within) }
 
 pub erase_all-requires : goal.erase_all-requires
 erase_all-requires g c =
@@ -168,103 +147,50 @@ erase_all-requires g c =
     let coded = coded_as i.placement i.translation i.rules i.live i.arrangement i.held c.args.self.now batch c.in_ok-bits.bits c.self.view_is c.in_ok-bits.ensures.bits in
     let rewrites = c.in_ok-parts.parts.rewrites.items in
     let erased = c.in_ok-parts.parts.erased.items in
-    let parts = parts_live i.translation i.rules i.live c.plan_additions.new.live i.arrangement batch c.in_ok-ids.ids.items rewrites erased t c.in_ok-ids.ensures.adds
+    let parts = parts_live i.translation i.rules i.live c.plan_writes.new.live i.arrangement batch c.in_ok-planned.planned.ids.items rewrites erased t c.in_ok-planned.ensures.adds
     (parts_as i.translation i.rules batch c.in_ok-bits.bits i.live.live rewrites erased coded c.in_ok-parts.ensures.rewrites c.in_ok-parts.ensures.erased) in
     record {
-      distinct = rw c.deref-3.ensures.value parts.once;
-      standing = rw c.deref-3.ensures.value (all_stand c.plan_additions.new.live c.plan_additions.new.arrangement erased c.in_ok-ids.ensures.plannable.settled parts.gone);
+      distinct = rw c.deref.ensures.value parts.once;
+      standing = rw c.deref.ensures.value (all_stand c.plan_writes.new.live c.plan_writes.new.arrangement erased c.in_ok-planned.ensures.planned.settled parts.gone);
     }
-
--- the entries of the old ids are as they were where the new ones were forgotten
-kept_back : (old mid new : Entries) → KeepEntries old.live old.entries mid.entries → KeepEntries new.live mid.entries new.entries → new.live ≡ old.live → KeepEntries old.live old.entries new.entries
-kept_back old mid new one two back id now = two id (subst (λ (l : List LivePiece). IsTrue (is_live l id)) (sym back) now) ∙ one id now
-
-pub invariant_of-self-in-Err : goal.invariant_of-self-in-Err
-invariant_of-self-in-Err g c =
-    let i = c.self.inside in
-    let none = idle_held (held_of i.translation i.arrangement i.rules.rules i.live.entries) i.held (rw (← c.self.view_is) at c.requires.idle) in
-    let managed : IsManaged i.translation i.rules i.live i.arrangement None = subst (IsManaged i.translation i.rules i.live i.arrangement) none c.self.invariant in
-    let back = c.forget_all.ensures.live ∙ adds_first i.live c.plan_additions.new.live c.in_ok-ids.ids.items c.in_ok-ids.ensures.adds in
-    let size = c.forget_all.ensures.slots ∙ c.plan_additions.ensures.slots in
-    let kept = kept_back i.live c.plan_additions.new.live c.forget_all.new.live c.plan_additions.ensures.kept c.forget_all.ensures.kept back in
-    subst (IsManaged i.translation c.reserve.new.self c.forget_all.new.live i.arrangement) (sym none)
-    (managed_same i.translation i.rules c.reserve.new.self i.live c.forget_all.new.live i.arrangement managed c.reserve.ensures.rules back size kept)
-
-pub invariant_of-self-in-Err-plan_undo : goal.invariant_of-self-in-Err-plan_undo
-invariant_of-self-in-Err-plan_undo g c =
-    let i = c.self.inside in
-    let none = idle_held (held_of i.translation i.arrangement i.rules.rules i.live.entries) i.held (rw (← c.self.view_is) at c.requires.idle) in
-    let managed : IsManaged i.translation i.rules i.live i.arrangement None = subst (IsManaged i.translation i.rules i.live i.arrangement) none c.self.invariant in
-    let back = c.forget_all-in-Err-plan_undo.ensures.live ∙ adds_first i.live c.plan_additions.new.live c.in_ok-ids.ids.items c.in_ok-ids.ensures.adds in
-    let size = c.forget_all-in-Err-plan_undo.ensures.slots ∙ c.plan_additions.ensures.slots in
-    let kept = kept_back i.live c.plan_additions.new.live c.forget_all-in-Err-plan_undo.new.live c.plan_additions.ensures.kept c.forget_all-in-Err-plan_undo.ensures.kept back in
-    subst (IsManaged i.translation c.reserve.new.self c.forget_all-in-Err-plan_undo.new.live i.arrangement) (sym none)
-    (managed_same i.translation i.rules c.reserve.new.self i.live c.forget_all-in-Err-plan_undo.new.live i.arrangement managed c.reserve.ensures.rules back size kept)
 
 -- what holds of a refusal wherever it comes
 at_err : {A B : Type 0} (result : Result A B) (P : Type 0) → P → OnErr result P
 at_err (Ok value) P holds = tt
 at_err (Err fault) P holds = holds
 
-pub invariant_of-self-in_err-ids : goal.invariant_of-self-in_err-ids
-invariant_of-self-in_err-ids g c =
+pub invariant_of-self-in_err-planned : goal.invariant_of-self-in_err-planned
+invariant_of-self-in_err-planned g c =
     let i = c.self.inside in
     let none = idle_held (held_of i.translation i.arrangement i.rules.rules i.live.entries) i.held (rw (← c.self.view_is) at c.requires.idle) in
     let managed : IsManaged i.translation i.rules i.live i.arrangement None = subst (IsManaged i.translation i.rules i.live i.arrangement) none c.self.invariant in
-    subst (IsManaged i.translation c.reserve.new.self c.plan_additions.new.live i.arrangement) (sym none)
-    (managed_same i.translation i.rules c.reserve.new.self i.live c.plan_additions.new.live i.arrangement managed c.reserve.ensures.rules c.in_err-ids.ensures.refused c.plan_additions.ensures.slots c.plan_additions.ensures.kept)
+    subst (IsManaged i.translation c.reserve.new.self c.plan_writes.new.live i.arrangement) (sym none)
+    (managed_same i.translation i.rules c.reserve.new.self i.live c.plan_writes.new.live i.arrangement managed c.reserve.ensures.rules c.in_err-planned.ensures.refused c.plan_writes.ensures.slots c.plan_writes.ensures.kept)
 
-pub returns-in_err-ids-clause-refused : goal.returns-in_err-ids-clause-refused
-returns-in_err-ids-clause-refused g c =
-    let i = c.self.inside in
-    let none = idle_held (held_of i.translation i.arrangement i.rules.rules i.live.entries) i.held (rw (← c.self.view_is) at c.requires.idle) in
-    let managed : IsManaged i.translation i.rules i.live i.arrangement None = subst (IsManaged i.translation i.rules i.live i.arrangement) none c.self.invariant in
-    let view : view_of i.placement i.translation i.rules i.live i.arrangement i.held ≡ c.args.self.now = c.self.view_is in
-    let same : view_of i.placement i.translation c.reserve.new.self c.plan_additions.new.live i.arrangement i.held ≡ view_of i.placement i.translation i.rules i.live i.arrangement i.held =
-    subst (λ (h : Option Held). view_of i.placement i.translation c.reserve.new.self c.plan_additions.new.live i.arrangement h ≡ view_of i.placement i.translation i.rules i.live i.arrangement h) (sym none)
-    (view_same i.placement i.translation i.rules c.reserve.new.self i.live c.plan_additions.new.live i.arrangement managed c.reserve.ensures.rules c.plan_additions.ensures.kept) in
-    at_err c.from_residual-in_err-ids.result _ (same ∙ view)
-
-pub returns-in-Err-clause-refused : goal.returns-in-Err-clause-refused
-returns-in-Err-clause-refused g c =
+pub returns-in_err-planned-clause-refused : goal.returns-in_err-planned-clause-refused
+returns-in_err-planned-clause-refused g c =
     let i = c.self.inside in
     let none = idle_held (held_of i.translation i.arrangement i.rules.rules i.live.entries) i.held (rw (← c.self.view_is) at c.requires.idle) in
     let managed : IsManaged i.translation i.rules i.live i.arrangement None = subst (IsManaged i.translation i.rules i.live i.arrangement) none c.self.invariant in
     let view : view_of i.placement i.translation i.rules i.live i.arrangement i.held ≡ c.args.self.now = c.self.view_is in
-    let back = c.forget_all.ensures.live ∙ adds_first i.live c.plan_additions.new.live c.in_ok-ids.ids.items c.in_ok-ids.ensures.adds in
-    let kept = kept_back i.live c.plan_additions.new.live c.forget_all.new.live c.plan_additions.ensures.kept c.forget_all.ensures.kept back in
-    let same : view_of i.placement i.translation c.reserve.new.self c.forget_all.new.live i.arrangement i.held ≡ view_of i.placement i.translation i.rules i.live i.arrangement i.held =
-    subst (λ (h : Option Held). view_of i.placement i.translation c.reserve.new.self c.forget_all.new.live i.arrangement h ≡ view_of i.placement i.translation i.rules i.live i.arrangement h) (sym none)
-    (view_same i.placement i.translation i.rules c.reserve.new.self i.live c.forget_all.new.live i.arrangement managed c.reserve.ensures.rules kept) in
-    same ∙ view
+    let same : view_of i.placement i.translation c.reserve.new.self c.plan_writes.new.live i.arrangement i.held ≡ view_of i.placement i.translation i.rules i.live i.arrangement i.held =
+    subst (λ (h : Option Held). view_of i.placement i.translation c.reserve.new.self c.plan_writes.new.live i.arrangement h ≡ view_of i.placement i.translation i.rules i.live i.arrangement h) (sym none)
+    (view_same i.placement i.translation i.rules c.reserve.new.self i.live c.plan_writes.new.live i.arrangement managed c.reserve.ensures.rules c.plan_writes.ensures.kept) in
+    at_err c.from_residual-in_err-planned.result _ (same ∙ view)
 
-pub returns-in-Err-plan_undo-clause-refused : goal.returns-in-Err-plan_undo-clause-refused
-returns-in-Err-plan_undo-clause-refused g c =
-    let i = c.self.inside in
-    let none = idle_held (held_of i.translation i.arrangement i.rules.rules i.live.entries) i.held (rw (← c.self.view_is) at c.requires.idle) in
-    let managed : IsManaged i.translation i.rules i.live i.arrangement None = subst (IsManaged i.translation i.rules i.live i.arrangement) none c.self.invariant in
-    let view : view_of i.placement i.translation i.rules i.live i.arrangement i.held ≡ c.args.self.now = c.self.view_is in
-    let back = c.forget_all-in-Err-plan_undo.ensures.live ∙ adds_first i.live c.plan_additions.new.live c.in_ok-ids.ids.items c.in_ok-ids.ensures.adds in
-    let kept = kept_back i.live c.plan_additions.new.live c.forget_all-in-Err-plan_undo.new.live c.plan_additions.ensures.kept c.forget_all-in-Err-plan_undo.ensures.kept back in
-    let same : view_of i.placement i.translation c.reserve.new.self c.forget_all-in-Err-plan_undo.new.live i.arrangement i.held ≡ view_of i.placement i.translation i.rules i.live i.arrangement i.held =
-    subst (λ (h : Option Held). view_of i.placement i.translation c.reserve.new.self c.forget_all-in-Err-plan_undo.new.live i.arrangement h ≡ view_of i.placement i.translation i.rules i.live i.arrangement h) (sym none)
-    (view_same i.placement i.translation i.rules c.reserve.new.self i.live c.forget_all-in-Err-plan_undo.new.live i.arrangement managed c.reserve.ensures.rules kept) in
-    same ∙ view
-
--- insertions that were planned over a copy, for the same rules, mode and pieces
-planned_from : (old new : Entries) (slots copy middle : Slots) (plan plan' : Plan) (placement : Placement) (mode coded : Mode) (rules set : List Rule) (pieces listed : List RankedPiece) → copy ≡ slots → coded ≡ mode → set ≡ rules → listed ≡ pieces
-    → ArePlannedSince old new copy middle plan plan' listed (aims_of placement coded (length copy) set listed) → ArePlannedSince old new slots middle plan plan' pieces (aims_of placement mode (length slots) rules pieces)
-planned_from old new slots copy middle plan plan' placement mode coded rules set pieces listed same_slots same_mode same_rules same_pieces planned =
+-- insertions that were planned over a copy, for the same rules and pieces
+planned_from : (old new : Entries) (slots copy middle : Slots) (plan plan' : Plan) (placement : Placement) (mode : Mode) (rules set : List Rule) (pieces listed : List RankedPiece) → copy ≡ slots → set ≡ rules → listed ≡ pieces
+    → ArePlannedSince old new copy middle plan plan' listed (aims_of placement mode (length copy) set listed) → ArePlannedSince old new slots middle plan plan' pieces (aims_of placement mode (length slots) rules pieces)
+planned_from old new slots copy middle plan plan' placement mode rules set pieces listed same_slots same_rules same_pieces planned =
     subst (λ (some : List RankedPiece). ArePlannedSince old new slots middle plan plan' some (aims_of placement mode (length slots) rules some)) same_pieces
     (subst (λ (at : Slots). ArePlannedSince old new at middle plan plan' listed (aims_of placement mode (length at) rules listed)) same_slots
-    (subst (λ (some : List Rule). ArePlannedSince old new copy middle plan plan' listed (aims_of placement mode (length copy) some listed)) same_rules
-    (subst (λ (m : Mode). ArePlannedSince old new copy middle plan plan' listed (aims_of placement m (length copy) set listed)) same_mode planned)))
+    (subst (λ (some : List Rule). ArePlannedSince old new copy middle plan plan' listed (aims_of placement mode (length copy) some listed)) same_rules planned))
 
 -- the commit that is held in the end, and that it is the plan of the batch
 abbrev held_now : (g : Over) (c : goal.After-drop-parts-2 g) → Held
 held_now g c = record {
-  writes = c.plan_changes.new.plan.writes;
-  undo = c.in-Ok-plan_undo.undo;
+  writes = c.plan_writes.new.plan.writes;
+  undo = c.in_ok-planned.planned.undo;
   made = 0;
   turned = None;
   awaits = c.gives_bits-awaits.result;
@@ -274,12 +200,12 @@ held_now g c = record {
   batch = c.in_ok-copy.copy;
   rewrites = c.in_ok-parts.parts.rewrites;
   erased = c.in_ok-parts.parts.erased;
-  ids = c.in_ok-ids.ids;
+  ids = c.in_ok-planned.planned.ids;
   arrangement = c.erase_all.new.arrangement;
 }
 
 plan_now : (g : Over) (c : goal.After-drop-parts-2 g)
-    → IsHeldPlan c.self.inside.placement c.self.inside.translation c.self.inside.rules c.reserve.new.self c.self.inside.live c.plan_additions.new.live c.self.inside.arrangement c.plan_additions.new.arrangement
+    → IsHeldPlan c.self.inside.placement c.self.inside.translation c.self.inside.rules c.reserve.new.self c.self.inside.live c.plan_writes.new.live c.self.inside.arrangement c.plan_writes.new.arrangement
     c.args.batch.now (held_now g c)
 plan_now g c =
     let i = c.self.inside in
@@ -290,14 +216,15 @@ plan_now g c =
     let coded = coded_as i.placement i.translation i.rules i.live i.arrangement i.held c.args.self.now batch bits c.self.view_is c.in_ok-bits.ensures.bits in
     let words = words_as i.placement i.translation i.rules i.live i.arrangement i.held c.args.self.now batch c.plan_words.new.plan.writes.items c.self.view_is c.requires.idle c.in_ok-bits.ensures.writes in
     let size = length-map (words_by i.translation i.rules i.live i.arrangement batch) Tabled in
-    let pieces = said_so i.translation i.rules batch bits coded (λ m b. c.deref.result.now ≡ inserted_pieces m b i.rules.rules batch) (c.deref.ensures.value ∙ c.in_ok-parts.ensures.inserted) in
-    let since = planned_from i.live c.plan_additions.new.live i.arrangement c.in_ok-arrangement.arrangement c.plan_additions.new.arrangement c.plan_words.new.plan c.plan_additions.new.plan i.placement (mode_of i.translation) c.encoding.result
-    i.rules.rules c.reserve.new.self.rules (inserted_pieces (mode_of i.translation) (during_by i.translation i.rules batch) i.rules.rules batch) c.deref.result.now c.in_ok-arrangement.ensures c.encoding.ensures c.reserve.ensures.rules pieces c.in_ok-ids.ensures.planned in
+    let all = c.in_ok-planned.ensures.planned in
+    let pieces = said_so i.translation i.rules batch bits coded (λ m b. parts.inserted.items ≡ inserted_pieces m b i.rules.rules batch) c.in_ok-parts.ensures.inserted in
+    let since = planned_from i.live c.plan_writes.new.live i.arrangement c.in_ok-arrangement.arrangement c.plan_writes.new.arrangement c.plan_words.new.plan all.between i.placement (mode_of i.translation)
+    i.rules.rules c.reserve.new.self.rules (inserted_pieces (mode_of i.translation) (during_by i.translation i.rules batch) i.rules.rules batch) parts.inserted.items c.in_ok-arrangement.ensures c.reserve.ensures.rules pieces all.inserted in
     record {
-      plan = plan_made i.placement i.translation i.rules i.live c.plan_additions.new.live i.arrangement c.plan_additions.new.arrangement batch parts.rewrites.items parts.erased.items c.plan_words.new.plan c.plan_additions.new.plan
-          c.plan_changes.new.plan.writes.items c.counts-counts.result t
+      plan = plan_made i.placement i.translation i.rules i.live c.plan_writes.new.live i.arrangement c.plan_writes.new.arrangement batch parts.rewrites.items parts.erased.items c.plan_words.new.plan all.between
+          c.plan_writes.new.plan.writes.items c.counts-counts.result t
           (parts_as i.translation i.rules batch bits i.live.live parts.rewrites.items parts.erased.items coded c.in_ok-parts.ensures.rewrites c.in_ok-parts.ensures.erased)
-          c.plan_additions.ensures.slots c.in_ok-ids.ensures.plannable.settled since
+          c.plan_writes.ensures.slots c.in_ok-planned.ensures.planned.settled since
           record {
             writes = words;
             number = c.in_ok-bits.ensures.words ∙ (ap length words ∙ size);
@@ -306,21 +233,20 @@ plan_now g c =
             span = c.plan_words.ensures.span ∙ c.new-plan.ensures.span;
           }
           record {
-            within = c.in-Ok.ensures.within;
-            made = c.in-Ok.ensures.writes;
+            within = c.in_ok-planned.ensures.planned.within;
+            made = c.in_ok-planned.ensures.planned.writes;
             number = c.counts-counts.ensures.writes;
-            words = c.counts-counts.ensures.words ∙ c.in-Ok.ensures.words;
-            most = c.counts-counts.ensures.most ∙ c.in-Ok.ensures.most;
-            span = c.counts-counts.ensures.span ∙ c.in-Ok.ensures.span;
+            words = c.counts-counts.ensures.words ∙ c.in_ok-planned.ensures.planned.words;
+            most = c.counts-counts.ensures.most ∙ c.in_ok-planned.ensures.planned.most;
+            span = c.counts-counts.ensures.span ∙ c.in_ok-planned.ensures.planned.span;
           };
       same = c.reserve.ensures.rules;
       made = refl;
       awaits = c.gives_bits-awaits.ensures;
       undrained = refl;
       forward = refl;
-      undo = c.in-Ok-plan_undo.ensures c.plan_additions.new.live.entries parts.rewrites.items
-          ∙ ap (λ (some : List PlannedWrite). restorings (settled_state i.translation c.plan_additions.new.live.entries i.arrangement) (as_writes c.plan_additions.new.live.entries parts.rewrites.items some)) c.deref-2.ensures.value;
-      adds = c.in_ok-ids.ensures.adds;
+      undo = c.in_ok-planned.ensures.undo c.plan_writes.new.live.entries parts.rewrites.items;
+      adds = c.in_ok-planned.ensures.adds;
       batch_is = c.in_ok-copy.ensures;
       coded = coded;
     }
@@ -329,8 +255,8 @@ pub invariant_of-self-2 : goal.invariant_of-self-2
 invariant_of-self-2 g c =
     let i = c.self.inside in
     let spare : length c.args.batch.now ≤ c.reserve.new.self.spare = (let n : c.len.result ≡ length c.args.batch.now = c.len.ensures.count in let e : c.len.result ≤ c.reserve.new.self.spare = c.in_ok-reserve.ensures.enough in omega arith) in
-    managed_held i.placement i.translation i.rules c.reserve.new.self i.live c.plan_additions.new.live i.arrangement c.plan_additions.new.arrangement c.args.batch.now (held_now g c) (plan_now g c) spare
-    (c.erase_all.ensures ∙ ap (erased_slots c.plan_additions.new.arrangement) c.deref-3.ensures.value)
+    managed_held i.placement i.translation i.rules c.reserve.new.self i.live c.plan_writes.new.live i.arrangement c.plan_writes.new.arrangement c.args.batch.now (held_now g c) (plan_now g c) spare
+    (c.erase_all.ensures ∙ ap (erased_slots c.plan_writes.new.arrangement) c.deref.ensures.value)
 
 pub returns-clause-ready : goal.returns-clause-ready
 returns-clause-ready g c =
@@ -338,21 +264,21 @@ returns-clause-ready g c =
     let batch = c.args.batch.now in
     let none = idle_held (held_of i.translation i.arrangement i.rules.rules i.live.entries) i.held (rw (← c.self.view_is) at c.requires.idle) in
     let view : view_of i.placement i.translation i.rules i.live i.arrangement i.held ≡ c.args.self.now = c.self.view_is in
-    let new = view_of i.placement i.translation c.reserve.new.self c.plan_additions.new.live i.arrangement (Some (held_now g c)) in
+    let new = view_of i.placement i.translation c.reserve.new.self c.plan_writes.new.live i.arrangement (Some (held_now g c)) in
     let holds : Holds (view_of i.placement i.translation i.rules i.live i.arrangement None) batch c.ready.result new =
-    holds_plan i.placement i.translation i.rules c.reserve.new.self i.live c.plan_additions.new.live i.arrangement c.plan_additions.new.arrangement batch (held_now g c) (plan_now g c) c.ready.result c.ready.ensures in
+    holds_plan i.placement i.translation i.rules c.reserve.new.self i.live c.plan_writes.new.live i.arrangement c.plan_writes.new.arrangement batch (held_now g c) (plan_now g c) c.ready.result c.ready.ensures in
     subst (λ (old : Managed). Holds old batch c.ready.result new) view
     (subst (λ (h : Option Held). Holds (view_of i.placement i.translation i.rules i.live i.arrangement h) batch c.ready.result new) (sym none) holds)
 
 pub returns-clause-reserved : goal.returns-clause-reserved
 returns-clause-reserved g c =
     let i = c.self.inside in
-    held_room i.placement i.translation i.rules c.reserve.new.self i.live c.plan_additions.new.live i.arrangement c.plan_additions.new.arrangement c.args.batch.now (held_now g c) (plan_now g c)
-    (g.D.Writable.spare c.plan_changes.new.device) c.in-Ok.ensures.enough
+    held_room i.placement i.translation i.rules c.reserve.new.self i.live c.plan_writes.new.live i.arrangement c.plan_writes.new.arrangement c.args.batch.now (held_now g c) (plan_now g c)
+    (g.D.Writable.spare c.plan_writes.new.device) c.in_ok-planned.ensures.enough
 
 pub returns-clause-enough : goal.returns-clause-enough
 returns-clause-enough g c =
-    let enough : 2 * length c.plan_changes.new.plan.writes.items + 1 ≤ g.D.Writable.spare c.plan_changes.new.device = c.in-Ok.ensures.enough in
-    let number : c.counts-counts.result.writes ≡ length c.plan_changes.new.plan.writes.items = c.counts-counts.ensures.writes in
+    let enough : 2 * length c.plan_writes.new.plan.writes.items + 1 ≤ g.D.Writable.spare c.plan_writes.new.device = c.in_ok-planned.ensures.enough in
+    let number : c.counts-counts.result.writes ≡ length c.plan_writes.new.plan.writes.items = c.counts-counts.ensures.writes in
     let same : c.ready.result.writes ≡ c.counts-counts.result.writes = ap (λ r. r.writes) c.ready.ensures in
     omega arith

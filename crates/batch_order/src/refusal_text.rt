@@ -1,0 +1,68 @@
+//! The texts of refusals.
+
+ghost use Rattle.std.specs.Prelude.{◌≡◌};
+
+use crate::Refusal;
+use crate::rule_name::{RuleName, field_name};
+use rule_model::{IpVersion, Rank};
+use std::fmt;
+
+/// The text of a refusal, which names routes as those of a version of IP are named.
+#[derive(Clone, Copy, Debug, PartialEq, Eq)]
+pub struct RefusalText {
+    pub refusal: Refusal,
+    pub version: IpVersion,
+}
+
+impl Refusal {
+    /// Its text where the routes of the set are of this version. A priority alone doesn't tell of which version they are.
+    pub fn for_version(self, version: IpVersion) -> RefusalText
+        ensures refusal { result.refusal ≡ self }
+        ensures version { result.version ≡ version }
+    {
+        RefusalText {
+            refusal: self,
+            version,
+        }
+    }
+}
+
+impl RefusalText {
+    /// What the rule of a priority is called.
+    fn name(&self, priority: Rank) -> RuleName
+        ensures priority { result.priority ≡ priority }
+        ensures version { result.version ≡ self.now.version }
+    {
+        RuleName {
+            priority,
+            version: self.version,
+        }
+    }
+}
+
+impl fmt::Display for RefusalText {
+    fn fmt<W: fmt::Write>(&self, f: &mut fmt::Formatter<W>) -> fmt::Result {
+        match self.refusal {
+            Refusal::Busy { left } => write!(f, "a plan is held with {left} writes to make"),
+            Refusal::Twice(priority) => write!(f, "rule {} is named twice", self.name(priority)),
+            Refusal::Taken(priority) => write!(f, "rule {} is taken", self.name(priority)),
+            Refusal::Absent(priority) => write!(f, "rule {} is absent", self.name(priority)),
+            Refusal::Bits { field, need, free } => {
+                write!(
+                    f,
+                    "{need} {} bits needed and {free} free",
+                    field_name(field)
+                )
+            }
+            Refusal::Slots { need, free } => write!(f, "{need} slots needed and {free} free"),
+            Refusal::Memory => write!(f, "out of memory"),
+        }
+    }
+}
+
+/// The text where the routes of the set are of IPv4.
+impl fmt::Display for Refusal {
+    fn fmt<W: fmt::Write>(&self, f: &mut fmt::Formatter<W>) -> fmt::Result {
+        self.for_version(IpVersion::V4).fmt(f)
+    }
+}

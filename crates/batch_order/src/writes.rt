@@ -1,0 +1,95 @@
+//! All writes of a commit behind the words of the tables, and those that undo them.
+
+ghost use Rattle.std.specs.Prelude.{◌≡◌, ◌+◌, ◌*◌, ◌≤◌, IsTrue, IfOk, OnOk, OnErr, length};
+ghost use Rattle.std.specs.List.{AllByRecursion};
+ghost use Rattle.rule_store.specs.Verdict.{entries_of};
+ghost use Rattle.ternary_word.specs.Entry.{IsEncodable};
+ghost use Rattle.overlap_index.specs.Live.{is_live};
+ghost use Rattle.batch_order.specs.Entries.{AddsIds, KeepEntries};
+ghost use Rattle.batch_order.specs.Kept.{mode_of};
+ghost use Rattle.batch_order.specs.Placing.{aims_of};
+ghost use Rattle.batch_order.specs.Planning.{AreAllPlanned, IsPlannable};
+ghost use Rattle.batch_order.specs.Undoing.{AreRestoring};
+
+use crate::Placement;
+use crate::entries::LiveEntries;
+use crate::insertions::{forget_all, plan_additions};
+use crate::parts::Parts;
+use crate::plan::{Plan, plan_changes};
+use crate::planned_writes::PlannedWrite;
+use crate::translation::{Translation, encoding};
+use crate::undoing::plan_undo;
+use rule_store::Store;
+use slot_pool::Arrangement;
+use std::alloc::{AllocError, Global};
+use tcam_device::Writable;
+
+/// What comes with the planned writes of a commit: the ids of its new entries, and what restores each of the writes.
+#[derive(Drop)]
+pub(crate) struct IdsAndUndo {
+    pub(crate) ids: Vec<u32>,
+    pub(crate) undo: Vec<PlannedWrite>,
+}
+
+/// Plans the insertions over an arrangement, then the new entries and the erases, and what undoes all writes from what
+/// stood before, and reserves the device. On want of memory the live entries are as they were.
+pub(crate) fn plan_writes<D: Writable>(
+    alloc: Global,
+    placement: Placement,
+    translation: &Option<Translation>,
+    rules: &Store,
+    before: &Arrangement,
+    parts: &Parts,
+    live: &mut LiveEntries,
+    arrangement: &mut Arrangement,
+    plan: &mut Plan,
+    device: &mut D,
+) -> Result<IdsAndUndo, AllocError>
+    requires standing { length live.old.live ≡ entries_of (mode_of translation.now) rules.now.rules }
+    requires room { length live.old.live + length parts.now.inserted.items ≤ live.old.slots }
+    requires encodable { AllByRecursion (λ ranked. IsEncodable ranked.piece) parts.now.inserted.items }
+    requires plannable { IsPlannable live.old arrangement.old plan.old.writes.items }
+    requires size { length before.now ≡ live.old.slots }
+    requires few { length parts.now.rewrites.items ≤ 4096 }
+    requires rewritten { AllByRecursion (λ rewrite. IsTrue (is_live live.old.live rewrite.id)) parts.now.rewrites.items }
+    requires erased { AllByRecursion (λ id. IsTrue (is_live live.old.live id)) parts.now.erased.items }
+    ensures planned { OnOk result (AreAllPlanned live.old live.new arrangement.old arrangement.new plan.old plan.new parts.now.inserted.items
+        (aims_of placement (mode_of translation.now) (length arrangement.old) rules.now.rules parts.now.inserted.items) parts.now.rewrites.items parts.now.erased.items) }
+    ensures adds { IfOk result (λ planned. AddsIds live.old live.new planned.ids.items) }
+    ensures undo { IfOk result (λ planned. AreRestoring translation.now before.now plan.new.writes.items planned.undo.items) }
+    ensures enough { OnOk result (2 * length plan.new.writes.items + 1 ≤ D.spare device.new) }
+    ensures refused { OnErr result (live.new.live ≡ live.old.live) }
+    ensures kept { KeepEntries live.old.live live.old.entries live.new.entries }
+    ensures slots { live.new.slots ≡ live.old.slots }
+    ensures least { D.spare device.old ≤ D.spare device.new }
+    ensures journal { D.journal device.new ≡ D.journal device.old }
+    ensures events { D.events device.new ≡ D.events device.old }
+    ensures flight { D.flight device.new ≡ D.flight device.old }
+    ensures slot_count { D.slot_count device.new ≡ D.slot_count device.old }
+    ensures faults { D.faults device.new ≡ D.faults device.old }
+{
+    let ids = plan_additions(
+        alloc,
+        placement,
+        encoding(translation),
+        rules,
+        &parts.inserted,
+        live,
+        arrangement,
+        plan,
+    )?;
+    match plan_changes(parts, arrangement, plan, device) {
+        Ok(()) => {}
+        Err(fault) => {
+            forget_all(live, ids);
+            return Err(fault);
+        }
+    }
+    match plan_undo(alloc, translation, before, &plan.writes) {
+        Ok(undo) => Ok(IdsAndUndo { ids, undo }),
+        Err(fault) => {
+            forget_all(live, ids);
+            Err(fault)
+        }
+    }
+}
