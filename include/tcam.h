@@ -8,17 +8,20 @@
  * was made before is still to be searched, and says so by tcam_drained. Where a look-up makes its word and searches
  * the slots in one, there is nothing to wait for. Packets may be looked up between any two calls: before the first
  * write and after each of them, also where the write that is due was made and not told yet, each packet gets the
- * answer of the old rules or that of the new ones, and after the last tcam_made that of the new ones.
+ * answer of the old rules or that of the new ones, and after the last tcam_made that of the new ones. A commit that
+ * is stuck, or not wanted any more, is turned round by tcam_abort: then the writes that undo it are due in the same
+ * way, and after the last of them each packet gets the answer of the old rules.
  *
  * Every function answers a code: TCAM_NULL where a pointer is null, and else TCAM_NO_MANAGER where the handle has
  * none, but for tcam_new. With any code but TCAM_OK all is as it was before the call, and nothing was written
- * through a pointer, but what tcam_prepare tells of a refusal. After any code any call may come.
+ * through a pointer, but what tcam_prepare tells of a refusal and tcam_abort with TCAM_BACK. After any code any call
+ * may come.
  *
  * No call locks, waits, prints, calls back, or keeps a pointer that it is given. tcam_new, the functions that put a
  * change into the batch, and tcam_prepare take memory by malloc, realloc and free, and say so by TCAM_MEMORY where
  * it is wanting. No call takes memory between a tcam_prepare and the last tcam_made of its commit, but those that
- * put changes into the next batch: so a commit that is under way can't fail for memory. The last tcam_made gives
- * back what the commit took.
+ * put changes into the next batch: so a commit that is under way can't fail for memory, nor can it be kept from
+ * being taken back. The last tcam_made gives back what the commit took, or a tcam_abort with nothing to undo.
  *
  * Addresses, ports and protocols are numbers as the processor has them: 10.0.0.0 is 0x0a000000. A result is any
  * number, and a look-up answers it: an output port, a next hop, permit or deny. Routes and rules of an access list
@@ -71,7 +74,8 @@ enum tcam_error {
     TCAM_NOTHING_DUE = 18,  /* no commit is under way */
     TCAM_NULL = 19,         /* a pointer is null */
     TCAM_DRAIN_DUE = 20,    /* a drain is due, and no write */
-    TCAM_WRITE_DUE = 21     /* a write is due, and no drain */
+    TCAM_WRITE_DUE = 21,    /* a write is due, and no drain */
+    TCAM_BACK = 22          /* the commit is turned round already */
 };
 
 /* How port ranges are cut: into an entry for each pair of blocks of their covers, up to 900 a rule, or into one
@@ -202,6 +206,7 @@ uint32_t tcam_c_prepare(struct tcam_manager *manager, struct tcam_numbers *numbe
 uint32_t tcam_c_next(struct tcam_manager *manager, struct tcam_write *write);
 uint32_t tcam_c_made(struct tcam_manager *manager);
 uint32_t tcam_c_drained(struct tcam_manager *manager);
+uint32_t tcam_c_abort(struct tcam_manager *manager, uint64_t *left);
 uint32_t tcam_c_answer(struct tcam_manager *manager, const struct tcam_key *key, struct tcam_answer *answer);
 
 /* Makes a manager without rules, of a blank memory with so many slots, 0 to slots - 1. It belongs to the handle
@@ -219,10 +224,11 @@ static inline enum tcam_error tcam_free(struct tcam_manager *manager) {
 }
 
 /* Six changes that join the pending batch, up to 4,096: a route or a rule is added, gets another result, or is
- * removed. The next batch may be collected while a commit is under way. Other answers are TCAM_PREFIX_LENGTH and
- * TCAM_HOST_BITS, of an added rule TCAM_PORTS and TCAM_PROTOCOL too, and behind those TCAM_BATCH_FULL and
- * TCAM_MEMORY. Whether a rule is there is judged by tcam_prepare. A batch names each rule once, or removes it and
- * then adds another in its place. */
+ * removed. The next batch may be collected while a commit is under way. Other answers tell the first thing that is
+ * wrong, in this order: TCAM_PREFIX_LENGTH and TCAM_HOST_BITS of a route or of a rule's source, then both of its
+ * destination, then TCAM_PORTS, TCAM_PROTOCOL, and behind all of these TCAM_BATCH_FULL or TCAM_MEMORY. Whether a
+ * rule is there is judged by tcam_prepare. A batch names each rule once, or removes it and then adds another in its
+ * place. */
 static inline enum tcam_error tcam_add_route(struct tcam_manager *manager, uint32_t address, uint8_t length,
                                              uint32_t result) {
     return manager ? (enum tcam_error)tcam_c_add_route(manager, address, length, result) : TCAM_NULL;
@@ -266,14 +272,16 @@ static inline enum tcam_error tcam_prepare(struct tcam_manager *manager, struct 
 }
 
 /* Tells what is due: a write, the same one until tcam_made comes; a drain until tcam_drained comes; and TCAM_NOTHING
- * where no commit is under way. It changes nothing but what write points to. */
+ * where no commit is under way. Of a commit that is turned round it tells undo writes, and no drain. It changes
+ * nothing but what write points to. */
 static inline enum tcam_error tcam_next(struct tcam_manager *manager, struct tcam_write *write) {
     return manager && write ? (enum tcam_error)tcam_c_next(manager, write) : TCAM_NULL;
 }
 
 /* The write that tcam_next tells was made: what comes behind it is due, and after the last one the rules are the new
- * set. Call it once for each write, and only where that was made: nothing can test it. TCAM_NOTHING_DUE comes
- * exactly where no commit is under way, and TCAM_DRAIN_DUE exactly where a drain is due; then nothing changes. */
+ * set, or the old one where the commit is turned round. Call it once for each write, and only where that was made:
+ * nothing can test it. TCAM_NOTHING_DUE comes exactly where no commit is under way, and TCAM_DRAIN_DUE exactly where
+ * a drain is due; then nothing changes. */
 static inline enum tcam_error tcam_made(struct tcam_manager *manager) {
     return manager ? (enum tcam_error)tcam_c_made(manager) : TCAM_NULL;
 }
@@ -283,6 +291,25 @@ static inline enum tcam_error tcam_made(struct tcam_manager *manager) {
  * exactly where a write is due; then nothing changes. */
 static inline enum tcam_error tcam_drained(struct tcam_manager *manager) {
     return manager ? (enum tcam_error)tcam_c_drained(manager) : TCAM_NULL;
+}
+
+/* Turns the commit that is under way round: from now on tcam_next tells the writes that undo those that tcam_made was
+ * called for, the last one first, and tcam_made takes them. With TCAM_OK it writes how many there are to left. After
+ * the last one, or at once where there are none, no commit is under way, the rules are the old ones, and the memory
+ * holds what it did before the commit. The way back passes only what the memory held on the way there, so packets may
+ * be looked up all along; no drain is due, and look-ups under way need not be waited for, also where the commit had
+ * drained or was to drain. The pending batch stays as it is.
+ *
+ * What becomes of a write that failed: where it is sure that it did nothing, or it wasn't tried, call tcam_abort at
+ * once. Where it may have been made all the same, make it first, until it succeeds, and call tcam_made; or find out
+ * by reading the slot or the word back, and call tcam_made where it was made. No undo write goes to its slot
+ * else. A driver that can do neither frees the manager, blanks the memory, and makes a new one. An undo write that
+ * fails is due still, as any write is.
+ *
+ * TCAM_NOTHING_DUE comes exactly where no commit is under way, and left isn't written; TCAM_BACK exactly where the
+ * commit is turned round already, with how many undo writes are left; then nothing changes. */
+static inline enum tcam_error tcam_abort(struct tcam_manager *manager, uint64_t *left) {
+    return manager && left ? (enum tcam_error)tcam_c_abort(manager, left) : TCAM_NULL;
 }
 
 /* Tells what the memory answers to a packet by the writes that were told as made: with no commit under way what the
@@ -318,6 +345,7 @@ static inline const char *tcam_error_text(enum tcam_error error) {
     case TCAM_NULL: return "a pointer is null";
     case TCAM_DRAIN_DUE: return "a drain is due";
     case TCAM_WRITE_DUE: return "a write is due";
+    case TCAM_BACK: return "the commit is turned round already";
     }
     return "no such answer";
 }

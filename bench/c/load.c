@@ -1,4 +1,5 @@
-/* The first load of 4,096 routes through the library for C: the time of tcam_prepare and of all writes, in nanoseconds. */
+/* The first load of 4,096 routes through the library for C: the time of tcam_prepare and of all writes, in nanoseconds.
+ * */
 #include "tcam.h"
 
 #include <stdio.h>

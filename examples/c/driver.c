@@ -1,6 +1,7 @@
 /* A driver over an array of registers, of which it uses eight slots: it carries commits out, makes a write that failed
- * again, and waits for look-ups where a drain is due. The routes are those of crates/route_daemon, and so is the output of
- * the first part; the second part has rules with port ranges, whose commits drain. */
+ * again, waits for look-ups where a drain is due, and takes a commit back that is stuck. The routes are those of
+ * crates/route_daemon, and so is the output of the first part; the second part has rules with port ranges, whose
+ * commits drain; and in the third a slot is broken. */
 #include "registers.h"
 
 #include <stdio.h>
@@ -11,8 +12,8 @@ static bool carry_out(struct tcam_manager *manager, struct registers *registers,
     unsigned failures = 0;
     while (tcam_next(manager, &write) == TCAM_OK && write.kind != TCAM_NOTHING) {
         if (write.kind == TCAM_DRAIN) {
-            /* Each look-up that made its word must have been searched. Here none is under way between two calls; hardware
-             * with a pipeline waits for its last stage. */
+            /* Each look-up that made its word must have been searched. Here none is under way between two calls;
+             * hardware with a pipeline waits for its last stage. */
             printf("  drain\n");
             tcam_drained(manager);
         } else if (registers_put(registers, &write)) {
@@ -32,9 +33,16 @@ static enum tcam_error commit(struct tcam_manager *manager, struct registers *re
     enum tcam_error error = tcam_prepare(manager, &numbers, &refusal);
     if (error != TCAM_OK) return error;
     printf("commit writes %llu\n", (unsigned long long)numbers.writes);
-    while (!carry_out(manager, registers, 3)) {
+    if (!carry_out(manager, registers, 3)) {
+        /* Three failures in a row are those of a broken slot, so the write that is due did nothing. Where it may have
+         * been made all the same, it is to be made, or read back, before tcam_abort. */
+        uint64_t left;
+        error = tcam_abort(manager, &left);
+        printf("  taken back by %llu writes\n", (unsigned long long)left);
+        while (!carry_out(manager, registers, 3)) {
+        }
     }
-    return TCAM_OK;
+    return error;
 }
 
 static void tell(const struct registers *registers) {
@@ -74,11 +82,28 @@ static enum tcam_error port_ranges(struct tcam_manager *manager, struct register
     return error;
 }
 
+/* A slot is broken that the second commit needs behind its first write: the rules stay those of the first commit. */
+static enum tcam_error broken_slot(struct tcam_manager *manager, struct registers *registers) {
+    static const struct { uint32_t address; uint8_t length; } routes[] = {
+        {0x0a000000, 8}, {0x0a010000, 16}, {0x0a010200, 24}, {0x0a010203, 32}};
+    enum tcam_error error = tcam_new(manager, 8, TCAM_COVER, TCAM_MIDDLE);
+    registers->broken = 3;
+    for (size_t i = 0; error == TCAM_OK && i < sizeof routes / sizeof *routes; i++) {
+        error = tcam_add_route(manager, routes[i].address, routes[i].length, routes[i].length);
+        if (error != TCAM_OK || i % 2 == 0) continue;
+        error = commit(manager, registers);
+        tell(registers);
+    }
+    tcam_free(manager);
+    return error;
+}
+
 int main(void) {
-    static struct registers registers, others;
+    static struct registers registers, others, broken;
     struct tcam_manager manager = TCAM_MANAGER_NONE;
     enum tcam_error error = routes(&manager, &registers);
     if (error == TCAM_OK) error = port_ranges(&manager, &others);
+    if (error == TCAM_OK) error = broken_slot(&manager, &broken);
     if (error != TCAM_OK) fprintf(stderr, "%s\n", tcam_error_text(error));
     return error == TCAM_OK ? 0 : 1;
 }

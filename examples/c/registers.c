@@ -20,6 +20,7 @@ static void make(struct registers *registers, const struct tcam_write *write) {
 
 bool registers_put(struct registers *registers, const struct tcam_write *write) {
     registers->calls++;
+    if (write->kind != TCAM_WORD && registers->broken == write->slot + 1) return false;
     bool fails = registers->calls % 7 == 0;
     if (!fails || registers->calls % 2 == 0) make(registers, write);
     return !fails;

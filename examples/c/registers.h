@@ -18,9 +18,11 @@ struct registers {
     struct slot slots[SLOTS];
     uint16_t tables[2][PORTS];
     unsigned calls;
+    uint32_t broken; /* one more than a slot that takes no write, or 0 */
 };
 
-/* Makes a write, but every seventh call fails: the write of every other failure was made all the same. */
+/* Makes a write, but every seventh call fails: the write of every other failure was made all the same. A write to a
+ * broken slot fails each time, and does nothing. */
 bool registers_put(struct registers *registers, const struct tcam_write *write);
 
 /* What the memory answers to a packet: a result, or -1. */

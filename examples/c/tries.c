@@ -1,19 +1,11 @@
-/* Tries of the library from C: commits at random, whose slots are compared after every write with the old and the new rules
- * by plain loops; every wrong use that is answered by a code; no memory between a prepare and the last write; and each
- * allocation failing in turn. It prints the first thing that is wrong, and fails. */
+/* Tries of the library from C: commits at random, carried out, or taken back after each count of writes, whose slots
+ * are compared after every write with the old and the new rules by plain loops; every wrong use that is answered by a
+ * code; no memory between a prepare and the last write; and each allocation failing in turn. It prints the first thing
+ * that is wrong, and fails. */
 #include "registers.h"
+#include "tries.h"
 
-#include <stdio.h>
-#include <stdlib.h>
 #include <string.h>
-
-#define CHECK(holds) \
-    do { \
-        if (!(holds)) { \
-            fprintf(stderr, "%s:%d: %s\n", __FILE__, __LINE__, #holds); \
-            exit(1); \
-        } \
-    } while (0)
 
 /* The allocations of the library, which the linker sends here. */
 void *__real_malloc(size_t size);
@@ -44,7 +36,8 @@ static bool matches(const struct tcam_rule *rule, const struct tcam_key *key) {
            in_prefix(key->destination, rule->destination, rule->destination_length) &&
            (rule->protocol == TCAM_ANY_PROTOCOL || rule->protocol == key->protocol) &&
            rule->source_port_first <= key->source_port && key->source_port <= rule->source_port_last &&
-           rule->destination_port_first <= key->destination_port && key->destination_port <= rule->destination_port_last;
+           rule->destination_port_first <= key->destination_port &&
+           key->destination_port <= rule->destination_port_last;
 }
 
 static int64_t list_answer(const struct list *list, const struct tcam_key *key) {
@@ -61,7 +54,8 @@ static uint32_t below(uint32_t bound) {
     return (seed >> 8) % bound;
 }
 
-/* Few addresses and ports, so that rules overlap. The ports are low ones, since a range takes a word of a table for each. */
+/* Few addresses and ports, so that rules overlap. The ports are low ones, since a range takes a word of a table for
+ * each. */
 static uint32_t address(uint8_t length) {
     uint32_t any = 0x0a000000u | below(4) << 22 | below(4) << 14 | below(4);
     return length == 0 ? 0 : any >> (32 - length) << (32 - length);
@@ -111,7 +105,7 @@ static struct flight {
     struct tcam_key key;
     uint32_t word[TCAM_LANES];
 } flight[IN_FLIGHT];
-static unsigned flying, drains;
+static unsigned flying, drains, turned;
 
 /* Searches the oldest look-up, whose answer is that of the old rules or of the new ones. */
 static void search(const struct registers *registers, const struct list *old, const struct list *new) {
@@ -131,10 +125,6 @@ static void look_up(const struct registers *registers, const struct list *old, c
             search(registers, old, new);
         }
     }
-}
-
-static bool same_tag(struct tcam_tag a, struct tcam_tag b) {
-    return a.high == b.high && a.low_upper == b.low_upper && a.low_lower == b.low_lower;
 }
 
 static bool same_write(const struct tcam_write *a, const struct tcam_write *b) {
@@ -171,29 +161,37 @@ static void drain(struct tcam_manager *manager, const struct registers *register
     drains++;
 }
 
-/* Makes the writes and the drain of the commit under way, and compares after each of them and each failure. Look-ups are
- * under way all the time, and the last of them are searched when it has finished. Answers how many writes it made. */
-static uint64_t carry_out(struct tcam_manager *manager, struct registers *registers, const struct list *old,
-                          const struct list *new) {
+/* Makes what is due, a write as often as it fails, and compares after each try. Look-ups are under way all the time.
+ * Answers the kind. */
+static uint32_t make_due(struct tcam_manager *manager, struct registers *registers, const struct list *old,
+                         const struct list *new) {
     struct tcam_write write, again;
-    uint64_t made = 0;
-    compare(manager, registers, old, new);
-    for (;;) {
-        memset(&write, 0xff, sizeof write);
-        CHECK(tcam_next(manager, &write) == TCAM_OK && is_plain(&write));
-        if (write.kind == TCAM_NOTHING) break;
-        look_up(registers, old, new);
-        if (write.kind == TCAM_DRAIN) {
-            drain(manager, registers, old, new);
-        } else if (registers_put(registers, &write)) {
-            CHECK(tcam_made(manager) == TCAM_OK);
-            made++;
-        } else {
+    memset(&write, 0xff, sizeof write);
+    CHECK(tcam_next(manager, &write) == TCAM_OK && is_plain(&write));
+    if (write.kind == TCAM_NOTHING) return TCAM_NOTHING;
+    look_up(registers, old, new);
+    if (write.kind == TCAM_DRAIN) {
+        drain(manager, registers, old, new);
+    } else {
+        while (!registers_put(registers, &write)) {
             CHECK(tcam_next(manager, &again) == TCAM_OK && same_write(&write, &again));
+            compare(manager, registers, old, new);
         }
-        compare(manager, registers, old, new);
+        CHECK(tcam_made(manager) == TCAM_OK);
     }
-    compare(manager, registers, new, new);
+    compare(manager, registers, old, new);
+    return write.kind;
+}
+
+/* Makes the writes and the drain of the commit under way, there or back. The rules are the last ones then, and the
+ * look-ups that are still under way are searched. Answers how many writes it made. */
+static uint64_t carry_out(struct tcam_manager *manager, struct registers *registers, const struct list *old,
+                          const struct list *new, const struct list *last) {
+    uint64_t made = 0;
+    uint32_t kind;
+    compare(manager, registers, old, new);
+    while ((kind = make_due(manager, registers, old, new)) != TCAM_NOTHING) made += kind != TCAM_DRAIN;
+    compare(manager, registers, last, last);
     while (flying > 0) search(registers, old, new);
     CHECK(tcam_made(manager) == TCAM_NOTHING_DUE && tcam_drained(manager) == TCAM_NOTHING_DUE);
     return made;
@@ -220,6 +218,60 @@ static void change(struct tcam_manager *manager, struct list *list) {
     }
 }
 
+static bool same_memory(const struct registers *a, const struct registers *b) {
+    for (int i = 0; i < SLOTS; i++) {
+        const struct slot *one = &a->slots[i], *other = &b->slots[i];
+        if (one->used != other->used) return false;
+        if (one->used && (memcmp(one->value, other->value, sizeof one->value) ||
+                          memcmp(one->mask, other->mask, sizeof one->mask) || one->result != other->result))
+            return false;
+    }
+    return !memcmp(a->tables, b->tables, sizeof a->tables);
+}
+
+/* A commit under way is turned round with so many writes made: a second time is one too often, no drain is due, and
+ * once they are undone the memory is what it was before the commit. */
+static void turn_round(struct tcam_manager *manager, struct registers *registers, const struct list *old,
+                       const struct list *new, const struct registers *before, uint64_t made) {
+    uint64_t left = 99, again = 99;
+    unsigned drained = drains;
+    CHECK(tcam_abort(manager, &left) == TCAM_OK && left == made);
+    if (made > 0) {
+        CHECK(tcam_abort(manager, &again) == TCAM_BACK && again == made && tcam_drained(manager) == TCAM_WRITE_DUE);
+        CHECK(make_due(manager, registers, old, new) != TCAM_NOTHING);
+        CHECK(tcam_abort(manager, &again) == (made > 1 ? TCAM_BACK : TCAM_NOTHING_DUE));
+        CHECK(again == made - (made > 1));
+    }
+    CHECK(carry_out(manager, registers, old, new, old) == made - (made > 0) && drains == drained);
+    CHECK(same_memory(registers, before) && tcam_abort(manager, &left) == TCAM_NOTHING_DUE && left == made);
+}
+
+/* Takes the commit of the changes that come with a seed back after each count of writes, in half of the cases behind a
+ * drain that is due then. */
+static void take_back(struct tcam_manager *manager, struct registers *registers, const struct list *old,
+                      uint32_t changes) {
+    static struct registers before;
+    struct tcam_numbers numbers = {.writes = 1};
+    struct tcam_refusal refusal;
+    struct tcam_write write;
+    for (uint64_t writes = 0; writes < numbers.writes; writes++) {
+        struct list new = *old;
+        seed = changes;
+        change(manager, &new);
+        before = *registers;
+        if (tcam_prepare(manager, &numbers, &refusal) != TCAM_OK) numbers.writes = 0;
+        if (numbers.writes == 0) break;
+        unsigned long taken = allocations;
+        for (uint64_t made = 0; made < writes;) made += make_due(manager, registers, old, &new) != TCAM_DRAIN;
+        CHECK(tcam_next(manager, &write) == TCAM_OK);
+        if (write.kind == TCAM_DRAIN && below(2)) make_due(manager, registers, old, &new);
+        turn_round(manager, registers, old, &new, &before, writes);
+        CHECK(allocations == taken);
+        turned++;
+    }
+    CHECK(tcam_clear(manager) == TCAM_OK);
+}
+
 static void commits_at_random(enum tcam_mode mode, enum tcam_placement placement) {
     static struct registers registers;
     static struct list old, new;
@@ -227,17 +279,18 @@ static void commits_at_random(enum tcam_mode mode, enum tcam_placement placement
     unsigned taken = 0, refused = 0;
     memset(&registers, 0, sizeof registers);
     memset(&old, 0, sizeof old);
-    drains = 0;
+    drains = turned = 0;
     CHECK(tcam_new(&manager, SLOTS, mode, placement) == TCAM_OK);
     for (int commit = 0; commit < 150; commit++) {
         struct tcam_numbers numbers;
         struct tcam_refusal refusal;
         new = old;
+        if (commit % 5 == 0) take_back(&manager, &registers, &old, seed);
         change(&manager, &new);
         enum tcam_error error = tcam_prepare(&manager, &numbers, &refusal);
         if (error == TCAM_OK) {
             unsigned long before = allocations;
-            CHECK(carry_out(&manager, &registers, &old, &new) == numbers.writes);
+            CHECK(carry_out(&manager, &registers, &old, &new, &new) == numbers.writes);
             CHECK(allocations == before);
             old = new;
             taken++;
@@ -251,195 +304,12 @@ static void commits_at_random(enum tcam_mode mode, enum tcam_placement placement
     }
     CHECK(tcam_free(&manager) == TCAM_OK);
     CHECK((drains > 0) == (mode == TCAM_BY_BITS));
-    printf("mode %d placement %d: %u commits taken, %u refused, %u drains\n", mode, placement, taken, refused, drains);
+    printf("mode %d placement %d: %u commits taken, %u refused, %u taken back, %u drains\n", mode, placement, taken,
+           refused, turned, drains);
 }
 
-/* What calls are given to write to, filled with a pattern. */
-struct told {
-    struct tcam_numbers numbers;
-    struct tcam_refusal refusal;
-    struct tcam_write write;
-    struct tcam_answer answer;
-};
-
-/* Every function over a handle that has no manager, and over null: nothing is written. */
-static void without_manager(struct tcam_manager *manager, enum tcam_error wanted) {
-    struct tcam_rule rule = {.protocol = TCAM_ANY_PROTOCOL};
-    struct tcam_key key = {0};
-    struct told told, untold;
-    memset(&told, 0xa5, sizeof told);
-    memset(&untold, 0xa5, sizeof untold);
-    CHECK(tcam_free(manager) == wanted);
-    CHECK(tcam_add_route(manager, 0, 0, 1) == wanted);
-    CHECK(tcam_set_route(manager, 0, 0, 1) == wanted);
-    CHECK(tcam_del_route(manager, 0, 0) == wanted);
-    CHECK(tcam_add_rule(manager, &rule) == wanted);
-    CHECK(tcam_set_rule(manager, 1, 1) == wanted);
-    CHECK(tcam_del_rule(manager, 1) == wanted);
-    CHECK(tcam_clear(manager) == wanted);
-    CHECK(tcam_prepare(manager, &told.numbers, &told.refusal) == wanted);
-    CHECK(tcam_next(manager, &told.write) == wanted);
-    CHECK(tcam_made(manager) == wanted);
-    CHECK(tcam_drained(manager) == wanted);
-    CHECK(tcam_answer(manager, &key, &told.answer) == wanted);
-    CHECK(memcmp(&told, &untold, sizeof told) == 0);
-}
-
-static void null_pointers(struct tcam_manager *manager) {
-    struct tcam_numbers numbers;
-    struct tcam_refusal refusal;
-    struct tcam_key key = {0};
-    struct tcam_answer answer;
-    CHECK(tcam_new(NULL, 8, TCAM_COVER, TCAM_MIDDLE) == TCAM_NULL);
-    CHECK(tcam_add_rule(manager, NULL) == TCAM_NULL);
-    CHECK(tcam_prepare(manager, NULL, &refusal) == TCAM_NULL);
-    CHECK(tcam_prepare(manager, &numbers, NULL) == TCAM_NULL);
-    CHECK(tcam_next(manager, NULL) == TCAM_NULL);
-    CHECK(tcam_answer(manager, NULL, &answer) == TCAM_NULL);
-    CHECK(tcam_answer(manager, &key, NULL) == TCAM_NULL);
-}
-
-static void wrong_numbers(struct tcam_manager *manager) {
-    struct tcam_rule good = {.number = 1, .protocol = TCAM_ANY_PROTOCOL}, rule;
-    CHECK(tcam_add_route(manager, 0x0a000000, 33, 1) == TCAM_PREFIX_LENGTH);
-    CHECK(tcam_add_route(manager, 0x0a000001, 8, 1) == TCAM_HOST_BITS);
-    CHECK(tcam_set_route(manager, 0x0a000000, 255, 1) == TCAM_PREFIX_LENGTH);
-    CHECK(tcam_del_route(manager, 1, 0) == TCAM_HOST_BITS);
-    rule = good, rule.source_length = 40;
-    CHECK(tcam_add_rule(manager, &rule) == TCAM_PREFIX_LENGTH);
-    rule = good, rule.destination_length = 33;
-    CHECK(tcam_add_rule(manager, &rule) == TCAM_PREFIX_LENGTH);
-    rule = good, rule.source = 1;
-    CHECK(tcam_add_rule(manager, &rule) == TCAM_HOST_BITS);
-    rule = good, rule.destination = 1;
-    CHECK(tcam_add_rule(manager, &rule) == TCAM_HOST_BITS);
-    rule = good, rule.source_port_first = 9;
-    CHECK(tcam_add_rule(manager, &rule) == TCAM_PORTS);
-    rule = good, rule.destination_port_first = 9;
-    CHECK(tcam_add_rule(manager, &rule) == TCAM_PORTS);
-    rule = good, rule.protocol = 257;
-    CHECK(tcam_add_rule(manager, &rule) == TCAM_PROTOCOL);
-    CHECK(tcam_set_route(manager, 1, 31, 1) == TCAM_HOST_BITS && tcam_del_route(manager, 0, 33) == TCAM_PREFIX_LENGTH);
-}
-
-/* A refusal tells what its code is for, and 0 else. */
-static bool tells(const struct tcam_refusal *refusal, uint64_t left, struct tcam_tag tag, uint32_t field, uint32_t need,
-                  uint32_t free) {
-    return refusal->left == left && same_tag(refusal->tag, tag) && refusal->field == field && refusal->need == need &&
-           refusal->free == free;
-}
-
-/* A batch that is refused: its code, and numbers that are as they were. */
-static enum tcam_error refused(struct tcam_manager *manager, struct tcam_refusal *refusal) {
-    struct tcam_numbers numbers = {1, 2, 3, 4};
-    memset(refusal, 0xff, sizeof *refusal);
-    enum tcam_error error = tcam_prepare(manager, &numbers, refusal);
-    CHECK(numbers.writes == 1 && numbers.words == 2 && numbers.most == 3 && numbers.span == 4);
-    return error;
-}
-
-static const struct tcam_tag no_tag;
-
-static void out_of_order(struct tcam_manager *manager) {
-    struct tcam_numbers numbers = {0};
-    struct tcam_refusal refusal = {0};
-    struct tcam_write write;
-    CHECK(tcam_made(manager) == TCAM_NOTHING_DUE && tcam_drained(manager) == TCAM_NOTHING_DUE);
-    CHECK(tcam_prepare(manager, &numbers, &refusal) == TCAM_OK && numbers.writes == 0);
-    CHECK(tcam_next(manager, &write) == TCAM_OK && write.kind == TCAM_NOTHING);
-    CHECK(tcam_made(manager) == TCAM_NOTHING_DUE);
-    CHECK(tcam_add_route(manager, 0x0a000000, 8, 1) == TCAM_OK);
-    CHECK(tcam_prepare(manager, &numbers, &refusal) == TCAM_OK && numbers.writes == 1);
-    CHECK(refused(manager, &refusal) == TCAM_BUSY && tells(&refusal, 1, no_tag, 0, 0, 0));
-    CHECK(tcam_drained(manager) == TCAM_WRITE_DUE && tcam_next(manager, &write) == TCAM_OK && write.kind == TCAM_PUT);
-    CHECK(tcam_made(manager) == TCAM_OK && tcam_made(manager) == TCAM_NOTHING_DUE);
-    CHECK(tcam_drained(manager) == TCAM_NOTHING_DUE);
-}
-
-/* With one route, 10.0.0.0/8, in eight slots. */
-static void refusals(struct tcam_manager *manager) {
-    struct tcam_refusal refusal;
-    struct tcam_tag route = {8, 0, 0x0a000000}, rule = {0, 0, ((uint64_t)1 << 32) - 7};
-    CHECK(tcam_add_route(manager, 0x0a000000, 8, 1) == TCAM_OK);
-    CHECK(refused(manager, &refusal) == TCAM_TAKEN && tells(&refusal, 0, route, 0, 0, 0));
-    CHECK(refused(manager, &refusal) == TCAM_TAKEN && tcam_clear(manager) == TCAM_OK);
-    CHECK(tcam_set_rule(manager, 7, 1) == TCAM_OK);
-    CHECK(refused(manager, &refusal) == TCAM_ABSENT && tells(&refusal, 0, rule, 0, 0, 0));
-    CHECK(tcam_clear(manager) == TCAM_OK && tcam_del_rule(manager, 7) == TCAM_OK);
-    CHECK(refused(manager, &refusal) == TCAM_ABSENT && tells(&refusal, 0, rule, 0, 0, 0));
-    CHECK(tcam_clear(manager) == TCAM_OK);
-    CHECK(tcam_set_route(manager, 0x0a000000, 8, 2) == TCAM_OK && tcam_del_route(manager, 0x0a000000, 8) == TCAM_OK);
-    CHECK(refused(manager, &refusal) == TCAM_TWICE && tells(&refusal, 0, route, 0, 0, 0));
-    CHECK(tcam_clear(manager) == TCAM_OK);
-    for (uint32_t i = 0; i < 4096; i++) CHECK(tcam_add_route(manager, i << 8, 24, i) == TCAM_OK);
-    CHECK(tcam_add_route(manager, 0x0b000000, 24, 1) == TCAM_BATCH_FULL);
-    CHECK(refused(manager, &refusal) == TCAM_SLOTS && tells(&refusal, 0, no_tag, 0, 4096, 7));
-    CHECK(tcam_clear(manager) == TCAM_OK);
-}
-
-/* More ranges of a field than it has bits, of which none is one block. */
-static void too_many_ranges(struct tcam_manager *manager) {
-    struct tcam_refusal refusal;
-    CHECK(tcam_new(manager, 64, TCAM_BY_BITS, TCAM_RANK) == TCAM_OK);
-    for (uint16_t i = 0; i < 17; i++) {
-        struct tcam_rule rule = {.number = i, .protocol = 6, .source_port_last = 65535, .destination_port_first = 1,
-                                 .destination_port_last = (uint16_t)(2 + i)};
-        CHECK(tcam_add_rule(manager, &rule) == TCAM_OK);
-    }
-    CHECK(refused(manager, &refusal) == TCAM_BITS && tells(&refusal, 0, no_tag, TCAM_DESTINATION, 17, 16));
-    CHECK(tcam_free(manager) == TCAM_OK);
-}
-
-/* While a commit is under way the next batch is collected and no other is taken; and the handle may be moved, and freed. */
-static void under_way(struct tcam_manager *manager) {
-    struct tcam_manager moved, none = TCAM_MANAGER_NONE;
-    struct tcam_numbers numbers;
-    struct tcam_refusal refusal;
-    CHECK(tcam_new(manager, 8, TCAM_COVER, TCAM_MIDDLE) == TCAM_OK && tcam_add_route(manager, 0, 0, 1) == TCAM_OK);
-    CHECK(tcam_prepare(manager, &numbers, &refusal) == TCAM_OK && tcam_add_route(manager, 0, 1, 2) == TCAM_OK);
-    CHECK(refused(manager, &refusal) == TCAM_BUSY && tcam_clear(manager) == TCAM_OK);
-    CHECK(tcam_add_route(manager, 0, 2, 3) == TCAM_OK && tcam_made(manager) == TCAM_OK);
-    CHECK(tcam_prepare(manager, &numbers, &refusal) == TCAM_OK && numbers.writes == 1);
-    moved = *manager;
-    *manager = none;
-    without_manager(manager, TCAM_NO_MANAGER);
-    CHECK(refused(&moved, &refusal) == TCAM_BUSY && tcam_free(&moved) == TCAM_OK && tcam_free(&moved) == TCAM_NO_MANAGER);
-}
-
-/* Each code has a text of its own. */
-static void texts(void) {
-    const char *none = tcam_error_text((enum tcam_error)(TCAM_WRITE_DUE + 1));
-    for (int error = TCAM_OK; error <= TCAM_WRITE_DUE; error++) {
-        const char *text = tcam_error_text((enum tcam_error)error);
-        CHECK(strlen(text) > 3 && strcmp(text, none) != 0);
-        for (int other = TCAM_OK; other < error; other++) CHECK(strcmp(text, tcam_error_text((enum tcam_error)other)) != 0);
-    }
-}
-
-static void wrong_uses(void) {
-    struct tcam_manager manager = TCAM_MANAGER_NONE;
-    without_manager(NULL, TCAM_NULL);
-    without_manager(&manager, TCAM_NO_MANAGER);
-    CHECK(tcam_new(&manager, 0, TCAM_COVER, TCAM_MIDDLE) == TCAM_SLOTS_RANGE);
-    CHECK(tcam_new(&manager, 4097, TCAM_COVER, TCAM_MIDDLE) == TCAM_SLOTS_RANGE);
-    CHECK(tcam_new(&manager, 8, (enum tcam_mode)2, TCAM_MIDDLE) == TCAM_NO_MODE);
-    CHECK(tcam_new(&manager, 8, TCAM_COVER, (enum tcam_placement)2) == TCAM_NO_PLACEMENT);
-    without_manager(&manager, TCAM_NO_MANAGER);
-    CHECK(tcam_new(&manager, 8, TCAM_COVER, TCAM_MIDDLE) == TCAM_OK);
-    CHECK(tcam_new(&manager, 8, TCAM_COVER, TCAM_MIDDLE) == TCAM_MADE_ALREADY);
-    null_pointers(&manager);
-    wrong_numbers(&manager);
-    out_of_order(&manager);
-    refusals(&manager);
-    CHECK(tcam_free(&manager) == TCAM_OK);
-    without_manager(&manager, TCAM_NO_MANAGER);
-    too_many_ranges(&manager);
-    under_way(&manager);
-    texts();
-}
-
-/* Two commits with each allocation failing in turn: want of memory is told, and then the same call does what it would have
- * done. Answers how many allocations there are. */
+/* Two commits with each allocation failing in turn: want of memory is told, and then the same call does what it would
+ * have done. Answers how many allocations there are. */
 static unsigned long wants_memory(unsigned long nth) {
     struct tcam_manager manager = TCAM_MANAGER_NONE;
     struct tcam_numbers numbers;

@@ -1,6 +1,6 @@
 -- What a session's calls rest on.
-use Rattle.std.proofs.Common.{◌≡◌, ◌∙◌, ℕ, ◌≤◌, List, [], ◌∷◌, length, Option, Some, None, Ok, Err, refl, subst, arith}
-use Rattle.std.specs.Prelude.{IfSome, IsOk, slice_get}
+use Rattle.std.proofs.Common.{◌≡◌, ℕ, ◌≤◌, List, [], ◌∷◌, length, Option, Some, None, Ok, Err, refl, sym, subst, arith}
+use Rattle.std.specs.Prelude.{IfSome, IsOk}
 use Rattle.call_history.specs.Cause.{Rose}
 use Rattle.rule_store.specs.declared.Command.{Command}
 use Rattle.rule_store.specs.declared.Mode.{Mode}
@@ -12,12 +12,12 @@ use Rattle.tcam_device.specs.Flight.{writes_in}
 use Rattle.memory_tcam.specs.Tcam.{AreCalls, Call, failures}
 use Rattle.memory_tcam.specs.Tcam.Call.{Put, Drain}
 use Rattle.batch_order.specs.declared.Placement.{Placement}
-use Rattle.batch_order.specs.Managed.{Managed, HeldCommit, IsOn, Serves, fresh}
-use Rattle.batch_order.specs.CarriedOut.{GoesForward}
-use Rattle.batch_order.specs.Steps.{due_write, next_of}
+use Rattle.batch_order.specs.Managed.{Managed, IsOn, Serves, fresh}
+use Rattle.batch_order.specs.Steps.{next_of}
 use Rattle.batch_order.proofs.Ahead.{ahead_by_journal, by_journal}
 use Rattle.tcam_c.specs.Calls.{IsServing, IsServingAhead, fresh_driven}
-use Rattle.tcam_c.specs.Driven.{due_of, first_of}
+use Rattle.tcam_c.specs.Driven.{due_of}
+use Rattle.tcam_c.proofs.Ways.{due_next}
 
 -- hardware of which no write fails has none that failed
 pub never_failed : {H : Type 0} (drains : H → H → Type 0) (given : List H) (calls : List (Call H)) (now : H)
@@ -33,29 +33,17 @@ never_rose before now was is rose =
     let at : Rose 0 0 = subst (λ (n : ℕ). Rose 0 n) is (subst (λ (m : ℕ). Rose m now) was rose) in
     omega (arith, at)
 
--- a write that is due of a commit that goes forward is its next write
-by_turned : (turned : Option ℕ) (actions : List Action) (undo : List Write) (write : Write) → turned ≡ None → Some (Written write) ≡ first_of actions
-    → (elim turned [ None ↦ due_write actions | Some undone ↦ slice_get undo 0 ]) ≡ Some write
-by_turned None [] undo write forward is = absurd (cc)
-by_turned None (Written other ∷ actions) undo write forward is = cc
-by_turned None (Drained ∷ actions) undo write forward is = absurd (cc)
-by_turned (Some undone) actions undo write forward is = absurd (cc)
-
-next_due : (held : Option HeldCommit) → GoesForward held → (write : Write) → Some (Written write) ≡ due_of held → next_of held ≡ Some write
-next_due None forward write is = absurd (cc)
-next_due (Some held) forward write is = by_turned held.turned held.actions held.undo write forward is
-
 -- each key is answered too where the write that is due was made already
-pub due_ahead : (manager : Managed) (events : List Action) (batch : List Command) (due : Option Action) → due ≡ due_of manager.held → GoesForward manager.held
-    → (next : Option Write) → next ≡ next_of manager.held → IfSome next (IsInUse manager.slots)
+pub due_ahead : (manager : Managed) (events : List Action) (batch : List Command) (due : Option Action) → due ≡ due_of manager.held
+    → IfSome (next_of manager.held) (IsInUse manager.slots)
     → length manager.state.slots ≡ manager.slots → IsOn manager.slots (writes_in events) manager
     → ((write : Write) → next_of manager.held ≡ Some write → (n : ℕ) → manager.slots ≤ n → Serves (on_device n (apply manager.state write)) manager.rules manager.held)
     → IsServingAhead (record { manager = manager; events = events; batch = batch }) due
-due_ahead manager events batch None is forward next next_is inside size on ahead = tt
-due_ahead manager events batch (Some Drained) is forward next next_is inside size on ahead = tt
-due_ahead manager events batch (Some (Written write)) is forward next next_is inside size on ahead =
-    let due : next_of manager.held ≡ Some write = next_due manager.held forward write is in
-    let used : IfSome (Some write) (IsInUse manager.slots) = subst (λ (one : Option Write). IfSome one (IsInUse manager.slots)) (next_is ∙ due) inside in
+due_ahead manager events batch None is inside size on ahead = tt
+due_ahead manager events batch (Some Drained) is inside size on ahead = tt
+due_ahead manager events batch (Some (Written write)) is inside size on ahead =
+    let due : next_of manager.held ≡ Some write = due_next manager.held write (sym is) in
+    let used : IfSome (Some write) (IsInUse manager.slots) = subst (λ (one : Option Write). IfSome one (IsInUse manager.slots)) due inside in
     ahead_by_journal manager.slots (writes_in events) manager write (omega arith) on size used (ahead write due manager.slots (omega arith))
 
 -- a blank memory serves a manager without rules

@@ -14,10 +14,12 @@ use Rattle.tcam_device.specs.declared.Action.TheVariants.{Written, Drained}
 use Rattle.batch_order.specs.declared.Placement.{Placement}
 use Rattle.batch_order.specs.declared.Ready.{Ready}
 use Rattle.batch_order.specs.declared.Refusal.{Refusal}
-use Rattle.batch_order.specs.Managed.{IsOn, Judges, Serves, fresh}
+use Rattle.batch_order.specs.declared.AbortFault.{AbortFault}
+use Rattle.batch_order.specs.declared.AbortFault.TheVariants as abort_fault
+use Rattle.batch_order.specs.Managed.{HeldCommit, IsOn, Judges, Serves, fresh}
 use Rattle.batch_order.specs.CarriedOut.{GoesForward}
 use Rattle.batch_order.specs.Steps.{ServesNow}
-use Rattle.tcam_c.specs.Driven.{Driven, Prepares, GoesOn, IsEnded, KeepsLive, due_of, journal_of}
+use Rattle.tcam_c.specs.Driven.{Driven, Prepares, GoesOn, IsEnded, KeepsLive, TurnsRound, due_of, journal_of}
 use Rattle.tcam_c.specs.Plain.{IsAnswer, IsDue, IsTold}
 use Rattle.tcam_c.specs.declared.plain.TcamAnswer.{TcamAnswer}
 use Rattle.tcam_c.specs.declared.plain.TcamKey.{TcamKey}
@@ -109,13 +111,13 @@ Prepared numbers numbers' refusal refusal' before after code =
 
 -- What is due is told, and nothing changes: a write, a drain, or nothing where no commit is under way. Each key is answered as
 -- the old rules or the new ones do, even where the write that is due was made already, and so is one whose word was made
--- earlier, by the ranges that words are current for (`ServesNow`). A commit under way goes forward.
+-- earlier, by the ranges that words are current for (`ServesNow`). A drain is due only of a commit that isn't turned round.
 pub record Nexts (write : TcamWrite) (before after : Driven) (code : ℕ) : Type 0 where
   pub done : code ≡ 0
   pub same : after ≡ before
   pub due : IsDue (due_of before.manager.held) write
   pub ended : IsEnded before.manager.held (due_of before.manager.held)
-  pub forward : GoesForward before.manager.held
+  pub drain : due_of before.manager.held ≡ Some Drained → GoesForward before.manager.held
   pub serving : IsServing before
   pub now : ServesNow before.manager
   pub ahead : IsServingAhead before (due_of before.manager.held)
@@ -137,6 +139,29 @@ DrainsDue (Some Drained) before after code = (code ≡ 0) × GoesOn before after
 
 abbrev pub TellsDrain : Driven → Driven → ℕ → Type 0
 TellsDrain before after code = DrainsDue (due_of before.manager.held) before after code × IsServing after
+
+-- A commit under way is turned round, with so many undo writes to make. One that is turned round already stays as it is, with
+-- those that are left; and with none under way there is nothing to turn.
+abbrev pub TurnsByWay : Option ℕ → HeldCommit → Driven → Result ℕ AbortFault → Driven → Type 0
+TurnsByWay None held before answer after = (answer ≡ Ok (length held.undo)) × TurnsRound held before after
+TurnsByWay (Some undone) held before answer after = (answer ≡ Err (abort_fault.Back (length held.undo))) × (after ≡ before)
+
+abbrev pub TurnsBy : Driven → Option HeldCommit → Result ℕ AbortFault → Driven → Type 0
+TurnsBy before None answer after = (answer ≡ Err abort_fault.Idle) × (after ≡ before)
+TurnsBy before (Some held) answer after = TurnsByWay held.turned held before answer after
+
+-- and how many there are is told, but where none is under way
+abbrev pub IsTurnTold : ℕ → ℕ → Result ℕ AbortFault → ℕ → Type 0
+IsTurnTold left left' (Ok undone) code = (code ≡ 0) × (left' ≡ undone)
+IsTurnTold left left' (Err (abort_fault.Back undone)) code = (code ≡ 22) × (left' ≡ undone)
+IsTurnTold left left' (Err abort_fault.Idle) code = (code ≡ 18) × (left' ≡ left)
+
+abbrev pub Turns : ℕ → ℕ → Driven → Driven → ℕ → Type 0
+Turns left left' before after code =
+    (answer : Result ℕ AbortFault) × TurnsBy before before.manager.held answer after
+    × IsTurnTold left left' answer code
+    × IsServing before
+    × IsServing after
 
 -- a packet is answered by the writes that were made, and nothing changes
 abbrev pub Answers : TcamKey → TcamAnswer → Driven → Driven → ℕ → Type 0

@@ -87,14 +87,23 @@ list_rule rule =
       result = rule.result;
     }
 
--- the code of what is wrong with plain numbers that are no rule
+-- its prefixes are right
+abbrev pub HasPrefixes : TcamRule → Type 0
+HasPrefixes rule = IsPrefix rule.source rule.source_length × IsPrefix rule.destination rule.destination_length
+
+-- and its ranges of ports
+abbrev pub HasPorts : TcamRule → Type 0
+HasPorts rule = (rule.source_port_first ≤ rule.source_port_last) × (rule.destination_port_first ≤ rule.destination_port_last)
+
+-- The code of what is wrong with plain numbers that are no rule. Where several are wrong it is that of the first, in this order:
+-- the source, the destination, the ranges of ports, the protocol.
 abbrev pub IsRuleFault : TcamRule → ℕ → Type 0
 IsRuleFault rule code =
     IsPrefixFault rule.source rule.source_length code
-    ⊎ (IsPrefixFault rule.destination rule.destination_length code
-    ⊎ (((code ≡ 8) × (rule.source_port_last < rule.source_port_first))
-    ⊎ (((code ≡ 8) × (rule.destination_port_last < rule.destination_port_first))
-    ⊎ ((code ≡ 9) × (256 < rule.protocol)))))
+    ⊎ ((IsPrefix rule.source rule.source_length × IsPrefixFault rule.destination rule.destination_length code)
+    ⊎ ((HasPrefixes rule × (code ≡ 8) × (rule.source_port_last < rule.source_port_first))
+    ⊎ ((HasPrefixes rule × (code ≡ 8) × (rule.destination_port_last < rule.destination_port_first))
+    ⊎ (HasPrefixes rule × HasPorts rule × (code ≡ 9) × (256 < rule.protocol)))))
 
 abbrev pub AddsRule : TcamRule → Result Command ℕ → Type 0
 AddsRule rule (Ok command) = IsRule rule × (command ≡ Add (list_rule rule))

@@ -1,16 +1,20 @@
 -- What stands behind a handle that C holds, and what its calls do.
-use Rattle.std.specs.Prelude.{◌≡◌, ℕ, ◌≤◌, ◌++◌, ◌∷◌, [], Option, Some, None, List, length}
+use Rattle.std.specs.Prelude.{◌≡◌, ℕ, ◌≤◌, ◌++◌, ◌∷◌, [], Result, Option, Some, None, List, length}
 use Rattle.rule_store.specs.declared.Command.{Command}
 use Rattle.tcam_device.specs.declared.Write.{Write}
 use Rattle.tcam_device.specs.declared.Action.{Action}
 use Rattle.tcam_device.specs.declared.Action.TheVariants.{Written, Drained}
-use Rattle.tcam_device.specs.State.{apply}
+use Rattle.tcam_device.specs.State.{State, apply}
+use Rattle.tcam_device.specs.Insertion.{is_table_write}
 use Rattle.tcam_device.specs.Flight.{Flight, writes_in}
 use Rattle.commit_writes.specs.InFlight.{ArePartOf}
 use Rattle.commit_writes.specs.Undo.{restoring}
 use Rattle.batch_order.specs.declared.Ready.{Ready}
-use Rattle.batch_order.specs.Managed.{Managed, HeldCommit, Holds, IsOn, live_now}
-use Rattle.batch_order.specs.CarriedOut.{GoesForward, HasRoomLeft}
+use Rattle.batch_order.specs.Managed.{Managed, HeldCommit, Holds, IsOn, actions_due, live_now}
+use Rattle.batch_order.specs.declared.AbortFault.{AbortFault}
+use Rattle.batch_order.specs.Steps.{Aborts, current_back}
+use Rattle.batch_order.specs.Passed.{GoesBackFrom, WayBackFrom}
+use Rattle.batch_order.specs.CarriedOut.{HasRoomBothWays}
 use Rattle.tcam_c.specs.declared.steps.DueKind.{DueKind}
 use Rattle.tcam_c.specs.declared.steps.DueKind.TheVariants as kind
 
@@ -24,20 +28,19 @@ pub record Driven : Type 0 where
 abbrev pub journal_of : Driven → List Write
 journal_of driven = writes_in driven.events
 
--- a commit under way has a write or a drain left
+-- a commit under way has a write or a drain left, forward or back
 abbrev pub HasDue : Option HeldCommit → Type 0
 HasDue None = Unit {0}
-HasDue (Some held) = 1 ≤ length held.actions
+HasDue (Some held) = 1 ≤ length (actions_due held)
 
--- The memory has the manager's slots, what was made is the manager's, there is room for those that are left, and
--- no word is in flight, since the caller says that it drained and a drain never waits here. A commit under way isn't turned
--- round, and between two calls it has something left.
+-- The memory has the manager's slots, what was made is the manager's, there is room for those that are left and to take back
+-- those that were made, and no word is in flight, since the caller says that it drained and a drain never waits here. Between
+-- two calls a commit under way has something left.
 pub record IsDriven (manager : Managed) (slots : ℕ) (events : List Action) (flight : Flight) (spare : ℕ) : Type 0 where
   pub same_slots : slots ≡ manager.slots
   pub on : IsOn manager.slots (writes_in events) manager
-  pub room : HasRoomLeft manager.held spare
+  pub room : HasRoomBothWays manager.held spare
   pub still : flight ≡ []
-  pub forward : GoesForward manager.held
   pub due : HasDue manager.held
 
 -- the first of some actions
@@ -45,10 +48,10 @@ abbrev pub first_of : List Action → Option Action
 first_of [] = None
 first_of (action ∷ actions) = Some action
 
--- what is due: a write or a drain
+-- What is due: a write or a drain. Of a commit that is turned round it is an undo write, and never a drain.
 abbrev pub due_of : Option HeldCommit → Option Action
 due_of None = None
-due_of (Some held) = first_of held.actions
+due_of (Some held) = first_of (actions_due held)
 
 -- what kind of thing that is
 abbrev pub kind_of_due : Option Action → DueKind
@@ -65,14 +68,22 @@ due_actions (Some action) = action ∷ []
 abbrev pub closed : HeldCommit → Managed → Managed
 closed held manager = record manager { rules = held.rules; bits = held.bits; held = None }
 
--- a manager whose commit under way, if it has nothing left, has finished
+-- and where it was turned round the old ones
+abbrev pub reverted : Managed → Managed
+reverted manager = record manager { held = None }
+
+abbrev pub ended_by : Option ℕ → HeldCommit → Managed → Managed
+ended_by None held manager = closed held manager
+ended_by (Some undone) held manager = reverted manager
+
+-- a manager whose commit under way, if it has nothing left, has come to its end
 abbrev pub settled_by : List Action → HeldCommit → Managed → Managed
-settled_by [] held manager = closed held manager
+settled_by [] held manager = ended_by held.turned held manager
 settled_by (action ∷ actions) held manager = manager
 
 abbrev pub settled_of : Option HeldCommit → Managed → Managed
 settled_of None manager = manager
-settled_of (Some held) manager = settled_by held.actions held manager
+settled_of (Some held) manager = settled_by (actions_due held) held manager
 
 abbrev pub settled : Managed → Managed
 settled manager = settled_of manager.held manager
@@ -82,6 +93,7 @@ pub record Plans (old : Managed) (batch : List Command) (ready : Ready) (new : M
   pub planned : Managed
   pub holds : Holds old batch ready planned
   pub settled_is : new ≡ settled planned
+  pub way_back : WayBackFrom old.state new
 
 -- and the batch is empty then
 pub record Prepares (old : Driven) (ready : Ready) (new : Driven) : Type 0 where
@@ -89,23 +101,36 @@ pub record Prepares (old : Driven) (ready : Ready) (new : Driven) : Type 0 where
   pub events : new.events ≡ old.events
   pub batch : new.batch ≡ []
 
--- The manager after what is due was made: a write is applied, and what undoes it kept; from a drain on the new ranges count;
--- and where nothing is left it has finished.
-abbrev pub stepped_by : List Action → HeldCommit → Managed → Managed
-stepped_by [] held manager = closed held manager
-stepped_by (Written write ∷ actions) held manager =
+-- The manager after what is due was made, forward: a write is applied, and what undoes it kept; from a drain on the new ranges
+-- count; and where nothing is left it has finished.
+abbrev pub stepped_on : List Action → HeldCommit → Managed → Managed
+stepped_on [] held manager = closed held manager
+stepped_on (Written write ∷ actions) held manager =
     record manager {
       state = apply manager.state write;
       held = Some (record held { actions = actions; undo = restoring manager.state write ∷ held.undo });
     }
-stepped_by (Drained ∷ actions) held manager =
+stepped_on (Drained ∷ actions) held manager =
     record manager { held = Some (record held { actions = actions; current = held.during }) }
+
+-- And back: an undo write is applied, and with a table word undone the ranges before the commit count again.
+abbrev pub stepped_back : List Write → HeldCommit → Managed → Managed
+stepped_back [] held manager = reverted manager
+stepped_back (write ∷ undo) held manager =
+    record manager {
+      state = apply manager.state write;
+      held = Some (record held { undo = undo; current = current_back manager.bits held.current (is_table_write write) });
+    }
+
+abbrev pub stepped_by : Option ℕ → HeldCommit → Managed → Managed
+stepped_by None held manager = stepped_on held.actions held manager
+stepped_by (Some undone) held manager = stepped_back held.undo held manager
 
 abbrev pub stepped_of : Option HeldCommit → Managed → Managed
 stepped_of None manager = manager
-stepped_of (Some held) manager = stepped_by held.actions held manager
+stepped_of (Some held) manager = stepped_by held.turned held manager
 
--- and behind the last one the rules are the new set
+-- and behind the last one the rules are the new set, or the old one where the commit was turned round
 abbrev pub made_of : Option HeldCommit → Managed → Managed
 made_of held manager = settled (stepped_of held manager)
 
@@ -124,9 +149,35 @@ KeepsWords None old new = KeepsLive old new
 KeepsWords (Some (Written write)) old new = KeepsLive old new
 KeepsWords (Some Drained) old new = Unit {0}
 
+-- What undoes the writes of the commit under way is kept, and taking it back passes no state that the commit didn't pass, and
+-- ends where it began.
+pub record KeepsWayBack (old new : Managed) : Type 0 where
+  pub way_back : (begun : State) → WayBackFrom begun old → WayBackFrom begun new
+  pub goes_back : (begun : State) → WayBackFrom begun old → GoesBackFrom begun new
+
 -- what telling does that the write or the drain which is due was made
 pub record GoesOn (old new : Driven) : Type 0 where
   pub manager : new.manager ≡ made_of old.manager.held old.manager
   pub events : new.events ≡ old.events ++ due_actions (due_of old.manager.held)
   pub batch : new.batch ≡ old.batch
   pub keeps : KeepsWords (due_of old.manager.held) old.manager new.manager
+  pub back : KeepsWayBack old.manager new.manager
+
+-- The manager's call turned the commit under way round, if it could, and where nothing is to be undone it is over.
+pub record TakesBack (old : Managed) (answer : Result ℕ AbortFault) (new : Managed) : Type 0 where
+  pub turned : Managed
+  pub aborts : Aborts old old.held answer turned
+  pub settled_is : new ≡ settled turned
+
+-- The commit under way, this one, was turned round: its writes are undone from now on, the last one first. Where none was made
+-- it is over.
+abbrev pub turned_round : HeldCommit → Managed → Managed
+turned_round held manager = settled (record manager { held = Some (record held { turned = Some (length held.undo) }) })
+
+-- Nothing else changes, and words stay current.
+pub record TurnsRound (held : HeldCommit) (old new : Driven) : Type 0 where
+  pub manager : new.manager ≡ turned_round held old.manager
+  pub events : new.events ≡ old.events
+  pub batch : new.batch ≡ old.batch
+  pub keeps : KeepsLive old.manager new.manager
+  pub back : KeepsWayBack old.manager new.manager

@@ -48,6 +48,8 @@ pub const NOTHING_DUE: u32 = 18;
 pub const DRAIN_DUE: u32 = 20;
 /// A write is due, and no drain.
 pub const WRITE_DUE: u32 = 21;
+/// The commit that is under way is turned round already.
+pub const BACK: u32 = 22;
 
 /// The code of a push.
 pub(crate) fn code_of_push(pushed: Result<(), PushFault>) -> u32

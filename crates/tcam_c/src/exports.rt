@@ -1,12 +1,12 @@
 //! The functions that C calls.
 
 ghost use Rattle.std.specs.Prelude.{◌≡◌, ◌≤◌, Some, None, IfSome, IsSome, IsNone};
-ghost use Rattle.tcam_c.specs.Calls.{Answers, Called, Clears, DelsRule, Enters, Entered, IsFreed, IsMade, IsServing, MakesOf, Nexts, Prepared, SetsRule, Tells, TellsDrain, fresh_driven};
+ghost use Rattle.tcam_c.specs.Calls.{Answers, Called, Clears, DelsRule, Enters, Entered, IsFreed, IsMade, IsServing, MakesOf, Nexts, Prepared, SetsRule, Tells, TellsDrain, Turns, fresh_driven};
 ghost use Rattle.tcam_c.specs.Codes.{AddsRoute, AddsRule, DelsRoute, SetsRoute};
 
 use crate::changes::{adds_route, adds_rule, dels_route, sets_route};
 use crate::codes::{
-    DRAIN_DUE, MADE_ALREADY, MEMORY, NO_MANAGER, NO_MODE, NO_PLACEMENT, NOTHING_DUE, OK,
+    BACK, DRAIN_DUE, MADE_ALREADY, MEMORY, NO_MANAGER, NO_MODE, NO_PLACEMENT, NOTHING_DUE, OK,
     SLOTS_RANGE, WRITE_DUE, code_of_push, code_of_refusal, mode_of, placement_of,
 };
 use crate::handle::TcamManager;
@@ -16,7 +16,7 @@ use crate::plain::{
 };
 use crate::session::Session;
 use crate::steps::DueKind;
-use batch_order::{Mode, Placement};
+use batch_order::{AbortFault, Mode, Placement};
 use rule_model::{Key, list_rank};
 use rule_store::Command;
 use std::alloc::Global;
@@ -229,7 +229,8 @@ pub extern "C" fn tcam_c_prepare(
     code
 }
 
-/// Tells what is due: a write, a drain, or nothing where no commit is under way. It changes nothing else, and takes no memory.
+/// Tells what is due: a write, a drain, or nothing where no commit is under way. Of a commit that is turned round it is an
+/// undo write. It changes nothing else, and takes no memory.
 #[unsafe(no_mangle)]
 pub extern "C" fn tcam_c_next(
     manager: &mut TcamManager,
@@ -247,8 +248,8 @@ pub extern "C" fn tcam_c_next(
     OK
 }
 
-/// The write that is due was made: what comes behind it is due then, or the commit has finished. Where a drain is due, or
-/// nothing, the code says so, and nothing changes. It takes no memory.
+/// The write that is due was made: what comes behind it is due then, or the commit has come to its end. Where a drain is
+/// due, or nothing, the code says so, and nothing changes. It takes no memory.
 #[unsafe(no_mangle)]
 pub extern "C" fn tcam_c_made(manager: &mut TcamManager, alloc: Global) -> u32
     ensures { Called Tells manager.old.held.session manager.new.held.session result }
@@ -283,6 +284,33 @@ pub extern "C" fn tcam_c_drained(manager: &mut TcamManager, alloc: Global) -> u3
         DueKind::Drain => {
             session.go_on();
             OK
+        }
+    };
+    manager.put(session);
+    code
+}
+
+/// Turns the commit under way round: from now on the writes that were told as made are undone, the last one first, and no drain
+/// is due; once they are the rules are the old ones. It tells how many there are, and with none no commit is under way. Where
+/// the commit is turned round already the code says so, with how many are left, and where none is under way; then nothing
+/// changes. It takes no memory.
+#[unsafe(no_mangle)]
+pub extern "C" fn tcam_c_abort(manager: &mut TcamManager, left: &mut u64, alloc: Global) -> u32
+    ensures turned { Called (Turns left.old left.new) manager.old.held.session manager.new.held.session result }
+    ensures untold { IsNone manager.old.held.session → left.new ≡ left.old }
+{
+    let Some(mut session) = manager.take(alloc) else {
+        return NO_MANAGER;
+    };
+    let code = match session.abort() {
+        Ok(undone) => {
+            *left = undone;
+            OK
+        }
+        Err(AbortFault::Idle) => NOTHING_DUE,
+        Err(AbortFault::Back { left: rest }) => {
+            *left = rest;
+            BACK
         }
     };
     manager.put(session);

@@ -6,6 +6,10 @@
 //! the caller waits until no look-up whose word was made before is still to be searched, and says so by `tcam_drained`. So no
 //! call of this library waits for hardware, and none calls back into C.
 //!
+//! **Taking back.** `tcam_abort` turns the commit under way round: then `tcam_next` tells the writes that undo those that were
+//! told as made, the last one first, and `tcam_made` takes them. The way back passes no state that the commit didn't pass, so
+//! nobody waits for look-ups, and no drain is due.
+//!
 //! **What C holds.** A [`TcamManager`] is two words in the caller's own memory: whether there is a manager, and a pointer
 //! to what belongs to it. One that is all zeros is a manager that isn't made, and each call says so. So the handle's misuses
 //! that a program can see are answered by a code: no manager, a manager that is made twice, freed twice, or used behind

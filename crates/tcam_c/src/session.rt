@@ -1,16 +1,16 @@
 //! A manager, the batch that waits for it, and the shadow of the caller's memory.
 
-ghost use Rattle.std.specs.Prelude.{◌≡◌, ◌≤◌, ◌++◌, ◌∷◌, [], ◌↔◌, Err, IfOk, OnOk, OnErr, IfSome, IsSome, length};
+ghost use Rattle.std.specs.Prelude.{◌≡◌, ◌≤◌, ◌++◌, ◌∷◌, [], ◌↔◌, Err, IfOk, OnOk, OnErr, IfSome, IsSome, Some, length};
 ghost use Rattle.tcam_device.specs.State.{lookup, replay};
 ghost use Rattle.batch_order.specs.Managed.{Judges};
 ghost use Rattle.batch_order.specs.CarriedOut.{GoesForward};
 ghost use Rattle.batch_order.specs.Steps.{ServesNow};
-ghost use Rattle.tcam_c.specs.Calls.{IsServing, IsServingAhead, fresh_driven};
+ghost use Rattle.tcam_c.specs.Calls.{IsServing, IsServingAhead, TurnsBy, fresh_driven};
 ghost use Rattle.tcam_c.specs.Driven.{Prepares, GoesOn, IsEnded, KeepsLive, due_of, journal_of, kind_of_due};
 
 use crate::outside::Outside;
-use crate::steps::{DueKind, due, go_on, kind_due, prepare};
-use batch_order::{Manager, Mode, Placement, Ready, Refusal};
+use crate::steps::{DueKind, abort, due, go_on, kind_due, prepare};
+use batch_order::{AbortFault, Manager, Mode, Placement, Ready, Refusal};
 use memory_tcam::Shadowed;
 use rule_model::{Key, Rank};
 use rule_store::{Batch, Command, PushFault};
@@ -97,13 +97,12 @@ impl Session {
     pub(crate) fn due(&self) -> Option<Action>
         ensures due { result ≡ due_of self.now.manager.held }
         ensures ended { IsEnded self.now.manager.held result }
-        ensures forward { GoesForward self.now.manager.held }
+        ensures drain { result ≡ Some Action.Drained → GoesForward self.now.manager.held }
         ensures serves { IsServing self.now }
         ensures now { ServesNow self.now.manager }
         ensures ahead { IsServingAhead self.now result }
     {
         self.manager.serving();
-        let _write = self.manager.next_write();
         due(&self.manager)
     }
 
@@ -116,14 +115,25 @@ impl Session {
         kind_due(&self.manager)
     }
 
-    /// The write or the drain that is due was made: what comes behind it is due then, or the commit has finished. It takes
-    /// no memory.
+    /// The write or the drain that is due was made: what comes behind it is due then, or the commit has come to its end. It
+    /// takes no memory.
     pub(crate) fn go_on(&mut self)
         requires { IsSome (due_of self.old.manager.held) }
         ensures on { GoesOn self.old self.new }
         ensures serves { IsServing self.new }
     {
         go_on(&mut self.manager, &mut self.device);
+    }
+
+    /// Turns the commit under way round: from now on its undo writes are due, the last one first, and no drain. The answer is
+    /// how many they are, and with none the commit is over. It takes no memory.
+    pub(crate) fn abort(&mut self) -> Result<u64, AbortFault>
+        ensures turned { TurnsBy self.old self.old.manager.held result self.new }
+        ensures before { IsServing self.old }
+        ensures serves { IsServing self.new }
+    {
+        self.manager.serving();
+        abort(&mut self.manager, &mut self.device)
     }
 
     /// What a key is answered by the writes that were made.

@@ -1,14 +1,15 @@
 //! The manager's calls over memory that the caller writes.
 
-ghost use Rattle.std.specs.Prelude.{◌≡◌, ◌++◌, [], IfOk, IsSome, OnErr};
-ghost use Rattle.tcam_device.specs.State.{replay};
+ghost use Rattle.std.specs.Prelude.{◌≡◌, ◌++◌, [], IfOk, IfSome, IsSome, OnErr, length};
+ghost use Rattle.tcam_device.specs.State.{IsInUse, replay};
 ghost use Rattle.tcam_device.specs.Flight.{writes_in};
 ghost use Rattle.batch_order.specs.Managed.{Judges, Serves, IsOn};
-ghost use Rattle.batch_order.specs.CarriedOut.{GoesForward, HasRoomLeft};
-ghost use Rattle.tcam_c.specs.Driven.{IsDriven, KeepsLive, KeepsWords, Plans, due_actions, due_of, made_of, settled, stepped_of, kind_of_due};
+ghost use Rattle.batch_order.specs.CarriedOut.{HasRoomBothWays};
+ghost use Rattle.batch_order.specs.Steps.{next_of};
+ghost use Rattle.tcam_c.specs.Driven.{IsDriven, KeepsLive, KeepsWayBack, KeepsWords, Plans, TakesBack, due_actions, due_of, made_of, settled, stepped_of, kind_of_due};
 
 use crate::outside::Outside;
-use batch_order::{Manager, Ready, Refusal};
+use batch_order::{AbortFault, Manager, Ready, Refusal};
 use memory_tcam::Shadowed;
 use rule_store::Batch;
 use tcam_device::{Action, DeviceFault};
@@ -34,18 +35,40 @@ pub(crate) fn prepare(
     Ok(ready)
 }
 
-/// What is due of a commit under way: its next write, or its drain. None comes where it has nothing left, and where no
-/// commit is under way.
-pub(crate) fn due(manager: &Manager) -> Option<Action>
-    requires forward { GoesForward manager.now.held }
-    ensures due { result ≡ due_of manager.now.held }
+/// Turns the commit under way round. With no write made it is over at once.
+pub(crate) fn abort(
+    manager: &mut Manager,
+    device: &mut Shadowed<Outside>,
+) -> Result<u64, AbortFault>
+    requires driven { IsDriven manager.old device.old.slots device.old.events device.old.flight device.old.spare }
+    ensures aborts { TakesBack manager.old result manager.new }
+    ensures keeps { KeepsLive manager.old manager.new }
+    ensures back { KeepsWayBack manager.old manager.new }
+    ensures events { device.new.events ≡ device.old.events }
+    ensures driven { IsDriven manager.new device.new.slots device.new.events device.new.flight device.new.spare }
+    ensures serves { Serves (replay manager.new.slots (writes_in device.new.events)) manager.new.rules manager.new.held }
 {
-    if manager.drains_next() {
-        return Some(Action::Drained);
-    }
+    let turned = manager.abort();
+    settle(manager, device);
+    turned
+}
+
+/// What is due of a commit under way, forward or back: its next write, or its drain. None comes where it has nothing left,
+/// and where no commit is under way.
+pub(crate) fn due(manager: &Manager) -> Option<Action>
+    ensures due { result ≡ due_of manager.now.held }
+    ensures in_use { IfSome (next_of manager.now.held) (IsInUse manager.now.slots) }
+    ensures size { length manager.now.state.slots ≡ manager.now.slots }
+{
     match manager.next_write() {
-        None => None,
         Some(write) => Some(Action::Written(write)),
+        None => {
+            if manager.drains_next() {
+                Some(Action::Drained)
+            } else {
+                None
+            }
+        }
     }
 }
 
@@ -59,8 +82,8 @@ pub(crate) enum DueKind {
 }
 
 /// What kind of thing is due, which takes less than to say what.
+#[tactic(auto, using(crate::proofs::Ways::left_due, crate::proofs::Ways::some_left))]
 pub(crate) fn kind_due(manager: &Manager) -> DueKind
-    requires forward { GoesForward manager.now.held }
     ensures { result ≡ kind_of_due (due_of manager.now.held) }
 {
     if manager.drains_next() {
@@ -72,11 +95,12 @@ pub(crate) fn kind_due(manager: &Manager) -> DueKind
     }
 }
 
-/// The write or the drain that is due was made: what comes behind it is due then, or the commit has finished.
+/// The write or the drain that is due was made: what comes behind it is due then, or the commit has come to its end.
 pub(crate) fn go_on(manager: &mut Manager, device: &mut Shadowed<Outside>)
     requires driven { IsDriven manager.old device.old.slots device.old.events device.old.flight device.old.spare }
     requires due { IsSome (due_of manager.old.held) }
     ensures made { manager.new ≡ made_of manager.old.held manager.old }
+    ensures back { KeepsWayBack manager.old manager.new }
     ensures keeps { KeepsWords (due_of manager.old.held) manager.old manager.new }
     ensures events { device.new.events ≡ device.old.events ++ due_actions (due_of manager.old.held) }
     ensures driven { IsDriven manager.new device.new.slots device.new.events device.new.flight device.new.spare }
@@ -86,20 +110,20 @@ pub(crate) fn go_on(manager: &mut Manager, device: &mut Shadowed<Outside>)
     settle(manager, device);
 }
 
-/// A commit under way that has nothing left finishes.
+/// A commit under way that has nothing left comes to its end, forward or back.
 fn settle(manager: &mut Manager, device: &mut Shadowed<Outside>)
     requires slots { device.old.slots ≡ manager.old.slots }
     requires on { IsOn manager.old.slots (writes_in device.old.events) manager.old }
-    requires room { HasRoomLeft manager.old.held device.old.spare }
+    requires room { HasRoomBothWays manager.old.held device.old.spare }
     requires still { device.old.flight ≡ [] }
-    requires forward { GoesForward manager.old.held }
     ensures settled { manager.new ≡ settled manager.old }
+    ensures back { KeepsWayBack manager.old manager.new }
     ensures keeps { KeepsLive manager.old manager.new }
     ensures events { device.new.events ≡ device.old.events }
     ensures driven { IsDriven manager.new device.new.slots device.new.events device.new.flight device.new.spare }
     ensures serves { Serves (replay manager.new.slots (writes_in device.new.events)) manager.new.rules manager.new.held }
 {
-    let _rules = manager.rules();
+    manager.serving();
     if let DueKind::Nothing = kind_due(manager) {
         advance(manager, device);
     }
@@ -109,17 +133,16 @@ fn settle(manager: &mut Manager, device: &mut Shadowed<Outside>)
 fn advance(manager: &mut Manager, device: &mut Shadowed<Outside>)
     requires slots { device.old.slots ≡ manager.old.slots }
     requires on { IsOn manager.old.slots (writes_in device.old.events) manager.old }
-    requires room { HasRoomLeft manager.old.held device.old.spare }
+    requires room { HasRoomBothWays manager.old.held device.old.spare }
     requires still { device.old.flight ≡ [] }
-    requires forward { GoesForward manager.old.held }
     ensures stepped { manager.new ≡ stepped_of manager.old.held manager.old }
+    ensures back { KeepsWayBack manager.old manager.new }
     ensures keeps { KeepsWords (due_of manager.old.held) manager.old manager.new }
     ensures events { device.new.events ≡ device.old.events ++ due_actions (due_of manager.old.held) }
     ensures slots { device.new.slots ≡ manager.new.slots }
     ensures on { IsOn manager.new.slots (writes_in device.new.events) manager.new }
-    ensures room { HasRoomLeft manager.new.held device.new.spare }
+    ensures room { HasRoomBothWays manager.new.held device.new.spare }
     ensures still { device.new.flight ≡ [] }
-    ensures forward { GoesForward manager.new.held }
     ensures serves { Serves (replay manager.new.slots (writes_in device.new.events)) manager.new.rules manager.new.held }
 {
     let _before = device.hardware();
