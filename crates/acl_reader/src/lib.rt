@@ -7,15 +7,18 @@
 //!     packet KEY
 //!     frame HEX
 //!     commit
+//!     trial COUNT
 //!
-//! Addresses, prefixes and frames are those of one version of IP, which the caller names. `read_acl` is equal to the grammar both ways: it answers a command only where the line is one, and a
-//! fault only where the line has that fault. Faults are found in a fixed order: the words that begin no
-//! command, then a wrong number of words, then the leftmost bad word. The sides and the ports of a rule
-//! are written source first. A rule on ports isn't tied to a protocol. What is common to both kinds of
-//! script stands in `line_words`; here is what access lists alone have. Nothing takes memory.
+//! Addresses, prefixes and frames are those of one version of IP, which the caller names. `read_acl` is equal to the
+//! grammar both ways: it answers a command only where the line is one, and a fault only where the line has that fault.
+//! Faults are found in a fixed order: the words that begin no command, then a wrong number of words, then the leftmost
+//! bad word. The sides and the ports of a rule are written source first. A rule on ports isn't tied to a protocol. What
+//! is common to both kinds of script stands in `line_words`; here is what access lists alone have. Nothing takes
+//! memory.
 #![tactic(auto)]
 
-ghost use Rattle.std.specs.Prelude.{◌≡◌, ◌≤◌, ◌∷◌, length, take};
+ghost use Rattle.std.specs.Prelude.{◌≡◌, ◌≤◌, ◌∷◌, codes, length, take};
+ghost use Rattle.std.specs.Str.{bytes_eq};
 ghost use Rattle.line_words.specs.Notations.{notation_for};
 ghost use Rattle.acl_reader.specs.Grammar.{acl_command, acl_line, acl_words, addition, change, removal};
 
@@ -59,10 +62,17 @@ pub fn read_acl(line: &Line, version: IpVersion) -> Result<Option<AclCommand>, W
 fn command_of(first: &[u8], rest: Words<'_>, version: IpVersion) -> Result<AclCommand, WordFault>
     ensures { result ≡ acl_command (notation_for version) (first.now ∷ rest.entry) }
 {
-    match first {
-        b"acl" => acl_words(rest, version),
-        _ => Ok(AclCommand::Common(common_command(first, rest, version)?)),
+    if is_acl(first) {
+        return acl_words(rest, version);
     }
+    Ok(AclCommand::Common(common_command(first, rest, version)?))
+}
+
+/// Whether this is the word `acl`.
+fn is_acl(word: &[u8]) -> bool
+    ensures { result ≡ bytes_eq word.now (codes "acl") }
+{
+    matches!(word, b"acl")
 }
 
 /// The command of a line whose first word is `acl`, from the words behind it.
@@ -204,7 +214,7 @@ mod tests {
 
     #[test]
     fn other_commands(rt: HostRuntime) {
-        let table: [(&[u8], Option<AclCommand>); 8] = [
+        let table: [(&[u8], Option<AclCommand>); 9] = [
             (b"acl set 100 deny", Some(AclCommand::Set(100, 0))),
             (b"acl set 100 permit", Some(AclCommand::Set(100, 1))),
             (b"acl del 7", Some(AclCommand::Del(7))),
@@ -221,6 +231,10 @@ mod tests {
                 Some(AclCommand::Common(CommonCommand::Packet(web_key()))),
             ),
             (b"commit", Some(AclCommand::Common(CommonCommand::Commit))),
+            (
+                b"trial 7",
+                Some(AclCommand::Common(CommonCommand::Trial(7))),
+            ),
             (b" # acl del 7", None),
         ];
         for (text, command) in table {
@@ -263,7 +277,7 @@ mod tests {
 
     #[test]
     fn other_faults(rt: HostRuntime) {
-        let table: [(&[u8], WordFault); 8] = [
+        let table: [(&[u8], WordFault); 12] = [
             (b"acl", WordFault::UnknownCommand),
             (b"acl Add", WordFault::UnknownCommand),
             (b"route add 10.0.0.0/8 7", WordFault::UnknownCommand),
@@ -272,6 +286,10 @@ mod tests {
             (b"frame 4g", WordFault::BadHex),
             (b"frame 65", WordFault::Frame(FrameFault::Version)),
             (b"commit 1", WordFault::WordCount),
+            (b"trial", WordFault::WordCount),
+            (b"trial 1 2", WordFault::WordCount),
+            (b"trial -1", WordFault::BadCount),
+            (b"trial 4294967296", WordFault::BadCount),
         ];
         for (text, fault) in table {
             assert!(rt; text.len() <= LINE_BYTES);
@@ -283,12 +301,17 @@ mod tests {
     fn ipv6_lines(rt: HostRuntime) -> Result<(), Fail> {
         let block = Prefix::v6(0x2001_0db8_0000_0000_0000_0000_0000_0000, 32)?;
         let web = Ports::new(80, 80).ok_or("a range")?;
-        let table: [(&[u8], Result<Option<AclCommand>, WordFault>); 7] = [
+        let table: [(&[u8], Result<Option<AclCommand>, WordFault>); 9] = [
             (
                 b"acl add 10 permit any 2001:DB8::/32 tcp any 80",
                 Ok(Some(AclCommand::Add(permit(block, 6, web)))),
             ),
             (b"acl set 100 deny", Ok(Some(AclCommand::Set(100, 0)))),
+            (
+                b"trial 7",
+                Ok(Some(AclCommand::Common(CommonCommand::Trial(7)))),
+            ),
+            (b"trial 7f", Err(WordFault::BadCount)),
             (
                 b"acl add 10 permit 10.0.0.0/8 any any any any",
                 Err(WordFault::BadPrefix),

@@ -91,7 +91,7 @@ fn traced(rt: HostRuntime) -> Result<(), Fail> {
     )?;
     let script = "acl add 10 permit any any any any 1-2\ncommit\npacket :: ::1 tcp 0 1\n";
     let report =
-        "w 1 table dst 1 1\nw 2 table dst 2 1\nw 3 slot 3 set 0000000000000000000000000000000000000000000000000000000000000000000000000000000000000001 0000000000000000000000000000000000000000000000000000000000000000000000000000000000000001 10 1\ncommit 1 ok writes 3 words 2 most 1 span 0\npacket 10 permit\nend rules 1 entries 1 writes 3 pending 0\n";
+        "w 1 table dst 1 1\nw 2 table dst 2 1\nw 2 drain\nw 3 slot 3 set 0000000000000000000000000000000000000000000000000000000000000000000000000000000000000001 0000000000000000000000000000000000000000000000000000000000000000000000000000000000000001 10 1\ncommit 1 ok writes 3 words 2 most 1 span 0\npacket 10 permit\nend rules 1 entries 1 writes 3 pending 0\n";
     check(
         &rt,
         "tcam acl6 --slots 8 --ranges bits --trace",

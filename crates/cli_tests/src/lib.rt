@@ -3,6 +3,8 @@
 #![tactic(auto)]
 
 #[cfg(test)]
+mod depths;
+#[cfg(test)]
 mod ipv6;
 #[cfg(test)]
 mod lists;
@@ -14,3 +16,5 @@ mod probes;
 mod ranges;
 #[cfg(test)]
 mod rows;
+#[cfg(test)]
+mod trials;

@@ -60,7 +60,7 @@ fn too_many_ranges(rt: HostRuntime) -> Result<(), Fail> {
 fn traced(rt: HostRuntime) -> Result<(), Fail> {
     let script = "acl add 10 permit any any any any 1-2\ncommit\n";
     let report =
-        "w 1 table dst 1 1\nw 2 table dst 2 1\nw 3 slot 3 set 0000000000000000000000000000000000000001 0000000000000000000000000000000000000001 4294967286 1\ncommit 1 ok writes 3 words 2 most 1 span 0\nend rules 1 entries 1 writes 3 pending 0\n";
+        "w 1 table dst 1 1\nw 2 table dst 2 1\nw 2 drain\nw 3 slot 3 set 0000000000000000000000000000000000000001 0000000000000000000000000000000000000001 4294967286 1\ncommit 1 ok writes 3 words 2 most 1 span 0\nend rules 1 entries 1 writes 3 pending 0\n";
     let line = "tcam acl --trace --ranges=bits --slots 8";
     check(&rt, line, script, Status::Done, report, 3)
 }

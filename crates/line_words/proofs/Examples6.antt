@@ -74,22 +74,22 @@ every-address = refl
 leading : ipv6_text 0x20010db8000000000000000000000001 ≡ codes "2001:db8::1"
 leading = refl
 
--- section 4.2.1: as much as can be is shortened
+-- RFC 5952 section 4.2.1: as much as can be is shortened
 shortened : ipv6_text 0x20010db8000000000000000000020001 ≡ codes "2001:db8::2:1"
 shortened = refl
 
--- section 4.2.2: one zero group isn't
+-- RFC 5952 section 4.2.2: one zero group isn't
 one-group : ipv6_text 0x20010db8000000010001000100010001 ≡ codes "2001:db8:0:1:1:1:1:1"
 one-group = refl
 
--- section 4.2.3: the longest run, and the first of equals
+-- RFC 5952 section 4.2.3: the longest run, and the first of equals
 longest : ipv6_text 0x20010000000000010000000000000001 ≡ codes "2001:0:0:1::1"
 longest = refl
 
 first-of-equals : ipv6_text 0x20010db8000000000001000000000001 ≡ codes "2001:db8::1:0:0:1"
 first-of-equals = refl
 
--- section 4.3: lower case
+-- RFC 5952 section 4.3: lower case
 lower-case : ipv6_text 0x2001_0db8_000a_bcde_0000_0000_0000_0000 ≡ codes "2001:db8:a:bcde::"
 lower-case = refl
 

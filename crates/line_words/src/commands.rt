@@ -2,10 +2,10 @@
 
 ghost use Rattle.std.specs.Prelude.{◌≡◌};
 ghost use Rattle.line_words.specs.Notations.{notation_for};
-ghost use Rattle.line_words.specs.Commands.{commit_of, common_command, frame_of};
+ghost use Rattle.line_words.specs.Commands.{commit_of, common_command, frame_of, trial_of};
 
 use crate::WordFault;
-use crate::kinds::{frame_key, key_of};
+use crate::kinds::{count_of, frame_key, key_of};
 use crate::words::Words;
 use rule_model::{IpVersion, Key};
 
@@ -18,6 +18,8 @@ pub enum CommonCommand {
     Packet(Key),
     /// Carries out the pending batch.
     Commit,
+    /// Carries out the pending batch, and takes it back where that takes more than so many writes.
+    Trial(u32),
 }
 
 /// The command of a line that begins with this word, from the words behind it, in the notation of a version of IP.
@@ -36,6 +38,7 @@ pub fn common_command(
         b"packet" => key_of(rest, version).map(CommonCommand::Packet),
         b"frame" => frame_of(rest, version).map(CommonCommand::Packet),
         b"commit" => commit_of(rest),
+        b"trial" => trial_of(rest).map(CommonCommand::Trial),
         _ => Err(WordFault::UnknownCommand),
     }
 }
@@ -46,6 +49,15 @@ fn commit_of(words: Words<'_>) -> Result<CommonCommand, WordFault>
 {
     words.end()?;
     Ok(CommonCommand::Commit)
+}
+
+/// The most writes of a trial, the one word.
+fn trial_of(mut words: Words<'_>) -> Result<u32, WordFault>
+    ensures { result ≡ trial_of words.entry }
+{
+    let most = words.required()?;
+    words.end()?;
+    count_of(most)
 }
 
 /// The key of the frame that is the one word.

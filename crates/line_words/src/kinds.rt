@@ -1,7 +1,7 @@
 //! The kinds of words that are no addresses, and packet keys.
 
 ghost use Rattle.std.specs.Prelude.{◌≡◌, ◌≤◌, ◌∷◌, length};
-ghost use Rattle.line_words.specs.Kinds.{result_of, sequence_of, action_of, proto_of, proto_choice, port_of, parts_at, port_parts, ports_of, key_of, frame_key};
+ghost use Rattle.line_words.specs.Kinds.{result_of, sequence_of, count_of, action_of, proto_of, proto_choice, port_of, parts_at, port_parts, ports_of, key_of, frame_key};
 ghost use Rattle.line_words.specs.Notations.{notation_for};
 
 use crate::WordFault;
@@ -30,6 +30,13 @@ pub fn sequence_of(word: &[u8]) -> Result<u32, WordFault>
         None | Some(0) => Err(WordFault::BadSequence),
         Some(number) => Ok(number),
     }
+}
+
+/// The most writes of a trial: a number of 32 bits, or BadCount.
+pub fn count_of(word: &[u8]) -> Result<u32, WordFault>
+    ensures { result ≡ count_of word.now }
+{
+    number_up_to(u32::MAX, word).ok_or(WordFault::BadCount)
 }
 
 /// The result of a rule of an access list: 1 for `permit` and 0 for `deny`, or BadAction.

@@ -10,6 +10,7 @@
 //!     packet KEY                 common to both: the same five words
 //!     frame HEX                  common to both: one word, the bytes of a packet
 //!     commit                     common to both: no word
+//!     trial COUNT                common to both: one word, a number of writes
 //!
 //! Each kind of word has one function (`numbers`, `addresses`, `kinds`), and each fault of a word one
 //! variant of `WordFault`. Addresses, prefixes and frames are those of the version of IP that the caller
@@ -40,7 +41,7 @@ mod words;
 
 pub use addresses::{prefix_of, side_of};
 pub use commands::{CommonCommand, common_command};
-pub use kinds::{action_of, key_of, ports_of, protocol_choice, result_of, sequence_of};
+pub use kinds::{action_of, count_of, key_of, ports_of, protocol_choice, result_of, sequence_of};
 pub use laws::{printed_is_read_back, shortens_the_longest};
 pub use printed::Ipv6Text;
 pub use words::{Words, command_words};
@@ -60,6 +61,8 @@ pub enum WordFault {
     BadResult,
     /// The word is no number of 32 bits above 0.
     BadSequence,
+    /// The word is no number of 32 bits.
+    BadCount,
     /// The word is neither `permit` nor `deny`.
     BadAction,
     /// The word is neither a protocol's name nor a number of 8 bits.
@@ -88,6 +91,7 @@ impl WordFault {
             WordFault::HostBits => "host bits",
             WordFault::BadResult => "bad result",
             WordFault::BadSequence => "bad sequence",
+            WordFault::BadCount => "bad count",
             WordFault::BadAction => "bad action",
             WordFault::BadProtocol => "bad protocol",
             WordFault::BadPorts => "bad ports",

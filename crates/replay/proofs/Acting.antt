@@ -1,157 +1,376 @@
--- The actions of a commit under way that isn't turned round, one after the other.
-use Rattle.std.proofs.Common.{◌≡◌, ℕ, List, [], ◌∷◌, ◌++◌, length, drop, slice_get, Some, None, refl, sym, ap, ◌∙◌, subst, append_assoc}
-use Rattle.std.proofs.lemmas.List.Sums.{fold-append}
+-- The actions of a commit under way, one after the other, on the way there and on the way back.
+use Rattle.std.proofs.Common.{◌≡◌, ℕ, zero, suc, ◌+◌, ◌-◌, ◌<◌, ◌≤◌, ◌⊎◌, inl, inr, Bool, true, false, List, [], ◌∷◌, ◌++◌, length, map, take, slice_get, Option, Some, None, refl, sym, ap, ◌∙◌, subst, append_assoc, arith}
+use Rattle.std.specs.Prelude.{IsTrue, nat_lt, nat_le, ◌&&◌, option_map}
+use Rattle.std.proofs.lemmas.Bool.{lt-ltb, le-ltb, ltb-true, ltb-false, leb-true, leb-false}
 use Rattle.tcam_device.specs.declared.Write.{Write}
 use Rattle.tcam_device.specs.declared.Action.{Action}
 use Rattle.tcam_device.specs.declared.Action.TheVariants.{Written, Drained}
 use Rattle.tcam_device.specs.State.{State, apply, state_after}
 use Rattle.tcam_device.specs.Flight.{writes_in}
+use Rattle.commit_writes.specs.Actions.{up_to_writes}
 use Rattle.commit_writes.specs.Bits.{FieldBits}
-use Rattle.commit_writes.specs.Undo.{restoring}
+use Rattle.commit_writes.specs.Undo.{restoring, undo_writes}
 use Rattle.commit_writes.specs.declared.Done.{Done}
+use Rattle.rule_model.specs.declared.Rule.{Rule}
 use Rattle.batch_order.specs.declared.Step.{Step}
 use Rattle.batch_order.specs.declared.Step.TheVariants as step
-use Rattle.batch_order.specs.CarriedOut.{acted, acted_by, back_by, forward_by}
-use Rattle.batch_order.specs.Managed.{HeldCommit, Managed, room_needed, writes_due}
-use Rattle.batch_order.specs.Steps.{Steps, StepsEither, StepsOn, due_write, next_of}
-use Rattle.replay.specs.Running.{MakesSome}
+use Rattle.batch_order.specs.Managed.{HeldCommit, Managed}
+use Rattle.tcam_device.specs.Insertion.{is_table_write}
+use Rattle.batch_order.specs.Steps.{Steps, StepsEither, awaits_drain, current_back, due_write, next_of}
+use Rattle.replay.specs.Running.{IsSame, MakesSome, TurnsAt, goes_back, left_in, left_of, rest_of, trial_left, turned_where, turns_in}
 
--- the undo writes behind some actions
-abbrev undo_by : State → List Write → List Action → List Write
-undo_by state undo [] = undo
-undo_by state undo (Written write ∷ actions) = undo_by (apply state write) (restoring state write ∷ undo) actions
-undo_by state undo (Drained ∷ actions) = undo_by state undo actions
-
--- and the ranges that words are current for
-abbrev current_by : FieldBits → FieldBits → List Action → FieldBits
-current_by during current [] = current
-current_by during current (Written write ∷ actions) = current_by during current actions
-current_by during current (Drained ∷ actions) = current_by during during actions
-
--- the commit behind some actions, with these left
-abbrev pub held_by : State → HeldCommit → List Action → List Action → HeldCommit
-held_by state held made left = record held { actions = left; undo = undo_by state held.undo made; current = current_by held.during held.current made }
-
--- and its manager
-abbrev pub made_by : Managed → HeldCommit → List Action → List Action → Managed
-made_by begun held made left =
-    record begun { state = state_after begun.state (writes_in made); held = Some (held_by begun.state held made left) }
-
-pub acted-forward : (now : Managed) (held : HeldCommit) (action : Action) → now.held ≡ Some held → held.turned ≡ None → acted_by now action ≡ forward_by now held action
-acted-forward now held action is forward =
-    ap (λ one. elim one [
-      | None ↦ now
-      | Some held ↦ elim held.turned [ None ↦ forward_by now held action | Some undone ↦ back_by now held action ]
-    ]) is
-    ∙ ap (λ turned. elim turned [ None ↦ forward_by now held action | Some undone ↦ back_by now held action ]) forward
-
-acted-is : (begun : Managed) (held : HeldCommit) (made left : List Action) → begun.held ≡ Some held → held.turned ≡ None → held.actions ≡ made ++ left
-    → acted begun made ≡ made_by begun held made left
-acted-is begun held [] left is forward whole =
-    ap (λ one. record begun { held = one }) is ∙ ap (λ actions. record begun { held = Some (record held { actions = actions }) }) whole
-acted-is begun held (Written write ∷ made) left is forward whole =
-    let next : HeldCommit = record held { actions = drop 1 held.actions; undo = restoring begun.state write ∷ held.undo } in
-    ap (λ one. acted one made) (acted-forward begun held (Written write) is forward)
-    ∙ acted-is (record begun { state = apply begun.state write; held = Some next }) next made left refl forward (ap (drop 1) whole)
-acted-is begun held (Drained ∷ made) left is forward whole =
-    let next : HeldCommit = record held { actions = drop 1 held.actions; current = held.during } in
-    ap (λ one. acted one made) (acted-forward begun held Drained is forward)
-    ∙ acted-is (record begun { held = Some next }) next made left refl forward (ap (drop 1) whole)
-
--- the commit that is under way behind some of its actions
-abbrev pub held_now : (begun now : Managed) → MakesSome begun now → HeldCommit
-held_now begun now some = held_by begun.state some.held some.made some.left
-
--- the manager behind some actions, written out
-pub some-is : (begun now : Managed) (some : MakesSome begun now) → now ≡ made_by begun some.held some.made some.left
-some-is begun now some = some.now_is ∙ acted-is begun some.held some.made some.left some.held_is some.forward some.whole
-
-pub some-held : (begun now : Managed) (some : MakesSome begun now) → now.held ≡ Some (held_now begun now some)
-some-held begun now some = ap (λ (manager : Managed). manager.held) (some-is begun now some)
-
-pub some-slots : (begun now : Managed) (some : MakesSome begun now) → now.slots ≡ begun.slots
-some-slots begun now some = ap (λ (manager : Managed). manager.slots) (some-is begun now some)
-
--- one action more
-abbrev pub some-more : (begun now new : Managed) (some : MakesSome begun now) (action : Action) (rest : List Action) → some.left ≡ action ∷ rest → new ≡ forward_by now (held_now begun now some) action
-    → MakesSome begun new
-some-more begun now new some action rest left is = record {
-  held = some.held;
-  made = some.made ++ action ∷ [];
-  left = rest;
-  held_is = some.held_is;
-  forward = some.forward;
-  whole = some.whole ∙ ap (λ actions. some.made ++ actions) left ∙ sym (append_assoc some.made (action ∷ []) rest);
-  now_is = is ∙ sym (acted-forward now (held_now begun now some) action (some-held begun now some) some.forward)
-      ∙ ap (λ (manager : Managed). acted_by manager action) some.now_is
-      ∙ sym (fold-append acted_by begun some.made (action ∷ []));
+-- a commit by its parts
+abbrev pub held_of : List Action → List Write → Option ℕ → Done → List Rule → FieldBits → FieldBits → FieldBits → HeldCommit
+held_of actions undo turned counts rules during bits current = record {
+  actions = actions;
+  undo = undo;
+  turned = turned;
+  counts = counts;
+  rules = rules;
+  during = during;
+  bits = bits;
+  current = current;
 }
 
--- what a step does to a commit that isn't turned round, with no word in flight: it makes the next action, or comes to the end
-pub data GoesOn (now : Managed) (held : HeldCommit) (did : Step) (new : Managed) : Type 0 where
-  ComesToEnd : held.actions ≡ [] → did ≡ step.Finished held.counts → new ≡ record now { rules = held.rules; bits = held.bits; held = None } → GoesOn now held did new
-  MakesWrite : (write : Write) → (rest : List Action) → held.actions ≡ Written write ∷ rest → did ≡ step.Wrote write → new ≡ forward_by now held (Written write) → GoesOn now held did new
-  PassesDrain : (rest : List Action) → held.actions ≡ Drained ∷ rest → did ≡ step.Drained → new ≡ forward_by now held Drained → GoesOn now held did new
+-- a commit isn't turned round by what has come: it is already, it is no trial, or it may make more or has none to make
+abbrev pub Straight : Option ℕ → Option ℕ → List Action → Type 0
+Straight (Some undone) rest actions = Unit {0}
+Straight None None actions = Unit {0}
+Straight None (Some more) actions = (0 < more) ⊎ (length (writes_in actions) ≡ 0)
 
-goes-on : (now : Managed) (held : HeldCommit) (did : Step) (new : Managed) → now.held ≡ Some held → held.turned ≡ None → Steps now 0 now.held did new → GoesOn now held did new
-goes-on now held did new is forward steps =
-    go held.actions refl (subst (λ turned. StepsEither now held 0 turned did new) forward (subst (λ one. Steps now 0 one did new) is steps))
+pub trial-goes : (more : ℕ) (state : State) (actions : List Action) (undo : List Write) → nat_lt more (length (writes_in actions)) ≡ true → left_in None (Some more) state actions undo ≡ trial_left more state actions undo
+trial-goes more state actions undo back = ap (λ one. elim one [ true ↦ trial_left more state actions undo | false ↦ actions ]) back
+
+pub trial-stays : (more : ℕ) (state : State) (actions : List Action) (undo : List Write) → nat_lt more (length (writes_in actions)) ≡ false → left_in None (Some more) state actions undo ≡ actions
+trial-stays more state actions undo on = ap (λ one. elim one [ true ↦ trial_left more state actions undo | false ↦ actions ]) on
+
+none-below : (more : ℕ) → nat_lt more 0 ≡ false
+none-below more = le-ltb more 0 (omega arith)
+
+lt-suc : (a b : ℕ) → nat_lt (suc a) (suc b) ≡ nat_lt a b
+lt-suc a b = go (nat_lt a b) refl
   where
-    go : (actions : List Action) → held.actions ≡ actions → StepsOn now held 0 actions did new → GoesOn now held did new
-    go [] left on = ComesToEnd left on.0 on.1
-    go (Written write ∷ rest) left on =
-        MakesWrite write rest left on.0
-        (on.1 ∙ ap (λ actions. record now { state = apply now.state write; held = Some (record held { actions = drop 1 actions; undo = restoring now.state write ∷ held.undo }) }) (sym left))
-    go (Drained ∷ rest) left on =
-        PassesDrain rest left on.0 (on.1 ∙ ap (λ actions. record now { held = Some (record held { actions = drop 1 actions; current = held.during }) }) (sym left))
+    go : (less : Bool) → nat_lt a b ≡ less → nat_lt (suc a) (suc b) ≡ nat_lt a b
+    go true is = (let below = ltb-true a b is in lt-ltb (suc a) (suc b) (omega arith)) ∙ sym is
+    go false is = (let above = ltb-false a b is in le-ltb (suc a) (suc b) (omega arith)) ∙ sym is
 
-pub some-goes : (begun now new : Managed) (some : MakesSome begun now) (did : Step) → Steps now 0 now.held did new → GoesOn now (held_now begun now some) did new
-some-goes begun now new some did steps = goes-on now (held_now begun now some) did new (some-held begun now some) some.forward steps
+-- so many writes less may be made
+pub rest-more : (most : Option ℕ) (a b : ℕ) → rest_of (rest_of most a) b ≡ rest_of most (a + b)
+rest-more None a b = refl
+rest-more (Some limit) a b = let same : (limit - a) - b ≡ limit - (a + b) = omega arith in ap Some same
 
--- a step that wrote made the first action that was left
-pub wrote-first : (now : Managed) (held : HeldCommit) (did : Step) (new : Managed) (write : Write) → GoesOn now held did new → did ≡ step.Wrote write
-    → (rest : List Action) × (held.actions ≡ Written write ∷ rest) × (new ≡ forward_by now held (Written write))
-wrote-first now held did new write (ComesToEnd none ended is) wrote = absurd (let bad : step.Finished held.counts ≡ step.Wrote write = sym ended ∙ wrote in cc)
-wrote-first now held did new write (MakesWrite first rest left made is) wrote =
-    let same : first ≡ write = let both : step.Wrote first ≡ step.Wrote write = sym made ∙ wrote in cc in
-    (rest, left ∙ ap (λ one. Written one ∷ rest) same, is ∙ ap (λ one. forward_by now held (Written one)) same)
-wrote-first now held did new write (PassesDrain rest left drained is) wrote = absurd (let bad : step.Drained ≡ step.Wrote write = sym drained ∙ wrote in cc)
+-- one action that is left is made
+pub record ActsOnce (rest : Option ℕ) (now : Managed) (held : HeldCommit) (action : Action) (new : Managed) : Type 0 where
+  pub left : List Action
+  pub is : left_of rest now.state held ≡ action ∷ left
+  pub next : Option ℕ
+  pub next_is : next ≡ rest_of rest (length (writes_in (action ∷ [])))
+  pub one : HeldCommit
+  pub new_is : new ≡ record now { state = state_after now.state (writes_in (action ∷ [])); held = Some one }
+  pub left_is : left_of next (state_after now.state (writes_in (action ∷ []))) one ≡ left
+  pub same : IsSame rest next held one
 
--- and so did one that drained
-pub drained-first : (now : Managed) (held : HeldCommit) (did : Step) (new : Managed) → GoesOn now held did new → did ≡ step.Drained
-    → (rest : List Action) × (held.actions ≡ Drained ∷ rest) × (new ≡ forward_by now held Drained)
-drained-first now held did new (ComesToEnd none ended is) drained = absurd (let bad : step.Finished held.counts ≡ step.Drained = sym ended ∙ drained in cc)
-drained-first now held did new (MakesWrite first rest left made is) drained = absurd (let bad : step.Wrote first ≡ step.Drained = sym made ∙ drained in cc)
-drained-first now held did new (PassesDrain rest left passed is) drained = (rest, left, is)
+-- What a step does to a commit: it makes the next action, waits with a drain for the words in flight, or comes to the end.
+pub data GoesOn (rest : Option ℕ) (now : Managed) (held : HeldCommit) (words : ℕ) (did : Step) (new : Managed) : Type 0 where
+  Finishes : left_of rest now.state held ≡ [] → goes_back rest held ≡ false → did ≡ step.Finished held.counts → new ≡ record now { rules = held.rules; bits = held.bits; held = None } → GoesOn rest now held words did new
+  Reverts : (undone : ℕ) → left_of rest now.state held ≡ [] → goes_back rest held ≡ true → did ≡ step.Reverted undone → new ≡ record now { held = None } → GoesOn rest now held words did new
+  MakesWrite : (write : Write) → ActsOnce rest now held (Written write) new → did ≡ step.Wrote write → GoesOn rest now held words did new
+  PassesDrain : ActsOnce rest now held Drained new → words ≡ 0 → did ≡ step.Drained → GoesOn rest now held words did new
+  Waits : (left : List Action) → left_of rest now.state held ≡ Drained ∷ left → awaits_drain (Some held) ≡ true → 0 < words → did ≡ step.Waiting words → new ≡ now → GoesOn rest now held words did new
 
--- one that finished found none
-pub finished-none : (now : Managed) (held : HeldCommit) (did : Step) (new : Managed) (counts : Done) → GoesOn now held did new → did ≡ step.Finished counts
-    → (held.actions ≡ []) × (counts ≡ held.counts) × (new ≡ record now { rules = held.rules; bits = held.bits; held = None })
-finished-none now held did new counts (ComesToEnd none ended is) finished =
-    let both : step.Finished held.counts ≡ step.Finished counts = sym ended ∙ finished in
-    let same : counts ≡ held.counts = cc in
-    (none, same, is)
-finished-none now held did new counts (MakesWrite first rest left made is) finished = absurd (let bad : step.Wrote first ≡ step.Finished counts = sym made ∙ finished in cc)
-finished-none now held did new counts (PassesDrain rest left drained is) finished = absurd (let bad : step.Drained ≡ step.Finished counts = sym drained ∙ finished in cc)
+module _ (now : Managed) (counts : Done) (rules : List Rule) (during bits current : FieldBits) (did : Step) (new : Managed) where
+  abbrev of : List Action → List Write → Option ℕ → HeldCommit
+  of actions undo turned = held_of actions undo turned counts rules during bits current
 
--- nothing else comes of a step
-pub never-idle : (now : Managed) (held : HeldCommit) (did : Step) (new : Managed) → GoesOn now held did new → did ≡ step.Idle → ⊥
-never-idle now held did new (ComesToEnd none ended is) idle = let bad : step.Finished held.counts ≡ step.Idle = sym ended ∙ idle in absurd (cc)
-never-idle now held did new (MakesWrite first rest left made is) idle = let bad : step.Wrote first ≡ step.Idle = sym made ∙ idle in absurd (cc)
-never-idle now held did new (PassesDrain rest left drained is) idle = let bad : step.Drained ≡ step.Idle = sym drained ∙ idle in absurd (cc)
+  abbrev on-write : Write → List Action → List Write → HeldCommit
+  on-write write actions undo = of actions (restoring now.state write ∷ undo) None
 
-pub never-reverted : (now : Managed) (held : HeldCommit) (did : Step) (new : Managed) (undone : ℕ) → GoesOn now held did new → did ≡ step.Reverted undone → ⊥
-never-reverted now held did new undone (ComesToEnd none ended is) back = let bad : step.Finished held.counts ≡ step.Reverted undone = sym ended ∙ back in absurd (cc)
-never-reverted now held did new undone (MakesWrite first rest left made is) back = let bad : step.Wrote first ≡ step.Reverted undone = sym made ∙ back in absurd (cc)
-never-reverted now held did new undone (PassesDrain rest left drained is) back = let bad : step.Drained ≡ step.Reverted undone = sym drained ∙ back in absurd (cc)
+  abbrev on-drain : List Action → List Write → HeldCommit
+  on-drain actions undo = held_of actions undo None counts rules during bits during
 
--- the next write of a commit that isn't turned round
-pub next-forward : (held : HeldCommit) → held.turned ≡ None → next_of (Some held) ≡ due_write held.actions
-next-forward held forward = ap (λ turned. elim turned [ None ↦ due_write held.actions | Some undone ↦ slice_get held.undo 0 ]) forward
+  write-trial : (more : ℕ) (write : Write) (actions : List Action) (undo : List Write) → new ≡ record now { state = apply now.state write; held = Some (on-write write actions undo) }
+      → ActsOnce (Some (suc more)) now (of (Written write ∷ actions) undo None) (Written write) new
+  write-trial more write actions undo is = go (nat_lt more (length (writes_in actions))) refl
+    where
+      less : ◌≡◌ {A = Option ℕ} (Some more) (Some (suc more - 1))
+      less = let same : more ≡ suc more - 1 = omega arith in ap Some same
 
--- its room, and its writes
-pub room-forward : (held : HeldCommit) → held.turned ≡ None → room_needed held ≡ length held.actions
-room-forward held forward = ap (λ turned. elim turned [ None ↦ length held.actions | Some undone ↦ length held.undo ]) forward
+      go : (back : Bool) → nat_lt more (length (writes_in actions)) ≡ back → ActsOnce (Some (suc more)) now (of (Written write ∷ actions) undo None) (Written write) new
+      go true back =
+          let front = up_to_writes more actions in
+          record {
+            left = trial_left more (apply now.state write) actions (restoring now.state write ∷ undo);
+            is = trial-goes (suc more) now.state (Written write ∷ actions) undo (lt-suc more (length (writes_in actions)) ∙ back)
+                ∙ ap (λ writes. Written write ∷ (front ++ map Written writes)) (append_assoc (undo_writes (apply now.state write) (writes_in front)) (restoring now.state write ∷ []) undo);
+            next = Some more;
+            next_is = less;
+            one = on-write write actions undo;
+            new_is = is;
+            left_is = trial-goes more (apply now.state write) actions (restoring now.state write ∷ undo) back;
+            same = record { counts = refl; rules = refl; bits = refl; back = sym (lt-suc more (length (writes_in actions))) };
+          }
+      go false on = record {
+        left = actions;
+        is = trial-stays (suc more) now.state (Written write ∷ actions) undo (lt-suc more (length (writes_in actions)) ∙ on);
+        next = Some more;
+        next_is = less;
+        one = on-write write actions undo;
+        new_is = is;
+        left_is = trial-stays more (apply now.state write) actions (restoring now.state write ∷ undo) on;
+        same = record { counts = refl; rules = refl; bits = refl; back = sym (lt-suc more (length (writes_in actions))) };
+      }
 
-pub writes-forward : (held : HeldCommit) → held.turned ≡ None → writes_due held ≡ writes_in held.actions
-writes-forward held forward = ap (λ turned. elim turned [ None ↦ writes_in held.actions | Some undone ↦ held.undo ]) forward
+  -- a trial before its drain
+  drain-left : (more : ℕ) (actions : List Action) (undo : List Write) → Straight None (Some more) (Drained ∷ actions)
+      → (left : List Action) × (left_in None (Some more) now.state (Drained ∷ actions) undo ≡ Drained ∷ left) × (left_in None (Some more) now.state actions undo ≡ left)
+  drain-left more actions undo straight = go more (nat_lt more (length (writes_in actions))) refl straight
+    where
+      go : (more : ℕ) (back : Bool) → nat_lt more (length (writes_in actions)) ≡ back → Straight None (Some more) (Drained ∷ actions)
+          → (left : List Action) × (left_in None (Some more) now.state (Drained ∷ actions) undo ≡ Drained ∷ left) × (left_in None (Some more) now.state actions undo ≡ left)
+      go more false on straight = (actions, trial-stays more now.state (Drained ∷ actions) undo on, trial-stays more now.state actions undo on)
+      go (suc more) true back straight =
+          (trial_left (suc more) now.state actions undo, trial-goes (suc more) now.state (Drained ∷ actions) undo back, trial-goes (suc more) now.state actions undo back)
+      go zero true back (inl some) = absurd (omega arith)
+      go zero true back (inr none) = absurd (let some = ltb-true 0 (length (writes_in actions)) back in omega arith)
+
+  drain-trial : (more : ℕ) (actions : List Action) (undo : List Write) → Straight None (Some more) (Drained ∷ actions) → new ≡ record now { held = Some (on-drain actions undo) }
+      → ActsOnce (Some more) now (of (Drained ∷ actions) undo None) Drained new
+  drain-trial more actions undo straight is =
+      let left = drain-left more actions undo straight in
+      record {
+        left = left.0;
+        is = left.1;
+        next = Some more;
+        next_is = (let same : more ≡ more - 0 = omega arith in ap Some same);
+        one = on-drain actions undo;
+        new_is = is;
+        left_is = left.2;
+        same = record { counts = refl; rules = refl; bits = refl; back = refl };
+      }
+
+  goes-parts : (words : ℕ) (rest : Option ℕ) (actions : List Action) (undo : List Write) (turned : Option ℕ) → Straight turned rest actions → StepsEither now (of actions undo turned) words turned did new
+      → GoesOn rest now (of actions undo turned) words did new
+  goes-parts words rest actions [] (Some undone) straight on = Reverts undone refl refl on.0 on.1
+  goes-parts words rest actions (write ∷ undo) (Some undone) straight on =
+      MakesWrite write
+      (record {
+        left = map Written undo;
+        is = refl;
+        next = rest_of rest 1;
+        next_is = refl;
+        one = record (of actions undo (Some undone)) { current = current_back now.bits current (is_table_write write) };
+        new_is = on.1;
+        left_is = refl;
+        same = record { counts = refl; rules = refl; bits = refl; back = refl };
+      })
+      on.0
+  goes-parts words None [] undo None straight on = Finishes refl refl on.0 on.1
+  goes-parts words (Some more) [] undo None straight on = Finishes (trial-stays more now.state [] undo (none-below more)) (none-below more) on.0 on.1
+  goes-parts words None (Written write ∷ actions) undo None straight on =
+      MakesWrite write
+      (record {
+        left = actions;
+        is = refl;
+        next = None;
+        next_is = refl;
+        one = on-write write actions undo;
+        new_is = on.1;
+        left_is = refl;
+        same = record { counts = refl; rules = refl; bits = refl; back = refl };
+      })
+      on.0
+  goes-parts words (Some (suc more)) (Written write ∷ actions) undo None straight on = MakesWrite write (write-trial more write actions undo on.1) on.0
+  goes-parts words (Some zero) (Written write ∷ actions) undo None (inl some) on = absurd (omega arith)
+  goes-parts words (Some zero) (Written write ∷ actions) undo None (inr none) on = absurd (omega arith)
+  goes-parts zero None (Drained ∷ actions) undo None straight on =
+      PassesDrain
+      (record {
+        left = actions;
+        is = refl;
+        next = None;
+        next_is = refl;
+        one = on-drain actions undo;
+        new_is = on.1;
+        left_is = refl;
+        same = record { counts = refl; rules = refl; bits = refl; back = refl };
+      })
+      refl on.0
+  goes-parts zero (Some more) (Drained ∷ actions) undo None straight on = PassesDrain (drain-trial more actions undo straight on.1) refl on.0
+  goes-parts (suc words) None (Drained ∷ actions) undo None straight on = Waits actions refl refl (omega arith) on.0 on.1
+  goes-parts (suc words) (Some more) (Drained ∷ actions) undo None straight on =
+      let left = drain-left more actions undo straight in
+      Waits left.0 left.1 refl (omega arith) on.0 on.1
+
+pub goes-on : (rest : Option ℕ) (now : Managed) (held : HeldCommit) (words : ℕ) (did : Step) (new : Managed) → now.held ≡ Some held → Straight held.turned rest held.actions → Steps now words now.held did new
+    → GoesOn rest now held words did new
+goes-on rest now held words did new is straight steps =
+    goes-parts now held.counts held.rules held.during held.bits held.current did new words rest held.actions held.undo held.turned straight (subst (λ one. Steps now words one did new) is steps)
+
+-- ---- a trial is turned round where it is time
+
+-- the commit that a manager holds then
+pub record IsTurned (rest : Option ℕ) (now : Managed) (held : HeldCommit) (new : Managed) : Type 0 where
+  pub one : HeldCommit
+  pub new_is : new ≡ record now { held = Some one }
+  pub left_is : left_of rest now.state one ≡ left_of rest now.state held
+  pub same : IsSame rest rest held one
+  pub straight : Straight one.turned rest one.actions
+
+is-straight : (rest : Option ℕ) (now : Managed) (held : HeldCommit) (new : Managed) → now.held ≡ Some held → new ≡ now → Straight held.turned rest held.actions → IsTurned rest now held new
+is-straight rest now held new is same straight = record {
+  one = held;
+  new_is = same ∙ ap (λ one. record now { held = one }) is;
+  left_is = refl;
+  same = record { counts = refl; rules = refl; bits = refl; back = refl };
+  straight = straight;
+}
+
+none-straight : (turned : Option ℕ) (actions : List Action) → Straight turned None actions
+none-straight (Some undone) actions = tt
+none-straight None actions = tt
+
+module _ (now : Managed) (counts : Done) (rules : List Rule) (during bits current : FieldBits) (new : Managed) (limit told : ℕ) where
+  abbrev by : List Action → List Write → Option ℕ → HeldCommit
+  by actions undo turned = held_of actions undo turned counts rules during bits current
+
+  turned-now : (actions : List Action) (undo : List Write) (due : Bool) → now.held ≡ Some (by actions undo None) → (nat_le limit told && nat_lt 0 (length (writes_in actions))) ≡ due
+      → new ≡ turned_where now (by actions undo None) None due → IsTurned (Some (limit - told)) now (by actions undo None) new
+  turned-now actions undo true is due at =
+      let late = both-true (nat_le limit told) (nat_lt 0 (length (writes_in actions))) due in
+      let over : limit ≤ told = leb-true limit told late.0 in
+      let none : limit - told ≡ 0 = omega arith in
+      subst (λ more. IsTurned (Some more) now (by actions undo None) new) (sym none) (record {
+        one = by actions undo (Some (length undo));
+        new_is = at;
+        left_is = sym (trial-goes 0 now.state actions undo late.1);
+        same = record { counts = refl; rules = refl; bits = refl; back = sym late.1 };
+        straight = tt;
+      })
+    where
+      both-true : (a b : Bool) → (a && b) ≡ true → (a ≡ true) × (b ≡ true)
+      both-true true true both = (refl, refl)
+      both-true true false both = absurd (cc)
+      both-true false b both = absurd (cc)
+  turned-now actions undo false is due at = is-straight (Some (limit - told)) now (by actions undo None) new is at (early (nat_le limit told) (nat_lt 0 (length (writes_in actions))) refl refl due)
+    where
+      early : (a b : Bool) → nat_le limit told ≡ a → nat_lt 0 (length (writes_in actions)) ≡ b → (nat_le limit told && nat_lt 0 (length (writes_in actions))) ≡ false → Straight None (Some (limit - told)) actions
+      early false b a-is b-is due = inl (let below = leb-false limit told a-is in omega arith)
+      early true false a-is b-is due = inr (let none = ltb-false 0 (length (writes_in actions)) b-is in omega arith)
+      early true true a-is b-is due = absurd (let both : (true && true) ≡ false = ap (λ one. one && true) (sym a-is) ∙ ap (λ one. nat_le limit told && one) (sym b-is) ∙ due in cc)
+
+  turned-parts : (actions : List Action) (undo : List Write) (turned : Option ℕ) → now.held ≡ Some (by actions undo turned)
+      → new ≡ turned_where now (by actions undo turned) turned (nat_le limit told && nat_lt 0 (length (writes_in actions))) → IsTurned (Some (limit - told)) now (by actions undo turned) new
+  turned-parts actions undo (Some undone) is at = is-straight (Some (limit - told)) now (by actions undo (Some undone)) new is at tt
+  turned-parts actions undo None is at = turned-now actions undo (nat_le limit told && nat_lt 0 (length (writes_in actions))) is refl at
+
+pub turns-at : (most : Option ℕ) (told : ℕ) (now : Managed) (held : HeldCommit) (new : Managed) → now.held ≡ Some held → TurnsAt most told now now.held new → IsTurned (rest_of most told) now held new
+turns-at None told now held new is turns = is-straight None now held new is turns (none-straight held.turned held.actions)
+turns-at (Some limit) told now held new is turns =
+    turned-parts now held.counts held.rules held.during held.bits held.current new limit told held.actions held.undo held.turned is (subst (λ one. TurnsAt (Some limit) told now one new) is turns)
+
+-- ---- some of the actions are made
+
+pub some-held : (most : Option ℕ) (told : ℕ) (begun now : Managed) (some : MakesSome most told begun now) → now.held ≡ Some some.one
+some-held most told begun now some = ap (λ (manager : Managed). manager.held) some.now_is
+
+pub some-slots : (most : Option ℕ) (told : ℕ) (begun now : Managed) (some : MakesSome most told begun now) → now.slots ≡ begun.slots
+some-slots most told begun now some = ap (λ (manager : Managed). manager.slots) some.now_is
+
+-- what it is is the same through a third
+pub same-then : (first second third : Option ℕ) (a b c : HeldCommit) → IsSame first second a b → IsSame second third b c → IsSame first third a c
+same-then first second third a b c ab bc = record {
+  counts = bc.counts ∙ ab.counts;
+  rules = bc.rules ∙ ab.rules;
+  bits = bc.bits ∙ ab.bits;
+  back = bc.back ∙ ab.back;
+}
+
+-- the next write of a commit that isn't turned round by what has come is the first that is left
+due-parts : (rest : Option ℕ) (state : State) (actions : List Action) (undo : List Write) (turned : Option ℕ) (write : Write) → Straight turned rest actions
+    → elim turned [ None ↦ due_write actions | Some undone ↦ slice_get undo 0 ] ≡ Some write → (left : List Action) × (left_in turned rest state actions undo ≡ Written write ∷ left)
+due-parts rest state actions [] (Some undone) write straight due = absurd (cc)
+due-parts rest state actions (first ∷ undo) (Some undone) write straight due =
+    let same : first ≡ write = let both : Some first ≡ Some write = due in cc in
+    (map Written undo, ap (λ one. Written one ∷ map Written undo) same)
+due-parts rest state [] undo None write straight due = absurd (cc)
+due-parts rest state (Drained ∷ actions) undo None write straight due = absurd (cc)
+due-parts None state (Written first ∷ actions) undo None write straight due =
+    let same : first ≡ write = let both : Some first ≡ Some write = due in cc in
+    (actions, ap (λ one. Written one ∷ actions) same)
+due-parts (Some more) state (Written first ∷ actions) undo None write straight due = go more (nat_lt more (length (writes_in (Written first ∷ actions)))) refl straight
+  where
+    same : first ≡ write
+    same = let both : Some first ≡ Some write = due in cc
+
+    go : (more : ℕ) (back : Bool) → nat_lt more (length (writes_in (Written first ∷ actions))) ≡ back → Straight None (Some more) (Written first ∷ actions)
+        → (left : List Action) × (left_in None (Some more) state (Written first ∷ actions) undo ≡ Written write ∷ left)
+    go more false on straight = (actions, trial-stays more state (Written first ∷ actions) undo on ∙ ap (λ one. Written one ∷ actions) same)
+    go (suc more) true back straight =
+        let front = up_to_writes more actions in
+        let left = front ++ map Written (undo_writes state (first ∷ writes_in front) ++ undo) in
+        (left, trial-goes (suc more) state (Written first ∷ actions) undo back ∙ ap (λ one. Written one ∷ left) same)
+    go zero true back (inl some) = absurd (omega arith)
+    go zero true back (inr none) = absurd (omega arith)
+
+pub due-first : (rest : Option ℕ) (state : State) (held : HeldCommit) (write : Write) → Straight held.turned rest held.actions → next_of (Some held) ≡ Some write
+    → (left : List Action) × (left_of rest state held ≡ Written write ∷ left)
+due-first rest state held write straight due = due-parts rest state held.actions held.undo held.turned write straight due
+
+-- ---- what a step did, by its answer
+
+module _ (rest : Option ℕ) (now : Managed) (held : HeldCommit) (words : ℕ) (did : Step) (new : Managed) where
+  -- a step that wrote made the first action that was left
+  pub wrote-first : (write : Write) → GoesOn rest now held words did new → did ≡ step.Wrote write → ActsOnce rest now held (Written write) new
+  wrote-first write (Finishes none on ended is) wrote = absurd (let bad : step.Finished held.counts ≡ step.Wrote write = sym ended ∙ wrote in cc)
+  wrote-first write (Reverts undone none back ended is) wrote = absurd (let bad : step.Reverted undone ≡ step.Wrote write = sym ended ∙ wrote in cc)
+  wrote-first write (MakesWrite first acts made) wrote =
+      let same : first ≡ write = let both : step.Wrote first ≡ step.Wrote write = sym made ∙ wrote in cc in
+      subst (λ one. ActsOnce rest now held (Written one) new) same acts
+  wrote-first write (PassesDrain acts empty drained) wrote = absurd (let bad : step.Drained ≡ step.Wrote write = sym drained ∙ wrote in cc)
+  wrote-first write (Waits left is awaits some waited stands) wrote = absurd (let bad : step.Waiting words ≡ step.Wrote write = sym waited ∙ wrote in cc)
+
+  -- and so did one that drained, with no word in flight
+  pub drained-first : GoesOn rest now held words did new → did ≡ step.Drained → ActsOnce rest now held Drained new × (words ≡ 0)
+  drained-first (Finishes none on ended is) drained = absurd (let bad : step.Finished held.counts ≡ step.Drained = sym ended ∙ drained in cc)
+  drained-first (Reverts undone none back ended is) drained = absurd (let bad : step.Reverted undone ≡ step.Drained = sym ended ∙ drained in cc)
+  drained-first (MakesWrite first acts made) drained = absurd (let bad : step.Wrote first ≡ step.Drained = sym made ∙ drained in cc)
+  drained-first (PassesDrain acts empty passed) drained = (acts, empty)
+  drained-first (Waits left is awaits some waited stands) drained = absurd (let bad : step.Waiting words ≡ step.Drained = sym waited ∙ drained in cc)
+
+  -- one that waited has a drain next
+  pub waiting-first : (number : ℕ) → GoesOn rest now held words did new → did ≡ step.Waiting number
+      → (left : List Action) × (left_of rest now.state held ≡ Drained ∷ left) × (awaits_drain (Some held) ≡ true) × (new ≡ now)
+  waiting-first number (Finishes none on ended is) waits = absurd (let bad : step.Finished held.counts ≡ step.Waiting number = sym ended ∙ waits in cc)
+  waiting-first number (Reverts undone none back ended is) waits = absurd (let bad : step.Reverted undone ≡ step.Waiting number = sym ended ∙ waits in cc)
+  waiting-first number (MakesWrite first acts made) waits = absurd (let bad : step.Wrote first ≡ step.Waiting number = sym made ∙ waits in cc)
+  waiting-first number (PassesDrain acts empty passed) waits = absurd (let bad : step.Drained ≡ step.Waiting number = sym passed ∙ waits in cc)
+  waiting-first number (Waits left is awaits some waited stands) waits = (left, is, awaits, stands)
+
+  -- one that finished found none, and wasn't to be taken back
+  pub finished-first : (counts : Done) → GoesOn rest now held words did new → did ≡ step.Finished counts
+      → (left_of rest now.state held ≡ []) × (goes_back rest held ≡ false) × (counts ≡ held.counts) × (new ≡ record now { rules = held.rules; bits = held.bits; held = None })
+  finished-first counts (Finishes none on ended is) finished =
+      let both : step.Finished held.counts ≡ step.Finished counts = sym ended ∙ finished in
+      let same : counts ≡ held.counts = cc in
+      (none, on, same, is)
+  finished-first counts (Reverts undone none back ended is) finished = absurd (let bad : step.Reverted undone ≡ step.Finished counts = sym ended ∙ finished in cc)
+  finished-first counts (MakesWrite first acts made) finished = absurd (let bad : step.Wrote first ≡ step.Finished counts = sym made ∙ finished in cc)
+  finished-first counts (PassesDrain acts empty drained) finished = absurd (let bad : step.Drained ≡ step.Finished counts = sym drained ∙ finished in cc)
+  finished-first counts (Waits left is awaits some waited stands) finished = absurd (let bad : step.Waiting words ≡ step.Finished counts = sym waited ∙ finished in cc)
+
+  -- one that took it back found none, and it was to be
+  pub reverted-first : (number : ℕ) → GoesOn rest now held words did new → did ≡ step.Reverted number
+      → (left_of rest now.state held ≡ []) × (goes_back rest held ≡ true) × (new ≡ record now { held = None })
+  reverted-first number (Finishes none on ended is) reverted = absurd (let bad : step.Finished held.counts ≡ step.Reverted number = sym ended ∙ reverted in cc)
+  reverted-first number (Reverts undone none back ended is) reverted = (none, back, is)
+  reverted-first number (MakesWrite first acts made) reverted = absurd (let bad : step.Wrote first ≡ step.Reverted number = sym made ∙ reverted in cc)
+  reverted-first number (PassesDrain acts empty drained) reverted = absurd (let bad : step.Drained ≡ step.Reverted number = sym drained ∙ reverted in cc)
+  reverted-first number (Waits left is awaits some waited stands) reverted = absurd (let bad : step.Waiting words ≡ step.Reverted number = sym waited ∙ reverted in cc)
+
+  -- nothing else comes of a step
+  pub never-idle : GoesOn rest now held words did new → did ≡ step.Idle → ⊥
+  never-idle (Finishes none on ended is) idle = let bad : step.Finished held.counts ≡ step.Idle = sym ended ∙ idle in absurd (cc)
+  never-idle (Reverts undone none back ended is) idle = let bad : step.Reverted undone ≡ step.Idle = sym ended ∙ idle in absurd (cc)
+  never-idle (MakesWrite first acts made) idle = let bad : step.Wrote first ≡ step.Idle = sym made ∙ idle in absurd (cc)
+  never-idle (PassesDrain acts empty drained) idle = let bad : step.Drained ≡ step.Idle = sym drained ∙ idle in absurd (cc)
+  never-idle (Waits left is awaits some waited stands) idle = let bad : step.Waiting words ≡ step.Idle = sym waited ∙ idle in absurd (cc)

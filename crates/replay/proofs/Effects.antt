@@ -1,117 +1,137 @@
--- What effects leave in the journal and in the report.
-use Rattle.std.proofs.Common.{Bool, true, false, ◌+◌, length, arith, ◌≡◌, ℕ, List, [], ◌∷◌, ◌++◌, Option, refl, sym, ap, ◌∙◌, subst, append_assoc}
+-- What effects leave in the device and in the report.
+use Rattle.std.proofs.Common.{Bool, true, false, zero, suc, ◌+◌, ◌==◌, min, length, arith, ◌≡◌, ℕ, List, [], ◌∷◌, ◌++◌, Option, refl, sym, ap, ◌∙◌, subst, append_assoc}
 use Rattle.std.proofs.lemmas.List.{append-nil}
 use Rattle.std.specs.Io.KnownBytes.{Appends}
 use Rattle.std.proofs.KnownBytes.{Appends-nil, Appends-trans}
 use Rattle.rule_model.specs.declared.Key.{Key}
-use Rattle.tcam_device.specs.declared.Write.{Write}
-use Rattle.tcam_device.specs.State.{State, apply, state_after, replay}
+use Rattle.tcam_device.specs.declared.Action.{Action}
+use Rattle.tcam_device.specs.declared.Action.TheVariants.{Written, Drained}
+use Rattle.tcam_device.specs.Flight.{writes_in}
+use Rattle.tcam_device.specs.State.{State, apply, state_after}
+use Rattle.commit_writes.proofs.Actions.{writes_in-append}
 use Rattle.replay.specs.declared.Family.{Family}
-use Rattle.replay.specs.Run.{Setting, Effect, Writes, Prints, written, printed, trace_of, probes_of, lines_of, write_effects}
+use Rattle.replay.specs.Effects.{Setting, Effect, Acts, Prints, events_in, written, printed, traced, searches_of, flushed, searched_after, waiting_after, effects_of}
+use Rattle.replay.specs.Text.{trace_line, drain_line}
 use Rattle.replay.specs.Carried.{Does}
 
--- some writes, and others behind them
-pub grown-more : (journal mid new made more : List Write) → mid ≡ journal ++ made → new ≡ mid ++ more → new ≡ journal ++ (made ++ more)
-grown-more journal mid new made more first second = second ∙ ap (λ writes. writes ++ more) first ∙ append_assoc journal made more
+-- some actions, and others behind them
+pub grown-more : (events mid new made more : List Action) → mid ≡ events ++ made → new ≡ mid ++ more → new ≡ events ++ (made ++ more)
+grown-more events mid new made more first second = second ∙ ap (λ actions. actions ++ more) first ∙ append_assoc events made more
 
-pub written-append : (a b : List Effect) → written (a ++ b) ≡ written a ++ written b
-written-append [] b = refl
-written-append (Writes write ∷ a) b = ap (λ writes. write ∷ writes) (written-append a b)
-written-append (Prints line ∷ a) b = written-append a b
+pub events-append : (a b : List Effect) → events_in (a ++ b) ≡ events_in a ++ events_in b
+events-append [] b = refl
+events-append (Acts action ∷ a) b = ap (λ actions. action ∷ actions) (events-append a b)
+events-append (Prints line ∷ a) b = events-append a b
 
 pub printed-append : (a b : List Effect) → printed (a ++ b) ≡ printed a ++ printed b
 printed-append [] b = refl
-printed-append (Writes write ∷ a) b = printed-append a b
+printed-append (Acts action ∷ a) b = printed-append a b
 printed-append (Prints line ∷ a) b = ap (λ text. line ++ text) (printed-append a b) ∙ sym (append_assoc line (printed a) (printed b))
 
--- the lines of a write are no writes
-written-trace : (family : Family) (trace : Bool) (number : ℕ) (write : Write) → written (trace_of family trace number write) ≡ []
-written-trace family true number write = refl
-written-trace family false number write = refl
+pub written-append : (a b : List Effect) → written (a ++ b) ≡ written a ++ written b
+written-append a b = ap writes_in (events-append a b) ∙ writes_in-append (events_in a) (events_in b)
 
-written-probes : (family : Family) (number : ℕ) (state : State) (probe : ℕ) (keys : List Key) → written (probes_of family number state probe keys) ≡ []
-written-probes family number state probe [] = refl
-written-probes family number state probe (key ∷ keys) = written-probes family number state (probe + 1) keys
+-- lines do nothing to the device
+none-behind : (a b : List Effect) → events_in a ≡ [] → events_in (a ++ b) ≡ events_in b
+none-behind a b none = events-append a b ∙ ap (λ actions. actions ++ events_in b) none
 
-pub written-lines : (setting : Setting) (probes : List Key) (number : ℕ) (state : State) (write : Write) → written (lines_of setting probes number state write) ≡ []
-written-lines setting probes number state write =
-    written-append (trace_of setting.family setting.trace number write) (probes_of setting.family number state 1 probes)
-    ∙ ap (λ writes. writes ++ written (probes_of setting.family number state 1 probes)) (written-trace setting.family setting.trace number write)
-    ∙ written-probes setting.family number state 1 probes
+pub events-traced : (trace : Bool) (line : List ℕ) → events_in (traced trace line) ≡ []
+events-traced true line = refl
+events-traced false line = refl
 
-pub written-writes : (setting : Setting) (probes : List Key) (number : ℕ) (state : State) (made : List Write) → written (write_effects setting probes number state made) ≡ made
-written-writes setting probes number state [] = refl
-written-writes setting probes number state (write ∷ made) =
-    ap (λ writes. write ∷ writes)
-    (written-append (lines_of setting probes number (apply state write) write) (write_effects setting probes (number + 1) (apply state write) made)
-    ∙ ap (λ writes. writes ++ written (write_effects setting probes (number + 1) (apply state write) made)) (written-lines setting probes number (apply state write) write)
-    ∙ written-writes setting probes (number + 1) (apply state write) made)
+pub events-searches : (family : Family) (number : ℕ) (state : State) (probe : ℕ) (keys : List Key) → events_in (searches_of family number state probe keys) ≡ []
+events-searches family number state probe [] = refl
+events-searches family number state probe (key ∷ keys) = events-searches family number state (probe + 1) keys
 
--- where no write is left behind a line, none was before it
-pub written-front : (front : List Effect) (line : List ℕ) (back : List Effect) → written (front ++ Prints line ∷ back) ≡ [] → written front ≡ []
-written-front [] line back none = refl
-written-front (Writes write ∷ front) line back none = absurd (cc)
-written-front (Prints text ∷ front) line back none = written-front front line back none
+pub events-flushed : (family : Family) (probes : List Key) (number : ℕ) (state : State) (waiting : ℕ) → events_in (flushed family probes number state waiting) ≡ []
+events-flushed family probes number state zero = refl
+events-flushed family probes number state (suc more) =
+    none-behind (searches_of family number state 1 probes) (flushed family probes number state more) (events-searches family number state 1 probes)
+    ∙ events-flushed family probes number state more
 
--- the effects of writes, one part after the other
-pub write_effects-append : (setting : Setting) (probes : List Key) (number : ℕ) (state : State) (made more : List Write)
-    → write_effects setting probes number state (made ++ more) ≡ write_effects setting probes number state made ++ write_effects setting probes (number + length made) (state_after state made) more
-write_effects-append setting probes number state [] more = let same : number ≡ number + 0 = omega arith in ap (λ n. write_effects setting probes n state more) same
-write_effects-append setting probes number state (write ∷ made) more =
+pub events-searched : (setting : Setting) (probes : List Key) (number waiting : ℕ) (state : State) → events_in (searched_after setting probes number waiting state) ≡ []
+events-searched setting probes number waiting state = go (waiting == setting.depth)
+  where
+    go : (full : Bool) → events_in (elim full [ true ↦ searches_of setting.family number state 1 probes | false ↦ [] ]) ≡ []
+    go true = events-searches setting.family number state 1 probes
+    go false = refl
+
+-- actions do to the device what they are
+pub events-actions : (setting : Setting) (probes : List Key) (number waiting : ℕ) (state : State) (actions : List Action) → events_in (effects_of setting probes number waiting state actions) ≡ actions
+events-actions setting probes number waiting state [] = refl
+events-actions setting probes number waiting state (Written write ∷ actions) =
     let next = apply state write in
-    let same : (number + 1) + length made ≡ number + length (write ∷ made) = omega arith in
-    ap (λ effects. Writes write ∷ (lines_of setting probes number next write ++ effects))
-    (write_effects-append setting probes (number + 1) next made more
-    ∙ ap (λ n. write_effects setting probes (number + 1) next made ++ write_effects setting probes n (state_after next made) more) same)
-    ∙ ap (λ effects. Writes write ∷ effects)
-    (sym (append_assoc (lines_of setting probes number next write) (write_effects setting probes (number + 1) next made) (write_effects setting probes (number + length (write ∷ made)) (state_after next made) more)))
+    let later = effects_of setting probes (number + 1) (min (waiting + 1) setting.depth) next actions in
+    ap (λ made. Written write ∷ made)
+    (none-behind (traced setting.trace (trace_line setting.family (number + 1) write)) (searched_after setting probes (number + 1) waiting next ++ later) (events-traced setting.trace (trace_line setting.family (number + 1) write))
+    ∙ none-behind (searched_after setting probes (number + 1) waiting next) later (events-searched setting probes (number + 1) waiting next)
+    ∙ events-actions setting probes (number + 1) (min (waiting + 1) setting.depth) next actions)
+events-actions setting probes number waiting state (Drained ∷ actions) =
+    let later = effects_of setting probes number 0 state actions in
+    none-behind (flushed setting.family probes number state waiting) (Acts Drained ∷ (traced setting.trace (drain_line number) ++ later)) (events-flushed setting.family probes number state waiting)
+    ∙ ap (λ made. Drained ∷ made)
+    (none-behind (traced setting.trace (drain_line number)) later (events-traced setting.trace (drain_line number)) ∙ events-actions setting probes number 0 state actions)
+
+-- where no action is left behind a line, none was before it
+pub events-front : (front : List Effect) (line : List ℕ) (back : List Effect) → events_in (front ++ Prints line ∷ back) ≡ [] → events_in front ≡ []
+events-front [] line back none = refl
+events-front (Acts action ∷ front) line back none = absurd (cc)
+events-front (Prints text ∷ front) line back none = events-front front line back none
+
+-- how many words wait after some actions, and after some more
+pub waiting-append : (depth waiting : ℕ) (a b : List Action) → waiting_after depth waiting (a ++ b) ≡ waiting_after depth (waiting_after depth waiting a) b
+waiting-append depth waiting [] b = refl
+waiting-append depth waiting (Written write ∷ a) b = waiting-append depth (min (waiting + 1) depth) a b
+waiting-append depth waiting (Drained ∷ a) b = waiting-append depth 0 a b
+
+-- the effects of actions, one part after the other
+pub effects-append : (setting : Setting) (probes : List Key) (number waiting : ℕ) (state : State) (made more : List Action)
+    → effects_of setting probes number waiting state (made ++ more)
+    ≡ effects_of setting probes number waiting state made
+    ++ effects_of setting probes (number + length (writes_in made)) (waiting_after setting.depth waiting made) (state_after state (writes_in made)) more
+effects-append setting probes number waiting state [] more = let same : number ≡ number + 0 = omega arith in ap (λ n. effects_of setting probes n waiting state more) same
+effects-append setting probes number waiting state (Written write ∷ made) more =
+    let next = apply state write in
+    let later = min (waiting + 1) setting.depth in
+    let here = traced setting.trace (trace_line setting.family (number + 1) write) in
+    let found = searched_after setting probes (number + 1) waiting next in
+    let front = effects_of setting probes (number + 1) later next made in
+    let back : ℕ → List Effect = λ n. effects_of setting probes n (waiting_after setting.depth later made) (state_after next (writes_in made)) more in
+    let same : (number + 1) + length (writes_in made) ≡ number + length (write ∷ writes_in made) = omega arith in
+    ap (λ effects. Acts (Written write) ∷ (here ++ (found ++ effects))) (effects-append setting probes (number + 1) later next made more ∙ ap (λ n. front ++ back n) same)
+    ∙ ap (λ effects. Acts (Written write) ∷ (here ++ effects)) (sym (append_assoc found front (back (number + length (write ∷ writes_in made)))))
+    ∙ ap (λ effects. Acts (Written write) ∷ effects) (sym (append_assoc here (found ++ front) (back (number + length (write ∷ writes_in made)))))
+effects-append setting probes number waiting state (Drained ∷ made) more =
+    let ahead = flushed setting.family probes number state waiting in
+    let here = traced setting.trace (drain_line number) in
+    let front = effects_of setting probes number 0 state made in
+    let back = effects_of setting probes (number + length (writes_in made)) (waiting_after setting.depth 0 made) (state_after state (writes_in made)) more in
+    ap (λ effects. ahead ++ Acts Drained ∷ (here ++ effects)) (effects-append setting probes number 0 state made more)
+    ∙ ap (λ effects. ahead ++ Acts Drained ∷ effects) (sym (append_assoc here front back))
+    ∙ sym (append_assoc ahead (Acts Drained ∷ (here ++ front)) back)
 
 -- a line alone
-pub does-line : (line : List ℕ) (journal : List Write) (old new : Option (List ℕ)) → Appends old new line → Does (Prints line ∷ []) [] journal journal old new
-does-line line journal old new grown = record {
-  journal = sym (append-nil journal);
+pub does-line : (line : List ℕ) (events : List Action) (old new : Option (List ℕ)) → Appends old new line → Does (Prints line ∷ []) [] events events old new
+does-line line events old new grown = record {
+  events = sym (append-nil events);
   report = subst (Appends old new) (sym (append-nil (line ++ []) ∙ append-nil line)) grown;
 }
 
 -- a part of a line alone
-pub does-part : (partial : List ℕ) (journal : List Write) (old new : Option (List ℕ)) → Appends old new partial → Does [] partial journal journal old new
-does-part partial journal old new grown = record { journal = sym (append-nil journal); report = grown }
+pub does-part : (partial : List ℕ) (events : List Action) (old new : Option (List ℕ)) → Appends old new partial → Does [] partial events events old new
+does-part partial events old new grown = record { events = sym (append-nil events); report = grown }
 
 -- nothing
-pub does-nothing : (journal : List Write) (taken : Option (List ℕ)) → Does [] [] journal journal taken taken
-does-nothing journal taken = does-part [] journal taken taken (Appends-nil taken)
+pub does-nothing : (events : List Action) (taken : Option (List ℕ)) → Does [] [] events events taken taken
+does-nothing events taken = does-part [] events taken taken (Appends-nil taken)
 
-module _ (setting : Setting) (probes : List Key) (number : ℕ) (state : State) (made : List Write) (journal_old journal_new : List Write) (old mid new : Option (List ℕ))
-    (journal : journal_new ≡ journal_old ++ made) (told : Appends old mid (printed (write_effects setting probes number state made))) where
-  -- writes, each told
-  pub does-writes : Does (write_effects setting probes number state made) [] journal_old journal_new old mid
-  does-writes = record {
-    journal = journal ∙ ap (λ more. journal_old ++ more) (sym (written-writes setting probes number state made));
-    report = subst (Appends old mid) (sym (append-nil (printed (write_effects setting probes number state made)))) told;
-  }
-
-  -- and a part of a line
-  pub does-writes_part : (partial : List ℕ) → Appends mid new partial → Does (write_effects setting probes number state made) partial journal_old journal_new old new
-  does-writes_part partial grown = record {
-    journal = does-writes.journal;
-    report = Appends-trans old mid new (printed (write_effects setting probes number state made)) partial told grown;
-  }
-
-  -- and a line
-  pub does-writes_line : (line : List ℕ) → Appends mid new line → Does (write_effects setting probes number state made ++ Prints line ∷ []) [] journal_old journal_new old new
-  does-writes_line line grown = record {
-    journal = journal
-        ∙ ap (λ more. journal_old ++ more)
-        (sym (written-append (write_effects setting probes number state made) (Prints line ∷ []) ∙ append-nil (written (write_effects setting probes number state made)) ∙ written-writes setting probes number state made));
-    report = subst (Appends old new)
-        (sym (append-nil (printed (write_effects setting probes number state made ++ Prints line ∷ []))
-        ∙ printed-append (write_effects setting probes number state made) (Prints line ∷ [])
-        ∙ ap (λ text. printed (write_effects setting probes number state made) ++ text) (append-nil line)))
-        (Appends-trans old mid new (printed (write_effects setting probes number state made)) line told grown);
-  }
-
--- what is told where the device stands is told where the run stands
-pub told-at : (setting : Setting) (probes : List Key) (number : ℕ) (state : State) (slots : ℕ) (journal : List Write) (made : List Write) (old new : Option (List ℕ))
-    → state ≡ replay slots journal → Appends old new (printed (write_effects setting probes number (replay slots journal) made))
-    → Appends old new (printed (write_effects setting probes number state made))
-told-at setting probes number state slots journal made old new at told = subst (λ one. Appends old new (printed (write_effects setting probes number one made))) (sym at) told
+-- some effects that were told, and then lines, the last one perhaps in part
+pub does-lines : (front lines : List Effect) (partial : List ℕ) (events_old events_new : List Action) (old mid new : Option (List ℕ))
+    → events_new ≡ events_old ++ events_in front → events_in lines ≡ [] → Appends old mid (printed front) → Appends mid new (printed lines ++ partial)
+    → Does (front ++ lines) partial events_old events_new old new
+does-lines front lines partial events_old events_new old mid new grown none told more = record {
+  events = grown ∙ ap (λ actions. events_old ++ actions) (sym (events-append front lines ∙ ap (λ actions. events_in front ++ actions) none ∙ append-nil (events_in front)));
+  report = subst (Appends old new)
+      (sym (ap (λ text. text ++ partial) (printed-append front lines) ∙ append_assoc (printed front) (printed lines) partial))
+      (Appends-trans old mid new (printed front) (printed lines ++ partial) told more);
+}

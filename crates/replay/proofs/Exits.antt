@@ -5,111 +5,176 @@ use Rattle.std.specs.List.{AllByRecursion}
 use Rattle.rule_model.specs.declared.IpVersion.{IpVersion}
 use Rattle.rule_store.specs.Verdict.{Verdict, Accepted, Unsound, OutOfBits, OutOfSlots, entries_of}
 use Rattle.tcam_device.specs.declared.Write.{Write}
-use Rattle.tcam_device.specs.Flight.{writes_in}
-use Rattle.commit_writes.specs.declared.Done.{Done}
+use Rattle.tcam_device.specs.declared.Action.{Action}
+use Rattle.tcam_device.specs.declared.Action.TheVariants.{Written}
+use Rattle.tcam_device.specs.Flight.{Flight, writes_in}
+use Rattle.tcam_device.specs.State.{blank, on_device, replay, state_after}
+use Rattle.tcam_device.proofs.Spans.{state_after-append}
+use Rattle.replay.specs.declared.steps.Ended.{Ended}
 use Rattle.commit_writes.specs.Routes.{IsRoute}
+use Rattle.commit_writes.specs.InFlight.{AreCurrent}
+use Rattle.commit_writes.proofs.Actions.{writes_in-append}
 use Rattle.batch_order.specs.declared.Ready.{Ready}
 use Rattle.batch_order.specs.declared.Refusal.{Refusal}
 use Rattle.batch_order.specs.declared.Refusal.TheVariants as refusal
-use Rattle.batch_order.specs.Managed.{Managed, HeldCommit, Holds, Judges, Answers, commit_of}
-use Rattle.replay.specs.declared.Act.TheVariants.{Commit}
+use Rattle.batch_order.specs.Managed.{Managed, HeldCommit, Holds, Judges, Answers, commit_of, live_now}
+use Rattle.replay.specs.declared.Act.{Act}
+use Rattle.replay.specs.declared.watch.Count.{Count}
 use Rattle.replay.specs.declared.RunFault.{RunFault}
 use Rattle.replay.specs.declared.RunFault.TheVariants as fault
-use Rattle.replay.specs.Run.{Progress, Effect, Writes, Prints, HasEffects, IsCutStep, ending}
-use Rattle.replay.specs.Text.{accepted_line, refused_line, end_line}
+use Rattle.replay.specs.Effects.{Effect, Acts, Prints, flushed, printed, waiting_after}
+use Rattle.batch_order.specs.Steps.{ServesNow}
+use Rattle.replay.specs.InFlight.{AreOf, IsSeen, found_all}
+use Rattle.replay.specs.Run.{Progress, HasEffects, IsCutStep, ending}
+use Rattle.replay.specs.Text.{refused_line, end_line}
 use Rattle.replay.specs.Told.{verdict_told}
-use Rattle.replay.specs.Outside.{AppendsPart}
+use Rattle.replay.specs.Outside.{AppendsPart, CutsLines}
 use Rattle.replay.specs.Carried.{IsAt}
-use Rattle.replay.specs.Running.{Running, Watching, IsRun, IsHalfway, IsUnfinished, ComesTo, Finishes, StaysUnfinished, BreaksOff, ResumesTo, Makes, MakesAll, MakesSome, Tells, breaks, watching, setting_of, progress_of, routes_of, verdict_of}
+use Rattle.replay.specs.Running.{Running, Watching, HasCome, IsRun, IsHalfway, IsUnfinished, ComesTo, Finishes, StaysUnfinished, BreaksOff, ResumesTo, Makes, MakesAll, MakesSome, ShowsRules, Tells, breaks, commit_act, ended_line, watching, setting_of, progress_of, routes_of, verdict_of}
 use Rattle.replay.proofs.Refusals.{told-verdict, told-refused}
-use Rattle.replay.proofs.Runs.{run_after}
-use Rattle.replay.proofs.Halfway.{run_begun, begun-holds, halfway-none, cut-run, left-same, counts-same, after-writes}
-use Rattle.replay.proofs.Resuming.{setting-more, stays-unfinished, breaks-off, finishes, breaks-last, as-unfinished}
+use Rattle.replay.proofs.Halfway.{actions-left, after-writes, count_of, cut-run, halfway-none, line, line-same, run_ended, slots-now}
+use Rattle.replay.proofs.Resuming.{began, so_far, setting-more, last_lines, stays-unfinished, breaks-off, breaks-searching, finishes, breaks-last, as-unfinished}
+use Rattle.replay.proofs.Seeing.{lines-all}
 use Rattle.replay.proofs.Acts.{run_refused, refuse-carries, refuse-cuts}
 
--- some of its writes were made, and it was cut at a line or at a write
-pub cut-some : (why : RunFault) (begun now : Managed) (watch : Watching) (slots told told_now : ℕ) (journal_old journal_new : List Write) (old taken : Option (List ℕ))
-    → Makes begun now watch slots told told_now (Err why) journal_old journal_new old taken
-    → (some : MakesSome begun now) × (told_now ≡ told + length (writes_in some.made)) × ((why ≡ fault.Sink) ⊎ (why ≡ fault.Device))
-cut-some fault.Sink begun now watch slots told told_now journal_old journal_new old taken stops = (stops.some, stops.number, inl refl)
-cut-some fault.Device begun now watch slots told told_now journal_old journal_new old taken stops = (stops.some, stops.number, inr refl)
-cut-some fault.BatchFull begun now watch slots told told_now journal_old journal_new old taken stops = absurd stops
-cut-some fault.ProbesFull begun now watch slots told told_now journal_old journal_new old taken stops = absurd stops
-cut-some fault.Memory begun now watch slots told told_now journal_old journal_new old taken stops = absurd stops
-cut-some (fault.Held left) begun now watch slots told told_now journal_old journal_new old taken stops = absurd stops
+-- some of its actions were made, and it was cut at a line or at a write
+pub cut-some : (why : RunFault) (Seen : Type 0) (most : Option ℕ) (begun now : Managed) (watch : Watching) (slots : ℕ) (count count_now : Count) (events_old events_new : List Action) (old taken : Option (List ℕ))
+    → Makes Seen most begun now watch slots count count_now (Err why) events_old events_new old taken
+    → (some : MakesSome most count.told begun now) × HasCome watch count count_now some.made × ((why ≡ fault.Sink) ⊎ (why ≡ fault.Device))
+cut-some fault.Sink Seen most begun now watch slots count count_now events_old events_new old taken stops = (stops.some, stops.come, inl refl)
+cut-some fault.Device Seen most begun now watch slots count count_now events_old events_new old taken stops = (stops.some, stops.come, inr refl)
+cut-some fault.BatchFull Seen most begun now watch slots count count_now events_old events_new old taken stops = absurd stops
+cut-some fault.ProbesFull Seen most begun now watch slots count count_now events_old events_new old taken stops = absurd stops
+cut-some fault.Memory Seen most begun now watch slots count count_now events_old events_new old taken stops = absurd stops
+cut-some (fault.Held left) Seen most begun now watch slots count count_now events_old events_new old taken stops = absurd stops
 
 -- a run whose commit was cut
-pub cut-held : (why : RunFault) (run : Running) (now : Managed) (watch : Watching) (slots told_now : ℕ) (journal_old journal_new : List Write) (old taken : Option (List ℕ)) → IsRun run → IsSome run.manager.held
-    → Makes run.manager now watch slots run.told told_now (Err why) journal_old journal_new old taken → IsRun (record run { manager = now; told = told_now })
-cut-held why run now watch slots told_now journal_old journal_new old taken is held makes =
-    let cut = cut-some why run.manager now watch slots run.told told_now journal_old journal_new old taken makes in
-    cut-run run now told_now is (is.halfway held) cut.0 cut.1
+pub cut-held : (why : RunFault) (Seen : Type 0) (run : Running) (now : Managed) (slots : ℕ) (count_now : Count) (events_old events_new : List Action) (old taken : Option (List ℕ)) → IsRun run → IsSome run.manager.held
+    → Makes Seen run.most run.manager now (watching run) slots (count_of run) count_now (Err why) events_old events_new old taken → IsRun (record run { manager = now; told = count_now.told; waiting = count_now.waiting })
+cut-held why Seen run now slots count_now events_old events_new old taken is held makes =
+    let cut = cut-some why Seen run.most run.manager now (watching run) slots (count_of run) count_now events_old events_new old taken makes in
+    cut-run run now count_now is (is.halfway held) cut.0 cut.1
 
-pub cut-setting : (why : RunFault) (run : Running) (now : Managed) (watch : Watching) (slots told_now : ℕ) (journal_old journal_new : List Write) (old taken : Option (List ℕ)) → IsRun run
-    → Makes run.manager now watch slots run.told told_now (Err why) journal_old journal_new old taken → setting_of (record run { manager = now; told = told_now }) ≡ setting_of run
-cut-setting why run now watch slots told_now journal_old journal_new old taken is makes =
-    setting-more run now told_now (cut-some why run.manager now watch slots run.told told_now journal_old journal_new old taken makes).0
+pub cut-setting : (why : RunFault) (Seen : Type 0) (run : Running) (now : Managed) (slots : ℕ) (count_now : Count) (events_old events_new : List Action) (old taken : Option (List ℕ)) → IsRun run
+    → Makes Seen run.most run.manager now (watching run) slots (count_of run) count_now (Err why) events_old events_new old taken
+    → setting_of (record run { manager = now; told = count_now.told; waiting = count_now.waiting }) ≡ setting_of run
+cut-setting why Seen run now slots count_now events_old events_new old taken is makes =
+    setting-more run now count_now (cut-some why Seen run.most run.manager now (watching run) slots (count_of run) count_now events_old events_new old taken makes).0
 
-module _ (slots : ℕ) (before : Progress) (front : List Effect) (inside run : Running) (same : inside ≡ run) (is : IsRun inside) (within : run.manager.slots ≤ slots) (journal_old journal_new : List Write)
-    (unfinished : IsUnfinished slots before front run) (at : IsAt slots journal_old (progress_of slots run)) where
+module _ (slots : ℕ) (before : Progress) (front : List Effect) (inside run : Running) (same : inside ≡ run) (is : IsRun inside) (within : run.manager.slots ≤ slots) (events_old events_new : List Action)
+    (unfinished : IsUnfinished slots before front run) (at : IsAt slots events_old (progress_of slots run)) (flight : Flight) (current : AreCurrent (live_now run.manager) flight) where
   unfinished-inside : IsUnfinished slots before front inside
   unfinished-inside = subst (IsUnfinished slots before front) (sym same) unfinished
 
-  at-inside : IsAt slots journal_old (progress_of slots inside)
-  at-inside = subst (λ (r : Running). IsAt slots journal_old (progress_of slots r)) (sym same) at
+  at-inside : IsAt slots events_old (progress_of slots inside)
+  at-inside = subst (λ (r : Running). IsAt slots events_old (progress_of slots r)) (sym same) at
 
   within-inside : inside.manager.slots ≤ slots
   within-inside = subst (λ (r : Running). r.manager.slots ≤ slots) (sym same) within
 
-  -- what going on comes to where it is cut
-  pub resumes-cut : (why : RunFault) (now : Managed) (told : ℕ) (old taken : Option (List ℕ)) → Makes inside.manager now (watching inside) slots inside.told told (Err why) journal_old journal_new old taken
-      → ResumesTo slots before front (record inside { manager = now; told = told }) (Err why) journal_old journal_new old taken
-  resumes-cut fault.Device now told old taken stops =
-      as-unfinished (λ at effects. StaysUnfinished slots at effects (record inside { manager = now; told = told }) journal_old journal_new old taken) slots before front inside unfinished-inside is within-inside
-      (stays-unfinished slots inside unfinished-inside.halfway is within-inside journal_old journal_new at-inside now told old taken stops)
-  resumes-cut fault.Sink now told old taken stops =
-      as-unfinished (λ at effects. BreaksOff slots at effects (record inside { manager = now; told = told }) journal_old journal_new old taken) slots before front inside unfinished-inside is within-inside
-      (breaks-off slots inside unfinished-inside.halfway is within-inside journal_old journal_new at-inside now told old taken stops)
-  resumes-cut fault.BatchFull now told old taken stops = absurd stops
-  resumes-cut fault.ProbesFull now told old taken stops = absurd stops
-  resumes-cut fault.Memory now told old taken stops = absurd stops
-  resumes-cut (fault.Held left) now told old taken stops = absurd stops
+  -- the device is the manager's, and the words in flight are current
+  abbrev Seen : Type 0
+  Seen = IsSeen slots events_old flight inside.manager
 
-  module _ (done : Done) (now : Managed) (told : ℕ) (old mid : Option (List ℕ)) (all : MakesAll inside.manager (watching inside) slots inside.told told done now journal_old journal_new old mid)
-      (counted : Running) (closed : counted ≡ record inside { manager = now; told = 0; pending = []; commits = inside.commits + 1 }) where
+  pub is-seen : IsSeen slots events_old flight inside.manager
+  is-seen = record { on = at-inside; current = subst (λ (r : Running). AreCurrent (live_now r.manager) flight) (sym same) current }
+
+  -- what going on comes to where it is cut
+  pub resumes-cut : (why : RunFault) (now : Managed) (count : Count) (flight_new : Flight) (old taken : Option (List ℕ))
+      → Makes Seen inside.most inside.manager now (watching inside) slots (count_of inside) count (Err why) events_old events_new old taken → (why ≡ fault.Device → AreCurrent (live_now now) flight_new)
+      → ResumesTo slots before (commit_act run.most) front (record inside { manager = now; told = count.told; waiting = count.waiting }) (Err why) events_old events_new flight_new old taken
+  resumes-cut fault.Device now count flight_new old taken stops current_new =
+      as-unfinished (λ at effects. StaysUnfinished slots at (commit_act run.most) effects (record inside { manager = now; told = count.told; waiting = count.waiting }) events_old events_new flight_new old taken) slots before front inside unfinished-inside is within-inside
+      (subst (λ (r : Running). StaysUnfinished slots (began slots inside unfinished-inside.halfway is within-inside) (commit_act r.most) (so_far slots inside unfinished-inside.halfway is within-inside) (record inside { manager = now; told = count.told; waiting = count.waiting }) events_old events_new flight_new old taken) same
+      (stays-unfinished slots inside unfinished-inside.halfway is within-inside events_old events_new at-inside Seen is-seen now count flight_new old taken stops (current_new refl)))
+  resumes-cut fault.Sink now count flight_new old taken stops current_new =
+      as-unfinished (λ at effects. BreaksOff slots at (commit_act run.most) effects (record inside { manager = now; told = count.told; waiting = count.waiting }) events_old events_new old taken) slots before front inside unfinished-inside is within-inside
+      (subst (λ (r : Running). BreaksOff slots (began slots inside unfinished-inside.halfway is within-inside) (commit_act r.most) (so_far slots inside unfinished-inside.halfway is within-inside) (record inside { manager = now; told = count.told; waiting = count.waiting }) events_old events_new old taken) same
+      (breaks-off slots inside unfinished-inside.halfway is within-inside events_old events_new at-inside Seen is-seen now count old taken stops))
+  resumes-cut fault.BatchFull now count flight_new old taken stops current_new = absurd stops
+  resumes-cut fault.ProbesFull now count flight_new old taken stops current_new = absurd stops
+  resumes-cut fault.Memory now count flight_new old taken stops current_new = absurd stops
+  resumes-cut (fault.Held left) now count flight_new old taken stops current_new = absurd stops
+
+  module _ (end : Ended) (now : Managed) (count : Count) (old mid : Option (List ℕ)) (all : MakesAll Seen inside.most inside.manager (watching inside) slots (count_of inside) count end now events_old events_new old mid)
+      (counted : Running) (closed : counted ≡ record inside { manager = now; told = 0; waiting = 0; most = None; pending = []; commits = inside.commits + 1 }) where
     abbrev half : IsHalfway inside
     half = unfinished-inside.halfway
 
     abbrev run_now : Running
-    run_now = record counted { writes = counted.writes + done.writes }
+    run_now = record counted { writes = counted.writes + count.told }
 
-    grown-left : journal_new ≡ journal_old ++ (writes_in half.some.left)
-    grown-left = all.journal ∙ ap (λ (held : HeldCommit). journal_old ++ writes_in held.actions) (left-same inside half (watching inside) slots inside.told told done now journal_old journal_new old mid all)
+    held-is : all.actions ≡ half.some.left
+    held-is = actions-left Seen inside half (watching inside) slots count end now events_old events_new old mid all
 
-    told-left : Tells inside.manager (watching inside) slots inside.told journal_old (writes_in half.some.left) old mid
-    told-left =
-        subst (λ (held : HeldCommit). Tells inside.manager (watching inside) slots inside.told journal_old (writes_in held.actions) old mid)
-        (left-same inside half (watching inside) slots inside.told told done now journal_old journal_new old mid all) all.report
+    grown-left : events_new ≡ events_old ++ half.some.left
+    grown-left = all.events ∙ ap (λ actions. events_old ++ actions) held-is
 
-    new-is : run_now ≡ run_after (run_begun inside half) (begun-holds inside half).made (begun-holds inside half).counts
-    new-is = after-writes inside half (watching inside) slots inside.told told done now journal_old journal_new old mid all counted closed
+    told-left : Tells inside.manager (watching inside) slots (count_of inside) events_old half.some.left old mid
+    told-left = subst (λ actions. Tells inside.manager (watching inside) slots (count_of inside) events_old actions old mid) held-is (all.report is-seen)
 
-    line-same : accepted_line counted.commits done ≡ accepted_line (inside.commits + 1) (begun-holds inside half).counts
-    line-same =
-        ap (λ (r : Running). accepted_line r.commits done) closed
-        ∙ ap (accepted_line (inside.commits + 1)) (counts-same inside half (watching inside) slots inside.told told done now journal_old journal_new old mid all)
+    new-is : run_now ≡ run_ended inside half
+    new-is = after-writes Seen inside half (watching inside) slots count end now events_old events_new old mid all counted closed
 
-    -- where it is finished, and its line is written
-    pub resumes-all : (taken : Option (List ℕ)) → Appends mid taken (accepted_line counted.commits done) → ResumesTo slots before front run_now (Ok tt) journal_old journal_new old taken
-    resumes-all taken more =
-        as-unfinished (λ at effects. Finishes slots at effects run_now journal_old journal_new old taken) slots before front inside unfinished-inside is within-inside
-        (finishes slots inside half is within-inside journal_old journal_new at-inside run_now old mid taken new-is grown-left told-left (subst (Appends mid taken) line-same more))
+    -- the line of its end
+    own-same : ended_line counted.commits end count.told ≡ line inside half
+    own-same = line-same Seen inside half (watching inside) slots count end now events_old events_new old mid all counted closed
 
-    -- or a part of it
-    pub resumes-last : (taken : Option (List ℕ)) → AppendsPart mid taken (accepted_line counted.commits done) → ResumesTo slots before front run_now (Err fault.Sink) journal_old journal_new old taken
-    resumes-last taken part =
-        as-unfinished (λ at effects. BreaksOff slots at effects run_now journal_old journal_new old taken) slots before front inside unfinished-inside is within-inside
-        (breaks-last slots inside half is within-inside journal_old journal_new at-inside run_now old mid taken new-is grown-left told-left (subst (AppendsPart mid taken) line-same part))
+    -- the lines of the words that are searched behind the last action
+    abbrev pub last_told : List Effect
+    last_told = flushed inside.family inside.probes count.told (replay slots (writes_in events_new)) count.waiting
+
+    last-same : last_told ≡ last_lines slots inside half is within-inside
+    last-same =
+        let left = half.some.left in
+        let told : count.told ≡ inside.told + length (writes_in left) = all.come.told ∙ ap (λ actions. inside.told + length (writes_in actions)) held-is in
+        let waiting : count.waiting ≡ waiting_after inside.depth inside.waiting left = all.come.waiting ∙ ap (waiting_after inside.depth inside.waiting) held-is in
+        let state : replay slots (writes_in events_new) ≡ state_after (on_device slots inside.manager.state) (writes_in left) =
+        ap (λ actions. replay slots (writes_in actions)) grown-left ∙ ap (replay slots) (writes_in-append events_old left)
+        ∙ state_after-append (blank slots) (writes_in events_old) (writes_in left) ∙ ap (λ one. state_after one (writes_in left)) (sym at-inside) in
+        ap (λ n. flushed inside.family inside.probes n (replay slots (writes_in events_new)) count.waiting) told
+        ∙ ap (λ one. flushed inside.family inside.probes (inside.told + length (writes_in left)) one count.waiting) state
+        ∙ ap (flushed inside.family inside.probes (inside.told + length (writes_in left)) (state_after (on_device slots inside.manager.state) (writes_in left))) waiting
+
+    same-slots : now.slots ≡ inside.manager.slots
+    same-slots = slots-now Seen inside half (watching inside) slots count end now events_old events_new old mid all
+
+    within-now : now.slots ≤ slots
+    within-now = subst (λ n. n ≤ slots) (sym same-slots) within-inside
+
+    -- what the searches of the words that are left tell is what look-ups would
+    pub as-last : (P : List Effect → Type 0) (journal : List Write) (flight_now : Flight) → journal ≡ writes_in events_new → ServesNow now → IsSeen slots events_new flight_now now → AreOf inside.probes count.waiting flight_now
+        → P (found_all counted.family count.told (replay slots journal) (length counted.probes) count.waiting flight_now) → P last_told
+    as-last P journal flight_now agrees serves seen are holds =
+        subst P
+        (ap (λ (r : Running). found_all r.family count.told (replay slots journal) (length r.probes) count.waiting flight_now) closed
+        ∙ ap (λ writes. found_all inside.family count.told (replay slots writes) (length inside.probes) count.waiting flight_now) agrees
+        ∙ lines-all (watching inside) slots now events_new flight_now count.waiting within-now serves seen are count.told) holds
+
+    -- where one of them is cut
+    pub resumes-searching : (taken : Option (List ℕ)) (flight_new : Flight) → CutsLines last_told mid taken → ResumesTo slots before (commit_act run.most) front run_now (Err fault.Sink) events_old events_new flight_new old taken
+    resumes-searching taken flight_new cuts =
+        as-unfinished (λ at effects. BreaksOff slots at (commit_act run.most) effects run_now events_old events_new old taken) slots before front inside unfinished-inside is within-inside
+        (subst (λ (r : Running). BreaksOff slots (began slots inside unfinished-inside.halfway is within-inside) (commit_act r.most) (so_far slots inside unfinished-inside.halfway is within-inside) run_now events_old events_new old taken) same
+        (breaks-searching slots inside half is within-inside events_old events_new at-inside run_now old mid new-is grown-left told-left taken (subst (λ lines. CutsLines lines mid taken) last-same cuts)))
+
+    module _ (searched : Option (List ℕ)) (last : Appends mid searched (printed last_told)) where
+      last-told : Appends mid searched (printed (last_lines slots inside half is within-inside))
+      last-told = subst (λ lines. Appends mid searched (printed lines)) last-same last
+
+      -- where it is finished, and its line is written
+      pub resumes-all : (taken : Option (List ℕ)) (flight_new : Flight) → Appends searched taken (ended_line counted.commits end count.told) → ResumesTo slots before (commit_act run.most) front run_now (Ok tt) events_old events_new flight_new old taken
+      resumes-all taken flight_new more =
+          as-unfinished (λ at effects. Finishes slots at (commit_act run.most) effects run_now events_old events_new old taken) slots before front inside unfinished-inside is within-inside
+          (subst (λ (r : Running). Finishes slots (began slots inside unfinished-inside.halfway is within-inside) (commit_act r.most) (so_far slots inside unfinished-inside.halfway is within-inside) run_now events_old events_new old taken) same
+          (finishes slots inside half is within-inside events_old events_new at-inside run_now old mid new-is grown-left told-left searched taken last-told (subst (Appends searched taken) own-same more)))
+
+      -- or a part of it
+      pub resumes-last : (taken : Option (List ℕ)) (flight_new : Flight) → AppendsPart searched taken (ended_line counted.commits end count.told) → ResumesTo slots before (commit_act run.most) front run_now (Err fault.Sink) events_old events_new flight_new old taken
+      resumes-last taken flight_new part =
+          as-unfinished (λ at effects. BreaksOff slots at (commit_act run.most) effects run_now events_old events_new old taken) slots before front inside unfinished-inside is within-inside
+          (subst (λ (r : Running). BreaksOff slots (began slots inside unfinished-inside.halfway is within-inside) (commit_act r.most) (so_far slots inside unfinished-inside.halfway is within-inside) run_now events_old events_new old taken) same
+          (breaks-last slots inside half is within-inside events_old events_new at-inside run_now old mid new-is grown-left told-left searched taken last-told (subst (AppendsPart searched taken) own-same part)))
 
 -- a batch that is taken is accepted
 taken-accepted : (verdict : Verdict) (ready : Ready) → Answers verdict (Ok ready) → verdict ≡ Accepted
@@ -120,14 +185,18 @@ taken-accepted (OutOfSlots needed free) ready taken = absurd (cc)
 
 -- where the commit of the pending batch is taken
 module _ (inside : Running) (ready : Ready) (manager : Managed) (is : IsRun inside) (idle : inside.manager.held ≡ None) (holds : Holds inside.manager inside.pending ready manager)
-    (judges : Judges inside.manager inside.manager.held inside.pending (Ok ready)) where
+    (judges : Judges inside.manager inside.manager.held inside.pending (Ok ready)) (most : Option ℕ) where
   abbrev run_taken : Running
-  run_taken = record inside { manager = manager }
+  run_taken = record inside { manager = manager; most = most }
+
+  manager-same : record manager { held = None } ≡ inside.manager
+  manager-same = ap (λ (m : Managed). record m { held = None }) holds.new_is ∙ ap (λ held. record inside.manager { held = held }) (sym idle)
 
   holds-taken : Holds (record manager { held = None }) inside.pending ready manager
-  holds-taken =
-      let same : record manager { held = None } ≡ inside.manager = ap (λ (m : Managed). record m { held = None }) holds.new_is ∙ ap (λ held. record inside.manager { held = held }) (sym idle) in
-      subst (λ (m : Managed). Holds m inside.pending ready manager) (sym same) holds
+  holds-taken = subst (λ (m : Managed). Holds m inside.pending ready manager) (sym manager-same) holds
+
+  shows-taken : ShowsRules (record manager { held = None })
+  shows-taken = subst ShowsRules (sym manager-same) is.shows
 
   accepted-taken : verdict_of run_taken ≡ Accepted
   accepted-taken =
@@ -135,9 +204,9 @@ module _ (inside : Running) (ready : Ready) (manager : Managed) (is : IsRun insi
       ap (λ (m : Managed). verdict_of (record inside { manager = m })) holds.new_is ∙ taken-accepted (verdict_of inside) ready answers
 
   abbrev half-taken : IsHalfway run_taken
-  half-taken = halfway-none run_taken ready holds-taken accepted-taken (is.idle idle)
+  half-taken = halfway-none run_taken ready holds-taken accepted-taken shows-taken (is.idle idle).0 (is.idle idle).1
 
-  pub taken-run : IsRun (record inside { manager = manager })
+  pub taken-run : IsRun (record inside { manager = manager; most = most })
   taken-run = record {
     changes = is.changes;
     routes = subst (λ (m : Managed). (version : IpVersion) → inside.family ≡ routes_of version → AllByRecursion (IsRoute version) m.rules) (sym holds.new_is) is.routes;
@@ -145,80 +214,81 @@ module _ (inside : Running) (ready : Ready) (manager : Managed) (is : IsRun insi
     few = is.few;
     shows = λ none. absurd (let bad : Some (commit_of inside.manager inside.pending holds.made holds.counts) ≡ None = sym (ap (λ (m : Managed). m.held) holds.new_is) ∙ none in cc);
     halfway = λ some. half-taken;
-    idle = λ none. is.idle idle;
+    idle = λ none. absurd (let bad : Some (commit_of inside.manager inside.pending holds.made holds.counts) ≡ None = sym (ap (λ (m : Managed). m.held) holds.new_is) ∙ none in cc);
   }
 
-  taken-unfinished : (slots : ℕ) → IsUnfinished slots (progress_of slots inside) [] (record inside { manager = manager })
+  taken-unfinished : (slots : ℕ) → IsUnfinished slots (progress_of slots inside) [] (record inside { manager = manager; most = most })
   taken-unfinished slots = record {
     halfway = half-taken;
-    before_is = ap (λ (m : Managed). progress_of slots (record inside { manager = m })) (sym holds.new_is);
+    before_is = ap (λ (m : Managed). progress_of slots (record inside { manager = m; most = most })) (sym holds.new_is);
     front_is = refl;
   }
 
-  module _ (slots : ℕ) (run new : Running) (same : inside ≡ run) (journal_old journal_new : List Write) (old taken : Option (List ℕ)) where
+  module _ (slots : ℕ) (run new : Running) (same : inside ≡ run) (events_old events_new : List Action) (flight flight_new : Flight) (none : flight ≡ []) (old taken : Option (List ℕ)) where
     -- it is gone on with from its begin
     abbrev Goes : Result (Unit {0}) RunFault → Type 0
     Goes result =
-        (before : Progress) → (front : List Effect) → IsUnfinished slots before front (record inside { manager = manager })
-        → IsAt slots journal_old (progress_of slots (record inside { manager = manager })) → ResumesTo slots before front new result journal_old journal_new old taken
+        (before : Progress) → (front : List Effect) → IsUnfinished slots before front (record inside { manager = manager; most = most })
+        → IsAt slots events_old (progress_of slots (record inside { manager = manager; most = most })) → AreCurrent (live_now manager) flight → ResumesTo slots before (commit_act most) front new result events_old events_new flight_new old taken
 
-    begins : (result : Result (Unit {0}) RunFault) → Goes result → IsAt slots journal_old (progress_of slots run) → ResumesTo slots (progress_of slots run) [] new result journal_old journal_new old taken
+    begins : (result : Result (Unit {0}) RunFault) → Goes result → IsAt slots events_old (progress_of slots run) → ResumesTo slots (progress_of slots run) (commit_act most) [] new result events_old events_new flight_new old taken
     begins result goes at =
-        let at_inside = subst (λ (r : Running). IsAt slots journal_old (progress_of slots r)) (sym same) at in
-        subst (λ (r : Running). ResumesTo slots (progress_of slots r) [] new result journal_old journal_new old taken) same
+        let at_inside = subst (λ (r : Running). IsAt slots events_old (progress_of slots r)) (sym same) at in
+        subst (λ (r : Running). ResumesTo slots (progress_of slots r) (commit_act most) [] new result events_old events_new flight_new old taken) same
         (goes (progress_of slots inside) [] (taken-unfinished slots)
-        (subst (λ (m : Managed). IsAt slots journal_old (progress_of slots (record inside { manager = m }))) (sym holds.new_is) at_inside))
+        (subst (λ (m : Managed). IsAt slots events_old (progress_of slots (record inside { manager = m; most = most }))) (sym holds.new_is) at_inside)
+        (subst (AreCurrent (live_now manager)) (sym none) tt))
 
-    setting-taken : setting_of new ≡ setting_of (record inside { manager = manager }) → setting_of new ≡ setting_of run
-    setting-taken setting = setting ∙ ap (λ (m : Managed). setting_of (record inside { manager = m })) holds.new_is ∙ ap setting_of same
+    setting-taken : setting_of new ≡ setting_of (record inside { manager = manager; most = most }) → setting_of new ≡ setting_of run
+    setting-taken setting = setting ∙ ap (λ (m : Managed). setting_of (record inside { manager = m; most = most })) holds.new_is ∙ ap setting_of same
 
-    pub taken-acts : (result : Result (Unit {0}) RunFault) → setting_of new ≡ setting_of (record inside { manager = manager }) → IfErr result (λ why. (why ≡ fault.Sink) ⊎ (why ≡ fault.Device)) → Goes result
-        → ComesTo slots run Commit new result journal_old journal_new old taken
+    pub taken-acts : (result : Result (Unit {0}) RunFault) → setting_of new ≡ setting_of (record inside { manager = manager; most = most }) → IfErr result (λ why. (why ≡ fault.Sink) ⊎ (why ≡ fault.Device)) → Goes result
+        → ComesTo slots run (commit_act most) new result events_old events_new old taken
     taken-acts (Ok done) setting kind goes = λ at.
         let ends = begins (Ok done) goes at in
-        record { effects = ends.rest; step = subst (λ one. HasEffects one (progress_of slots run) Commit ends.rest (progress_of slots new)) (setting-taken setting) ends.step; does = ends.does }
+        record { effects = ends.rest; step = subst (λ one. HasEffects one (progress_of slots run) (commit_act most) ends.rest (progress_of slots new)) (setting-taken setting) ends.step; does = ends.does }
     taken-acts (Err why) setting (inl sink) goes =
         let goes_sink : Goes (Err fault.Sink) = subst (λ one. Goes (Err one)) sink goes in
-        subst (λ one. ComesTo slots run Commit new (Err one) journal_old journal_new old taken) (sym sink) (λ at.
+        subst (λ one. ComesTo slots run (commit_act most) new (Err one) events_old events_new old taken) (sym sink) (λ at.
         let ends = begins (Err fault.Sink) goes_sink at in record {
           front = ends.more;
           partial = ends.partial;
           rest = ends.rest;
-          cut = subst (λ one. IsCutStep one (progress_of slots run) Commit ends.more (Prints (ends.partial ++ ends.rest))) (setting-taken setting) ends.cut;
+          cut = subst (λ one. IsCutStep one (progress_of slots run) (commit_act most) ends.more (Prints (ends.partial ++ ends.rest))) (setting-taken setting) ends.cut;
           does = ends.does;
         })
     taken-acts (Err why) setting (inr device) goes =
         let goes_device : Goes (Err fault.Device) = subst (λ one. Goes (Err one)) device goes in
-        subst (λ one. ComesTo slots run Commit new (Err one) journal_old journal_new old taken) (sym device) (λ at.
+        subst (λ one. ComesTo slots run (commit_act most) new (Err one) events_old events_new old taken) (sym device) (λ at.
         let ends = begins (Err fault.Device) goes_device at in record {
           front = ends.more;
           write = ends.due;
-          cut = subst (λ one. IsCutStep one (progress_of slots run) Commit ends.more (Writes ends.due)) (setting-taken setting) ends.cut;
+          cut = subst (λ one. IsCutStep one (progress_of slots run) (commit_act most) ends.more (Acts (Written ends.due))) (setting-taken setting) ends.cut;
           does = ends.does;
         })
 
-    pub taken-stays : (result : Result (Unit {0}) RunFault) → Goes result → result ≡ Err fault.Device → IsAt slots journal_old (progress_of slots run)
-        → StaysUnfinished slots (progress_of slots run) [] new journal_old journal_new old taken
-    taken-stays result goes cut at = subst (λ one. ResumesTo slots (progress_of slots run) [] new one journal_old journal_new old taken) cut (begins result goes at)
+    pub taken-stays : (result : Result (Unit {0}) RunFault) → Goes result → result ≡ Err fault.Device → IsAt slots events_old (progress_of slots run)
+        → StaysUnfinished slots (progress_of slots run) (commit_act most) [] new events_old events_new flight_new old taken
+    taken-stays result goes cut at = subst (λ one. ResumesTo slots (progress_of slots run) (commit_act most) [] new one events_old events_new flight_new old taken) cut (begins result goes at)
 
 -- the mark of a sink that failed changes nothing of it
-pub marked-resumes : (result : Result (Unit {0}) RunFault) (slots : ℕ) (before : Progress) (front : List Effect) (mid new : Running) (journal_old journal_new : List Write) (old taken : Option (List ℕ))
-    → new ≡ record mid { broken = breaks result } → mid.broken ≡ false → ResumesTo slots before front mid result journal_old journal_new old taken → ResumesTo slots before front new result journal_old journal_new old taken
-marked-resumes (Ok done) slots before front mid new journal_old journal_new old taken is whole ends =
-    subst (λ (run : Running). ResumesTo slots before front run (Ok done) journal_old journal_new old taken) (sym (is ∙ ap (λ mark. record mid { broken = mark }) (sym whole))) ends
-marked-resumes (Err fault.Device) slots before front mid new journal_old journal_new old taken is whole ends =
-    subst (λ (run : Running). ResumesTo slots before front run (Err fault.Device) journal_old journal_new old taken) (sym (is ∙ ap (λ mark. record mid { broken = mark }) (sym whole))) ends
-marked-resumes (Err fault.Sink) slots before front mid new journal_old journal_new old taken is whole ends = record {
+pub marked-resumes : (result : Result (Unit {0}) RunFault) (slots : ℕ) (before : Progress) (act : Act) (front : List Effect) (mid new : Running) (events_old events_new : List Action) (flight : Flight) (old taken : Option (List ℕ))
+    → new ≡ record mid { broken = breaks result } → mid.broken ≡ false → ResumesTo slots before act front mid result events_old events_new flight old taken → ResumesTo slots before act front new result events_old events_new flight old taken
+marked-resumes (Ok done) slots before act front mid new events_old events_new flight old taken is whole ends =
+    subst (λ (run : Running). ResumesTo slots before act front run (Ok done) events_old events_new flight old taken) (sym (is ∙ ap (λ mark. record mid { broken = mark }) (sym whole))) ends
+marked-resumes (Err fault.Device) slots before act front mid new events_old events_new flight old taken is whole ends =
+    subst (λ (run : Running). ResumesTo slots before act front run (Err fault.Device) events_old events_new flight old taken) (sym (is ∙ ap (λ mark. record mid { broken = mark }) (sym whole))) ends
+marked-resumes (Err fault.Sink) slots before act front mid new events_old events_new flight old taken is whole ends = record {
   more = ends.more;
   partial = ends.partial;
   rest = ends.rest;
-  cut = subst (λ setting. IsCutStep setting before Commit (front ++ ends.more) (Prints (ends.partial ++ ends.rest))) (sym (ap setting_of is)) ends.cut;
+  cut = subst (λ setting. IsCutStep setting before act (front ++ ends.more) (Prints (ends.partial ++ ends.rest))) (sym (ap setting_of is)) ends.cut;
   does = ends.does;
 }
-marked-resumes (Err fault.BatchFull) slots before front mid new journal_old journal_new old taken is whole ends = absurd ends
-marked-resumes (Err fault.ProbesFull) slots before front mid new journal_old journal_new old taken is whole ends = absurd ends
-marked-resumes (Err fault.Memory) slots before front mid new journal_old journal_new old taken is whole ends = absurd ends
-marked-resumes (Err (fault.Held left)) slots before front mid new journal_old journal_new old taken is whole ends = absurd ends
+marked-resumes (Err fault.BatchFull) slots before act front mid new events_old events_new flight old taken is whole ends = absurd ends
+marked-resumes (Err fault.ProbesFull) slots before act front mid new events_old events_new flight old taken is whole ends = absurd ends
+marked-resumes (Err fault.Memory) slots before act front mid new events_old events_new flight old taken is whole ends = absurd ends
+marked-resumes (Err (fault.Held left)) slots before act front mid new events_old events_new flight old taken is whole ends = absurd ends
 
 -- the refusal of an idle manager tells the verdict, which is against the batch
 judged : (inside run : Running) (reason : Refusal) → inside ≡ run → run.manager.held ≡ None → Judges inside.manager inside.manager.held inside.pending (Err reason)
@@ -229,22 +299,22 @@ judged inside run reason same idle judges other =
     (sym (told-verdict (verdict_of run) reason answers other), told-refused (verdict_of run) reason answers other)
 
 -- a refused commit, with its line or a part of it
-pub refused-acts : (result : Result (Unit {0}) RunFault) (slots : ℕ) (inside run new : Running) (reason : Refusal) (manager : Managed)
-    (journal_old journal_new : List Write) (old taken : Option (List ℕ)) → inside ≡ run → run.manager.held ≡ None
-    → Judges inside.manager inside.manager.held inside.pending (Err reason) → reason ≢ refusal.Memory → manager ≡ inside.manager → journal_new ≡ journal_old
+pub refused-acts : (most : Option ℕ) (result : Result (Unit {0}) RunFault) (slots : ℕ) (inside run new : Running) (reason : Refusal) (manager : Managed)
+    (events_old events_new : List Action) (old taken : Option (List ℕ)) → inside ≡ run → run.manager.held ≡ None
+    → Judges inside.manager inside.manager.held inside.pending (Err reason) → reason ≢ refusal.Memory → manager ≡ inside.manager → events_new ≡ events_old
     → new ≡ run_refused (record inside { manager = manager }) → IfErr result (λ why. why ≡ fault.Sink)
     → OnOk result (Appends old taken (refused_line inside.family (inside.commits + 1) (verdict_told reason)))
     → OnErr result (AppendsPart old taken (refused_line inside.family (inside.commits + 1) (verdict_told reason)))
-    → ComesTo slots run Commit new result journal_old journal_new old taken
-refused-acts (Ok done) slots inside run new reason manager journal_old journal_new old taken same idle judges other kept journal is kind grown part =
+    → ComesTo slots run (commit_act most) new result events_old events_new old taken
+refused-acts most (Ok done) slots inside run new reason manager events_old events_new old taken same idle judges other kept journal is kind grown part =
     let verdict = judged inside run reason same idle judges other in
     let whole : record inside { manager = manager } ≡ run = ap (λ (m : Managed). record inside { manager = m }) kept ∙ same in
-    refuse-carries slots run new (verdict_told reason) journal_old journal_new old taken verdict.0 verdict.1 (is ∙ ap run_refused whole) journal
+    refuse-carries most slots run new (verdict_told reason) events_old events_new old taken verdict.0 verdict.1 (is ∙ ap run_refused whole) journal
     (subst (λ (r : Running). Appends old taken (refused_line r.family (r.commits + 1) (verdict_told reason))) same grown)
-refused-acts (Err why) slots inside run new reason manager journal_old journal_new old taken same idle judges other kept journal is kind grown part =
+refused-acts most (Err why) slots inside run new reason manager events_old events_new old taken same idle judges other kept journal is kind grown part =
     let verdict = judged inside run reason same idle judges other in
-    subst (λ one. ComesTo slots run Commit new (Err one) journal_old journal_new old taken) (sym kind)
-    (refuse-cuts slots run new (verdict_told reason) journal_old journal_new old taken verdict.0 verdict.1 journal
+    subst (λ one. ComesTo slots run (commit_act most) new (Err one) events_old events_new old taken) (sym kind)
+    (refuse-cuts most slots run new (verdict_told reason) events_old events_new old taken verdict.0 verdict.1 journal
     (subst (λ (r : Running). AppendsPart old taken (refused_line r.family (r.commits + 1) (verdict_told reason))) same part))
 
 -- the numbers of a run's last line

@@ -1,299 +1,352 @@
--- The writes of a commit under way, one after the other.
-use Rattle.std.proofs.Common.{◌≡◌, ℕ, ◌+◌, ◌^◌, ◌<◌, ◌≤◌, true, false, List, [], ◌∷◌, ◌++◌, Option, Some, None, IsSome, IfSome, length, refl, sym, ap, ◌∙◌, subst, append_assoc, length-append, arith}
-use Rattle.std.specs.Io.KnownBytes.{Appends}
-use Rattle.std.proofs.KnownBytes.{Appends-nil, Appends-trans}
+-- The actions of a commit under way, one after the other.
+use Rattle.std.proofs.Common.{◌≡◌, ℕ, ◌+◌, ◌^◌, ◌<◌, ◌≤◌, true, false, min, List, [], ◌∷◌, ◌++◌, Option, Some, None, IsSome, IfSome, length, refl, sym, ap, ◌∙◌, subst, append_assoc, length-append, arith}
+use Rattle.std.specs.Prelude.{IsTrue}
 use Rattle.std.proofs.lemmas.List.{append-nil}
 use Rattle.tcam_device.specs.declared.Write.{Write}
 use Rattle.tcam_device.specs.declared.Action.{Action}
 use Rattle.tcam_device.specs.declared.Action.TheVariants as action
-use Rattle.tcam_device.specs.Flight.{writes_in}
-use Rattle.tcam_device.specs.State.{apply, blank, replay, state_after}
+use Rattle.tcam_device.specs.Flight.{Flight, writes_in}
+use Rattle.tcam_device.specs.State.{State, state_after}
 use Rattle.tcam_device.proofs.Spans.{state_after-append}
-use Rattle.batch_order.specs.declared.Step.{Step}
-use Rattle.batch_order.specs.declared.Step.TheVariants.{Wrote, Drained, Finished}
-use Rattle.batch_order.specs.CarriedOut.{GoesForward, HasRoomLeft}
-use Rattle.batch_order.specs.Managed.{Managed, HeldCommit, room_needed, writes_due}
-use Rattle.batch_order.specs.Steps.{Steps, actions_of, due_write, next_of}
 use Rattle.commit_writes.proofs.Actions.{writes_in-append}
 use Rattle.commit_writes.specs.declared.Done.{Done}
-use Rattle.replay.specs.Run.{Effect, Writes, Prints, printed, written, trace_of, probes_of, lines_of}
-use Rattle.replay.specs.Run as effects
-use Rattle.replay.specs.Outside.{CutsLines}
-use Rattle.replay.specs.Carried.{CutsEffects}
-use Rattle.replay.specs.Running.{Watching, MakesAll, MakesSome, StopsAtLine, StopsAtWrite, Tells, telling, effects_on}
-use Rattle.replay.proofs.Acting.{drained-first, finished-none, held_now, next-forward, room-forward, some-goes, some-held, some-is, some-more, wrote-first, writes-forward}
-use Rattle.replay.proofs.Effects.{grown-more, written-append, printed-append, written-lines, written-writes, written-front, write_effects-append}
+use Rattle.batch_order.specs.declared.Step.{Step}
+use Rattle.batch_order.specs.declared.Step.TheVariants.{Wrote, Drained, Finished, Waiting, Idle}
+use Rattle.batch_order.specs.CarriedOut.{HasRoomBothWays, HasRoomLeft}
+use Rattle.batch_order.specs.Managed.{Managed, HeldCommit}
+use Rattle.batch_order.specs.Steps.{Steps, actions_of, awaits_drain, next_of}
+use Rattle.replay.specs.declared.watch.Count.{Count}
+use Rattle.replay.specs.Effects.{waiting_after}
+use Rattle.replay.specs.InFlight.{AreOf, flight_after}
+use Rattle.replay.specs.Running.{Watching, HasCome, IsSame, MakesSome, TurnsAt, left_of, rest_of}
+use Rattle.replay.proofs.Acting.{ActsOnce, GoesOn, IsTurned, Straight, drained-first, due-first, goes-on, never-idle, rest-more, same-then, some-held, turns-at, waiting-first, wrote-first}
+use Rattle.replay.proofs.Effects.{grown-more, waiting-append}
+use Rattle.replay.proofs.InFlight.{are-after, few-after}
 
 -- how many actions are left
-abbrev pub left_number : Option HeldCommit → ℕ
-left_number None = 0
-left_number (Some held) = length held.actions
+abbrev pub left_number : Option ℕ → State → Option HeldCommit → ℕ
+left_number rest state None = 0
+left_number rest state (Some held) = length (left_of rest state held)
 
--- actions of a commit under way are being made: so many writes are told, some of them before, and the device has room for
--- those left
-pub record IsMaking (begun now : Managed) (watch : Watching) (device_slots told : ℕ) (journal_begun journal_now : List Write) (taken_begun taken_now : Option (List ℕ)) (number spare : ℕ) : Type 0 where
-  pub some : MakesSome begun now
-  pub journal : journal_now ≡ journal_begun ++ writes_in some.made
-  pub report : Tells begun watch device_slots told journal_begun (writes_in some.made) taken_begun taken_now
-  pub count : number ≡ told + length (writes_in some.made)
-  pub room : length some.left ≤ spare
+-- it has come by some actions, and by some more
+pub come-then : (watch : Watching) (first second third : Count) (made more : List Action) → HasCome watch first second made → HasCome watch second third more → HasCome watch first third (made ++ more)
+come-then watch first second third made more was is = record {
+  told =
+      let before = was.told in
+      let after = is.told in
+      let sizes : length (writes_in (made ++ more)) ≡ length (writes_in made) + length (writes_in more) =
+      ap length (writes_in-append made more) ∙ length-append (writes_in made) (writes_in more) in
+      omega arith;
+  waiting = is.waiting ∙ ap (λ waiting. waiting_after watch.depth waiting more) was.waiting ∙ sym (waiting-append watch.depth first.waiting made more);
+}
 
-left-now : (begun now : Managed) (some : MakesSome begun now) → left_number now.held ≡ length some.left
-left-now begun now some = ap left_number (some-held begun now some)
+-- some actions were made, and then some of those that were left
+module _ (most : Option ℕ) (told between : ℕ) (first second third : Managed) (was : MakesSome most told first second) (between_is : between ≡ told + length (writes_in was.made)) (is : MakesSome most between second third) where
+  pub then-held : is.held ≡ was.one
+  then-held =
+      let both : Some is.held ≡ Some was.one = sym is.held_is ∙ some-held most told first second was in
+      cc
 
-some_held : (held : Option HeldCommit) → IsSome held → (one : HeldCommit) × (held ≡ Some one)
+  pub then-left : was.left ≡ is.made ++ is.left
+  then-left =
+      sym was.left_is ∙ ap (λ n. left_of (rest_of most n) second.state was.one) (sym between_is)
+      ∙ ap (left_of (rest_of most between) second.state) (sym then-held) ∙ is.whole
+
+  pub then-number : between + length (writes_in is.made) ≡ told + length (writes_in (was.made ++ is.made))
+  then-number =
+      let sizes : length (writes_in (was.made ++ is.made)) ≡ length (writes_in was.made) + length (writes_in is.made) =
+      ap length (writes_in-append was.made is.made) ∙ length-append (writes_in was.made) (writes_in is.made) in
+      omega arith
+
+  pub then-same : IsSame (rest_of most between) (rest_of most (told + length (writes_in (was.made ++ is.made)))) was.one is.one
+  then-same =
+      subst (λ n. IsSame (rest_of most between) (rest_of most n) was.one is.one) then-number
+      (subst (λ held. IsSame (rest_of most between) (rest_of most (between + length (writes_in is.made))) held is.one) then-held is.same)
+
+  abbrev pub makes-then : MakesSome most told first third
+  makes-then = record {
+    held = was.held;
+    made = was.made ++ is.made;
+    left = is.left;
+    held_is = was.held_is;
+    whole = was.whole ∙ ap (λ actions. was.made ++ actions) then-left ∙ sym (append_assoc was.made is.made is.left);
+    one = is.one;
+    now_is = is.now_is
+        ∙ ap (λ (manager : Managed). record manager { state = state_after manager.state (writes_in is.made); held = Some is.one }) was.now_is
+        ∙ ap (λ (state : State). record first { state = state; held = Some is.one })
+        (sym (state_after-append first.state (writes_in was.made) (writes_in is.made)) ∙ ap (state_after first.state) (sym (writes_in-append was.made is.made)));
+    left_is = ap (λ n. left_of (rest_of most n) third.state is.one) (sym then-number) ∙ is.left_is;
+    same = same-then (rest_of most told) (rest_of most between) (rest_of most (told + length (writes_in (was.made ++ is.made)))) was.held was.one is.one
+        (subst (λ n. IsSame (rest_of most told) (rest_of most n) was.held was.one) (sym between_is) was.same) then-same;
+  }
+
+-- one action
+abbrev pub makes-once : (most : Option ℕ) (told : ℕ) (now : Managed) (held : HeldCommit) (action : Action) (new : Managed) → now.held ≡ Some held → ActsOnce (rest_of most told) now held action new
+    → MakesSome most told now new
+makes-once most told now held action new is acts =
+    let next : acts.next ≡ rest_of most (told + length (writes_in (action ∷ []))) = acts.next_is ∙ rest-more most told (length (writes_in (action ∷ []))) in record {
+      held = held;
+      made = action ∷ [];
+      left = acts.left;
+      held_is = is;
+      whole = acts.is;
+      one = acts.one;
+      now_is = acts.new_is;
+      left_is = ap (λ rest. left_of rest new.state acts.one) (sym next) ∙ ap (λ (manager : Managed). left_of acts.next manager.state acts.one) acts.new_is ∙ acts.left_is;
+      same = subst (λ rest. IsSame (rest_of most told) rest held acts.one) next acts.same;
+    }
+
+-- Actions of a commit under way are being made: so many writes are told and the words of so many of these are in flight, and
+-- the device has room for the actions that are left, and for the way back.
+pub record IsMaking (most : Option ℕ) (begun now : Managed) (watch : Watching) (count count_now : Count) (events_begun events_now : List Action) (flight : Flight) (spare : ℕ) : Type 0 where
+  pub some : MakesSome most count.told begun now
+  pub come : HasCome watch count count_now some.made
+  pub events : events_now ≡ events_begun ++ some.made
+  pub room : HasRoomBothWays now.held spare
+  pub words : AreOf watch.probes count_now.waiting flight
+  pub few : count_now.waiting ≤ watch.depth
+
+pub some_held : (held : Option HeldCommit) → IsSome held → (one : HeldCommit) × (held ≡ Some one)
 some_held (Some one) some = (one, refl)
 some_held None some = absurd (cc)
 
 -- none is made yet
-pub making-none : (begun : Managed) (watch : Watching) (slots told : ℕ) (journal : List Write) (taken : Option (List ℕ)) (spare : ℕ) → IsSome begun.held → GoesForward begun.held
-    → HasRoomLeft begun.held spare → IsMaking begun begun watch slots told journal journal taken taken told spare
-making-none begun watch slots told journal taken spare some forward room =
+abbrev pub making-none : (most : Option ℕ) (begun : Managed) (watch : Watching) (count : Count) (events : List Action) (flight : Flight) (spare : ℕ) → IsSome begun.held
+    → HasRoomBothWays begun.held spare → AreOf watch.probes count.waiting flight → count.waiting ≤ watch.depth → IsMaking most begun begun watch count count events events flight spare
+making-none most begun watch count events flight spare some room words few =
     let (held, is) = some_held begun.held some in
-    let onward : held.turned ≡ None = subst (λ one. GoesForward one) is forward in
-    let enough : room_needed held ≤ spare = subst (λ one. HasRoomLeft one spare) is room in
-    let size = room-forward held onward in record {
-      some = record { held = held; made = []; left = held.actions; held_is = is; forward = onward; whole = refl; now_is = refl };
-      journal = sym (append-nil journal);
-      report = Appends-nil taken;
-      count = omega arith;
-      room = omega arith;
-    }
-
--- a write is made, and isn't told yet
-pub record HasWritten (begun now : Managed) (watch : Watching) (device_slots told : ℕ) (journal_begun journal_now : List Write) (taken_begun taken_now : Option (List ℕ)) (number spare : ℕ) (write : Write) : Type 0 where
-  pub some : MakesSome begun now
-  pub made : List Write
-  pub made_is : writes_in some.made ≡ made ++ write ∷ []
-  pub journal : journal_now ≡ journal_begun ++ (made ++ write ∷ [])
-  pub report : Tells begun watch device_slots told journal_begun made taken_begun taken_now
-  pub count : number ≡ told + length made
-  pub room : length some.left ≤ spare
-
-module _ (begun now new : Managed) (watch : Watching) (slots told : ℕ) (journal_begun journal_now journal_new : List Write) (taken_begun taken : Option (List ℕ)) (number spare spare_new : ℕ) (step : Step)
-    (making : IsMaking begun now watch slots told journal_begun journal_now taken_begun taken number spare) (steps : Steps now 0 now.held step new)
-    (journal : journal_new ≡ journal_now ++ writes_in (actions_of step)) (room : spare_new + length (actions_of step) ≡ spare) where
-  -- one write more
-  pub making-more : (write : Write) → step ≡ Wrote write → HasWritten begun new watch slots told journal_begun journal_new taken_begun taken number spare_new write
-  making-more write wrote =
-      let was = making.some in
-      let more = wrote-first now (held_now begun now was) step new write (some-goes begun now new was step steps) wrote in
-      let count : spare_new + 1 ≡ spare = subst (λ one. spare_new + length (actions_of one) ≡ spare) wrote room in
-      let lengths : length was.left ≡ length more.0 + 1 = let same : length was.left ≡ length (action.Written write ∷ more.0) = ap length more.1 in omega arith in
-      let before = making.room in record {
-        some = some-more begun now new was (action.Written write) more.0 more.1 more.2;
-        made = writes_in was.made;
-        made_is = writes_in-append was.made (action.Written write ∷ []);
-        journal = grown-more journal_begun journal_now journal_new (writes_in was.made) (write ∷ []) making.journal
-            (journal ∙ ap (λ one. journal_now ++ writes_in (actions_of one)) wrote);
-        report = making.report;
-        count = making.count;
-        room = omega arith;
-      }
-
-  -- the drain is made, of which nothing is told
-  pub making-drained : step ≡ Drained → IsMaking begun new watch slots told journal_begun journal_new taken_begun taken number spare_new
-  making-drained drained =
-      let was = making.some in
-      let more = drained-first now (held_now begun now was) step new (some-goes begun now new was step steps) drained in
-      let count : spare_new + 1 ≡ spare = subst (λ one. spare_new + length (actions_of one) ≡ spare) drained room in
-      let lengths : length was.left ≡ length more.0 + 1 = let same : length was.left ≡ length (action.Drained ∷ more.0) = ap length more.1 in omega arith in
-      let same : writes_in (was.made ++ action.Drained ∷ []) ≡ writes_in was.made = writes_in-append was.made (action.Drained ∷ []) ∙ append-nil (writes_in was.made) in
-      let before = making.room in record {
-        some = some-more begun now new was action.Drained more.0 more.1 more.2;
-        journal = journal ∙ ap (λ one. journal_now ++ writes_in (actions_of one)) drained ∙ append-nil journal_now ∙ making.journal ∙ ap (λ writes. journal_begun ++ writes) (sym same);
-        report = subst (λ writes. Tells begun watch slots told journal_begun writes taken_begun taken) (sym same) making.report;
-        count = making.count ∙ ap (λ writes. told + length writes) (sym same);
-        room = omega arith;
-      }
-
-  -- either way fewer are left
-  pub fewer-written : (write : Write) → step ≡ Wrote write → left_number new.held < left_number now.held
-  fewer-written write wrote =
-      let was = making.some in
-      let more = wrote-first now (held_now begun now was) step new write (some-goes begun now new was step steps) wrote in
-      let lengths : length was.left ≡ length more.0 + 1 = let same : length was.left ≡ length (action.Written write ∷ more.0) = ap length more.1 in omega arith in
-      let before = left-now begun now was in
-      let after : left_number new.held ≡ length more.0 = left-now begun new (some-more begun now new was (action.Written write) more.0 more.1 more.2) in
-      omega arith
-
-  pub fewer-drained : step ≡ Drained → left_number new.held < left_number now.held
-  fewer-drained drained =
-      let was = making.some in
-      let more = drained-first now (held_now begun now was) step new (some-goes begun now new was step steps) drained in
-      let lengths : length was.left ≡ length more.0 + 1 = let same : length was.left ≡ length (action.Drained ∷ more.0) = ap length more.1 in omega arith in
-      let before = left-now begun now was in
-      let after : left_number new.held ≡ length more.0 = left-now begun new (some-more begun now new was action.Drained more.0 more.1 more.2) in
-      omega arith
-
-  -- none is left
-  pub making-all : (done : Done) → step ≡ Finished done → MakesAll begun watch slots told number done new journal_begun journal_new taken_begun taken
-  making-all done finished =
-      let was = making.some in
-      let held = held_now begun now was in
-      let last = finished-none now held step new done (some-goes begun now new was step steps) finished in
-      let whole : was.held.actions ≡ was.made = was.whole ∙ ap (λ left. was.made ++ left) last.0 ∙ append-nil was.made in
-      let same : writes_in was.made ≡ writes_in was.held.actions = ap writes_in (sym whole) in record {
-        held = was.held;
-        held_is = was.held_is;
-        done_is = last.1;
-        now_is = last.2
-            ∙ ap (λ (manager : Managed). record manager { rules = was.held.rules; bits = was.held.bits; held = None }) (some-is begun now was)
-            ∙ ap (λ writes. record begun { state = state_after begun.state writes; rules = was.held.rules; bits = was.held.bits; held = None }) same;
-        number = making.count ∙ ap (λ writes. told + length writes) same;
-        journal = journal ∙ ap (λ one. journal_now ++ writes_in (actions_of one)) finished ∙ append-nil journal_now ∙ making.journal ∙ ap (λ writes. journal_begun ++ writes) same;
-        report = subst (λ writes. Tells begun watch slots told journal_begun writes taken_begun taken) same making.report;
-      }
-
--- the lines of a write, by what is told of each
-abbrev pub lines_on : Watching → ℕ → ℕ → Write → List Write → List Effect
-lines_on watch slots number write writes = trace_of watch.family watch.trace number write ++ probes_of watch.family number (replay slots writes) 1 watch.probes
-
--- the writes with one more, each told
-one-told : (begun : Managed) (watch : Watching) (slots told : ℕ) (before made : List Write) (write : Write) (left : List Write)
-    → effects_on begun watch slots told before (made ++ write ∷ left)
-    ≡ effects_on begun watch slots told before made ++ Writes write ∷ (lines_on watch slots ((told + length made) + 1) write (before ++ (made ++ write ∷ []))
-    ++ effects.write_effects (telling begun watch) watch.probes ((told + length made) + 2) (replay slots (before ++ (made ++ write ∷ []))) left)
-one-told begun watch slots told before made write left =
-    let state = replay slots before in
-    let count = told + length made in
-    let at : replay slots (before ++ (made ++ write ∷ [])) ≡ apply (state_after state made) write =
-    state_after-append (blank slots) before (made ++ write ∷ []) ∙ state_after-append state made (write ∷ []) in
-    let first : (told + 1) + length made ≡ count + 1 = omega arith in
-    let second : (count + 1) + 1 ≡ count + 2 = omega arith in
-    write_effects-append (telling begun watch) watch.probes (told + 1) state made (write ∷ left)
-    ∙ ap (λ n. effects_on begun watch slots told before made ++ effects.write_effects (telling begun watch) watch.probes n (state_after state made) (write ∷ left)) first
-    ∙ ap (λ n. effects_on begun watch slots told before made
-    ++ Writes write ∷ (lines_of (telling begun watch) watch.probes (count + 1) (apply (state_after state made) write) write
-    ++ effects.write_effects (telling begun watch) watch.probes n (apply (state_after state made) write) left)) second
-    ∙ ap (λ now. effects_on begun watch slots told before made
-    ++ Writes write ∷ (lines_of (telling begun watch) watch.probes (count + 1) now write ++ effects.write_effects (telling begun watch) watch.probes (count + 2) now left)) (sym at)
-
-told-more : (begun : Managed) (watch : Watching) (slots told : ℕ) (journal_begun journal : List Write) (made : List Write) (write : Write) (old mid new : Option (List ℕ)) (number : ℕ)
-    → number ≡ told + length made → journal ≡ journal_begun ++ (made ++ write ∷ []) → Tells begun watch slots told journal_begun made old mid
-    → Appends mid new (printed (lines_on watch slots (number + 1) write journal))
-    → Tells begun watch slots told journal_begun (made ++ write ∷ []) old new
-told-more begun watch slots told before journal made write old mid new number count same front lines =
-    let at : Appends mid new (printed (lines_on watch slots ((told + length made) + 1) write (before ++ (made ++ write ∷ [])))) =
-    subst (λ n. Appends mid new (printed (lines_on watch slots (n + 1) write (before ++ (made ++ write ∷ []))))) count
-    (subst (λ writes. Appends mid new (printed (lines_on watch slots (number + 1) write writes))) same lines) in
-    let now = lines_on watch slots ((told + length made) + 1) write (before ++ (made ++ write ∷ [])) in
-    subst (Appends old new)
-    (sym (ap printed (one-told begun watch slots told before made write [])
-    ∙ printed-append (effects_on begun watch slots told before made) (Writes write ∷ (now ++ []))
-    ∙ ap (λ effects. printed (effects_on begun watch slots told before made) ++ printed effects) (append-nil now)))
-    (Appends-trans old mid new (printed (effects_on begun watch slots told before made)) (printed now) front at)
-
-count-more : (begun now : Managed) (watch : Watching) (slots told : ℕ) (journal_begun journal : List Write) (taken_begun taken : Option (List ℕ)) (number spare : ℕ) (write : Write)
-    → (has : HasWritten begun now watch slots told journal_begun journal taken_begun taken number spare write) → number + 1 ≡ told + length (writes_in has.some.made)
-count-more begun now watch slots told journal_begun journal taken_begun taken number spare write has =
-    let count = has.count in
-    let lengths = length-append has.made (write ∷ []) in
-    let longer : length (writes_in has.some.made) ≡ length (has.made ++ write ∷ []) = ap length has.made_is in
-    omega arith
-
--- it is told
-pub making-told : (begun now : Managed) (watch : Watching) (slots told : ℕ) (journal_begun journal : List Write) (taken_begun taken taken_new : Option (List ℕ)) (number spare : ℕ) (write : Write)
-    → HasWritten begun now watch slots told journal_begun journal taken_begun taken number spare write
-    → Appends taken taken_new (printed (lines_on watch slots (number + 1) write journal))
-    → IsMaking begun now watch slots told journal_begun journal taken_begun taken_new (number + 1) spare
-making-told begun now watch slots told journal_begun journal taken_begun taken taken_new number spare write has lines = record {
-  some = has.some;
-  journal = has.journal ∙ ap (λ made. journal_begun ++ made) (sym has.made_is);
-  report = subst (λ made. Tells begun watch slots told journal_begun made taken_begun taken_new) (sym has.made_is)
-      (told-more begun watch slots told journal_begun journal has.made write taken_begun taken taken_new number has.count has.journal has.report lines);
-  count = count-more begun now watch slots told journal_begun journal taken_begun taken number spare write has;
-  room = has.room;
-}
-
-cut-more : (begun : Managed) (watch : Watching) (slots told : ℕ) (journal_begun journal : List Write) (made : List Write) (write : Write) (left all : List Write) (old mid new : Option (List ℕ)) (number : ℕ)
-    → number ≡ told + length made → all ≡ made ++ write ∷ left → journal ≡ journal_begun ++ (made ++ write ∷ []) → Tells begun watch slots told journal_begun made old mid
-    → CutsLines (lines_on watch slots (number + 1) write journal) mid new
-    → CutsEffects (effects_on begun watch slots told journal_begun all) journal_begun journal old new
-cut-more begun watch slots told before journal made write left all old mid new number count whole same front cuts =
-    let now = lines_on watch slots ((told + length made) + 1) write (before ++ (made ++ write ∷ [])) in
-    let cut : CutsLines now mid new =
-    subst (λ n. CutsLines (lines_on watch slots (n + 1) write (before ++ (made ++ write ∷ []))) mid new) count
-    (subst (λ writes. CutsLines (lines_on watch slots (number + 1) write writes) mid new) same cuts) in
-    let later = effects.write_effects (telling begun watch) watch.probes ((told + length made) + 2) (replay slots (before ++ (made ++ write ∷ []))) left in
-    let ahead = effects_on begun watch slots told before made in
-    let none : written cut.front ≡ [] = written-front cut.front (cut.partial ++ cut.rest) cut.back
-    (sym (ap written cut.cut) ∙ written-lines (telling begun watch) watch.probes ((told + length made) + 1) (replay slots (before ++ (made ++ write ∷ []))) write) in record {
-      front = ahead ++ Writes write ∷ cut.front;
-      partial = cut.partial;
-      rest = cut.rest;
-      back = cut.back ++ later;
-      cut = ap (effects_on begun watch slots told before) whole
-          ∙ one-told begun watch slots told before made write left
-          ∙ ap (λ lines. ahead ++ Writes write ∷ (lines ++ later)) cut.cut
-          ∙ ap (λ effects. ahead ++ Writes write ∷ effects) (append_assoc cut.front (Prints (cut.partial ++ cut.rest) ∷ cut.back) later)
-          ∙ sym (append_assoc ahead (Writes write ∷ cut.front) (Prints (cut.partial ++ cut.rest) ∷ (cut.back ++ later)));
-      does = record {
-        journal = same
-            ∙ ap (λ more. before ++ more)
-            (sym (written-append ahead (Writes write ∷ cut.front)
-            ∙ ap (λ writes. writes ++ write ∷ written cut.front) (written-writes (telling begun watch) watch.probes (told + 1) (replay slots before) made)
-            ∙ ap (λ writes. made ++ write ∷ writes) none));
-        report = subst (Appends old new)
-            (sym (ap (λ text. text ++ cut.partial) (printed-append ahead (Writes write ∷ cut.front)) ∙ append_assoc (printed ahead) (printed cut.front) cut.partial))
-            (Appends-trans old mid new (printed ahead) (printed cut.front ++ cut.partial) front cut.grown);
+    let same : count.told ≡ count.told + length (writes_in []) = omega arith in record {
+      some = record {
+        held = held;
+        made = [];
+        left = left_of (rest_of most count.told) begun.state held;
+        held_is = is;
+        whole = refl;
+        one = held;
+        now_is = ap (λ one. record begun { held = one }) is;
+        left_is = ap (λ n. left_of (rest_of most n) begun.state held) (sym same);
+        same = subst (λ n. IsSame (rest_of most count.told) (rest_of most n) held held) same (record { counts = refl; rules = refl; bits = refl; back = refl });
       };
+      come = record { told = same; waiting = refl };
+      events = sym (append-nil events);
+      room = room;
+      words = words;
+      few = few;
     }
 
--- it isn't told whole
-pub making-stops : (begun now : Managed) (watch : Watching) (slots told : ℕ) (journal_begun journal : List Write) (taken_begun taken taken_new : Option (List ℕ)) (number spare : ℕ) (write : Write)
-    → HasWritten begun now watch slots told journal_begun journal taken_begun taken number spare write
-    → CutsLines (lines_on watch slots (number + 1) write journal) taken taken_new
-    → StopsAtLine begun now watch slots told (number + 1) journal_begun journal taken_begun taken_new
-making-stops begun now watch slots told journal_begun journal taken_begun taken taken_new number spare write has cuts = record {
-  some = has.some;
-  number = count-more begun now watch slots told journal_begun journal taken_begun taken number spare write has;
-  journal = has.journal ∙ ap (λ made. journal_begun ++ made) (sym has.made_is);
-  cuts = cut-more begun watch slots told journal_begun journal has.made write (writes_in has.some.left) (writes_in has.some.held.actions) taken_begun taken taken_new number has.count
-      (ap writes_in has.some.whole ∙ writes_in-append has.some.made has.some.left ∙ ap (λ made. made ++ writes_in has.some.left) has.made_is
-      ∙ append_assoc has.made (write ∷ []) (writes_in has.some.left)) has.journal has.report cuts;
-}
+module _ (most : Option ℕ) (begun now new : Managed) (watch : Watching) (count count_now : Count) (events_begun events_now : List Action) (flight : Flight) (spare : ℕ)
+    (making : IsMaking most begun now watch count count_now events_begun events_now flight spare) where
+  -- a trial is turned round where it is time
+  module _ (turns : TurnsAt most count_now.told now now.held new) (both_ways : (spare : ℕ) → HasRoomBothWays now.held spare → HasRoomBothWays new.held spare) where
+    abbrev pub rest_now : Option ℕ
+    rest_now = rest_of most (count.told + length (writes_in making.some.made))
 
-some_left : (left : List Action) → IsSome (due_write left) → (due : Write) × (rest : List Action) × (left ≡ action.Written due ∷ rest)
-some_left [] some = absurd (let none : false ≡ true = some in cc)
-some_left (action.Written due ∷ rest) some = (due, rest, refl)
-some_left (action.Drained ∷ rest) some = absurd (let none : false ≡ true = some in cc)
+    abbrev pub turned : IsTurned rest_now now making.some.one new
+    turned =
+        turns-at most (count.told + length (writes_in making.some.made)) now making.some.one new (some-held most count.told begun now making.some)
+        (subst (λ n. TurnsAt most n now now.held new) making.come.told turns)
 
--- where one is left, and isn't made
-pub making-cut : (begun now new : Managed) (watch : Watching) (slots told : ℕ) (journal_begun journal_now journal_new : List Write) (taken_begun taken : Option (List ℕ)) (number spare : ℕ)
-    → IsMaking begun now watch slots told journal_begun journal_now taken_begun taken number spare → new ≡ now → journal_new ≡ journal_now → IsSome (next_of now.held)
-    → StopsAtWrite begun new watch slots told number journal_begun journal_new taken_begun taken
-making-cut begun now new watch slots told journal_begun journal_now journal_new taken_begun taken number spare making same journal next =
-    let was = making.some in
-    let some = some_left was.left (subst (λ write. IsSome write) (ap next_of (some-held begun now was) ∙ next-forward (held_now begun now was) was.forward) next) in record {
-      some = record { held = was.held; made = was.made; left = was.left; held_is = was.held_is; forward = was.forward; whole = was.whole; now_is = same ∙ was.now_is };
-      due = some.0;
-      left = some.1;
-      left_is = some.2;
-      number = making.count;
-      journal = journal ∙ making.journal;
-      report = making.report;
-    }
+    pub turned-state : new.state ≡ now.state
+    turned-state = ap (λ (manager : Managed). manager.state) turned.new_is
+
+    abbrev pub making-turned : IsMaking most begun new watch count count_now events_begun events_now flight spare
+    making-turned =
+        let was = making.some in record {
+          some = record {
+            held = was.held;
+            made = was.made;
+            left = was.left;
+            held_is = was.held_is;
+            whole = was.whole;
+            one = turned.one;
+            now_is = turned.new_is ∙ ap (λ (manager : Managed). record manager { held = Some turned.one }) was.now_is;
+            left_is = ap (λ state. left_of rest_now state turned.one) turned-state ∙ turned.left_is ∙ was.left_is;
+            same = same-then (rest_of most count.told) rest_now rest_now was.held was.one turned.one was.same turned.same;
+          };
+          come = making.come;
+          events = making.events;
+          room = both_ways spare making.room;
+          words = making.words;
+          few = making.few;
+        }
+
+    pub turned-straight : Straight making-turned.some.one.turned rest_now making-turned.some.one.actions
+    turned-straight = turned.straight
+
+  pub left-now : left_number (rest_of most count_now.told) now.state now.held ≡ length making.some.left
+  left-now =
+      ap (λ held. left_number (rest_of most count_now.told) now.state held) (some-held most count.told begun now making.some)
+      ∙ ap (λ n. length (left_of (rest_of most n) now.state making.some.one)) making.come.told
+      ∙ ap length making.some.left_is
+
+-- a drain is told, and no word is in flight behind it
+pub come-drained : (watch : Watching) (now new : Count) → new.told ≡ now.told → new.waiting ≡ 0 → HasCome watch now new (action.Drained ∷ [])
+come-drained watch now new told waiting = record { told = omega (arith, told); waiting = waiting }
 
 -- few writes are told
-pub few-number : (begun now : Managed) (watch : Watching) (slots told : ℕ) (journal_begun journal_now : List Write) (taken_begun taken : Option (List ℕ)) (number spare : ℕ)
-    → IsMaking begun now watch slots told journal_begun journal_now taken_begun taken number spare → IfSome begun.held (λ held. told + length (writes_due held) ≤ 2 ^ 39) → number ≤ 2 ^ 39
-few-number begun now watch slots told journal_begun journal_now taken_begun taken number spare making all =
+pub few-number : (most : Option ℕ) (begun now : Managed) (watch : Watching) (count count_now : Count) (events_begun events_now : List Action) (flight : Flight) (spare : ℕ)
+    → (making : IsMaking most begun now watch count count_now events_begun events_now flight spare)
+    → IfSome begun.held (λ held. count.told + length (writes_in (left_of (rest_of most count.told) begun.state held)) ≤ 2 ^ 40)
+    → count_now.told + length (writes_in making.some.left) ≤ 2 ^ 40
+few-number most begun now watch count count_now events_begun events_now flight spare making all =
     let was = making.some in
-    let few : told + length (writes_due was.held) ≤ 2 ^ 39 = subst (λ held. IfSome held (λ (one : HeldCommit). told + length (writes_due one) ≤ 2 ^ 39)) was.held_is all in
-    let due : length (writes_due was.held) ≡ length (writes_in was.held.actions) = ap length (writes-forward was.held was.forward) in
-    let lengths : length (writes_in was.held.actions) ≡ length (writes_in was.made) + length (writes_in was.left) =
+    let few : count.told + length (writes_in (left_of (rest_of most count.told) begun.state was.held)) ≤ 2 ^ 40 =
+    subst (λ held. IfSome held (λ (one : HeldCommit). count.told + length (writes_in (left_of (rest_of most count.told) begun.state one)) ≤ 2 ^ 40)) was.held_is all in
+    let lengths : length (writes_in (left_of (rest_of most count.told) begun.state was.held)) ≡ length (writes_in was.made) + length (writes_in was.left) =
     ap (λ actions. length (writes_in actions)) was.whole ∙ ap length (writes_in-append was.made was.left) ∙ length-append (writes_in was.made) (writes_in was.left) in
-    let count = making.count in
+    let told = making.come.told in
     omega arith
 
--- the room that is left is room for the actions that are left
-pub some-room : (begun now : Managed) (spare : ℕ) (some : MakesSome begun now) → length some.left ≤ spare → HasRoomLeft now.held spare
-some-room begun now spare some room =
-    let size : room_needed (held_now begun now some) ≡ length some.left = room-forward (held_now begun now some) some.forward in
-    let enough : room_needed (held_now begun now some) ≤ spare = omega arith in
-    subst (λ held. HasRoomLeft held spare) (sym (some-held begun now some)) enough
+-- a commit that is held, and isn't turned round by what has come
+module _ (most : Option ℕ) (begun now new : Managed) (watch : Watching) (count count_now count_new : Count) (events_begun events_now events_new : List Action) (flight flight_new : Flight) (spare spare_new : ℕ)
+    (making : IsMaking most begun now watch count count_now events_begun events_now flight spare) where
+  abbrev pub rest_here : Option ℕ
+  rest_here = rest_of most (count.told + length (writes_in making.some.made))
 
-pub all-room : (begun now : Managed) (watch : Watching) (slots told told_now spare : ℕ) (done : Done) (journal journal_now : List Write) (taken taken_now : Option (List ℕ))
-    → MakesAll begun watch slots told told_now done now journal journal_now taken taken_now → HasRoomLeft now.held spare
-all-room begun now watch slots told told_now spare done journal journal_now taken taken_now all = subst (λ (manager : Managed). HasRoomLeft manager.held spare) (sym all.now_is) tt
+  pub held-one : now.held ≡ Some making.some.one
+  held-one = some-held most count.told begun now making.some
+
+  -- one action more
+  module _ (action : Action) (acts : ActsOnce rest_here now making.some.one action new) where
+    abbrev pub more : MakesSome most (count.told + length (writes_in making.some.made)) now new
+    more = makes-once most (count.told + length (writes_in making.some.made)) now making.some.one action new held-one acts
+
+    abbrev pub some-more : MakesSome most count.told begun new
+    some-more = makes-then most count.told (count.told + length (writes_in making.some.made)) begun now new making.some refl more
+
+    pub more-left : making.some.left ≡ action ∷ acts.left
+    more-left = sym making.some.left_is ∙ acts.is
+
+    abbrev pub making-action : events_new ≡ events_now ++ action ∷ [] → HasRoomBothWays new.held spare_new → HasCome watch count_now count_new (action ∷ [])
+        → AreOf watch.probes count_new.waiting flight_new → count_new.waiting ≤ watch.depth → IsMaking most begun new watch count count_new events_begun events_new flight_new spare_new
+    making-action events room come words few = record {
+      some = some-more;
+      come = come-then watch count count_now count_new making.some.made (action ∷ []) making.come come;
+      events = grown-more events_begun events_now events_new making.some.made (action ∷ []) making.events events;
+      room = room;
+      words = words;
+      few = few;
+    }
+
+    -- then fewer are left
+    pub fewer-action : HasCome watch count_now count_new (action ∷ []) → left_number (rest_of most count_new.told) new.state new.held < length making.some.left
+    fewer-action come =
+        let both : HasCome watch count count_new (making.some.made ++ action ∷ []) = come-then watch count count_now count_new making.some.made (action ∷ []) making.come come in
+        let after : left_number (rest_of most count_new.told) new.state new.held ≡ length acts.left =
+        ap (λ held. left_number (rest_of most count_new.told) new.state held) (some-held most count.told begun new some-more)
+        ∙ ap (λ n. length (left_of (rest_of most n) new.state some-more.one)) both.told
+        ∙ ap length some-more.left_is in
+        let before : length making.some.left ≡ length (action ∷ acts.left) = ap length more-left in
+        omega arith
+
+  module _ (straight : Straight making.some.one.turned rest_here making.some.one.actions) (step : Step) (steps : Steps now (length flight) now.held step new) where
+    abbrev pub goes : GoesOn rest_here now making.some.one (length flight) step new
+    goes = goes-on rest_here now making.some.one (length flight) step new held-one straight steps
+
+    -- a write is made and told
+    module _ (write : Write) (wrote : step ≡ Wrote write) where
+      abbrev pub wrote-acts : ActsOnce rest_here now making.some.one (action.Written write) new
+      wrote-acts = wrote-first rest_here now making.some.one (length flight) step new write goes wrote
+
+      pub wrote-left : making.some.left ≡ action.Written write ∷ wrote-acts.left
+      wrote-left = more-left (action.Written write) wrote-acts
+
+      pub wrote-come : count_new.told ≡ count_now.told + 1 → count_new.waiting ≡ min (count_now.waiting + 1) watch.depth → HasCome watch count_now count_new (action.Written write ∷ [])
+      wrote-come told waiting = record { told = told; waiting = waiting }
+
+      -- and few writes were told before it
+      pub few-written : IfSome begun.held (λ held. count.told + length (writes_in (left_of (rest_of most count.told) begun.state held)) ≤ 2 ^ 40) → count_now.told < 2 ^ 40
+      few-written all =
+          let few = few-number most begun now watch count count_now events_begun events_now flight spare making all in
+          let size : length (writes_in making.some.left) ≡ length (write ∷ writes_in wrote-acts.left) = ap (λ actions. length (writes_in actions)) wrote-left in
+          omega arith
+
+      pub fewer-written : count_new.told ≡ count_now.told + 1 → count_new.waiting ≡ min (count_now.waiting + 1) watch.depth
+          → left_number (rest_of most count_new.told) new.state new.held < length making.some.left
+      fewer-written told waiting = fewer-action (action.Written write) wrote-acts (wrote-come told waiting)
+
+      abbrev pub making-written : (state : State) → events_new ≡ events_now ++ actions_of step → HasRoomBothWays new.held spare_new → count_new.told ≡ count_now.told + 1
+          → count_new.waiting ≡ min (count_now.waiting + 1) watch.depth → flight_new ≡ flight_after watch.probes watch.depth count_now.waiting state flight
+          → IsMaking most begun new watch count count_new events_begun events_new flight_new spare_new
+      making-written state events room told waiting words =
+          let few : min (count_now.waiting + 1) watch.depth ≤ watch.depth = few-after watch.probes watch.depth count_now.waiting state flight making.few making.words in
+          making-action (action.Written write) wrote-acts (events ∙ ap (λ one. events_now ++ actions_of one) wrote) room (wrote-come told waiting)
+          (subst (AreOf watch.probes count_new.waiting) (sym words)
+          (subst (λ n. AreOf watch.probes n (flight_after watch.probes watch.depth count_now.waiting state flight)) (sym waiting)
+          (are-after watch.probes watch.depth count_now.waiting state flight making.few making.words)))
+          (subst (λ n. n ≤ watch.depth) (sym waiting) few)
+
+    -- a drain is made, with no word in flight
+    module _ (drained : step ≡ Drained) where
+      abbrev pub drained-acts : ActsOnce rest_here now making.some.one action.Drained new
+      drained-acts = (drained-first rest_here now making.some.one (length flight) step new goes drained).0
+
+      pub drained-left : making.some.left ≡ action.Drained ∷ drained-acts.left
+      drained-left = more-left action.Drained drained-acts
+
+      pub drained-none : length flight ≡ 0
+      drained-none = (drained-first rest_here now making.some.one (length flight) step new goes drained).1
+
+      pub fewer-drained : count_new.told ≡ count_now.told → count_new.waiting ≡ 0 → left_number (rest_of most count_new.told) new.state new.held < length making.some.left
+      fewer-drained told waiting = fewer-action action.Drained drained-acts (come-drained watch count_now count_new told waiting)
+
+      abbrev pub making-drained : events_new ≡ events_now ++ actions_of step → HasRoomBothWays new.held spare_new → count_new.told ≡ count_now.told → count_new.waiting ≡ 0
+          → flight_new ≡ [] → IsMaking most begun new watch count count_new events_begun events_new flight_new spare_new
+      making-drained events room told waiting words =
+          making-action action.Drained drained-acts (events ∙ ap (λ one. events_now ++ actions_of one) drained) room (come-drained watch count_now count_new told waiting)
+          (subst (AreOf watch.probes count_new.waiting) (sym words) (subst (λ n. AreOf watch.probes n []) (sym waiting) refl))
+          (omega (arith, waiting))
+
+    -- it waited for its drain
+    pub waits-left : (number : ℕ) → step ≡ Waiting number → (left : List Action) × (making.some.left ≡ action.Drained ∷ left) × IsTrue (awaits_drain now.held) × (new ≡ now)
+    waits-left number waits =
+        let first = waiting-first rest_here now making.some.one (length flight) step new number goes waits in
+        (first.0, sym making.some.left_is ∙ first.1, (let awaits : awaits_drain now.held ≡ true = ap awaits_drain held-one ∙ first.2 in subst (λ one. IsTrue one) (sym awaits) refl), first.3)
+
+    pub goes-idle : step ≡ Idle → ⊥
+    goes-idle idle = never-idle rest_here now making.some.one (length flight) step new goes idle
+
+  -- where a write is due it is the first of those left
+  pub due-left : Straight making.some.one.turned rest_here making.some.one.actions → IsSome (next_of now.held)
+      → (due : Write) × (left : List Action) × (making.some.left ≡ action.Written due ∷ left) × (next_of now.held ≡ Some due)
+  due-left straight next = go (next_of now.held) refl next
+    where
+      go : (one : Option Write) → next_of now.held ≡ one → IsSome one
+          → (due : Write) × (left : List Action) × (making.some.left ≡ action.Written due ∷ left) × (next_of now.held ≡ Some due)
+      go None is some = absurd (cc)
+      go (Some due) is some =
+          let first = due-first rest_here now.state making.some.one due straight (sym (ap next_of held-one) ∙ is) in
+          (due, first.0, sym making.some.left_is ∙ first.1, is)
+
+-- a step that waited, and then the drain that was next
+module _ (most : Option ℕ) (begun now new passed : Managed) (watch : Watching) (count count_now count_new : Count) (events_begun events_now events_new : List Action) (flight flight_new : Flight) (spare spare_new : ℕ)
+    (making : IsMaking most begun now watch count count_now events_begun events_now flight spare)
+    (straight : Straight making.some.one.turned (rest_of most (count.told + length (writes_in making.some.made))) making.some.one.actions) (stood : new ≡ now) (steps : Steps new 0 new.held Drained passed) where
+  abbrev pub passed-acts : ActsOnce (rest_of most (count.told + length (writes_in making.some.made))) now making.some.one action.Drained passed
+  passed-acts =
+      let rest = rest_of most (count.told + length (writes_in making.some.made)) in
+      let held = some-held most count.told begun now making.some in
+      (drained-first rest now making.some.one 0 Drained passed
+      (goes-on rest now making.some.one 0 Drained passed held straight (subst (λ (manager : Managed). Steps manager 0 manager.held Drained passed) stood steps)) refl).0
+
+  abbrev pub making-passed : events_new ≡ events_now ++ action.Drained ∷ [] → HasRoomBothWays passed.held spare_new → count_new.told ≡ count_now.told → count_new.waiting ≡ 0 → flight_new ≡ []
+      → IsMaking most begun passed watch count count_new events_begun events_new flight_new spare_new
+  making-passed events room told waiting words =
+      making-action most begun now passed watch count count_now count_new events_begun events_now events_new flight flight_new spare spare_new making action.Drained passed-acts events room (come-drained watch count_now count_new told waiting)
+      (subst (AreOf watch.probes count_new.waiting) (sym words) (subst (λ n. AreOf watch.probes n []) (sym waiting) refl))
+      (omega (arith, waiting))
+
+  pub fewer-passed : count_new.told ≡ count_now.told → count_new.waiting ≡ 0 → left_number (rest_of most count_new.told) passed.state passed.held < length making.some.left
+  fewer-passed told waiting =
+      fewer-action most begun now passed watch count count_now count_new events_begun events_now events_new flight flight_new spare spare_new making action.Drained passed-acts (come-drained watch count_now count_new told waiting)
+
+-- where there is room for both ways there is for the one that it goes
+room-parts : (actions : List Action) (undo : List Write) (turned : Option ℕ) (spare : ℕ)
+    → elim turned [ None ↦ length actions + (length (writes_in actions) + length undo) | Some undone ↦ length undo ] ≤ spare
+    → elim turned [ None ↦ length actions | Some undone ↦ length undo ] ≤ spare
+room-parts actions undo None spare room = omega arith
+room-parts actions undo (Some undone) spare room = room
+
+pub room-left : (held : Option HeldCommit) (spare : ℕ) → HasRoomBothWays held spare → HasRoomLeft held spare
+room-left None spare room = tt
+room-left (Some held) spare room = room-parts held.actions held.undo held.turned spare room

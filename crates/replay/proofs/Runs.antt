@@ -1,5 +1,5 @@
 -- What a run is between two calls, and after an accepted commit.
-use Rattle.std.proofs.Common.{Bool, true, false, ◌≡◌, ℕ, ◌+◌, ◌-◌, ◌*◌, ◌^◌, ◌≤◌, length, List, [], ◌∷◌, ◌++◌, Option, None, IsSome, replicate, take, Result, Ok, Err, OnOk, OnErr, refl, sym, ap, ◌∙◌, subst, arith}
+use Rattle.std.proofs.Common.{Bool, true, false, ◌≡◌, ℕ, ◌+◌, ◌-◌, ◌*◌, ◌^◌, ◌<◌, ◌≤◌, length, List, [], ◌∷◌, ◌++◌, Option, None, IsSome, replicate, take, Result, Ok, Err, OnOk, OnErr, refl, sym, ap, ◌∙◌, subst, arith}
 use Rattle.std.proofs.Math.Seq.{take-append_seam}
 use Rattle.std.specs.List.{AllByRecursion}
 use Rattle.rule_model.specs.declared.IpVersion.{IpVersion}
@@ -20,23 +20,24 @@ use Rattle.batch_order.specs.Managed.{HeldCommit, Holds, OnlyChangesRoutes}
 use Rattle.batch_order.specs.Placing.{IsPlacedBy}
 use Rattle.replay.specs.declared.Family.{Family}
 use Rattle.replay.specs.declared.Family.TheVariants.{Route, Acl, Route6, Acl6}
-use Rattle.replay.specs.Run.{Setting, Progress, Effect, Prints, Commits, OfFamily, slots_in_use, write_effects, after_segment}
-use Rattle.replay.specs.Text.{accepted_line}
-use Rattle.replay.specs.Running.{Running, IsHalfway, IsRun, setting_of, progress_of, begun, routes_of, IsChangeOf}
+use Rattle.replay.specs.Effects.{Setting, Effect, Prints}
+use Rattle.replay.specs.Run.{Progress, Commits, Returns, OfFamily, actions_back, actions_for, carried, slots_in_use, after_segment}
+use Rattle.replay.specs.Text.{aborted_line, accepted_line}
+use Rattle.replay.specs.Running.{Running, IsHalfway, IsRun, setting_of, progress_of, begun, routes_of, IsChangeOf, ShowsRules}
 use Rattle.replay.proofs.RouteSets.{routes_after, changes_more}
 use Rattle.tcam_device.proofs.Wider.{slots-after, state_after-on_device, Shows-padded, blank_shows}
 use Rattle.std.proofs.lemmas.List.{length-replicate}
 
 -- a run before its first act
-pub begun-run : (slots : ℕ) (mode : Mode) (placement : Placement) (family : Family) (trace : Bool) → IsRun (begun slots mode placement family trace)
-begun-run slots mode placement family trace = record {
+pub begun-run : (slots : ℕ) (mode : Mode) (placement : Placement) (family : Family) (trace : Bool) (depth : ℕ) → IsRun (begun slots mode placement family trace depth)
+begun-run slots mode placement family trace depth = record {
   changes = λ version route. tt;
   routes = λ version route. tt;
   size = length-replicate slots None;
   few = omega arith;
   shows = λ idle device_slots within. Shows-padded (device_slots - length (blank slots).slots) (blank slots) [] (blank_shows slots);
   halfway = λ some. absurd (let none : false ≡ true = some in cc);
-  idle = λ none. refl;
+  idle = λ none. (refl, refl, refl);
 }
 
 -- where no commit is under way none is unfinished
@@ -77,7 +78,7 @@ marked-run run broken is = record {
   size = is.size;
   few = is.few;
   shows = is.shows;
-  halfway = λ some. (let half = is.halfway some in record { begun = half.begun; holds = half.holds; accepted = half.accepted; some = half.some; told = half.told });
+  halfway = λ some. (let half = is.halfway some in record { begun = half.begun; holds = half.holds; accepted = half.accepted; shows = half.shows; some = half.some; told = half.told; waiting = half.waiting });
   idle = is.idle;
 }
 
@@ -95,10 +96,25 @@ run_after run made counts =
       commits = run.commits + 1;
       writes = run.writes + counts.writes;
       told = 0;
+      waiting = 0;
+      most = None;
+    }
+
+-- the run after a trial that was taken back by these writes, there and back
+abbrev pub run_returned : Running → List Write → Running
+run_returned run both =
+    record run {
+      manager = record run.manager { state = state_after run.manager.state both; held = None };
+      pending = [];
+      commits = run.commits + 1;
+      writes = run.writes + length both;
+      told = 0;
+      waiting = 0;
+      most = None;
     }
 
 -- the slots in use of a device are those of the manager
-in-use : (setting : Setting) (slots : ℕ) (state : State) → length state.slots ≡ setting.slots → slots_in_use setting (on_device slots state) ≡ state
+pub in-use : (setting : Setting) (slots : ℕ) (state : State) → length state.slots ≡ setting.slots → slots_in_use setting (on_device slots state) ≡ state
 in-use setting slots state size =
     let others : List (Option Entry) = replicate (slots - length state.slots) None in
     ap (λ (first : List (Option Entry)). record state { slots = first }) (ap (λ (count : ℕ). take count (state.slots ++ others)) (sym size) ∙ take-append_seam state.slots others)
@@ -108,13 +124,13 @@ wider [] all = tt
 wider (one ∷ made) all = let few = all.0.1 in ((all.0.0, omega arith), wider made all.1)
 
 module _ (run : Running) (ready : Ready) (is : IsRun run) (holds : Holds (record run.manager { held = None }) run.pending ready run.manager) where
-  after-state : (slots : ℕ) → on_device slots (state_after run.manager.state holds.made) ≡ state_after (on_device slots run.manager.state) holds.made
+  pub after-state : (slots : ℕ) → on_device slots (state_after run.manager.state holds.made) ≡ state_after (on_device slots run.manager.state) holds.made
   after-state slots =
       sym (state_after-on_device slots run.manager.state holds.made
       (subst (λ size. AllByRecursion (IsInUse size) holds.made) (sym is.size) holds.in_use))
 
   -- the run once the writes are made
-  pub made-run : (pending : List Change) (commits writes : ℕ) → ((version : IpVersion) → run.family ≡ routes_of version → OnlyChangesRoutes version pending) → writes ≤ commits * 2 ^ 39
+  pub made-run : (pending : List Change) (commits writes : ℕ) → ((version : IpVersion) → run.family ≡ routes_of version → OnlyChangesRoutes version pending) → writes ≤ commits * (2 ^ 40 - 1)
       → IsRun (record (run_after run holds.made holds.counts) { pending = pending; commits = commits; writes = writes })
   made-run pending commits writes changes few = record {
     changes = changes;
@@ -124,7 +140,21 @@ module _ (run : Running) (ready : Ready) (is : IsRun run) (holds : Holds (record
     shows = λ idle slots within.
         subst (λ state. Shows state (set_after run.manager.rules run.pending)) (sym (after-state slots)) (holds.segment slots within).hitless.after;
     halfway = λ some. absurd (let none : false ≡ true = some in cc);
-    idle = λ none. refl;
+    idle = λ none. (refl, refl, refl);
+  }
+
+  -- once they were taken back
+  pub returned-run : (pending : List Change) (commits writes : ℕ) (both : List Write) → ((version : IpVersion) → run.family ≡ routes_of version → OnlyChangesRoutes version pending)
+      → writes ≤ commits * (2 ^ 40 - 1) → state_after run.manager.state both ≡ run.manager.state → ShowsRules (record run.manager { held = None })
+      → IsRun (record (run_returned run both) { pending = pending; commits = commits; writes = writes })
+  returned-run pending commits writes both changes few ends shows = record {
+    changes = changes;
+    routes = is.routes;
+    size = slots-after run.manager.state both ∙ is.size;
+    few = few;
+    shows = λ idle slots within. subst (λ state. Shows (on_device slots state) run.manager.rules) (sym ends) (shows refl slots within);
+    halfway = λ some. absurd (let none : false ≡ true = some in cc);
+    idle = λ none. (refl, refl, refl);
   }
 
   pub after-run : IsRun (run_after run holds.made holds.counts)
@@ -134,14 +164,14 @@ module _ (run : Running) (ready : Ready) (is : IsRun run) (holds : Holds (record
       let same = (holds.numbers run.manager.slots (omega arith)).writes in
       made-run [] (run.commits + 1) (run.writes + holds.counts.writes) (λ version route. tt) (omega arith)
 
-  after-progress : (slots : ℕ) → run.manager.slots ≤ slots
+  pub after-progress : (slots : ℕ) → run.manager.slots ≤ slots
       → progress_of slots (run_after run holds.made holds.counts) ≡ after_segment (setting_of run) (progress_of slots run) holds.made
   after-progress slots within =
       let at : State → ℕ → Progress = λ state writes. record (progress_of slots (run_after run holds.made holds.counts)) { state = state; writes = writes } in
       ap (λ after. at after (run.writes + holds.counts.writes)) (after-state slots)
       ∙ ap (λ count. at (state_after (on_device slots run.manager.state) holds.made) (run.writes + count)) (holds.numbers slots within).writes
 
-  of-family : (slots : ℕ) → run.manager.slots ≤ slots → OfFamily run.family (on_device slots run.manager.state) holds.made
+  pub of-family : (slots : ℕ) → run.manager.slots ≤ slots → OfFamily run.family (on_device slots run.manager.state) holds.made
   of-family slots within = go run.family refl
     where
       go : (family : Family) → run.family ≡ family → OfFamily family (on_device slots run.manager.state) holds.made
@@ -153,8 +183,8 @@ module _ (run : Running) (ready : Ready) (is : IsRun run) (holds : Holds (record
       go Acl6 other = tt
 
   -- the commit, as what it writes and prints
-  pub commits-with : (slots : ℕ) → run.manager.slots ≤ slots → (effects : List Effect)
-      → effects ≡ write_effects (setting_of run) run.probes 1 (on_device slots run.manager.state) holds.made ++ Prints (accepted_line (run.commits + 1) holds.counts) ∷ []
+  abbrev pub commits-with : (slots : ℕ) → run.manager.slots ≤ slots → (effects : List Effect)
+      → effects ≡ carried (setting_of run) (progress_of slots run) (actions_for (setting_of run) (progress_of slots run) holds.made) ++ Prints (accepted_line (run.commits + 1) holds.counts) ∷ []
       → Commits (setting_of run) (progress_of slots run) effects (progress_of slots (run_after run holds.made holds.counts))
   commits-with slots within effects same = record {
     made = holds.made;
@@ -167,4 +197,22 @@ module _ (run : Running) (ready : Ready) (is : IsRun run) (holds : Holds (record
     numbers = holds.numbers slots within;
     effects_are = same;
     after = after-progress slots within;
+  }
+
+  -- the commit taken back, as what it writes and prints
+  pub returns-with : (slots : ℕ) → run.manager.slots ≤ slots → (limit : ℕ) (both : List Write) → limit < length holds.made → state_after run.manager.state both ≡ run.manager.state → length both ≡ 2 * limit → (effects : List Effect)
+      → effects ≡ carried (setting_of run) (progress_of slots run) (actions_back (setting_of run) (progress_of slots run) limit holds.made) ++ Prints (aborted_line (run.commits + 1) (2 * limit)) ∷ []
+      → Returns (setting_of run) (progress_of slots run) limit effects (progress_of slots (run_returned run both))
+  returns-with slots within limit both more ends number effects same = record {
+    made = holds.made;
+    more = more;
+    segment = holds.segment slots within;
+    placed = subst (λ (state : State). IsPlacedBy run.manager.placement run.manager.mode run.manager.bits run.manager.rules run.pending state holds.made)
+        (sym (in-use (setting_of run) slots run.manager.state is.size)) holds.placed;
+    of_family = of-family slots within;
+    in_use = holds.in_use;
+    effects_are = same;
+    after =
+        let at : State → ℕ → Progress = λ state writes. record (progress_of slots (run_returned run both)) { state = on_device slots state; writes = writes } in
+        ap (λ state. at state (run.writes + length both)) ends ∙ ap (λ count. at run.manager.state (run.writes + count)) number;
   }

@@ -1,13 +1,14 @@
 -- A line, and the lines behind it.
-use Rattle.std.proofs.Common.{◌≡◌, ℕ, List, [], ◌∷◌, ◌++◌, Option, Result, Ok, Err, IsErr, OnOk, OnErr, sym, ap, subst, append_assoc}
+use Rattle.std.proofs.Common.{◌≡◌, ℕ, List, [], ◌∷◌, ◌++◌, Option, Result, Ok, Err, IsErr, OnOk, OnErr, sym, ap, ◌∙◌, subst, append_assoc, refl, append-nil, arith}
 use Rattle.std.specs.Io.KnownBytes.{Appends}
-use Rattle.std.proofs.KnownBytes.{Appends-trans}
+use Rattle.std.proofs.KnownBytes.{Appends-nil, Appends-trans}
 use Rattle.call_history.specs.Cause.{HasCause}
 use Rattle.tcam_device.specs.declared.Write.{Write}
 use Rattle.replay.specs.declared.Family.{Family}
 use Rattle.replay.specs.Text.{trace_line}
-use Rattle.replay.specs.Run.{Effect, Prints, printed}
+use Rattle.replay.specs.Effects.{Effect, Prints, printed}
 use Rattle.replay.specs.Outside.{WritesLine, WritesLines, CutsLines}
+use Rattle.replay.proofs.Effects.{printed-append}
 
 whole-behind : {E : Type 0} (result : Result (Unit {0}) E) (line : List ℕ) (more : List Effect) (old mid new : Option (List ℕ)) → Appends old mid line
     → OnOk result (Appends mid new (printed more)) → OnOk result (Appends old new (printed (Prints line ∷ more)))
@@ -55,3 +56,25 @@ pub trace-named : {S T E : Type 0} (taken : S → Option (List ℕ)) (accepted :
     → told ≡ family → WritesLine taken accepted faults old new (trace_line told number write) result → WritesLine taken accepted faults old new (trace_line family number write) result
 trace-named taken accepted faults old new result family told number write same line =
     subst (λ (named : Family). WritesLine taken accepted faults old new (trace_line named number write) result) same line
+
+-- some lines are told, and of those behind them one is cut
+pub cuts-within : (all front lines back : List Effect) (old mid new : Option (List ℕ)) → all ≡ front ++ (lines ++ back) → Appends old mid (printed front) → CutsLines lines mid new → CutsLines all old new
+cuts-within all front lines back old mid new whole told cuts = record {
+  front = front ++ cuts.front;
+  partial = cuts.partial;
+  rest = cuts.rest;
+  back = cuts.back ++ back;
+  cut = whole
+      ∙ ap (λ effects. front ++ (effects ++ back)) cuts.cut
+      ∙ ap (λ effects. front ++ effects) (append_assoc cuts.front (Prints (cuts.partial ++ cuts.rest) ∷ cuts.back) back)
+      ∙ sym (append_assoc front cuts.front (Prints (cuts.partial ++ cuts.rest) ∷ (cuts.back ++ back)));
+  grown = subst (Appends old new)
+      (sym (ap (λ text. text ++ cuts.partial) (printed-append front cuts.front) ∙ append_assoc (printed front) (printed cuts.front) cuts.partial))
+      (Appends-trans old mid new (printed front) (printed cuts.front ++ cuts.partial) told cuts.grown);
+}
+
+-- and none behind these
+pub cuts-behind : {E : Type 0} (result : Result (Unit {0}) E) (front lines : List Effect) (old mid new : Option (List ℕ)) → Appends old mid (printed front) → CutsLines lines mid new
+    → OnErr result (CutsLines (front ++ lines) old new)
+cuts-behind (Ok done) front lines old mid new told cuts = tt
+cuts-behind (Err fault) front lines old mid new told cuts = cuts-within (front ++ lines) front lines [] old mid new (ap (λ effects. front ++ effects) (sym (append-nil lines))) told cuts

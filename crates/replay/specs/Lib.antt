@@ -1,7 +1,9 @@
 pub mod Text
 pub mod Told
+pub mod Effects
 pub mod Run
 pub mod Script
 pub mod Outside
 pub mod Carried
+pub mod InFlight
 pub mod Running

@@ -5,7 +5,7 @@ use Rattle.script_lines.specs.Given.{counted}
 use Rattle.call_history.specs.Cause.{HasCause, IsCounted}
 use Rattle.tcam_device.specs.declared.Write.{Write}
 use Rattle.batch_order.specs.CarriedOut.{IsTried}
-use Rattle.replay.specs.Run.{Effect, Prints, printed}
+use Rattle.replay.specs.Effects.{Effect, Prints, printed}
 
 -- What a call hands to a sink: one thing where it succeeds and another where it fails, by either count of the sink's
 -- bytes. What was told stays told, and the sink's failures are counted.

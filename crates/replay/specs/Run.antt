@@ -1,52 +1,28 @@
 -- Runs: what the acts of a script do to the device and to the report, one after the other.
-use Rattle.std.specs.Prelude.{◌≡◌, ℕ, ◌+◌, Bool, true, false, List, [], ◌∷◌, ◌++◌, length, take, if◌then◌else◌}
+use Rattle.std.specs.Prelude.{◌≡◌, ℕ, ◌+◌, ◌*◌, ◌<◌, ◌≤◌, ◌⊎◌, Bool, true, false, List, [], ◌∷◌, ◌++◌, length, take}
 use Rattle.std.specs.List.{AllByRecursion}
 use Rattle.rule_model.specs.declared.Key.{Key}
 use Rattle.rule_model.specs.declared.Rule.{Rule}
 use Rattle.rule_model.specs.RuleSet.{answer}
-use Rattle.rule_store.specs.declared.Mode.{Mode}
 use Rattle.rule_store.specs.declared.Command.{Command as Change}
 use Rattle.rule_store.specs.Batch.{set_after}
 use Rattle.rule_store.specs.Verdict.{Verdict, Accepted, Unsound, OutOfBits, OutOfSlots, verdict, entries_of}
 use Rattle.tcam_device.specs.declared.Write.{Write}
-use Rattle.tcam_device.specs.State.{State, blank, IsInUse, apply, lookup, state_after}
+use Rattle.tcam_device.specs.declared.Action.{Action}
+use Rattle.tcam_device.specs.State.{State, blank, IsInUse, state_after}
+use Rattle.tcam_device.specs.Flight.{writes_in}
 use Rattle.tcam_device.specs.Insertion.{insertions, IsUncrossed}
 use Rattle.commit_writes.specs.declared.Done.{Done}
+use Rattle.commit_writes.specs.Actions.{back_from, commit_actions, up_to_writes}
 use Rattle.commit_writes.specs.Bits.{FieldBits, no_bits, bits_with, bits_left}
 use Rattle.commit_writes.specs.Commit.{AreCounts, IsSegment}
-use Rattle.batch_order.specs.declared.Placement.{Placement}
 use Rattle.batch_order.specs.Placing.{IsPlacedBy}
 use Rattle.replay.specs.declared.Family.{Family}
 use Rattle.replay.specs.declared.Family.TheVariants.{Route, Acl, Route6, Acl6}
 use Rattle.replay.specs.declared.Act.{Act}
-use Rattle.replay.specs.declared.Act.TheVariants.{Command, Probe, Packet, Commit}
-use Rattle.replay.specs.Text.{packet_line, probe_line, trace_line, accepted_line, refused_line, end_line}
-
--- what the words of a command line ask for: the slots in use, the encoding of ranges, where insertions aim, the family,
--- and a trace
-pub record Setting : Type 0 where
-  pub slots : ℕ
-  pub mode : Mode
-  pub placement : Placement
-  pub family : Family
-  pub trace : Bool
-
--- What a run does to the outside: it writes the device, or it prints a line.
-pub data Effect : Type 0 where
-  Writes : (write : Write) → Effect
-  Prints : (line : List ℕ) → Effect
-
--- the journal of some effects
-abbrev pub written : List Effect → List Write
-written [] = []
-written (Writes write ∷ effects) = write ∷ written effects
-written (Prints line ∷ effects) = written effects
-
--- the report of some effects
-abbrev pub printed : List Effect → List ℕ
-printed [] = []
-printed (Writes write ∷ effects) = printed effects
-printed (Prints line ∷ effects) = line ++ printed effects
+use Rattle.replay.specs.declared.Act.TheVariants.{Command, Probe, Packet, Commit, Trial}
+use Rattle.replay.specs.Effects.{Setting, Effect, Acts, Prints, effects_of, flushed, waiting_after}
+use Rattle.replay.specs.Text.{packet_line, aborted_line, accepted_line, refused_line, end_line}
 
 -- where a run stands: set, pending batch, probes, live ranges, device, commits, writes, and whether a commit was refused
 pub record Progress : Type 0 where
@@ -73,27 +49,16 @@ start slots =
       refused = false;
     }
 
--- a write's trace line, where a trace is wanted
-abbrev pub trace_of : Family → Bool → ℕ → Write → List Effect
-trace_of family trace number write = if trace then Prints (trace_line family number write) ∷ [] else []
+-- the actions of an accepted commit with these writes
+abbrev pub actions_for : Setting → Progress → List Write → List Action
+actions_for setting old made = commit_actions setting.mode old.bits old.rules old.batch made
 
--- each probe's look-up, in the order of the probes
-abbrev pub probes_of : Family → ℕ → State → ℕ → List Key → List Effect
-probes_of family number state probe [] = []
-probes_of family number state probe (key ∷ keys) =
-    Prints (probe_line family number probe (lookup state key)) ∷ probes_of family number state (probe + 1) keys
-
--- the lines of a write, which led to this state
-abbrev pub lines_of : Setting → List Key → ℕ → State → Write → List Effect
-lines_of setting probes number state write =
-    trace_of setting.family setting.trace number write ++ probes_of setting.family number state 1 probes
-
--- the writes of a commit from the one of a number on, each with its lines
-abbrev pub write_effects : Setting → List Key → ℕ → State → List Write → List Effect
-write_effects setting probes number state [] = []
-write_effects setting probes number state (write ∷ writes) =
-    Writes write ∷ (lines_of setting probes number (apply state write) write
-    ++ write_effects setting probes (number + 1) (apply state write) writes)
+-- All that a commit does by its actions, before its line: behind the last one the words in flight are searched.
+abbrev pub carried : Setting → Progress → List Action → List Effect
+carried setting old actions =
+    let after = state_after old.state (writes_in actions) in
+    effects_of setting old.probes 0 0 old.state actions
+    ++ flushed setting.family old.probes (length (writes_in actions)) after (waiting_after setting.depth 0 actions)
 
 -- where a run stands after an accepted commit
 abbrev pub after_segment : Setting → Progress → List Write → Progress
@@ -106,6 +71,10 @@ after_segment setting old made =
       commits = old.commits + 1;
       writes = old.writes + length made;
     }
+
+-- where a run stands after a commit that was taken back by so many writes both ways: set, live ranges and device are as before
+abbrev pub after_return : Progress → ℕ → Progress
+after_return old writes = record old { batch = []; commits = old.commits + 1; writes = old.writes + writes }
 
 -- where a run stands after a refused commit
 abbrev pub after_refusal : Progress → Progress
@@ -123,8 +92,8 @@ OfFamily Acl6 state made = Unit {0}
 abbrev pub slots_in_use : Setting → State → State
 slots_in_use setting state = record state { slots = take setting.slots state.slots }
 
--- An accepted commit makes a segment, its insertions by the placement and no others, each write with its lines, and
--- prints its numbers.
+-- An accepted commit makes a segment with its drain, its insertions by the placement and no others, each write with its
+-- lines, and prints its numbers.
 pub record Commits (setting : Setting) (old : Progress) (effects : List Effect) (new : Progress) : Type 0 where
   pub made : List Write
   pub counts : Done
@@ -133,8 +102,29 @@ pub record Commits (setting : Setting) (old : Progress) (effects : List Effect) 
   pub of_family : OfFamily setting.family old.state made
   pub in_use : AllByRecursion (IsInUse setting.slots) made
   pub numbers : AreCounts old.state made counts
-  pub effects_are : effects ≡ write_effects setting old.probes 1 old.state made ++ Prints (accepted_line (old.commits + 1) counts) ∷ []
+  pub effects_are : effects ≡ carried setting old (actions_for setting old made) ++ Prints (accepted_line (old.commits + 1) counts) ∷ []
   pub after : new ≡ after_segment setting old made
+
+-- the actions of a commit that is taken back right after so many writes: no drain that is due then is made
+abbrev pub actions_back : Setting → Progress → ℕ → List Write → List Action
+actions_back setting old most made = back_from old.state (up_to_writes most (actions_for setting old made))
+
+-- One that is taken back has more writes: it makes the first ones and undoes them, each with its lines, and prints how many
+-- both ways.
+pub record Returns (setting : Setting) (old : Progress) (most : ℕ) (effects : List Effect) (new : Progress) : Type 0 where
+  pub made : List Write
+  pub more : most < length made
+  pub segment : IsSegment setting.mode old.bits old.rules old.batch old.state made
+  pub placed : IsPlacedBy setting.placement setting.mode old.bits old.rules old.batch (slots_in_use setting old.state) made
+  pub of_family : OfFamily setting.family old.state made
+  pub in_use : AllByRecursion (IsInUse setting.slots) made
+  pub effects_are : effects ≡ carried setting old (actions_back setting old most made) ++ Prints (aborted_line (old.commits + 1) (2 * most)) ∷ []
+  pub after : new ≡ after_return old (2 * most)
+
+-- what a trial of so many writes does: with more it is taken back, and else it finishes
+abbrev pub Tries : ℕ → Setting → Progress → List Effect → Progress → Type 0
+Tries most setting old effects new =
+    ((commits : Commits setting old effects new) × (length commits.made ≤ most)) ⊎ Returns setting old most effects new
 
 -- A refused one writes nothing, and says why.
 abbrev pub Refuses : Setting → Progress → Verdict → List Effect → Progress → Type 0
@@ -142,11 +132,11 @@ Refuses setting old reason effects new =
     (effects ≡ Prints (refused_line setting.family (old.commits + 1) reason) ∷ []) × (new ≡ after_refusal old)
 
 -- what a commit does by its verdict
-abbrev pub Judged : Setting → Progress → Verdict → List Effect → Progress → Type 0
-Judged setting old Accepted effects new = Commits setting old effects new
-Judged setting old (Unsound fault) effects new = Refuses setting old (Unsound fault) effects new
-Judged setting old (OutOfBits field needed free) effects new = Refuses setting old (OutOfBits field needed free) effects new
-Judged setting old (OutOfSlots needed free) effects new = Refuses setting old (OutOfSlots needed free) effects new
+abbrev pub Judged : (Setting → Progress → List Effect → Progress → Type 0) → Setting → Progress → Verdict → List Effect → Progress → Type 0
+Judged Does setting old Accepted effects new = Does setting old effects new
+Judged Does setting old (Unsound fault) effects new = Refuses setting old (Unsound fault) effects new
+Judged Does setting old (OutOfBits field needed free) effects new = Refuses setting old (OutOfBits field needed free) effects new
+Judged Does setting old (OutOfSlots needed free) effects new = Refuses setting old (OutOfSlots needed free) effects new
 
 -- From where the run stands, an act has these effects, and the run stands there.
 abbrev pub HasEffects : Setting → Progress → Act → List Effect → Progress → Type 0
@@ -155,7 +145,9 @@ HasEffects setting old (Probe key) effects new = (effects ≡ []) × (new ≡ re
 HasEffects setting old (Packet key) effects new =
     (effects ≡ Prints (packet_line setting.family (answer old.rules key)) ∷ []) × (new ≡ old)
 HasEffects setting old Commit effects new =
-    Judged setting old (verdict setting.slots setting.mode old.rules old.batch) effects new
+    Judged Commits setting old (verdict setting.slots setting.mode old.rules old.batch) effects new
+HasEffects setting old (Trial most) effects new =
+    Judged (Tries most) setting old (verdict setting.slots setting.mode old.rules old.batch) effects new
 
 -- An act that is cut before an effect that is due: these are its effects before that.
 pub record IsCutStep (setting : Setting) (before : Progress) (act : Act) (effects : List Effect) (due : Effect) : Type 0 where
@@ -169,6 +161,7 @@ TakesMemory setting before (Command change) = Unit {0}
 TakesMemory setting before (Probe key) = ⊥
 TakesMemory setting before (Packet key) = ⊥
 TakesMemory setting before Commit = verdict setting.slots setting.mode before.rules before.batch ≡ Accepted
+TakesMemory setting before (Trial most) = verdict setting.slots setting.mode before.rules before.batch ≡ Accepted
 
 -- the acts one after the other
 abbrev pub Run : Setting → Progress → List Act → List Effect → Progress → Type 0

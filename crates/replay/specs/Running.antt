@@ -1,5 +1,5 @@
 -- What a run keeps, and where it stands by that.
-use Rattle.std.specs.Prelude.{◌≡◌, ◌≢◌, ℕ, ◌+◌, ◌*◌, ◌^◌, ◌≤◌, ◌++◌, ◌∷◌, Bool, true, false, Option, None, Some, IsSome, Result, Ok, Err, List, [], length, codes}
+use Rattle.std.specs.Prelude.{◌≡◌, ◌≢◌, ℕ, ◌+◌, ◌-◌, ◌*◌, nat_lt, nat_le, ◌&&◌, map, option_map, ◌^◌, ◌≤◌, ◌++◌, ◌∷◌, Bool, true, false, Option, None, Some, IsSome, Result, Ok, Err, List, [], length, codes}
 use Rattle.std.specs.Io.KnownBytes.{Appends}
 use Rattle.std.specs.List.{AllByRecursion}
 use Rattle.rule_model.specs.declared.Key.{Key}
@@ -11,47 +11,60 @@ use Rattle.rule_store.specs.Verdict.{Verdict, Accepted, verdict}
 use Rattle.tcam_device.specs.declared.Write.{Write}
 use Rattle.tcam_device.specs.declared.Action.{Action}
 use Rattle.tcam_device.specs.declared.Action.TheVariants.{Written}
-use Rattle.tcam_device.specs.State.{Shows, replay, state_after, on_device}
-use Rattle.tcam_device.specs.Flight.{writes_in}
-use Rattle.commit_writes.specs.declared.Done.{Done}
+use Rattle.tcam_device.specs.State.{State, Shows, replay, state_after, on_device}
+use Rattle.tcam_device.specs.Flight.{Flight, writes_in}
 use Rattle.commit_writes.specs.Routes.{IsRoute}
+use Rattle.commit_writes.specs.Actions.{up_to_writes}
+use Rattle.commit_writes.specs.Undo.{undo_writes}
+use Rattle.commit_writes.specs.InFlight.{AreCurrent}
 use Rattle.batch_order.specs.declared.Placement.{Placement}
 use Rattle.batch_order.specs.declared.Ready.{Ready}
-use Rattle.batch_order.specs.Managed.{Managed, HeldCommit, Holds, OnlyChangesRoutes, fresh, writes_due}
+use Rattle.batch_order.specs.Managed.{Managed, HeldCommit, Holds, OnlyChangesRoutes, fresh, live_now, writes_due}
 use Rattle.batch_order.specs.Steps.{next_of}
-use Rattle.batch_order.specs.CarriedOut.{acted}
 use Rattle.replay.specs.declared.Act.{Act}
-use Rattle.replay.specs.declared.Act.TheVariants.{Command, Probe, Packet, Commit}
+use Rattle.replay.specs.declared.Act.TheVariants.{Command, Probe, Packet, Commit, Trial}
+use Rattle.replay.specs.declared.watch.Count.{Count}
+use Rattle.replay.specs.declared.steps.Ended.{Ended}
+use Rattle.replay.specs.declared.steps.Ended.TheVariants as ended
 use Rattle.replay.specs.declared.Family.{Family}
 use Rattle.replay.specs.declared.Family.TheVariants.{Route, Acl, Route6, Acl6}
-use Rattle.replay.specs.Run.{Setting, Effect, Writes, Prints, Progress, HasEffects, IsCutStep, printed, write_effects}
+use Rattle.replay.specs.Effects.{Setting, Effect, Acts, Prints, effects_of, printed, waiting_after}
+use Rattle.replay.specs.InFlight.{AreOf}
+use Rattle.replay.specs.Text.{aborted_line, accepted_line}
+use Rattle.replay.specs.Run.{Progress, HasEffects, IsCutStep}
 use Rattle.replay.specs.declared.RunFault.{RunFault}
 use Rattle.replay.specs.declared.RunFault.TheVariants.{BatchFull, ProbesFull, Sink, Device, Memory, Held}
 use Rattle.replay.specs.Carried.{IsAt, Does, Carries, CutsAtLine, CutsAtWrite, CutsEffects, Wants}
 
--- what is told of each write: how rules are named, whether a trace is wanted, and the keys that are probed
+-- what is told of each write: how rules are named, whether a trace is wanted, after how many further writes a probe's word is
+-- searched, and the keys that are probed
 pub record Watching : Type 0 where
   pub family : Family
   pub trace : Bool
+  pub depth : ℕ
   pub probes : List Key
 
 -- The manager, what is told of each write, the pending batch, and what the report counts; how many writes of an unfinished
--- commit were made, each of them told, and whether the sink failed.
+-- commit were made, each of them told, of how many of these the probes' words are in flight, and after how many it is taken
+-- back, if it is a trial; and whether the sink failed.
 pub record Running : Type 0 where
   pub manager : Managed
   pub family : Family
   pub trace : Bool
+  pub depth : ℕ
   pub probes : List Key
   pub pending : List Change
   pub commits : ℕ
   pub writes : ℕ
   pub refused : Bool
   pub told : ℕ
+  pub waiting : ℕ
+  pub most : Option ℕ
   pub broken : Bool
 
 -- what a run tells of each write
 abbrev pub watching : Running → Watching
-watching run = record { family = run.family; trace = run.trace; probes = run.probes }
+watching run = record { family = run.family; trace = run.trace; depth = run.depth; probes = run.probes }
 
 -- what the words of a command line asked for
 abbrev pub setting_of : Running → Setting
@@ -62,6 +75,7 @@ setting_of run =
       placement = run.manager.placement;
       family = run.family;
       trace = run.trace;
+      depth = run.depth;
     }
 
 -- where the run stands, over a device of so many slots
@@ -79,18 +93,21 @@ progress_of device_slots run =
     }
 
 -- a run before its first act
-abbrev pub begun : ℕ → Mode → Placement → Family → Bool → Running
-begun slots mode placement family trace =
+abbrev pub begun : ℕ → Mode → Placement → Family → Bool → ℕ → Running
+begun slots mode placement family trace depth =
     record {
       manager = fresh slots mode placement;
       family = family;
       trace = trace;
+      depth = depth;
       probes = [];
       pending = [];
       commits = 0;
       writes = 0;
       refused = false;
       told = 0;
+      waiting = 0;
+      most = None;
       broken = false;
     }
 
@@ -107,23 +124,76 @@ verdict_of run = verdict run.manager.slots run.manager.mode run.manager.rules ru
 abbrev pub HoldsPending : Running → Type 0
 HoldsPending run = (ready : Ready) × Holds (record run.manager { held = None }) run.pending ready run.manager
 
--- some of the actions of a commit under way, which isn't turned round, are made
-pub record MakesSome (begun now : Managed) : Type 0 where
+-- how many writes more a trial makes before it is taken back
+abbrev pub rest_of : Option ℕ → ℕ → Option ℕ
+rest_of most told = option_map (λ limit. limit - told) most
+
+-- the first actions of a trial, up to so many writes more, and those that undo all
+abbrev pub trial_left : ℕ → State → List Action → List Write → List Action
+trial_left more state actions undo =
+    let front = up_to_writes more actions in
+    front ++ map Written (undo_writes state (writes_in front) ++ undo)
+
+-- Whether a commit is taken back: it is turned round, or it is a trial that has more writes than it may make.
+abbrev pub turns_in : Option ℕ → Option ℕ → List Action → Bool
+turns_in (Some undone) rest actions = true
+turns_in None None actions = false
+turns_in None (Some more) actions = nat_lt more (length (writes_in actions))
+
+abbrev pub goes_back : Option ℕ → HeldCommit → Bool
+goes_back rest held = turns_in held.turned rest held.actions
+
+-- the actions that are left of it, on the way there and on the way back
+abbrev pub left_in : Option ℕ → Option ℕ → State → List Action → List Write → List Action
+left_in (Some undone) rest state actions undo = map Written undo
+left_in None None state actions undo = actions
+left_in None (Some more) state actions undo =
+    elim (nat_lt more (length (writes_in actions))) [ true ↦ trial_left more state actions undo | false ↦ actions ]
+
+abbrev pub left_of : Option ℕ → State → HeldCommit → List Action
+left_of rest state held = left_in held.turned rest state held.actions held.undo
+
+-- a commit that isn't turned round is, where it is time
+abbrev pub turned_where : Managed → HeldCommit → Option ℕ → Bool → Managed
+turned_where old held (Some undone) due = old
+turned_where old held None false = old
+turned_where old held None true = record old { held = Some (record held { turned = Some (length held.undo) }) }
+
+-- a trial that has made as many writes as it may, and has more to make, is turned round
+abbrev pub TurnsAt : Option ℕ → ℕ → Managed → Option HeldCommit → Managed → Type 0
+TurnsAt None told old held new = new ≡ old
+TurnsAt (Some limit) told old None new = new ≡ old
+TurnsAt (Some limit) told old (Some held) new =
+    new ≡ turned_where old held held.turned (nat_le limit told && nat_lt 0 (length (writes_in held.actions)))
+
+-- the commit is the same, and is taken back where it was to be
+pub record IsSame (rest rest_now : Option ℕ) (held now : HeldCommit) : Type 0 where
+  pub counts : now.counts ≡ held.counts
+  pub rules : now.rules ≡ held.rules
+  pub bits : now.bits ≡ held.bits
+  pub back : goes_back rest_now now ≡ goes_back rest held
+
+-- some of the actions that are left of a commit under way are made, and the others are left of it
+pub record MakesSome (most : Option ℕ) (told : ℕ) (begun now : Managed) : Type 0 where
   pub held : HeldCommit
   pub made : List Action
   pub left : List Action
   pub held_is : begun.held ≡ Some held
-  pub forward : held.turned ≡ None
-  pub whole : held.actions ≡ made ++ left
-  pub now_is : now ≡ acted begun made
+  pub whole : left_of (rest_of most told) begun.state held ≡ made ++ left
+  pub one : HeldCommit
+  pub now_is : now ≡ record begun { state = state_after begun.state (writes_in made); held = Some one }
+  pub left_is : left_of (rest_of most (told + length (writes_in made))) now.state one ≡ left
+  pub same : IsSame (rest_of most told) (rest_of most (told + length (writes_in made))) held one
 
 -- A commit is unfinished: it was accepted, some of its writes were made, and the rest of them is held.
 pub record IsHalfway (run : Running) : Type 0 where
   pub begun : Managed
   pub holds : HoldsPending (record run { manager = begun })
   pub accepted : verdict_of (record run { manager = begun }) ≡ Accepted
-  pub some : MakesSome begun run.manager
+  pub shows : ShowsRules (record begun { held = None })
+  pub some : MakesSome run.most 0 begun run.manager
   pub told : run.told ≡ length (writes_in some.made)
+  pub waiting : run.waiting ≡ waiting_after run.depth 0 some.made
 
 -- the family of routes of a version of IP
 abbrev pub routes_of : IpVersion → Family
@@ -136,10 +206,10 @@ pub record IsRun (run : Running) : Type 0 where
   pub changes : (version : IpVersion) → run.family ≡ routes_of version → OnlyChangesRoutes version run.pending
   pub routes : (version : IpVersion) → run.family ≡ routes_of version → AllByRecursion (IsRoute version) run.manager.rules
   pub size : length run.manager.state.slots ≡ run.manager.slots
-  pub few : run.writes ≤ run.commits * 2 ^ 39
+  pub few : run.writes ≤ run.commits * (2 ^ 40 - 1)
   pub shows : ShowsRules run.manager
   pub halfway : IsSome run.manager.held → IsHalfway run
-  pub idle : run.manager.held ≡ None → run.told ≡ 0
+  pub idle : run.manager.held ≡ None → (run.told ≡ 0) × (run.waiting ≡ 0) × (run.most ≡ None)
 
 -- a change in a script of the family: a route that is added is one of its version, and an access list takes any rule
 abbrev pub IsChangeOf : Family → Change → Type 0
@@ -154,34 +224,54 @@ IsActOf family (Command change) = IsChangeOf family change
 IsActOf family (Probe key) = Unit {0}
 IsActOf family (Packet key) = Unit {0}
 IsActOf family Commit = Unit {0}
+IsActOf family (Trial most) = Unit {0}
+
+-- the act of a commit: a trial where it is taken back after so many writes
+abbrev pub commit_act : Option ℕ → Act
+commit_act None = Commit
+commit_act (Some most) = Trial most
 
 -- nothing is done, not of the run, of the device, or of the sink
-pub record IsUntouched (old new : Running) (journal_old journal_new : List Write) (taken_old taken_new : Option (List ℕ)) : Type 0 where
+pub record IsUntouched (old new : Running) (events_old events_new : List Action) (taken_old taken_new : Option (List ℕ)) : Type 0 where
   pub run : new ≡ old
-  pub journal : journal_new ≡ journal_old
+  pub events : events_new ≡ events_old
   pub report : taken_new ≡ taken_old
 
 -- What an act comes to, by the answer. Where the device is where the run stands, the act is carried out, or cut at the
 -- line or at the write that failed. For want of memory or of room nothing is done.
-abbrev pub ComesTo : ℕ → Running → Act → Running → Result (Unit {0}) RunFault → List Write → List Write → Option (List ℕ) → Option (List ℕ) → Type 0
-ComesTo device_slots old act new (Ok done) journal_old journal_new taken_old taken_new =
-    IsAt device_slots journal_old (progress_of device_slots old)
-    → Carries (setting_of old) (progress_of device_slots old) act (progress_of device_slots new) journal_old journal_new taken_old taken_new
-ComesTo device_slots old act new (Err Sink) journal_old journal_new taken_old taken_new =
-    IsAt device_slots journal_old (progress_of device_slots old)
-    → CutsAtLine (setting_of old) (progress_of device_slots old) act journal_old journal_new taken_old taken_new
-ComesTo device_slots old act new (Err Device) journal_old journal_new taken_old taken_new =
-    IsAt device_slots journal_old (progress_of device_slots old)
-    → CutsAtWrite (setting_of old) (progress_of device_slots old) act journal_old journal_new taken_old taken_new
-ComesTo device_slots old act new (Err Memory) journal_old journal_new taken_old taken_new =
-    Wants (setting_of old) (progress_of device_slots old) act journal_old journal_new taken_old taken_new
-    × IsUntouched old new journal_old journal_new taken_old taken_new
-ComesTo device_slots old act new (Err BatchFull) journal_old journal_new taken_old taken_new =
-    IsUntouched old new journal_old journal_new taken_old taken_new
-ComesTo device_slots old act new (Err ProbesFull) journal_old journal_new taken_old taken_new =
-    IsUntouched old new journal_old journal_new taken_old taken_new
-ComesTo device_slots old act new (Err (Held left)) journal_old journal_new taken_old taken_new =
-    IsUntouched old new journal_old journal_new taken_old taken_new
+abbrev pub ComesTo : ℕ → Running → Act → Running → Result (Unit {0}) RunFault → List Action → List Action → Option (List ℕ) → Option (List ℕ) → Type 0
+ComesTo device_slots old act new (Ok done) events_old events_new taken_old taken_new =
+    IsAt device_slots events_old (progress_of device_slots old)
+    → Carries (setting_of old) (progress_of device_slots old) act (progress_of device_slots new) events_old events_new taken_old taken_new
+ComesTo device_slots old act new (Err Sink) events_old events_new taken_old taken_new =
+    IsAt device_slots events_old (progress_of device_slots old)
+    → CutsAtLine (setting_of old) (progress_of device_slots old) act events_old events_new taken_old taken_new
+ComesTo device_slots old act new (Err Device) events_old events_new taken_old taken_new =
+    IsAt device_slots events_old (progress_of device_slots old)
+    → CutsAtWrite (setting_of old) (progress_of device_slots old) act events_old events_new taken_old taken_new
+ComesTo device_slots old act new (Err Memory) events_old events_new taken_old taken_new =
+    Wants (setting_of old) (progress_of device_slots old) act events_old events_new taken_old taken_new
+    × IsUntouched old new events_old events_new taken_old taken_new
+ComesTo device_slots old act new (Err BatchFull) events_old events_new taken_old taken_new =
+    IsUntouched old new events_old events_new taken_old taken_new
+ComesTo device_slots old act new (Err ProbesFull) events_old events_new taken_old taken_new =
+    IsUntouched old new events_old events_new taken_old taken_new
+ComesTo device_slots old act new (Err (Held left)) events_old events_new taken_old taken_new =
+    IsUntouched old new events_old events_new taken_old taken_new
+
+-- the words in flight are those that a run left: none while no commit is unfinished
+abbrev pub AreLeft : Running → Flight → Type 0
+AreLeft run flight = elim run.manager.held [ None ↦ flight ≡ [] | Some held ↦ AreOf run.probes run.waiting flight ]
+
+-- What a call leaves in flight, by its answer. Behind a line that the sink didn't take nothing is said.
+abbrev pub LeavesWords : Running → Result (Unit {0}) RunFault → Flight → Flight → Type 0
+LeavesWords new (Ok done) flight_old flight_new = flight_new ≡ []
+LeavesWords new (Err Sink) flight_old flight_new = Unit {0}
+LeavesWords new (Err Device) flight_old flight_new = AreLeft new flight_new
+LeavesWords new (Err Memory) flight_old flight_new = flight_new ≡ flight_old
+LeavesWords new (Err BatchFull) flight_old flight_new = flight_new ≡ flight_old
+LeavesWords new (Err ProbesFull) flight_old flight_new = flight_new ≡ flight_old
+LeavesWords new (Err (Held left)) flight_old flight_new = flight_new ≡ flight_old
 
 -- An act is taken only while no commit is unfinished. Else the answer has the number of the writes that are left.
 abbrev pub AnswersHeld : Option HeldCommit → Result (Unit {0}) RunFault → Type 0
@@ -217,101 +307,122 @@ telling manager watch =
       placement = manager.placement;
       family = watch.family;
       trace = watch.trace;
+      depth = watch.depth;
     }
 
--- the effects of a commit's writes, so many of them told before, over a device of so many slots that those of the journal
--- were made to
-abbrev pub effects_on : Managed → Watching → ℕ → ℕ → List Write → List Write → List Effect
-effects_on manager watch device_slots told before made =
-    write_effects (telling manager watch) watch.probes (told + 1) (replay device_slots before) made
+-- it has come further by some actions
+pub record HasCome (watch : Watching) (old new : Count) (made : List Action) : Type 0 where
+  pub told : new.told ≡ old.told + length (writes_in made)
+  pub waiting : new.waiting ≡ waiting_after watch.depth old.waiting made
 
--- these writes are told, behind those of the journal
-abbrev pub Tells : Managed → Watching → ℕ → ℕ → List Write → List Write → Option (List ℕ) → Option (List ℕ) → Type 0
-Tells manager watch device_slots told journal made taken_old taken_new =
-    Appends taken_old taken_new (printed (effects_on manager watch device_slots told journal made))
+-- the effects of a commit's actions from a count on, over a device of so many slots where these were made before
+abbrev pub effects_on : Managed → Watching → ℕ → Count → List Action → List Action → List Effect
+effects_on manager watch device_slots count before made =
+    effects_of (telling manager watch) watch.probes count.told count.waiting (replay device_slots (writes_in before)) made
 
--- all of them are made
-pub record MakesAll (begun : Managed) (watch : Watching) (device_slots told told_now : ℕ) (done : Done) (now : Managed) (journal_begun journal_now : List Write) (taken_begun taken_now : Option (List ℕ)) : Type 0 where
+-- these actions are told, behind those that were made before
+abbrev pub Tells : Managed → Watching → ℕ → Count → List Action → List Action → Option (List ℕ) → Option (List ℕ) → Type 0
+Tells manager watch device_slots count before made taken_old taken_new =
+    Appends taken_old taken_new (printed (effects_on manager watch device_slots count before made))
+
+-- a commit ended with these actions: it is finished, or taken back
+abbrev pub EndsBy : Bool → Managed → HeldCommit → List Action → Ended → Managed → Type 0
+EndsBy back begun held actions (ended.Finished done) now =
+    (back ≡ false) × (done ≡ held.counts)
+    × (now ≡ record begun { state = state_after begun.state (writes_in actions); rules = held.rules; bits = held.bits; held = None })
+EndsBy back begun held actions ended.Reverted now =
+    (back ≡ true) × (now ≡ record begun { state = state_after begun.state (writes_in actions); held = None })
+
+-- its line, by its number and its writes
+abbrev pub ended_line : ℕ → Ended → ℕ → List ℕ
+ended_line commit (ended.Finished done) writes = accepted_line commit done
+ended_line commit ended.Reverted writes = aborted_line commit writes
+
+-- All of them are made, and told where the device and the words in flight were as they should be when they began (`Seen`).
+pub record MakesAll (Seen : Type 0) (most : Option ℕ) (begun : Managed) (watch : Watching) (device_slots : ℕ) (count count_now : Count) (ended : Ended) (now : Managed) (events_begun events_now : List Action) (taken_begun taken_now : Option (List ℕ)) : Type 0 where
   pub held : HeldCommit
+  pub actions : List Action
   pub held_is : begun.held ≡ Some held
-  pub done_is : done ≡ held.counts
-  pub now_is : now ≡ record begun { state = state_after begun.state (writes_in held.actions); rules = held.rules; bits = held.bits; held = None }
-  pub number : told_now ≡ told + length (writes_in held.actions)
-  pub journal : journal_now ≡ journal_begun ++ writes_in held.actions
-  pub report : Tells begun watch device_slots told journal_begun (writes_in held.actions) taken_begun taken_now
+  pub actions_are : actions ≡ left_of (rest_of most count.told) begun.state held
+  pub ends : EndsBy (goes_back (rest_of most count.told) held) begun held actions ended now
+  pub come : HasCome watch count count_now actions
+  pub events : events_now ≡ events_begun ++ actions
+  pub report : Seen → Tells begun watch device_slots count events_begun actions taken_begun taken_now
 
--- some of them are made and told, and the next one isn't made
-pub record StopsAtWrite (begun now : Managed) (watch : Watching) (device_slots told told_now : ℕ) (journal_begun journal_now : List Write) (taken_begun taken_now : Option (List ℕ)) : Type 0 where
-  pub some : MakesSome begun now
+-- some of them are made and told, and the next one, a write, isn't made
+pub record StopsAtWrite (Seen : Type 0) (most : Option ℕ) (begun now : Managed) (watch : Watching) (device_slots : ℕ) (count count_now : Count) (events_begun events_now : List Action) (taken_begun taken_now : Option (List ℕ)) : Type 0 where
+  pub some : MakesSome most count.told begun now
   pub due : Write
   pub left : List Action
   pub left_is : some.left ≡ Written due ∷ left
-  pub number : told_now ≡ told + length (writes_in some.made)
-  pub journal : journal_now ≡ journal_begun ++ writes_in some.made
-  pub report : Tells begun watch device_slots told journal_begun (writes_in some.made) taken_begun taken_now
+  pub next : next_of now.held ≡ Some due
+  pub come : HasCome watch count count_now some.made
+  pub events : events_now ≡ events_begun ++ some.made
+  pub report : Seen → Tells begun watch device_slots count events_begun some.made taken_begun taken_now
 
--- some of them are made, and the last one of these isn't told whole
-pub record StopsAtLine (begun now : Managed) (watch : Watching) (device_slots told told_now : ℕ) (journal_begun journal_now : List Write) (taken_begun taken_now : Option (List ℕ)) : Type 0 where
-  pub some : MakesSome begun now
-  pub number : told_now ≡ told + length (writes_in some.made)
-  pub journal : journal_now ≡ journal_begun ++ writes_in some.made
-  pub cuts : CutsEffects (effects_on begun watch device_slots told journal_begun (writes_in some.held.actions)) journal_begun journal_now taken_begun taken_now
+-- some of them are made, and a line of the last one, or of the drain that is next, isn't told whole
+pub record StopsAtLine (Seen : Type 0) (most : Option ℕ) (begun now : Managed) (watch : Watching) (device_slots : ℕ) (count count_now : Count) (events_begun events_now : List Action) (taken_begun taken_now : Option (List ℕ)) : Type 0 where
+  pub some : MakesSome most count.told begun now
+  pub come : HasCome watch count count_now some.made
+  pub events : events_now ≡ events_begun ++ some.made
+  pub cuts : Seen → CutsEffects (effects_on begun watch device_slots count events_begun (some.made ++ some.left)) events_begun events_now taken_begun taken_now
 
--- what comes of the writes that are left of a commit under way, by the answer
-abbrev pub Makes : Managed → Managed → Watching → ℕ → ℕ → ℕ → Result Done RunFault → List Write → List Write → Option (List ℕ) → Option (List ℕ) → Type 0
-Makes begun now watch device_slots told told_now (Ok done) journal_begun journal_now taken_begun taken_now =
-    MakesAll begun watch device_slots told told_now done now journal_begun journal_now taken_begun taken_now
-Makes begun now watch device_slots told told_now (Err Sink) journal_begun journal_now taken_begun taken_now =
-    StopsAtLine begun now watch device_slots told told_now journal_begun journal_now taken_begun taken_now
-Makes begun now watch device_slots told told_now (Err Device) journal_begun journal_now taken_begun taken_now =
-    StopsAtWrite begun now watch device_slots told told_now journal_begun journal_now taken_begun taken_now
-Makes begun now watch device_slots told told_now (Err BatchFull) journal_begun journal_now taken_begun taken_now = ⊥
-Makes begun now watch device_slots told told_now (Err ProbesFull) journal_begun journal_now taken_begun taken_now = ⊥
-Makes begun now watch device_slots told told_now (Err Memory) journal_begun journal_now taken_begun taken_now = ⊥
-Makes begun now watch device_slots told told_now (Err (Held left)) journal_begun journal_now taken_begun taken_now = ⊥
+-- what comes of the actions that are left of a commit under way, by the answer
+abbrev pub Makes : Type 0 → Option ℕ → Managed → Managed → Watching → ℕ → Count → Count → Result Ended RunFault → List Action → List Action → Option (List ℕ) → Option (List ℕ) → Type 0
+Makes Seen most begun now watch device_slots count count_now (Ok ended) events_begun events_now taken_begun taken_now =
+    MakesAll Seen most begun watch device_slots count count_now ended now events_begun events_now taken_begun taken_now
+Makes Seen most begun now watch device_slots count count_now (Err Sink) events_begun events_now taken_begun taken_now =
+    StopsAtLine Seen most begun now watch device_slots count count_now events_begun events_now taken_begun taken_now
+Makes Seen most begun now watch device_slots count count_now (Err Device) events_begun events_now taken_begun taken_now =
+    StopsAtWrite Seen most begun now watch device_slots count count_now events_begun events_now taken_begun taken_now
+Makes Seen most begun now watch device_slots count count_now (Err BatchFull) events_begun events_now taken_begun taken_now = ⊥
+Makes Seen most begun now watch device_slots count count_now (Err ProbesFull) events_begun events_now taken_begun taken_now = ⊥
+Makes Seen most begun now watch device_slots count count_now (Err Memory) events_begun events_now taken_begun taken_now = ⊥
+Makes Seen most begun now watch device_slots count count_now (Err (Held left)) events_begun events_now taken_begun taken_now = ⊥
 
 -- A commit that began where `before` says is unfinished: these are its effects so far, each of its writes told, and the
 -- rest of its writes is held.
 pub record IsUnfinished (device_slots : ℕ) (before : Progress) (front : List Effect) (run : Running) : Type 0 where
   pub halfway : IsHalfway run
   pub before_is : before ≡ progress_of device_slots (record run { manager = halfway.begun })
-  pub front_is : front ≡ write_effects (setting_of run) run.probes 1 before.state (writes_in halfway.some.made)
+  pub front_is : front ≡ effects_of (setting_of run) run.probes 0 0 before.state halfway.some.made
 
 -- Some effects more of it came about, each write told, and it is cut at the write that is next. The device is where the
--- run stands then.
-pub record StaysUnfinished (device_slots : ℕ) (before : Progress) (front : List Effect) (new : Running) (journal_old journal_new : List Write) (taken_old taken_new : Option (List ℕ)) : Type 0 where
+-- run stands then, and the words in flight are current.
+pub record StaysUnfinished (device_slots : ℕ) (before : Progress) (act : Act) (front : List Effect) (new : Running) (events_old events_new : List Action) (flight : Flight) (taken_old taken_new : Option (List ℕ)) : Type 0 where
   pub more : List Effect
   pub due : Write
   pub unfinished : IsUnfinished device_slots before (front ++ more) new
   pub next : next_of new.manager.held ≡ Some due
-  pub cut : IsCutStep (setting_of new) before Commit (front ++ more) (Writes due)
-  pub does : Does more [] journal_old journal_new taken_old taken_new
-  pub stands : IsAt device_slots journal_new (progress_of device_slots new)
+  pub cut : IsCutStep (setting_of new) before act (front ++ more) (Acts (Written due))
+  pub does : Does more [] events_old events_new taken_old taken_new
+  pub stands : IsAt device_slots events_new (progress_of device_slots new)
+  pub current : AreCurrent (live_now new.manager) flight
 
 -- The rest of them came about, and it is finished. The device is where the run stands then.
-pub record Finishes (device_slots : ℕ) (before : Progress) (front : List Effect) (new : Running) (journal_old journal_new : List Write) (taken_old taken_new : Option (List ℕ)) : Type 0 where
+pub record Finishes (device_slots : ℕ) (before : Progress) (act : Act) (front : List Effect) (new : Running) (events_old events_new : List Action) (taken_old taken_new : Option (List ℕ)) : Type 0 where
   pub rest : List Effect
-  pub step : HasEffects (setting_of new) before Commit (front ++ rest) (progress_of device_slots new)
-  pub does : Does rest [] journal_old journal_new taken_old taken_new
-  pub stands : IsAt device_slots journal_new (progress_of device_slots new)
+  pub step : HasEffects (setting_of new) before act (front ++ rest) (progress_of device_slots new)
+  pub does : Does rest [] events_old events_new taken_old taken_new
+  pub stands : IsAt device_slots events_new (progress_of device_slots new)
 
 -- Some effects more of it came about, up to a line that the sink didn't take whole.
-pub record BreaksOff (device_slots : ℕ) (before : Progress) (front : List Effect) (new : Running) (journal_old journal_new : List Write) (taken_old taken_new : Option (List ℕ)) : Type 0 where
+pub record BreaksOff (device_slots : ℕ) (before : Progress) (act : Act) (front : List Effect) (new : Running) (events_old events_new : List Action) (taken_old taken_new : Option (List ℕ)) : Type 0 where
   pub more : List Effect
   pub partial : List ℕ
   pub rest : List ℕ
-  pub cut : IsCutStep (setting_of new) before Commit (front ++ more) (Prints (partial ++ rest))
-  pub does : Does more partial journal_old journal_new taken_old taken_new
+  pub cut : IsCutStep (setting_of new) before act (front ++ more) (Prints (partial ++ rest))
+  pub does : Does more partial events_old events_new taken_old taken_new
 
 -- what going on with it comes to: it is finished, or cut at the write or at the line that failed
-abbrev pub ResumesTo : ℕ → Progress → List Effect → Running → Result (Unit {0}) RunFault → List Write → List Write → Option (List ℕ) → Option (List ℕ) → Type 0
-ResumesTo device_slots before front new (Ok done) journal_old journal_new taken_old taken_new =
-    Finishes device_slots before front new journal_old journal_new taken_old taken_new
-ResumesTo device_slots before front new (Err Device) journal_old journal_new taken_old taken_new =
-    StaysUnfinished device_slots before front new journal_old journal_new taken_old taken_new
-ResumesTo device_slots before front new (Err Sink) journal_old journal_new taken_old taken_new =
-    BreaksOff device_slots before front new journal_old journal_new taken_old taken_new
-ResumesTo device_slots before front new (Err BatchFull) journal_old journal_new taken_old taken_new = ⊥
-ResumesTo device_slots before front new (Err ProbesFull) journal_old journal_new taken_old taken_new = ⊥
-ResumesTo device_slots before front new (Err Memory) journal_old journal_new taken_old taken_new = ⊥
-ResumesTo device_slots before front new (Err (Held left)) journal_old journal_new taken_old taken_new = ⊥
+abbrev pub ResumesTo : ℕ → Progress → Act → List Effect → Running → Result (Unit {0}) RunFault → List Action → List Action → Flight → Option (List ℕ) → Option (List ℕ) → Type 0
+ResumesTo device_slots before act front new (Ok done) events_old events_new flight taken_old taken_new =
+    Finishes device_slots before act front new events_old events_new taken_old taken_new
+ResumesTo device_slots before act front new (Err Device) events_old events_new flight taken_old taken_new =
+    StaysUnfinished device_slots before act front new events_old events_new flight taken_old taken_new
+ResumesTo device_slots before act front new (Err Sink) events_old events_new flight taken_old taken_new =
+    BreaksOff device_slots before act front new events_old events_new taken_old taken_new
+ResumesTo device_slots before act front new (Err BatchFull) events_old events_new flight taken_old taken_new = ⊥
+ResumesTo device_slots before act front new (Err ProbesFull) events_old events_new flight taken_old taken_new = ⊥
+ResumesTo device_slots before act front new (Err Memory) events_old events_new flight taken_old taken_new = ⊥
+ResumesTo device_slots before act front new (Err (Held left)) events_old events_new flight taken_old taken_new = ⊥

@@ -118,12 +118,21 @@ write_words family (Table field port word) = codes "table" ∷ field_text field 
 abbrev pub trace_line : Family → ℕ → Write → List ℕ
 trace_line family write made = line_text (codes "w" ∷ decimal write ∷ write_words family made)
 
+-- a drain, after so many writes of the commit
+abbrev pub drain_line : ℕ → List ℕ
+drain_line write = line_text (codes "w" ∷ decimal write ∷ codes "drain" ∷ [])
+
 -- an accepted commit, by its number and its counts
 abbrev pub accepted_line : ℕ → Done → List ℕ
 accepted_line commit counts =
     line_text
     (codes "commit" ∷ decimal commit ∷ codes "ok" ∷ codes "writes" ∷ decimal counts.writes ∷ codes "words"
     ∷ decimal counts.words ∷ codes "most" ∷ decimal counts.most ∷ codes "span" ∷ decimal counts.span ∷ [])
+
+-- a commit that was taken back, by its number and its writes both ways
+abbrev pub aborted_line : ℕ → ℕ → List ℕ
+aborted_line commit writes =
+    line_text (codes "commit" ∷ decimal commit ∷ codes "aborted" ∷ codes "writes" ∷ decimal writes ∷ [])
 
 -- a batch's fault, as words
 abbrev pub fault_words : Family → BatchFault → List (List ℕ)

@@ -2,7 +2,8 @@
 //!
 //! A [`Run`] takes the acts of a script one at a time. A change joins the pending batch; a packet is looked up in the
 //! device as it stands; a commit is judged by the manager and, where it is taken, carried out write by write. Where a
-//! trace is wanted each write has its line, and each probe is looked up again after each write.
+//! trace is wanted each write has its line. Each probe is looked up again after each write, in two events: its word is made
+//! then, and searched a depth of writes later, or before a drain or the commit's line.
 //!
 //! # The one hard idea
 //! What an act does is a list of effects, device writes and report lines in one order, said of rule lists, journal and
@@ -12,8 +13,8 @@
 //! is tried again at once, [`TRIES`] times in all.
 //!
 //! # How it stands
-//! `run` has the acts and the commit's loop, `watch` what is told after a write, `report` the lines, and `report_line` how
-//! they are made of words, in fixed room. Each line goes to the sink, with its line feed, before the next effect.
+//! `run` has the acts, `steps` the commit's loop, `watch` what is told after a write, `report` the lines, and `report_line`
+//! how they are made of words, in fixed room. Each line goes to the sink, with its line feed, before the next effect.
 //!
 //! # What it cost
 //! A line is written as soon as it is known, so a trace takes a call of the sink for each line. A failed line of a
@@ -35,6 +36,7 @@ ghost use Rattle.replay.specs.Text.{version_of};
 mod report;
 mod report_line;
 mod run;
+mod steps;
 mod watch;
 
 pub use batch_order::{Mode, Placement};
@@ -86,6 +88,8 @@ pub enum Act {
     Packet(Key),
     /// The pending batch is committed.
     Commit,
+    /// The pending batch is committed, and taken back right after so many writes where it has more.
+    Trial(u32),
 }
 
 /// Why an act isn't carried out to its end.

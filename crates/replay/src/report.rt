@@ -2,7 +2,7 @@
 //! What is said of a sink's bytes (`WritesLine`) holds of either count of them: of what it tells, and of what it accepted.
 ghost use Rattle.std.specs.Prelude.{◌≡◌, ◌≢◌, ◌<◌, ◌≤◌, [], ◌∷◌, ◌++◌, length};
 ghost use Rattle.rule_store.specs.Verdict.{Accepted};
-ghost use Rattle.replay.specs.Text.{packet_line, probe_line, trace_line, accepted_line, refused_line, fault_line, end_line};
+ghost use Rattle.replay.specs.Text.{packet_line, probe_line, trace_line, drain_line, aborted_line, accepted_line, refused_line, fault_line, end_line};
 ghost use Rattle.replay.specs.Told.{verdict_told};
 ghost use Rattle.replay.specs.Outside.{WritesLine};
 
@@ -39,6 +39,18 @@ fn accepted(commit: u32, done: &Done) -> ReportLine
         .number(u64::from(done.most))
         .word("span")
         .number(u64::from(done.span))
+}
+
+// The line of a commit that was taken back.
+fn aborted(commit: u32, writes: u64) -> ReportLine
+    ensures text { result ++ 10 ∷ [] ≡ aborted_line commit writes }
+    ensures len { length result < LINE_ROOM }
+{
+    ReportLine::new("commit")
+        .number(u64::from(commit))
+        .word("aborted")
+        .word("writes")
+        .number(writes)
 }
 
 // The line of a refused commit.
@@ -116,12 +128,31 @@ pub fn write_trace<K: Sink>(
         .write(sink)
 }
 
+/// Writes the trace line of a drain of a commit, behind so many of its writes. Takes no memory. Where the sink fails, a
+/// part of the line was taken, perhaps none or all of it.
+pub fn write_drain<K: Sink>(sink: &mut K, number: u64) -> Result<(), Failed>
+    ensures { WritesLine K.taken K.accepted K.faults sink.old sink.new (drain_line number) result }
+{
+    ReportLine::new("w")
+        .number(number)
+        .word("drain")
+        .write(sink)
+}
+
 /// Writes the line of an accepted commit, by its number, from 1, and the numbers of what it did. Takes no memory.
 /// Where the sink fails, a part of the line was taken, perhaps none or all of it.
 pub fn write_accepted<K: Sink>(sink: &mut K, commit: u32, done: &Done) -> Result<(), Failed>
     ensures { WritesLine K.taken K.accepted K.faults sink.old sink.new (accepted_line commit done.now) result }
 {
     accepted(commit, done).write(sink)
+}
+
+/// Writes the line of a commit that was taken back, by its number, from 1, and its writes both ways. Takes no memory.
+/// Where the sink fails, a part of the line was taken, perhaps none or all of it.
+pub fn write_aborted<K: Sink>(sink: &mut K, commit: u32, writes: u64) -> Result<(), Failed>
+    ensures { WritesLine K.taken K.accepted K.faults sink.old sink.new (aborted_line commit writes) result }
+{
+    aborted(commit, writes).write(sink)
 }
 
 /// Writes the line of a refused commit, by its number, from 1, and the reason. The refusal is one of the batch:

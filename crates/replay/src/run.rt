@@ -1,31 +1,34 @@
 //! A run of acts over one device.
 
-ghost use Rattle.std.specs.Prelude.{Bool, true, false, ⊤, ◌≡◌, ◌≢◌, ◌⊎◌, ◌+◌, ◌<◌, ◌≤◌, ◌^◌, ◌++◌, ◌∷◌, [], ℕ, List, Ok, Err, None, Some, IsSome, IfOk, IfErr, IfSome, OnOk, OnErr, length};
+ghost use Rattle.std.specs.Prelude.{Bool, true, false, ◌≡◌, ◌≢◌, ◌⊎◌, ◌+◌, ◌<◌, ◌≤◌, ◌^◌, ◌++◌, ◌∷◌, [], ℕ, List, Ok, Err, None, IsSome, IfOk, IfErr, OnOk, OnErr, length};
 ghost use Rattle.script_lines.specs.Given.{counted};
 ghost use Rattle.call_history.specs.Cause.{HasCause};
 ghost use Rattle.rule_store.specs.Verdict.{Accepted};
-ghost use Rattle.tcam_device.specs.Flight.{writes_in};
-ghost use Rattle.batch_order.specs.CarriedOut.{GoesForward, HasRoomLeft, IsTried};
-ghost use Rattle.batch_order.specs.Managed.{writes_due};
-ghost use Rattle.batch_order.specs.Steps.{Steps, actions_of, next_of};
+ghost use Rattle.commit_writes.specs.InFlight.{AreCurrent};
+ghost use Rattle.batch_order.specs.CarriedOut.{HasRoomBothWays};
+ghost use Rattle.batch_order.specs.Managed.{live_now};
 ghost use Rattle.replay.specs.Text.{refused_line};
 ghost use Rattle.replay.specs.Told.{verdict_told};
-ghost use Rattle.replay.specs.Run.{Effect, Progress, ending};
+ghost use Rattle.replay.specs.Effects.{Effect};
+ghost use Rattle.replay.specs.Run.{Progress, ending};
 ghost use Rattle.replay.specs.Script.{limit_fault};
 ghost use Rattle.replay.specs.Outside.{Leaves, WritesLine};
 ghost use Rattle.replay.specs.Carried.{IsAt};
-ghost use Rattle.replay.specs.Running.{AnswersHeld, ComesTo, IsUnfinished, IsUntouched, Makes, ResumesTo, StaysUnfinished, breaks, begun, limit_text, progress_of, setting_of, IsActOf, IsChangeOf};
+ghost use Rattle.replay.specs.Running.{AnswersHeld, AreLeft, ComesTo, IsUnfinished, IsUntouched, LeavesWords, ResumesTo, StaysUnfinished, breaks, begun, commit_act, ended_line, limit_text, progress_of, setting_of, IsActOf, IsChangeOf};
 
-use crate::report::{Totals, write_accepted, write_end, write_packet, write_refused};
-use crate::watch::Watch;
-use crate::{Act, Family, RunFault, TRIES};
-use batch_order::{Done, Manager, Mode, Placement, Refusal, Step};
+use crate::report::{
+    Totals, write_aborted, write_accepted, write_end, write_packet, write_refused,
+};
+use crate::steps::{Ended, make_writes};
+use crate::watch::{Count, NOTHING, Watch};
+use crate::{Act, Family, RunFault};
+use batch_order::{Manager, Mode, Placement, Refusal};
 use rule_model::{Key, key_fields};
 use rule_store::{Batch, Command, PushFault};
 use script_lines::{Failed, Sink};
 use std::alloc::{AllocError, Global};
 use std::marker::Model;
-use tcam_device::{Device, DeviceFault, Writable};
+use tcam_device::Device;
 
 /// A run of acts: its manager, what is told of each write, the pending batch, and what the report counts.
 #[derive(Drop)]
@@ -36,8 +39,10 @@ pub struct Run {
     commits: u32,
     writes: u64,
     refused: bool,
-    /// How many writes of the unfinished commit were made and told, 0 where none is unfinished.
-    told: u64,
+    /// How far the unfinished commit has come, 0 and 0 where none is unfinished.
+    count: Count,
+    /// After how many writes the unfinished commit is taken back where it has more, if it is a trial.
+    most: Option<u32>,
     /// Whether the sink failed.
     broken: bool,
 }
@@ -47,15 +52,16 @@ impl Model for Run {
 
     ghost Value = { Running };
 
-    ghost view = { λ r. record { manager = r.manager; family = r.watch.family; trace = r.watch.trace; probes = r.watch.probes; pending = r.pending; commits = r.commits; writes = r.writes; refused = r.refused; told = r.told; broken = r.broken } };
+    ghost view = { λ r. record { manager = r.manager; family = r.watch.family; trace = r.watch.trace; depth = r.watch.depth; probes = r.watch.probes; pending = r.pending; commits = r.commits; writes = r.writes; refused = r.refused; told = r.count.told; waiting = r.count.waiting; most = r.most; broken = r.broken } };
 
-    ghost invariant = { λ r. IsRun (record { manager = r.manager; family = r.watch.family; trace = r.watch.trace; probes = r.watch.probes; pending = r.pending; commits = r.commits; writes = r.writes; refused = r.refused; told = r.told; broken = r.broken }) };
+    ghost invariant = { λ r. IsRun (record { manager = r.manager; family = r.watch.family; trace = r.watch.trace; depth = r.watch.depth; probes = r.watch.probes; pending = r.pending; commits = r.commits; writes = r.writes; refused = r.refused; told = r.count.told; waiting = r.count.waiting; most = r.most; broken = r.broken }) };
 }
 
 impl Run {
     /// A run before its first act, over a blank device with so many slots in use, 1 to 4,096: no rules, no probe, and
     /// no change pending. The mode says how port ranges are tested, and each insertion aims where the placement says. With a
-    /// trace each write of a commit has its line. It fails only for want of memory.
+    /// trace each write of a commit has its line. The words of the probes are searched a depth of writes after the one that
+    /// they were made behind, at most 15. It fails only for want of memory.
     pub fn new(
         alloc: Global,
         slots: u32,
@@ -63,19 +69,22 @@ impl Run {
         placement: Placement,
         family: Family,
         trace: bool,
+        depth: u32,
     ) -> Result<Run, AllocError>
         requires least { 1 ≤ slots }
         requires most { slots ≤ 4096 }
-        ensures { IfOk result (λ run. run ≡ begun slots mode placement family trace) }
+        requires depth { depth ≤ 15 }
+        ensures { IfOk result (λ run. run ≡ begun slots mode placement family trace depth) }
     {
         Ok(Run {
             manager: Manager::new(alloc, slots, mode, placement)?,
-            watch: Watch::new(alloc, family, trace)?,
+            watch: Watch::new(alloc, family, trace, depth)?,
             pending: Batch::new(alloc),
             commits: 0,
             writes: 0,
             refused: false,
-            told: 0,
+            count: NOTHING,
+            most: None,
             broken: false,
         })
     }
@@ -100,7 +109,8 @@ impl Run {
     /// A commit is judged by the set, the batch and the slots alone. A refused one writes nothing to the device: its
     /// line is written, with the first reason, and the set stays. An accepted one makes its writes one at a time, and
     /// none of them leaves a state in which a packet gets another answer than the old set's or the new one's. After
-    /// each write its line is written, where a trace is wanted, and then for each probe what the device answers it.
+    /// each write its line is written, where a trace is wanted, then a word is made of each probe, and the words that were
+    /// made a depth of writes before are searched, each with its line.
     /// Then the set is the one after the batch, and the commit's line is written, with its numbers. Either is counted,
     /// and drops the batch.
     ///
@@ -112,7 +122,12 @@ impl Run {
     /// the failed one were made and told, and its line wasn't written. The rest of it is held, and `resume` goes on with it.
     /// A write that fails less often is made, once, and nothing tells of its failures.
     ///
-    /// No word is in flight, before and after it: so a commit's drain never waits. A drain is no write, and has no line.
+    /// A trial is a commit that is taken back right after so many writes, where it has more: each of them is undone, the last
+    /// first, by a write that has its line as any other, and the set, the live ranges and the device are as before.
+    ///
+    /// While no commit is unfinished no word is in flight. The words of the probes are in flight within a commit alone, and
+    /// all of them are searched before its drain and before its line. Each line tells what an undivided look-up of its
+    /// probe's key would find at the moment of the search. A drain is no write; with a trace it has its line.
     pub fn apply<K: Sink, D: Device>(
         &mut self,
         act: &Act,
@@ -120,23 +135,23 @@ impl Run {
         device: &mut D,
     ) -> Result<(), RunFault>
         requires slots { self.old.manager.slots ≤ D.slot_count device.old }
-        requires none_in_flight { D.flight device.old ≡ [] }
+        requires none_in_flight { self.old.manager.held ≡ None → D.flight device.old ≡ [] }
         requires act { IsActOf self.old.family act.now }
         requires whole { self.old.broken ≡ false }
         requires commits { self.old.commits < 2 ^ 24 }
         ensures acts { (which : Bool) → ComesTo (D.slot_count device.old) self.old act.now self.new result
-            (D.journal device.old) (D.journal device.new) (counted which (K.taken sink.old) (K.accepted sink.old)) (counted which (K.taken sink.new) (K.accepted sink.new)) }
+            (D.events device.old) (D.events device.new) (counted which (K.taken sink.old) (K.accepted sink.old)) (counted which (K.taken sink.new) (K.accepted sink.new)) }
         ensures held { AnswersHeld self.old.manager.held result }
         ensures limit { self.old.manager.held ≡ None → limit_text result ≡ limit_fault act.now (length self.old.pending) (length self.old.probes) }
         ensures idle { OnOk result (self.new.manager.held ≡ None) }
-        ensures unfinished { (which : Bool) → result ≡ Err RunFault.Device → IsAt (D.slot_count device.old) (D.journal device.old) (progress_of (D.slot_count device.old) self.old)
-            → StaysUnfinished (D.slot_count device.old) (progress_of (D.slot_count device.old) self.old) [] self.new
-            (D.journal device.old) (D.journal device.new) (counted which (K.taken sink.old) (K.accepted sink.old)) (counted which (K.taken sink.new) (K.accepted sink.new)) }
+        ensures unfinished { (which : Bool) → result ≡ Err RunFault.Device → IsAt (D.slot_count device.old) (D.events device.old) (progress_of (D.slot_count device.old) self.old)
+            → StaysUnfinished (D.slot_count device.old) (progress_of (D.slot_count device.old) self.old) act.now [] self.new
+            (D.events device.old) (D.events device.new) (D.flight device.new) (counted which (K.taken sink.old) (K.accepted sink.old)) (counted which (K.taken sink.new) (K.accepted sink.new)) }
         ensures broken { self.new.broken ≡ breaks result }
-        ensures room { HasRoomLeft self.old.manager.held (D.spare device.old) → HasRoomLeft self.new.manager.held (D.spare device.new) }
+        ensures room { HasRoomBothWays self.old.manager.held (D.spare device.old) → HasRoomBothWays self.new.manager.held (D.spare device.new) }
         ensures setting { setting_of self.new ≡ setting_of self.old }
         ensures commits { self.new.commits ≤ self.old.commits + 1 }
-        ensures none_in_flight { D.flight device.new ≡ [] }
+        ensures in_flight { LeavesWords self.new result (D.flight device.old) (D.flight device.new) }
         ensures leaves { Leaves K.taken K.faults sink.old sink.new D.slot_count D.journal D.faults device.old device.new (result ≡ Err RunFault.Sink) (result ≡ Err RunFault.Device) }
     {
         if let Some(left) = self.manager.left() {
@@ -149,8 +164,8 @@ impl Run {
 
     /// Goes on with a commit that is unfinished after `Device`, from the write that failed, which has four tries again,
     /// through the commit's line. Its writes keep their numbers, and no write and no line comes twice. `Ok` says that no
-    /// commit is unfinished, and where none was, nothing is done. It asks for the device as `apply` left it, with no word in
-    /// flight.
+    /// commit is unfinished, and where none was, nothing is done. It asks for the device as it was left, with the
+    /// words in flight that were left: those of the probes, for the last writes that were told.
     ///
     /// `Device` comes as in `apply`, and then `resume` may be called again: the caller says how often, and how long it
     /// waits between. `Sink` comes as there, too, and no call may follow it. Nothing else comes, since all memory for the
@@ -161,23 +176,24 @@ impl Run {
         device: &mut D,
     ) -> Result<(), RunFault>
         requires slots { self.old.manager.slots ≤ D.slot_count device.old }
-        requires none_in_flight { D.flight device.old ≡ [] }
+        requires in_flight { AreLeft self.old (D.flight device.old) }
         requires whole { self.old.broken ≡ false }
-        requires room { HasRoomLeft self.old.manager.held (D.spare device.old) }
+        requires room { HasRoomBothWays self.old.manager.held (D.spare device.old) }
         requires commits { self.old.commits < 2 ^ 24 }
         ensures resumes { (which : Bool) → (before : Progress) → (front : List Effect) → IsUnfinished (D.slot_count device.old) before front self.old
-            → IsAt (D.slot_count device.old) (D.journal device.old) (progress_of (D.slot_count device.old) self.old)
-            → ResumesTo (D.slot_count device.old) before front self.new result
-            (D.journal device.old) (D.journal device.new) (counted which (K.taken sink.old) (K.accepted sink.old)) (counted which (K.taken sink.new) (K.accepted sink.new)) }
+            → IsAt (D.slot_count device.old) (D.events device.old) (progress_of (D.slot_count device.old) self.old)
+            → AreCurrent (live_now self.old.manager) (D.flight device.old)
+            → ResumesTo (D.slot_count device.old) before (commit_act self.old.most) front self.new result
+            (D.events device.old) (D.events device.new) (D.flight device.new) (counted which (K.taken sink.old) (K.accepted sink.old)) (counted which (K.taken sink.new) (K.accepted sink.new)) }
         ensures nothing { (which : Bool) → self.old.manager.held ≡ None → (result ≡ Ok tt) × IsUntouched self.old self.new
-            (D.journal device.old) (D.journal device.new) (counted which (K.taken sink.old) (K.accepted sink.old)) (counted which (K.taken sink.new) (K.accepted sink.new)) }
+            (D.events device.old) (D.events device.new) (counted which (K.taken sink.old) (K.accepted sink.old)) (counted which (K.taken sink.new) (K.accepted sink.new)) }
         ensures kind { IfErr result (λ fault. (fault ≡ RunFault.Sink) ⊎ (fault ≡ RunFault.Device)) }
         ensures idle { OnOk result (self.new.manager.held ≡ None) }
         ensures broken { self.new.broken ≡ breaks result }
-        ensures room { HasRoomLeft self.new.manager.held (D.spare device.new) }
+        ensures room { HasRoomBothWays self.new.manager.held (D.spare device.new) }
         ensures setting { setting_of self.new ≡ setting_of self.old }
         ensures commits { self.new.commits ≤ self.old.commits + 1 }
-        ensures none_in_flight { D.flight device.new ≡ [] }
+        ensures in_flight { LeavesWords self.new result (D.flight device.old) (D.flight device.new) }
         ensures leaves { Leaves K.taken K.faults sink.old sink.new D.slot_count D.journal D.faults device.old device.new (result ≡ Err RunFault.Sink) (result ≡ Err RunFault.Device) }
     {
         if self.manager.left().is_none() {
@@ -208,25 +224,26 @@ impl Run {
         requires idle { self.old.manager.held ≡ None }
         requires commits { self.old.commits < 2 ^ 24 }
         ensures acts { (which : Bool) → ComesTo (D.slot_count device.old) self.old act.now self.new result
-            (D.journal device.old) (D.journal device.new) (counted which (K.taken sink.old) (K.accepted sink.old)) (counted which (K.taken sink.new) (K.accepted sink.new)) }
+            (D.events device.old) (D.events device.new) (counted which (K.taken sink.old) (K.accepted sink.old)) (counted which (K.taken sink.new) (K.accepted sink.new)) }
         ensures taken { AnswersHeld None result }
         ensures limit { limit_text result ≡ limit_fault act.now (length self.old.pending) (length self.old.probes) }
         ensures idle { OnOk result (self.new.manager.held ≡ None) }
-        ensures unfinished { (which : Bool) → result ≡ Err RunFault.Device → IsAt (D.slot_count device.old) (D.journal device.old) (progress_of (D.slot_count device.old) self.old)
-            → StaysUnfinished (D.slot_count device.old) (progress_of (D.slot_count device.old) self.old) [] self.new
-            (D.journal device.old) (D.journal device.new) (counted which (K.taken sink.old) (K.accepted sink.old)) (counted which (K.taken sink.new) (K.accepted sink.new)) }
+        ensures unfinished { (which : Bool) → result ≡ Err RunFault.Device → IsAt (D.slot_count device.old) (D.events device.old) (progress_of (D.slot_count device.old) self.old)
+            → StaysUnfinished (D.slot_count device.old) (progress_of (D.slot_count device.old) self.old) act.now [] self.new
+            (D.events device.old) (D.events device.new) (D.flight device.new) (counted which (K.taken sink.old) (K.accepted sink.old)) (counted which (K.taken sink.new) (K.accepted sink.new)) }
         ensures broken { self.new.broken ≡ self.old.broken }
-        ensures room { HasRoomLeft self.new.manager.held (D.spare device.new) }
+        ensures room { HasRoomBothWays self.new.manager.held (D.spare device.new) }
         ensures setting { setting_of self.new ≡ setting_of self.old }
         ensures commits { self.new.commits ≤ self.old.commits + 1 }
-        ensures none_in_flight { D.flight device.new ≡ [] }
+        ensures in_flight { LeavesWords self.new result (D.flight device.old) (D.flight device.new) }
         ensures leaves { Leaves K.taken K.faults sink.old sink.new D.slot_count D.journal D.faults device.old device.new (result ≡ Err RunFault.Sink) (result ≡ Err RunFault.Device) }
     {
         match *act {
             Act::Command(command) => self.push(command),
             Act::Probe(key) => self.probe(key),
             Act::Packet(key) => self.packet(&key, sink, device),
-            Act::Commit => self.commit(sink, device),
+            Act::Commit => self.commit(None, sink, device),
+            Act::Trial(most) => self.commit(Some(most), sink, device),
         }
     }
 
@@ -271,7 +288,7 @@ impl Run {
         requires slots { self.now.manager.slots ≤ D.slot_count device.now }
         requires idle { self.now.manager.held ≡ None }
         ensures acts { (which : Bool) → ComesTo (D.slot_count device.now) self.now (Act.Packet key.now) self.now result
-            (D.journal device.now) (D.journal device.now) (counted which (K.taken sink.old) (K.accepted sink.old)) (counted which (K.taken sink.new) (K.accepted sink.new)) }
+            (D.events device.now) (D.events device.now) (counted which (K.taken sink.old) (K.accepted sink.old)) (counted which (K.taken sink.new) (K.accepted sink.new)) }
         ensures kind { IfErr result (λ fault. fault ≡ RunFault.Sink) }
         ensures told { IsSome (K.taken sink.old) → IsSome (K.taken sink.new) }
         ensures cause { HasCause (K.faults sink.old) (K.faults sink.new) result }
@@ -283,29 +300,38 @@ impl Run {
         }
     }
 
-    // Commits the pending batch, which is empty afterwards unless memory was wanting.
-    fn commit<K: Sink, D: Device>(&mut self, sink: &mut K, device: &mut D) -> Result<(), RunFault>
+    // Commits the pending batch, which is empty afterwards unless memory was wanting. A trial is taken back right after so
+    // many writes, where it has more.
+    fn commit<K: Sink, D: Device>(
+        &mut self,
+        most: Option<u32>,
+        sink: &mut K,
+        device: &mut D,
+    ) -> Result<(), RunFault>
         requires slots { self.old.manager.slots ≤ D.slot_count device.old }
         requires none_in_flight { D.flight device.old ≡ [] }
         requires idle { self.old.manager.held ≡ None }
         requires commits { self.old.commits < 2 ^ 24 }
-        ensures acts { (which : Bool) → ComesTo (D.slot_count device.old) self.old Act.Commit self.new result
-            (D.journal device.old) (D.journal device.new) (counted which (K.taken sink.old) (K.accepted sink.old)) (counted which (K.taken sink.new) (K.accepted sink.new)) }
+        ensures acts { (which : Bool) → ComesTo (D.slot_count device.old) self.old (commit_act most) self.new result
+            (D.events device.old) (D.events device.new) (counted which (K.taken sink.old) (K.accepted sink.old)) (counted which (K.taken sink.new) (K.accepted sink.new)) }
         ensures taken { AnswersHeld None result }
         ensures limit { limit_text result ≡ None }
         ensures idle { OnOk result (self.new.manager.held ≡ None) }
-        ensures unfinished { (which : Bool) → result ≡ Err RunFault.Device → IsAt (D.slot_count device.old) (D.journal device.old) (progress_of (D.slot_count device.old) self.old)
-            → StaysUnfinished (D.slot_count device.old) (progress_of (D.slot_count device.old) self.old) [] self.new
-            (D.journal device.old) (D.journal device.new) (counted which (K.taken sink.old) (K.accepted sink.old)) (counted which (K.taken sink.new) (K.accepted sink.new)) }
+        ensures unfinished { (which : Bool) → result ≡ Err RunFault.Device → IsAt (D.slot_count device.old) (D.events device.old) (progress_of (D.slot_count device.old) self.old)
+            → StaysUnfinished (D.slot_count device.old) (progress_of (D.slot_count device.old) self.old) (commit_act most) [] self.new
+            (D.events device.old) (D.events device.new) (D.flight device.new) (counted which (K.taken sink.old) (K.accepted sink.old)) (counted which (K.taken sink.new) (K.accepted sink.new)) }
         ensures broken { self.new.broken ≡ self.old.broken }
-        ensures room { HasRoomLeft self.new.manager.held (D.spare device.new) }
+        ensures room { HasRoomBothWays self.new.manager.held (D.spare device.new) }
         ensures setting { setting_of self.new ≡ setting_of self.old }
         ensures commits { self.new.commits ≤ self.old.commits + 1 }
-        ensures none_in_flight { D.flight device.new ≡ [] }
+        ensures in_flight { LeavesWords self.new result (D.flight device.old) (D.flight device.new) }
         ensures leaves { Leaves K.taken K.faults sink.old sink.new D.slot_count D.journal D.faults device.old device.new (result ≡ Err RunFault.Sink) (result ≡ Err RunFault.Device) }
     {
         match self.manager.prepare(&self.pending, device) {
-            Ok(_) => self.carry_out(sink, device),
+            Ok(_) => {
+                self.most = most;
+                self.carry_out(sink, device)
+            }
             Err(Refusal::Memory) => Err(RunFault::Memory),
             Err(refusal) => self.refuse(&refusal, sink),
         }
@@ -345,31 +371,39 @@ impl Run {
         device: &mut D,
     ) -> Result<(), RunFault>
         requires slots { self.old.manager.slots ≤ D.slot_count device.old }
-        requires none_in_flight { D.flight device.old ≡ [] }
+        requires in_flight { AreLeft self.old (D.flight device.old) }
         requires held { IsSome self.old.manager.held }
-        requires room { HasRoomLeft self.old.manager.held (D.spare device.old) }
+        requires room { HasRoomBothWays self.old.manager.held (D.spare device.old) }
         requires commits { self.old.commits < 2 ^ 24 }
         ensures resumes { (which : Bool) → (before : Progress) → (front : List Effect) → IsUnfinished (D.slot_count device.old) before front self.old
-            → IsAt (D.slot_count device.old) (D.journal device.old) (progress_of (D.slot_count device.old) self.old)
-            → ResumesTo (D.slot_count device.old) before front self.new result
-            (D.journal device.old) (D.journal device.new) (counted which (K.taken sink.old) (K.accepted sink.old)) (counted which (K.taken sink.new) (K.accepted sink.new)) }
+            → IsAt (D.slot_count device.old) (D.events device.old) (progress_of (D.slot_count device.old) self.old)
+            → AreCurrent (live_now self.old.manager) (D.flight device.old)
+            → ResumesTo (D.slot_count device.old) before (commit_act self.old.most) front self.new result
+            (D.events device.old) (D.events device.new) (D.flight device.new) (counted which (K.taken sink.old) (K.accepted sink.old)) (counted which (K.taken sink.new) (K.accepted sink.new)) }
         ensures kind { IfErr result (λ fault. (fault ≡ RunFault.Sink) ⊎ (fault ≡ RunFault.Device)) }
         ensures idle { OnOk result (self.new.manager.held ≡ None) }
         ensures broken { self.new.broken ≡ self.old.broken }
-        ensures room { HasRoomLeft self.new.manager.held (D.spare device.new) }
+        ensures room { HasRoomBothWays self.new.manager.held (D.spare device.new) }
         ensures setting { setting_of self.new ≡ setting_of self.old }
         ensures commits { self.new.commits ≤ self.old.commits + 1 }
-        ensures none_in_flight { D.flight device.new ≡ [] }
+        ensures in_flight { LeavesWords self.new result (D.flight device.old) (D.flight device.new) }
         ensures leaves { Leaves K.taken K.faults sink.old sink.new D.slot_count D.journal D.faults device.old device.new (result ≡ Err RunFault.Sink) (result ≡ Err RunFault.Device) }
     {
-        let done = match make_writes(&mut self.manager, &self.watch, &mut self.told, sink, device) {
-            Ok(done) => done,
+        let (manager, count) = (&mut self.manager, &mut self.count);
+        let ended = match make_writes(manager, &self.watch, count, self.most, sink, device) {
+            Ok(ended) => ended,
             Err(fault) => return Err(fault),
         };
-        self.told = 0;
+        let count = self.count;
+        self.count = NOTHING;
+        self.most = None;
         self.count_commit();
-        self.writes += done.writes;
-        match write_accepted(sink, self.commits, &done) {
+        self.writes += count.told;
+        match self.watch.search_all(&count, sink, device) {
+            Ok(()) => {}
+            Err(Failed) => return Err(RunFault::Sink),
+        }
+        match write_ended(sink, self.commits, &ended, count.told) {
             Ok(()) => Ok(()),
             Err(Failed) => Err(RunFault::Sink),
         }
@@ -398,76 +432,12 @@ impl Run {
     }
 }
 
-// Makes the writes that are left of the commit under way, one at a time, and tells each of them, with the number behind
-// those that were told before. `Sink` comes where the lines of a write can't be written, and `Device` where a write
-// failed each time it was tried.
-fn make_writes<K: Sink, D: Device>(
-    manager: &mut Manager,
-    watch: &Watch,
-    told: &mut u64,
-    sink: &mut K,
-    device: &mut D,
-) -> Result<Done, RunFault>
-    requires slots { manager.old.slots ≤ D.slot_count device.old }
-    requires none_in_flight { D.flight device.old ≡ [] }
-    requires held { IsSome manager.old.held }
-    requires forward { GoesForward manager.old.held }
-    requires room { HasRoomLeft manager.old.held (D.spare device.old) }
-    requires few { IfSome manager.old.held (λ held. told.old + length (writes_due held) ≤ 2 ^ 39) }
-    ensures makes { (which : Bool) → Makes manager.old manager.new watch.now (D.slot_count device.old) told.old told.new result
-        (D.journal device.old) (D.journal device.new) (counted which (K.taken sink.old) (K.accepted sink.old)) (counted which (K.taken sink.new) (K.accepted sink.new)) }
-    ensures room { HasRoomLeft manager.new.held (D.spare device.new) }
-    ensures none_in_flight { D.flight device.new ≡ [] }
-    ensures leaves { Leaves K.taken K.faults sink.old sink.new D.slot_count D.journal D.faults device.old device.new (result ≡ Err RunFault.Sink) (result ≡ Err RunFault.Device) }
+// The line of a commit that has come to its end, by its number, from 1, and its writes.
+fn write_ended<K: Sink>(sink: &mut K, commit: u32, ended: &Ended, writes: u64) -> Result<(), Failed>
+    ensures { WritesLine K.taken K.accepted K.faults sink.old sink.new (ended_line commit ended.now writes) result }
 {
-    'making: loop {
-        match step_tried(manager, device) {
-            Ok(Step::Wrote(write)) => {
-                *told += 1;
-                match watch.tell(*told, &write, sink, device) {
-                    Ok(()) => {}
-                    Err(Failed) => return Err(RunFault::Sink),
-                }
-            }
-            Ok(Step::Drained) => {}
-            Ok(Step::Finished(done)) => return Ok(done),
-            // A commit is under way, no word is in flight, and no plan of a run is turned round.
-            Ok(Step::Idle) => unreachable!(),
-            Ok(Step::Waiting(_)) => unreachable!(),
-            Ok(Step::Reverted(_)) => unreachable!(),
-            Err(DeviceFault) => return Err(RunFault::Device),
-        }
-    }
-}
-
-// Takes the next step of the commit under way. A write that fails is tried again at once, `TRIES` times in all; an Err
-// says that each of them failed, and nothing has changed then.
-fn step_tried<D: Writable>(manager: &mut Manager, device: &mut D) -> Result<Step, DeviceFault>
-    requires slots { manager.old.slots ≤ D.slot_count device.old }
-    requires none_in_flight { D.flight device.old ≡ [] }
-    requires room { HasRoomLeft manager.old.held (D.spare device.old) }
-    ensures stepped { IfOk result (λ step. Steps manager.old 0 manager.old.held step manager.new) }
-    ensures journal { IfOk result (λ step. D.journal device.new ≡ D.journal device.old ++ writes_in (actions_of step)) }
-    ensures spare { IfOk result (λ step. D.spare device.new + length (actions_of step) ≡ D.spare device.old) }
-    ensures failed { OnErr result (manager.new ≡ manager.old) }
-    ensures journal_err { OnErr result (D.journal device.new ≡ D.journal device.old) }
-    ensures spare_err { OnErr result (D.spare device.new ≡ D.spare device.old) }
-    ensures due { OnErr result (IsSome (next_of manager.old.held)) }
-    ensures none_in_flight { D.flight device.new ≡ [] }
-    ensures slot_count { D.slot_count device.new ≡ D.slot_count device.old }
-    ensures tried { IfOk result (λ step. IsTried 4 (length (writes_in (actions_of step))) ⊥ (D.faults device.old) (D.faults device.new)) }
-    ensures tried_err { OnErr result (IsTried 4 0 ⊤ (D.faults device.old) (D.faults device.new)) }
-{
-    let mut failures = 0;
-    'trying: loop {
-        match manager.step(device) {
-            Ok(step) => return Ok(step),
-            Err(DeviceFault) => {
-                failures += 1;
-                if failures == TRIES {
-                    return Err(DeviceFault);
-                }
-            }
-        }
+    match ended {
+        Ended::Finished(done) => write_accepted(sink, commit, done),
+        Ended::Reverted => write_aborted(sink, commit, writes),
     }
 }

@@ -1,14 +1,21 @@
 //! What the report shows after each write of a commit.
+//!
+//! A probe is a look-up of two events: after each write the words of all probes are put into flight, and they are searched a
+//! depth of writes later. Behind the search a line tells what it answered.
 
-ghost use Rattle.std.specs.Prelude.{◌≡◌, ◌≢◌, ◌↔◌, ◌++◌, ◌∷◌, [], IsTrue, IfOk, length};
+ghost use Rattle.std.specs.Prelude.{◌≡◌, ◌≢◌, ◌↔◌, ◌==◌, ◌+◌, ◌≤◌, ◌++◌, ◌∷◌, [], true, IsTrue, IfOk, OnOk, length, take, drop, min};
+ghost use Rattle.std.specs.List.{AllByRecursion};
+ghost use Rattle.rule_model.specs.Key.{IsKey};
 ghost use Rattle.tcam_device.specs.State.{replay};
-ghost use Rattle.replay.specs.Run.{probes_of, trace_of};
+ghost use Rattle.replay.specs.Effects.{traced};
+ghost use Rattle.replay.specs.InFlight.{AreOf, flight_after, found_after, found_all, found_lines, words_of};
 ghost use Rattle.replay.specs.Outside.{WritesLines};
 ghost use Rattle.replay.specs.Script.{most_probes};
+ghost use Rattle.replay.specs.Text.{drain_line, trace_line};
 
 use crate::Family;
-use crate::report::{write_probe, write_trace};
-use rule_model::Key;
+use crate::report::{write_drain, write_probe, write_trace};
+use rule_model::{Key, key_fields};
 use script_lines::{Failed, Sink};
 use std::alloc::{AllocError, Global};
 use std::marker::Model;
@@ -17,11 +24,27 @@ use tcam_device::{Device, Write};
 /// The most keys that are probed.
 pub(crate) const MOST_PROBES: usize = 16;
 
-/// What is told of each write: the write itself, where a trace is wanted, and what the device answers each probe then.
+/// How far an unfinished commit has come: how many of its writes were made and told, and of how many of these the probes'
+/// words are in flight.
+#[derive(Clone, Copy, Debug, PartialEq, Eq)]
+pub(crate) struct Count {
+    pub(crate) told: u64,
+    pub(crate) waiting: u32,
+}
+
+/// No commit is unfinished, or none of its writes is made.
+pub(crate) const NOTHING: Count = Count {
+    told: 0,
+    waiting: 0,
+};
+
+/// What is told of each write: the write itself, where a trace is wanted, and what the device answers each probe, whose
+/// words are searched a depth of writes behind the one that they were made after.
 #[derive(Drop)]
 pub(crate) struct Watch {
     family: Family,
     trace: bool,
+    depth: u32,
     // There is room for the most probes from the start, so that a probe takes no memory.
     probes: Vec<Key>,
 }
@@ -32,19 +55,26 @@ impl Model for Watch {
 
     ghost Value = { Watching };
 
-    ghost view = { λ w. record { family = w.family; trace = w.trace; probes = w.probes.items } };
+    ghost view = { λ w. record { family = w.family; trace = w.trace; depth = w.depth; probes = w.probes.items } };
 
-    ghost invariant = { λ w. (length w.probes.items ≤ 16) × (16 ≤ vec_capacity w.probes) };
+    ghost invariant = { λ w. (length w.probes.items ≤ 16) × (16 ≤ vec_capacity w.probes) × (w.depth ≤ 15) };
 }
 
 impl Watch {
     /// No key is probed yet.
-    pub(crate) fn new(alloc: Global, family: Family, trace: bool) -> Result<Watch, AllocError>
-        ensures { IfOk result (λ watch. watch ≡ record { family = family; trace = trace; probes = [] }) }
+    pub(crate) fn new(
+        alloc: Global,
+        family: Family,
+        trace: bool,
+        depth: u32,
+    ) -> Result<Watch, AllocError>
+        requires depth { depth ≤ 15 }
+        ensures { IfOk result (λ watch. watch ≡ record { family = family; trace = trace; depth = depth; probes = [] }) }
     {
         Ok(Watch {
             family,
             trace,
+            depth,
             probes: Vec::with_capacity(alloc, MOST_PROBES)?,
         })
     }
@@ -54,6 +84,13 @@ impl Watch {
         ensures { result ≡ self.now.family }
     {
         self.family
+    }
+
+    /// After how many further writes the words of the probes are searched.
+    pub(crate) fn depth(&self) -> u32
+        ensures { result ≡ self.now.depth }
+    {
+        self.depth
     }
 
     /// Whether as many keys are probed as may be.
@@ -71,35 +108,123 @@ impl Watch {
         self.probes.push_reserved(key);
     }
 
-    /// Tells of a write that was made, by its number, from 1. Where the sink fails, the lines before the one that it
-    /// didn't take whole are written. It takes no memory.
+    /// Tells of a write that was made and counted, while the words of so many writes before it wait: the words of all probes
+    /// follow them into flight, and with a depth of them waiting already the oldest are searched. Where the sink fails,
+    /// the lines before the one that it didn't take whole are written. It takes no memory.
     pub(crate) fn tell<K: Sink, D: Device>(
         &self,
         number: u64,
+        waiting: u32,
         write: &Write,
         sink: &mut K,
-        device: &D,
+        device: &mut D,
     ) -> Result<(), Failed>
-        ensures { WritesLines K.taken K.accepted K.faults sink.old sink.new (trace_of self.now.family self.now.trace number write.now ++ probes_of self.now.family number (replay (D.slot_count device.now) (D.journal device.now)) 1 self.now.probes) result }
+        requires words { AreOf self.now.probes waiting (D.flight device.old) }
+        requires few { waiting ≤ self.now.depth }
+        ensures lines { WritesLines K.taken K.accepted K.faults sink.old sink.new
+            (traced self.now.trace (trace_line self.now.family number write.now) ++ found_after self.now.family self.now.probes self.now.depth number waiting (replay (D.slot_count device.old) (D.journal device.old)) (D.flight device.old)) result }
+        ensures flight { OnOk result (D.flight device.new ≡ flight_after self.now.probes self.now.depth waiting (replay (D.slot_count device.old) (D.journal device.old)) (D.flight device.old)) }
+        ensures keys { AllByRecursion IsKey self.now.probes }
+        ensures journal { D.journal device.new ≡ D.journal device.old }
+        ensures events { D.events device.new ≡ D.events device.old }
+        ensures spare { D.spare device.new ≡ D.spare device.old }
+        ensures slots { D.slot_count device.new ≡ D.slot_count device.old }
+        ensures faults { D.faults device.new ≡ D.faults device.old }
+    {
+        let depth = self.depth;
+        self.translate(device);
+        self.tell_write(number, write, sink)?;
+        if waiting == depth {
+            self.search(number, sink, device)?;
+        }
+        Ok(())
+    }
+
+    // Writes the line of a write, where a trace is wanted.
+    fn tell_write<K: Sink>(&self, number: u64, write: &Write, sink: &mut K) -> Result<(), Failed>
+        ensures { WritesLines K.taken K.accepted K.faults sink.old sink.new (traced self.now.trace (trace_line self.now.family number write.now)) result }
     {
         if self.trace {
             write_trace(sink, self.family, number, write)?;
         }
-        self.look_up(number, sink, device)
+        Ok(())
     }
 
-    // Looks each probe up, in their order.
-    fn look_up<K: Sink, D: Device>(
+    /// Tells of a drain, behind so many writes, where a trace is wanted.
+    pub(crate) fn tell_drain<K: Sink>(&self, number: u64, sink: &mut K) -> Result<(), Failed>
+        ensures { WritesLines K.taken K.accepted K.faults sink.old sink.new (traced self.now.trace (drain_line number)) result }
+    {
+        if self.trace {
+            write_drain(sink, number)?;
+        }
+        Ok(())
+    }
+
+    /// Searches all words in flight, those of the probes of so many writes, the oldest first.
+    pub(crate) fn search_all<K: Sink, D: Device>(
+        &self,
+        count: &Count,
+        sink: &mut K,
+        device: &mut D,
+    ) -> Result<(), Failed>
+        requires words { AreOf self.now.probes count.now.waiting (D.flight device.old) }
+        ensures lines { WritesLines K.taken K.accepted K.faults sink.old sink.new
+            (found_all self.now.family count.now.told (replay (D.slot_count device.old) (D.journal device.old)) (length self.now.probes) count.now.waiting (D.flight device.old)) result }
+        ensures flight { OnOk result (D.flight device.new ≡ []) }
+        ensures journal { D.journal device.new ≡ D.journal device.old }
+        ensures events { D.events device.new ≡ D.events device.old }
+        ensures spare { D.spare device.new ≡ D.spare device.old }
+        ensures slots { D.slot_count device.new ≡ D.slot_count device.old }
+        ensures faults { D.faults device.new ≡ D.faults device.old }
+    {
+        for place in 0..count.waiting {
+            self.search(count.told, sink, device)?;
+        }
+        Ok(())
+    }
+
+    // Puts the word of each probe into flight, in their order.
+    fn translate<D: Device>(&self, device: &mut D)
+        requires room { length (D.flight device.old) + length self.now.probes ≤ 256 }
+        ensures flight { D.flight device.new
+            ≡ D.flight device.old ++ words_of (replay (D.slot_count device.old) (D.journal device.old)) self.now.probes }
+        ensures keys { AllByRecursion IsKey self.now.probes }
+        ensures journal { D.journal device.new ≡ D.journal device.old }
+        ensures events { D.events device.new ≡ D.events device.old }
+        ensures spare { D.spare device.new ≡ D.spare device.old }
+        ensures slots { D.slot_count device.new ≡ D.slot_count device.old }
+        ensures faults { D.faults device.new ≡ D.faults device.old }
+    {
+        for place in 0..self.probes.len() {
+            let key = &self.probes[place];
+            key_fields(key);
+            device.translate(key);
+        }
+    }
+
+    // Searches the oldest word of each probe, in their order.
+    fn search<K: Sink, D: Device>(
         &self,
         number: u64,
         sink: &mut K,
-        device: &D,
+        device: &mut D,
     ) -> Result<(), Failed>
-        ensures { WritesLines K.taken K.accepted K.faults sink.old sink.new (probes_of self.now.family number (replay (D.slot_count device.now) (D.journal device.now)) 1 self.now.probes) result }
+        requires words { length self.now.probes ≤ length (D.flight device.old) }
+        ensures lines { WritesLines K.taken K.accepted K.faults sink.old sink.new
+            (found_lines self.now.family number (replay (D.slot_count device.old) (D.journal device.old)) 1 (take (length self.now.probes) (D.flight device.old))) result }
+        ensures flight { OnOk result (D.flight device.new ≡ drop (length self.now.probes) (D.flight device.old)) }
+        ensures journal { D.journal device.new ≡ D.journal device.old }
+        ensures events { D.events device.new ≡ D.events device.old }
+        ensures spare { D.spare device.new ≡ D.spare device.old }
+        ensures slots { D.slot_count device.new ≡ D.slot_count device.old }
+        ensures faults { D.faults device.new ≡ D.faults device.old }
     {
         for place in 0..self.probes.len() {
-            let found = device.look(&self.probes[place]);
-            write_probe(sink, self.family, number, place as u32 + 1, found)?;
+            match device.search() {
+                Some(found) => write_probe(sink, self.family, number, place as u32 + 1, found)?,
+                // There is a word in flight for each probe.
+                None => unreachable!(),
+            }
         }
         Ok(())
     }

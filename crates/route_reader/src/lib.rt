@@ -7,14 +7,17 @@
 //!     packet KEY
 //!     frame HEX
 //!     commit
+//!     trial COUNT
 //!
-//! Addresses, prefixes and frames are those of one version of IP, which the caller names. `read_route` is equal to the grammar both ways: it answers a command only where the line is one, and
-//! a fault only where the line has that fault. Faults are found in a fixed order: the words that begin
-//! no command, then a wrong number of words, then the leftmost bad word. What is common to both kinds of
-//! script stands in `line_words`; here is what routes alone have. Nothing takes memory.
+//! Addresses, prefixes and frames are those of one version of IP, which the caller names. `read_route` is equal to the
+//! grammar both ways: it answers a command only where the line is one, and a fault only where the line has that fault.
+//! Faults are found in a fixed order: the words that begin no command, then a wrong number of words, then the leftmost
+//! bad word. What is common to both kinds of script stands in `line_words`; here is what routes alone have. Nothing
+//! takes memory.
 #![tactic(auto)]
 
-ghost use Rattle.std.specs.Prelude.{◌≡◌, ◌≤◌, ◌∷◌, length, take};
+ghost use Rattle.std.specs.Prelude.{◌≡◌, ◌≤◌, ◌∷◌, codes, length, take};
+ghost use Rattle.std.specs.Str.{bytes_eq};
 ghost use Rattle.line_words.specs.Notations.{notation_for};
 ghost use Rattle.route_reader.specs.Grammar.{addition, change, removal, route_command, route_line, route_words};
 
@@ -57,10 +60,17 @@ pub fn read_route(line: &Line, version: IpVersion) -> Result<Option<RouteCommand
 fn command_of(first: &[u8], rest: Words<'_>, version: IpVersion) -> Result<RouteCommand, WordFault>
     ensures { result ≡ route_command (notation_for version) (first.now ∷ rest.entry) }
 {
-    match first {
-        b"route" => route_words(rest, version),
-        _ => Ok(RouteCommand::Common(common_command(first, rest, version)?)),
+    if is_route(first) {
+        return route_words(rest, version);
     }
+    Ok(RouteCommand::Common(common_command(first, rest, version)?))
+}
+
+/// Whether this is the word `route`.
+fn is_route(word: &[u8]) -> bool
+    ensures { result ≡ bytes_eq word.now (codes "route") }
+{
+    matches!(word, b"route")
 }
 
 /// The command of a line whose first word is `route`, from the words behind it.
@@ -146,7 +156,7 @@ mod tests {
     fn lines_and_their_commands(rt: HostRuntime) -> Result<(), Fail> {
         let ten = Prefix::v4(0x0a00_0000, 8)?;
         let host = Prefix::v4(0xffff_ffff, 32)?;
-        let table: [(&[u8], Result<Option<RouteCommand>, WordFault>); 57] = [
+        let table: [(&[u8], Result<Option<RouteCommand>, WordFault>); 66] = [
             (
                 b"route add 10.0.0.0/8 7",
                 Ok(Some(RouteCommand::Add(ten, 7))),
@@ -196,6 +206,14 @@ mod tests {
                 b"commit\r",
                 Ok(Some(RouteCommand::Common(CommonCommand::Commit))),
             ),
+            (
+                b"trial 0",
+                Ok(Some(RouteCommand::Common(CommonCommand::Trial(0)))),
+            ),
+            (
+                b" trial\t4294967295\r",
+                Ok(Some(RouteCommand::Common(CommonCommand::Trial(4294967295)))),
+            ),
             (b"", Ok(None)),
             (b" \t\r", Ok(None)),
             (b"# route add", Ok(None)),
@@ -218,6 +236,13 @@ mod tests {
             ),
             (b"frame", Err(WordFault::WordCount)),
             (b"commit #", Err(WordFault::WordCount)),
+            (b"trial", Err(WordFault::WordCount)),
+            (b"trial 1 2", Err(WordFault::WordCount)),
+            (b"Trial 1", Err(WordFault::UnknownCommand)),
+            (b"trials 1", Err(WordFault::UnknownCommand)),
+            (b"trial x", Err(WordFault::BadCount)),
+            (b"trial 01", Err(WordFault::BadCount)),
+            (b"trial 4294967296", Err(WordFault::BadCount)),
             (b"route add 10.0.0.0/33 7", Err(WordFault::BadPrefix)),
             (b"route add 010.0.0.0/8 7", Err(WordFault::BadPrefix)),
             (b"route add 10.0.0.0 7", Err(WordFault::BadPrefix)),
@@ -280,7 +305,7 @@ mod tests {
     #[test]
     fn ipv6_lines_and_their_commands(rt: HostRuntime) -> Result<(), Fail> {
         let block = Prefix::v6(0x2001_0db8_0000_0000_0000_0000_0000_0000, 32)?;
-        let table: [(&[u8], Result<Option<RouteCommand>, WordFault>); 18] = [
+        let table: [(&[u8], Result<Option<RouteCommand>, WordFault>); 20] = [
             (
                 b"route add 2001:db8::/32 7",
                 Ok(Some(RouteCommand::Add(block, 7))),
@@ -313,6 +338,11 @@ mod tests {
                 b"commit",
                 Ok(Some(RouteCommand::Common(CommonCommand::Commit))),
             ),
+            (
+                b"trial 7",
+                Ok(Some(RouteCommand::Common(CommonCommand::Trial(7)))),
+            ),
+            (b"trial 7f", Err(WordFault::BadCount)),
             (b"route add 2001:db8::/129 7", Err(WordFault::BadPrefix)),
             (b"route add 2001:db8:: 7", Err(WordFault::BadPrefix)),
             (b"route add 10.0.0.0/8 7", Err(WordFault::BadPrefix)),

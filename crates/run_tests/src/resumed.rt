@@ -37,6 +37,22 @@ commit 3 ok writes 1 words 0 most 1 span 0
 w 1 p 1 10.1.2.0/24 24
 ";
 
+/// With the words of the probe searched a write later.
+const FRONT_LATER: &str = "\
+commit 1 ok writes 1 words 0 most 1 span 0
+commit 2 ok writes 1 words 0 most 1 span 0
+commit 3 ok writes 1 words 0 most 1 span 0
+";
+
+const WHOLE_LATER: &str = "\
+commit 1 ok writes 1 words 0 most 1 span 0
+commit 2 ok writes 1 words 0 most 1 span 0
+commit 3 ok writes 1 words 0 most 1 span 0
+w 2 p 1 10.1.2.0/24 24
+w 2 p 1 10.1.2.0/24 24
+commit 4 ok writes 2 words 0 most 2 span 0
+";
+
 const WHOLE: &str = "\
 commit 1 ok writes 1 words 0 most 1 span 0
 commit 2 ok writes 1 words 0 most 1 span 0
@@ -91,6 +107,8 @@ fn is_held<D: Device>(run: &mut Run, sink: &mut MemSink, device: &mut D) -> Resu
 fn goes_on<D: Device>(
     rt: &impl Abort,
     run: &mut Run,
+    front: &str,
+    whole: &str,
     sink: &mut MemSink,
     device: &mut D,
 ) -> Result<(), Fail>
@@ -101,16 +119,17 @@ fn goes_on<D: Device>(
     let cut = commit_route(run, 0x0a01_0000, 20, sink, device)?;
     assert!(rt; cut);
     is_held(run, sink, device)?;
-    assert_eq!(rt; sink.bytes(), FRONT.as_bytes());
+    assert_eq!(rt; sink.bytes(), front.as_bytes());
     finish(run, sink, device)?;
-    assert_eq!(rt; sink.bytes(), WHOLE.as_bytes());
+    assert_eq!(rt; sink.bytes(), whole.as_bytes());
     finish(run, sink, device)?;
-    assert_eq!(rt; sink.bytes().len(), WHOLE.len());
+    assert_eq!(rt; sink.bytes().len(), whole.len());
     Ok(())
 }
 
 /// A run of routes, for a device of eight slots or more.
-fn run_of_routes(alloc: Global) -> Result<Run, Fail>
+fn run_of_routes(alloc: Global, depth: u32) -> Result<Run, Fail>
+    requires { depth ≤ 15 }
     ensures going { IfOk result (λ run. (slots spare : ℕ) → (flight : Flight) → 8 ≤ slots → flight ≡ [] → CanGoOn run slots spare flight) }
     ensures begins { IfOk result (λ run. run.commits ≡ 0) }
 {
@@ -121,20 +140,25 @@ fn run_of_routes(alloc: Global) -> Result<Run, Fail>
         Placement::Middle,
         Family::Route,
         false,
+        depth,
     )?)
 }
 
 /// A whole run over a blank device.
 fn goes_on_over<D: Device>(
     rt: &(impl Abort + AllocGlobal),
+    depth: u32,
+    front: &str,
+    whole: &str,
     sink: &mut MemSink,
     device: &mut D,
 ) -> Result<(), Fail>
+    requires depth { depth ≤ 15 }
     requires slots { 8 ≤ D.slot_count device.old }
     requires none_in_flight { D.flight device.old ≡ [] }
 {
-    let mut run = run_of_routes(rt.alloc())?;
-    goes_on(rt, &mut run, sink, device)
+    let mut run = run_of_routes(rt.alloc(), depth)?;
+    goes_on(rt, &mut run, front, whole, sink, device)
 }
 
 /// The write calls 5 to 8 fail, all tries of a commit's second write. What is left of the commit comes once.
@@ -144,7 +168,19 @@ fn a_run_that_goes_on(rt: HostRuntime) -> Result<(), Fail> {
     let mut device = FlakyTcam::new(alloc, 4096, &[5, 6, 7, 8])?;
     let mut sink = MemSink::new(alloc)?;
     sink.reserve(4096)?;
-    goes_on_over(&rt, &mut sink, &mut device)?;
+    goes_on_over(&rt, 0, FRONT, WHOLE, &mut sink, &mut device)?;
+    assert_eq!(rt; device.journal().len(), 5);
+    Ok(())
+}
+
+/// The same while a word of the probe is in flight.
+#[test]
+fn a_run_that_goes_on_with_a_word(rt: HostRuntime) -> Result<(), Fail> {
+    let alloc = rt.alloc();
+    let mut device = FlakyTcam::new(alloc, 4096, &[5, 6, 7, 8])?;
+    let mut sink = MemSink::new(alloc)?;
+    sink.reserve(4096)?;
+    goes_on_over(&rt, 1, FRONT_LATER, WHOLE_LATER, &mut sink, &mut device)?;
     assert_eq!(rt; device.journal().len(), 5);
     Ok(())
 }

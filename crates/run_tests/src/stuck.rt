@@ -232,6 +232,7 @@ fn run_of(alloc: Global, script: &Script) -> Result<Run, Fail>
         Placement::Middle,
         script.family,
         true,
+        0,
     )?)
 }
 

@@ -1,8 +1,8 @@
 -- After each write of a run every key has the answer of one of the script's sets or of the next one.
-use Rattle.std.proofs.Common.{◌≡◌, inl, inr, ℕ, zero, suc, ◌+◌, ◌≤◌, min, le_trans, Option, Some, None, List, [], ◌∷◌, ◌++◌, length, take, slice_get, refl, ap, sym, ◌∙◌, subst, arith, append_assoc, append-nil}
+use Rattle.std.proofs.Common.{◌≡◌, inl, inr, ℕ, zero, suc, ◌+◌, ◌-◌, ◌≤◌, Bool, true, false, drop, min, le_trans, Option, Some, None, List, [], ◌∷◌, ◌++◌, length, take, slice_get, refl, ap, sym, ◌∙◌, subst, arith, append_assoc, append-nil}
 use Rattle.std.proofs.Math.Seq.{take-nil}
 use Rattle.std.proofs.Math.Nat.{min-le_left, min-le_right, le-min}
-use Rattle.std.proofs.lemmas.List.{take_min, take-append-le}
+use Rattle.std.proofs.lemmas.List.{length-take-le, take_min, take-append-le, take-take}
 use Rattle.rule_model.specs.declared.Rule.{Rule}
 use Rattle.rule_store.specs.declared.Command.{Command as Change}
 use Rattle.rule_store.specs.Batch.{set_after}
@@ -13,66 +13,120 @@ use Rattle.tcam_device.specs.Hitless.{ShowsOldOrNew}
 use Rattle.tcam_device.proofs.Spans.{state_after-append}
 use Rattle.tcam_device.proofs.Wider.{blank_shows}
 use Rattle.replay.specs.declared.Act.{Act}
-use Rattle.replay.specs.declared.Act.TheVariants.{Command, Probe, Packet, Commit}
-use Rattle.replay.specs.Run.{Setting, Effect, Prints, written, Progress, start, write_effects, IsCutStep, Judged, HasEffects, Run, Runs}
+use Rattle.replay.specs.declared.Act.TheVariants.{Command, Probe, Packet, Commit, Trial}
+use Rattle.replay.specs.Effects.{Setting, Effect, Prints, written}
+use Rattle.replay.specs.Run.{Progress, start, Commits, Returns, Refuses, Tries, Judged, HasEffects, Run, Runs}
 use Rattle.tcam_cli.specs.AllTheWay.{sets_through, ShowsSetOrNext, AnswersAllTheWay, EndsAtLast}
-use Rattle.tcam_cli.proofs.OneMore.{run-more}
-use Rattle.replay.proofs.Effects.{written-writes, written-append}
+use Rattle.replay.proofs.Effects.{written-append}
+use Rattle.replay.proofs.Written.{written-return, written-segment}
+use Rattle.commit_writes.specs.Undo.{undo_writes}
+use Rattle.commit_writes.proofs.Undone.{length-undo_writes, undo_ends, undo_passes}
+use Rattle.tcam_cli.specs.Headline.{is_back}
 
 -- ---- lists of sets
 
 -- the sets by the verdict on a commit
-abbrev sets_judged : Setting → List Rule → List Change → List Act → Verdict → List (List Rule)
-sets_judged setting rules batch acts is =
+abbrev sets_judged : Setting → List Bool → List Rule → List Change → List Act → Verdict → List (List Rule)
+sets_judged setting backs rules batch acts is =
     elim is [
-      | Accepted ↦ rules ∷ sets_through setting (set_after rules batch) [] acts
-      | _ ↦ sets_through setting rules [] acts
+      | Accepted ↦ rules ∷ sets_through setting backs (set_after rules batch) [] acts
+      | _ ↦ sets_through setting backs rules [] acts
+    ]
+
+-- and on a trial, which is taken back or not
+abbrev sets_tried : Setting → List Bool → List Rule → List Change → List Act → Bool → List (List Rule)
+sets_tried setting backs rules batch acts back =
+    elim back [
+      | true ↦ rules ∷ set_after rules batch ∷ sets_through setting backs rules [] acts
+      | false ↦ rules ∷ sets_through setting backs (set_after rules batch) [] acts
+    ]
+
+abbrev trial_judged : Setting → List Bool → List Rule → List Change → List Act → Verdict → List (List Rule)
+trial_judged setting backs rules batch acts is =
+    elim is [
+      | Accepted ↦ sets_tried setting (drop 1 backs) rules batch acts (is_back backs)
+      | _ ↦ sets_through setting backs rules [] acts
     ]
 
 -- the first set is the one before the acts
 abbrev StartsAt : List Rule → List (List Rule) → Type 0
 StartsAt rules sets = (behind : List (List Rule)) × (sets ≡ rules ∷ behind)
 
-starts-judged : (setting : Setting) (rules : List Rule) (batch : List Change) (acts : List Act) (is : Verdict)
-    → StartsAt rules (sets_through setting rules [] acts) → StartsAt rules (sets_judged setting rules batch acts is)
-starts-judged setting rules batch acts Accepted more = (sets_through setting (set_after rules batch) [] acts, refl)
-starts-judged setting rules batch acts (Unsound fault) more = more
-starts-judged setting rules batch acts (OutOfBits field needed free) more = more
-starts-judged setting rules batch acts (OutOfSlots needed free) more = more
+starts-judged : (setting : Setting) (backs : List Bool) (rules : List Rule) (batch : List Change) (acts : List Act) (is : Verdict)
+    → StartsAt rules (sets_through setting backs rules [] acts) → StartsAt rules (sets_judged setting backs rules batch acts is)
+starts-judged setting backs rules batch acts Accepted more = (sets_through setting backs (set_after rules batch) [] acts, refl)
+starts-judged setting backs rules batch acts (Unsound fault) more = more
+starts-judged setting backs rules batch acts (OutOfBits field needed free) more = more
+starts-judged setting backs rules batch acts (OutOfSlots needed free) more = more
 
-starts : (setting : Setting) (rules : List Rule) (batch : List Change) (acts : List Act) → StartsAt rules (sets_through setting rules batch acts)
-starts setting rules batch [] = ([], refl)
-starts setting rules batch (Command change ∷ acts) = starts setting rules (batch ++ change ∷ []) acts
-starts setting rules batch (Probe key ∷ acts) = starts setting rules batch acts
-starts setting rules batch (Packet key ∷ acts) = starts setting rules batch acts
-starts setting rules batch (Commit ∷ acts) =
-    starts-judged setting rules batch acts (verdict setting.slots setting.mode rules batch) (starts setting rules [] acts)
+starts-back : (setting : Setting) (backs : List Bool) (rules : List Rule) (batch : List Change) (acts : List Act) (back : Bool) → StartsAt rules (sets_tried setting backs rules batch acts back)
+starts-back setting backs rules batch acts true = (set_after rules batch ∷ sets_through setting backs rules [] acts, refl)
+starts-back setting backs rules batch acts false = (sets_through setting backs (set_after rules batch) [] acts, refl)
 
-first-set : (setting : Setting) (rules : List Rule) (batch : List Change) (acts : List Act) → slice_get (sets_through setting rules batch acts) 0 ≡ Some rules
-first-set setting rules batch acts = ap (λ sets. slice_get sets 0) (starts setting rules batch acts).1
+starts-tried : (setting : Setting) (backs : List Bool) (rules : List Rule) (batch : List Change) (acts : List Act) (is : Verdict)
+    → StartsAt rules (sets_through setting backs rules [] acts) → StartsAt rules (trial_judged setting backs rules batch acts is)
+starts-tried setting backs rules batch acts Accepted more = starts-back setting (drop 1 backs) rules batch acts (is_back backs)
+starts-tried setting backs rules batch acts (Unsound fault) more = more
+starts-tried setting backs rules batch acts (OutOfBits field needed free) more = more
+starts-tried setting backs rules batch acts (OutOfSlots needed free) more = more
+
+starts : (setting : Setting) (backs : List Bool) (rules : List Rule) (batch : List Change) (acts : List Act) → StartsAt rules (sets_through setting backs rules batch acts)
+starts setting backs rules batch [] = ([], refl)
+starts setting backs rules batch (Command change ∷ acts) = starts setting backs rules (batch ++ change ∷ []) acts
+starts setting backs rules batch (Probe key ∷ acts) = starts setting backs rules batch acts
+starts setting backs rules batch (Packet key ∷ acts) = starts setting backs rules batch acts
+starts setting backs rules batch (Commit ∷ acts) =
+    starts-judged setting backs rules batch acts (verdict setting.slots setting.mode rules batch) (starts setting backs rules [] acts)
+starts setting backs rules batch (Trial most ∷ acts) =
+    starts-tried setting backs rules batch acts (verdict setting.slots setting.mode rules batch) (starts setting backs rules [] acts)
+
+first-set : (setting : Setting) (backs : List Bool) (rules : List Rule) (batch : List Change) (acts : List Act) → slice_get (sets_through setting backs rules batch acts) 0 ≡ Some rules
+first-set setting backs rules batch acts = ap (λ sets. slice_get sets 0) (starts setting backs rules batch acts).1
 
 -- the sets of some first acts are the first sets
 abbrev Continues : List (List Rule) → List (List Rule) → Type 0
 Continues sets all = (behind : List (List Rule)) × (all ≡ sets ++ behind)
 
-more-judged : (setting : Setting) (rules : List Rule) (batch : List Change) (acts later : List Act) (is : Verdict)
-    → Continues (sets_through setting (set_after rules batch) [] acts) (sets_through setting (set_after rules batch) [] (acts ++ later))
-    → Continues (sets_through setting rules [] acts) (sets_through setting rules [] (acts ++ later))
-    → Continues (sets_judged setting rules batch acts is) (sets_judged setting rules batch (acts ++ later) is)
-more-judged setting rules batch acts later Accepted new old = (new.0, ap (λ sets. rules ∷ sets) new.1)
-more-judged setting rules batch acts later (Unsound fault) new old = old
-more-judged setting rules batch acts later (OutOfBits field needed free) new old = old
-more-judged setting rules batch acts later (OutOfSlots needed free) new old = old
+-- so they are, whatever is pending
+abbrev ContinuesWith : Setting → List Act → List Act → Type 0
+ContinuesWith setting acts later =
+    (backs : List Bool) (rules : List Rule) (batch : List Change) → Continues (sets_through setting backs rules batch acts) (sets_through setting backs rules batch (acts ++ later))
 
-pub more-sets : (setting : Setting) (rules : List Rule) (batch : List Change) (acts later : List Act)
-    → Continues (sets_through setting rules batch acts) (sets_through setting rules batch (acts ++ later))
-more-sets setting rules batch [] later = starts setting rules batch later
-more-sets setting rules batch (Command change ∷ acts) later = more-sets setting rules (batch ++ change ∷ []) acts later
-more-sets setting rules batch (Probe key ∷ acts) later = more-sets setting rules batch acts later
-more-sets setting rules batch (Packet key ∷ acts) later = more-sets setting rules batch acts later
-more-sets setting rules batch (Commit ∷ acts) later =
-    more-judged setting rules batch acts later (verdict setting.slots setting.mode rules batch)
-    (more-sets setting (set_after rules batch) [] acts later) (more-sets setting rules [] acts later)
+more-judged : (setting : Setting) (backs : List Bool) (rules : List Rule) (batch : List Change) (acts later : List Act) (is : Verdict) → ContinuesWith setting acts later
+    → Continues (sets_judged setting backs rules batch acts is) (sets_judged setting backs rules batch (acts ++ later) is)
+more-judged setting backs rules batch acts later Accepted more =
+    let new = more backs (set_after rules batch) [] in (new.0, ap (λ sets. rules ∷ sets) new.1)
+more-judged setting backs rules batch acts later (Unsound fault) more = more backs rules []
+more-judged setting backs rules batch acts later (OutOfBits field needed free) more = more backs rules []
+more-judged setting backs rules batch acts later (OutOfSlots needed free) more = more backs rules []
+
+more-back : (setting : Setting) (backs : List Bool) (rules : List Rule) (batch : List Change) (acts later : List Act) (back : Bool) → ContinuesWith setting acts later
+    → Continues (sets_tried setting backs rules batch acts back) (sets_tried setting backs rules batch (acts ++ later) back)
+more-back setting backs rules batch acts later true more =
+    let old = more backs rules [] in (old.0, ap (λ sets. rules ∷ set_after rules batch ∷ sets) old.1)
+more-back setting backs rules batch acts later false more =
+    let new = more backs (set_after rules batch) [] in (new.0, ap (λ sets. rules ∷ sets) new.1)
+
+more-tried : (setting : Setting) (backs : List Bool) (rules : List Rule) (batch : List Change) (acts later : List Act) (is : Verdict) → ContinuesWith setting acts later
+    → Continues (trial_judged setting backs rules batch acts is) (trial_judged setting backs rules batch (acts ++ later) is)
+more-tried setting backs rules batch acts later Accepted more = more-back setting (drop 1 backs) rules batch acts later (is_back backs) more
+more-tried setting backs rules batch acts later (Unsound fault) more = more backs rules []
+more-tried setting backs rules batch acts later (OutOfBits field needed free) more = more backs rules []
+more-tried setting backs rules batch acts later (OutOfSlots needed free) more = more backs rules []
+
+more-sets-from : (setting : Setting) (acts later : List Act) → ContinuesWith setting acts later
+more-sets-from setting [] later backs rules batch = starts setting backs rules batch later
+more-sets-from setting (Command change ∷ acts) later backs rules batch = more-sets-from setting acts later backs rules (batch ++ change ∷ [])
+more-sets-from setting (Probe key ∷ acts) later backs rules batch = more-sets-from setting acts later backs rules batch
+more-sets-from setting (Packet key ∷ acts) later backs rules batch = more-sets-from setting acts later backs rules batch
+more-sets-from setting (Commit ∷ acts) later backs rules batch =
+    more-judged setting backs rules batch acts later (verdict setting.slots setting.mode rules batch) (more-sets-from setting acts later)
+more-sets-from setting (Trial most ∷ acts) later backs rules batch =
+    more-tried setting backs rules batch acts later (verdict setting.slots setting.mode rules batch) (more-sets-from setting acts later)
+
+pub more-sets : (setting : Setting) (backs : List Bool) (rules : List Rule) (batch : List Change) (acts later : List Act)
+    → Continues (sets_through setting backs rules batch acts) (sets_through setting backs rules batch (acts ++ later))
+more-sets setting backs rules batch acts later = more-sets-from setting acts later backs rules batch
 
 -- ---- answers on the way
 
@@ -170,87 +224,157 @@ Goes state sets writes = AnswersAllTheWay state sets writes × EndsAtLast state 
 abbrev IsShown : Progress → Type 0
 IsShown progress = Shows progress.state progress.rules
 
--- what acts do from where a run stands
-abbrev GoesOn : Setting → Progress → List Act → List Write → Type 0
-GoesOn setting old acts writes = Goes old.state (sets_through setting old.rules old.batch acts) writes
+-- what acts do from where a run stands, with some trials taken back
+abbrev GoesBy : Setting → List Bool → Progress → List Act → List Write → Type 0
+GoesBy setting backs old acts writes = Goes old.state (sets_through setting backs old.rules old.batch acts) writes
 
-written-commit : (setting : Setting) (old : Progress) (made : List Write) (line : List ℕ) → written (write_effects setting old.probes 1 old.state made ++ Prints line ∷ []) ≡ made
-written-commit setting old made line =
-    written-append (write_effects setting old.probes 1 old.state made) (Prints line ∷ [])
-    ∙ append-nil (written (write_effects setting old.probes 1 old.state made)) ∙ written-writes setting old.probes 1 old.state made
+abbrev GoesOn : Setting → Progress → List Act → List Write → Type 0
+GoesOn setting old acts writes = (backs : List Bool) × GoesBy setting backs old acts writes
+
+-- what comes behind a commit
+abbrev Later : Setting → Progress → List Act → List Write → Type 0
+Later setting mid acts back = IsShown mid → GoesOn setting mid acts back
+
+-- the last set stays the last behind one more
+ends-behind : (state : State) (first : List Rule) (sets : List (List Rule)) (made back : List Write) → EndsAtLast (state_after state made) sets back → EndsAtLast state (first ∷ sets) (made ++ back)
+ends-behind state first sets made back ends = record {
+  front = first ∷ ends.front;
+  rules = ends.rules;
+  sets_are = ap (λ behind. first ∷ behind) ends.sets_are;
+  shows = subst (λ state. Shows state ends.rules) (sym (state_after-append state made back)) ends.shows;
+}
+
+-- a commit that finishes
+goes-commit : (setting : Setting) (old : Progress) (front : List Effect) (mid : Progress) (acts : List Act) (back : List Write) → Commits setting old front mid → Later setting mid acts back
+    → (backs : List Bool) × Goes old.state (old.rules ∷ sets_through setting backs (set_after old.rules old.batch) [] acts) (written front ++ back)
+goes-commit setting old front mid acts back step more =
+    let new : List Rule = set_after old.rules old.batch in
+    let P : Progress → Type 0 = λ p. Later setting p acts back in
+    let last = subst P step.after more step.segment.hitless.after in
+    let sets : List (List Rule) = sets_through setting last.0 new [] acts in
+    let made : step.made ++ back ≡ written front ++ back =
+    sym (ap (λ writes. writes ++ back) (ap written step.effects_are ∙ written-segment setting old step.made _)) in (
+      last.0,
+      subst (λ writes. Goes old.state (old.rules ∷ sets) writes) made
+          (segment old.rules new sets old.state step.made back (first-set setting last.0 new [] acts) step.segment.hitless.on_the_way.during last.1.0, ends-behind old.state old.rules sets step.made back last.1.1),
+    )
+
+-- on the way back each key has the new answer or the old one
+shows-back : (state : State) (old new : List Rule) → ShowsOldOrNew state old new → ShowsOldOrNew state new old
+shows-back state old new shows key valid = elim (shows key valid) [ inl is ↦ inr is | inr is ↦ inl is ]
+
+-- the states on the way back are those of some first writes
+back-passes : (state : State) (front : List Write) (n : ℕ) → (m : ℕ) × (state_after (state_after state front) (take n (undo_writes state front)) ≡ state_after state (take m front))
+back-passes state front n =
+    let few = min n (length (undo_writes state front)) in
+    let within : few ≤ length front = subst (λ size. few ≤ size) (length-undo_writes state front) (min-le_right n (length (undo_writes state front))) in (
+      length front - few,
+      sym (state_after-append state front (take n (undo_writes state front)))
+          ∙ ap (λ writes. state_after state (front ++ writes)) (sym (take_min n (undo_writes state front))) ∙ undo_passes state front few within,
+    )
+
+-- a trial that is taken back
+goes-return : (setting : Setting) (old : Progress) (most : ℕ) (front : List Effect) (mid : Progress) (acts : List Act) (back : List Write) → IsShown old → Returns setting old most front mid → Later setting mid acts back
+    → (backs : List Bool) × Goes old.state (old.rules ∷ set_after old.rules old.batch ∷ sets_through setting backs old.rules [] acts) (written front ++ back)
+goes-return setting old most front mid acts back shown step more =
+    let new : List Rule = set_after old.rules old.batch in
+    let P : Progress → Type 0 = λ p. Later setting p acts back in
+    let last = subst P step.after more shown in
+    let sets : List (List Rule) = sets_through setting last.0 old.rules [] acts in
+    let there : List Write = take most step.made in
+    let undo : List Write = undo_writes old.state there in
+    let begins : state_after (state_after old.state there) undo ≡ old.state = sym (state_after-append old.state there undo) ∙ undo_ends old.state there in
+    let during : (n : ℕ) → ShowsOldOrNew (state_after old.state (take n step.made)) old.rules new = step.segment.hitless.on_the_way.during in
+    let on : (n : ℕ) → ShowsOldOrNew (state_after old.state (take n there)) old.rules new =
+    λ n. (let few = min n (length there) in
+    let enough = step.more in
+    let size : length there ≡ most = length-take-le most step.made (omega arith) in
+    let within : few ≤ most = subst (λ size. few ≤ size) size (min-le_right n (length there)) in
+    subst (λ writes. ShowsOldOrNew (state_after old.state writes) old.rules new) (sym (take-take few most step.made within) ∙ take_min n there) (during few)) in
+    let off : (n : ℕ) → ShowsOldOrNew (state_after (state_after old.state there) (take n undo)) new old.rules =
+    λ n. (let passes = back-passes old.state there n in
+    subst (λ state. ShowsOldOrNew state new old.rules) (sym passes.1) (shows-back (state_after old.state (take passes.0 there)) old.rules new (on passes.0))) in
+    let rest : Goes (state_after (state_after old.state there) undo) sets back = subst (λ state. Goes state sets back) (sym begins) last.1 in
+    let again : Goes (state_after old.state there) (new ∷ sets) (undo ++ back) =
+    (segment new old.rules sets (state_after old.state there) undo back (first-set setting last.0 old.rules [] acts) off rest.0, ends-behind (state_after old.state there) new sets undo back rest.1) in
+    let made : there ++ (undo ++ back) ≡ written front ++ back =
+    sym (append_assoc there undo back) ∙ sym (ap (λ writes. writes ++ back) (ap written step.effects_are ∙ written-return setting old most step.made _)) in (
+      last.0,
+      subst (λ writes. Goes old.state (old.rules ∷ new ∷ sets) writes) made
+          (segment old.rules new (new ∷ sets) old.state there (undo ++ back) refl on again.0, ends-behind old.state old.rules (new ∷ sets) there (undo ++ back) again.1),
+    )
+
+-- one that is refused
+goes-refused : (setting : Setting) (old : Progress) (reason : Verdict) (front : List Effect) (mid : Progress) (acts : List Act) (back : List Write) → IsShown old → Refuses setting old reason front mid → Later setting mid acts back
+    → (backs : List Bool) × Goes old.state (sets_through setting backs old.rules [] acts) (written front ++ back)
+goes-refused setting old reason front mid acts back shown step more =
+    let P : Progress → Type 0 = λ p. Later setting p acts back in
+    let last = subst P step.1 more shown in
+    (last.0, subst (λ writes. Goes old.state (sets_through setting last.0 old.rules [] acts) writes) (sym (ap (λ effects. written effects ++ back) step.0)) last.1)
 
 goes-judged : (setting : Setting) (old : Progress) (is : Verdict) (front : List Effect) (mid : Progress) (acts : List Act) (back : List Write)
-    → IsShown old → Judged setting old is front mid → (IsShown mid → GoesOn setting mid acts back)
-    → Goes old.state (sets_judged setting old.rules old.batch acts is) (written front ++ back)
-goes-judged setting old Accepted front mid acts back shown step more =
-    let new : List Rule = set_after old.rules old.batch in
-    let sets : List (List Rule) = sets_through setting new [] acts in
-    let P : Progress → Type 0 = λ p. IsShown p → GoesOn setting p acts back in
-    let rest = subst P step.after more step.segment.hitless.after in
-    let made : step.made ++ back ≡ written front ++ back =
-    sym (ap (λ writes. writes ++ back) (ap written step.effects_are ∙ written-commit setting old step.made _)) in
-    let ends : EndsAtLast old.state (old.rules ∷ sets) (step.made ++ back) = record {
-      front = old.rules ∷ rest.1.front;
-      rules = rest.1.rules;
-      sets_are = ap (λ behind. old.rules ∷ behind) rest.1.sets_are;
-      shows = subst (λ state. Shows state rest.1.rules) (sym (state_after-append old.state step.made back)) rest.1.shows;
-    } in
-    subst (λ writes. Goes old.state (old.rules ∷ sets) writes) made
-    (segment old.rules new sets old.state step.made back (first-set setting new [] acts) step.segment.hitless.on_the_way.during rest.0, ends)
-goes-judged setting old (Unsound fault) front mid acts back shown step more =
-    let P : Progress → Type 0 = λ p. IsShown p → GoesOn setting p acts back in
-    subst (λ writes. Goes old.state (sets_through setting old.rules [] acts) writes) (sym (ap (λ effects. written effects ++ back) step.0)) (subst P step.1 more shown)
-goes-judged setting old (OutOfBits field needed free) front mid acts back shown step more =
-    let P : Progress → Type 0 = λ p. IsShown p → GoesOn setting p acts back in
-    subst (λ writes. Goes old.state (sets_through setting old.rules [] acts) writes) (sym (ap (λ effects. written effects ++ back) step.0)) (subst P step.1 more shown)
-goes-judged setting old (OutOfSlots needed free) front mid acts back shown step more =
-    let P : Progress → Type 0 = λ p. IsShown p → GoesOn setting p acts back in
-    subst (λ writes. Goes old.state (sets_through setting old.rules [] acts) writes) (sym (ap (λ effects. written effects ++ back) step.0)) (subst P step.1 more shown)
+    → IsShown old → Judged Commits setting old is front mid → Later setting mid acts back
+    → (backs : List Bool) × Goes old.state (sets_judged setting backs old.rules old.batch acts is) (written front ++ back)
+goes-judged setting old Accepted front mid acts back shown step more = goes-commit setting old front mid acts back step more
+goes-judged setting old (Unsound fault) front mid acts back shown step more = goes-refused setting old (Unsound fault) front mid acts back shown step more
+goes-judged setting old (OutOfBits field needed free) front mid acts back shown step more = goes-refused setting old (OutOfBits field needed free) front mid acts back shown step more
+goes-judged setting old (OutOfSlots needed free) front mid acts back shown step more = goes-refused setting old (OutOfSlots needed free) front mid acts back shown step more
+
+goes-tried : (most : ℕ) (setting : Setting) (old : Progress) (is : Verdict) (front : List Effect) (mid : Progress) (acts : List Act) (back : List Write)
+    → IsShown old → Judged (Tries most) setting old is front mid → Later setting mid acts back
+    → (backs : List Bool) × Goes old.state (trial_judged setting backs old.rules old.batch acts is) (written front ++ back)
+goes-tried most setting old Accepted front mid acts back shown (inl commits) more =
+    let last = goes-commit setting old front mid acts back commits.0 more in (false ∷ last.0, last.1)
+goes-tried most setting old Accepted front mid acts back shown (inr returns) more =
+    let last = goes-return setting old most front mid acts back shown returns more in (true ∷ last.0, last.1)
+goes-tried most setting old (Unsound fault) front mid acts back shown step more = goes-refused setting old (Unsound fault) front mid acts back shown step more
+goes-tried most setting old (OutOfBits field needed free) front mid acts back shown step more = goes-refused setting old (OutOfBits field needed free) front mid acts back shown step more
+goes-tried most setting old (OutOfSlots needed free) front mid acts back shown step more = goes-refused setting old (OutOfSlots needed free) front mid acts back shown step more
+
+-- an act that does nothing to the device
+goes-still : (setting : Setting) (old : Progress) (act : Act) (front : List Effect) (mid now : Progress) (acts : List Act) (back : List Write) → written front ≡ [] → mid ≡ now → IsShown now
+    → (GoesOn setting now acts back → GoesOn setting old (act ∷ acts) back) → Later setting mid acts back → GoesOn setting old (act ∷ acts) (written front ++ back)
+goes-still setting old act front mid now acts back none same shown goes more =
+    let P : Progress → Type 0 = λ p. Later setting p acts back in
+    subst (λ writes. GoesOn setting old (act ∷ acts) (writes ++ back)) (sym none) (goes (subst P same more shown))
 
 -- one act and those behind it
 goes-step : (setting : Setting) (old : Progress) (act : Act) (front : List Effect) (mid : Progress) (acts : List Act) (back : List Write)
-    → IsShown old → HasEffects setting old act front mid → (IsShown mid → GoesOn setting mid acts back) → GoesOn setting old (act ∷ acts) (written front ++ back)
-goes-step setting old (Command change) front mid acts back shown step more =
-    let P : Progress → Type 0 = λ p. IsShown p → GoesOn setting p acts back in
-    subst (λ writes. GoesOn setting old (Command change ∷ acts) writes) (sym (ap (λ effects. written effects ++ back) step.0)) (subst P step.1 more shown)
-goes-step setting old (Probe key) front mid acts back shown step more =
-    let P : Progress → Type 0 = λ p. IsShown p → GoesOn setting p acts back in
-    subst (λ writes. GoesOn setting old (Probe key ∷ acts) writes) (sym (ap (λ effects. written effects ++ back) step.0)) (subst P step.1 more shown)
-goes-step setting old (Packet key) front mid acts back shown step more =
-    let P : Progress → Type 0 = λ p. IsShown p → GoesOn setting p acts back in
-    subst (λ writes. GoesOn setting old (Packet key ∷ acts) writes) (sym (ap (λ effects. written effects ++ back) step.0)) (subst P step.1 more shown)
+    → IsShown old → HasEffects setting old act front mid → Later setting mid acts back → GoesOn setting old (act ∷ acts) (written front ++ back)
+goes-step setting old (Command change) front mid acts back shown step more = goes-still setting old (Command change) front mid _ acts back (ap written step.0) step.1 shown (λ goes. goes) more
+goes-step setting old (Probe key) front mid acts back shown step more = goes-still setting old (Probe key) front mid _ acts back (ap written step.0) step.1 shown (λ goes. goes) more
+goes-step setting old (Packet key) front mid acts back shown step more = goes-still setting old (Packet key) front mid _ acts back (ap written step.0) step.1 shown (λ goes. goes) more
 goes-step setting old Commit front mid acts back shown step more =
     goes-judged setting old (verdict setting.slots setting.mode old.rules old.batch) front mid acts back shown step more
+goes-step setting old (Trial most) front mid acts back shown step more =
+    goes-tried most setting old (verdict setting.slots setting.mode old.rules old.batch) front mid acts back shown step more
 
 goes : (setting : Setting) (old : Progress) (acts : List Act) (effects : List Effect) (new : Progress) → IsShown old → Run setting old acts effects new → GoesOn setting old acts (written effects)
 goes setting old [] effects new shown run =
     subst (λ writes. GoesOn setting old [] writes) (sym (ap written run.0))
-    (stays old.state old.rules (old.rules ∷ []) refl shown, record { front = []; rules = old.rules; sets_are = refl; shows = shown })
+    ([], (stays old.state old.rules (old.rules ∷ []) refl shown, record { front = []; rules = old.rules; sets_are = refl; shows = shown }))
 goes setting old (act ∷ acts) effects new shown (front, mid, back, step, rest, whole) =
     subst (λ writes. GoesOn setting old (act ∷ acts) writes) (sym (ap written whole ∙ written-append front back))
     (goes-step setting old act front mid acts (written back) shown step (λ mid_shown. goes setting mid acts back new mid_shown rest))
 
-pub run-goes : (setting : Setting) (slots : ℕ) (acts : List Act) (effects : List Effect) (last : Progress) → Runs setting slots acts effects last
-    → AnswersAllTheWay (blank slots) (sets_through setting [] [] acts) (written effects) × EndsAtLast (blank slots) (sets_through setting [] [] acts) (written effects)
+-- what a run over some acts shows
+abbrev pub RunGoes : Setting → ℕ → List Bool → List Act → List Effect → Type 0
+RunGoes setting slots backs acts effects =
+    AnswersAllTheWay (blank slots) (sets_through setting backs [] [] acts) (written effects) × EndsAtLast (blank slots) (sets_through setting backs [] [] acts) (written effects)
+
+pub run-goes : (setting : Setting) (slots : ℕ) (acts : List Act) (effects : List Effect) (last : Progress) → Runs setting slots acts effects last → (backs : List Bool) × RunGoes setting slots backs acts effects
 run-goes setting slots acts effects last run = goes setting (start slots) acts effects last (blank_shows slots) run
 
--- a run over the first acts
-pub run-first : (setting : Setting) (slots : ℕ) (done later all : List Act) (effects : List Effect) (last : Progress) → all ≡ done ++ later → Runs setting slots done effects last
-    → AnswersAllTheWay (blank slots) (sets_through setting [] [] all) (written effects)
-run-first setting slots done later all effects last same run =
-    subst (λ acts. AnswersAllTheWay (blank slots) (sets_through setting [] [] acts) (written effects)) (sym same)
-    (wider (blank slots) (sets_through setting [] [] done) (sets_through setting [] [] (done ++ later)) (written effects)
-    (more-sets setting [] [] done later) (run-goes setting slots done effects last run).0)
-
--- a run that is cut in the middle of an act
-pub run-cut : (setting : Setting) (slots : ℕ) (done : List Act) (act : Act) (behind all : List Act) (body front : List Effect) (due : Effect) (before : Progress) → all ≡ done ++ act ∷ behind
-    → Runs setting slots done body before → IsCutStep setting before act front due → AnswersAllTheWay (blank slots) (sets_through setting [] [] all) (written (body ++ front))
-run-cut setting slots done act behind all body front due before same run step =
-    let whole : List Effect = body ++ (front ++ due ∷ step.back) in
-    let parts : written whole ≡ written (body ++ front) ++ written (due ∷ step.back) =
-    ap written (sym (append_assoc body front (due ∷ step.back))) ∙ written-append (body ++ front) (due ∷ step.back) in
-    let sets : List (List Rule) = sets_through setting [] [] all in
-    cut (blank slots) sets (written (body ++ front)) (written (due ∷ step.back))
-    (subst (λ writes. AnswersAllTheWay (blank slots) sets writes) parts
-    (run-first setting slots (done ++ act ∷ []) behind all whole step.after (same ∙ sym (append_assoc done (act ∷ []) behind))
-    (run-more setting slots done body before act (front ++ due ∷ step.back) step.after run step.step)))
+-- where a run is cut in the middle of an act, by what it would have come to
+pub cut-answers : (setting : Setting) (slots : ℕ) (backs : List Bool) (done : List Act) (act : Act) (behind all : List Act) (body front : List Effect) (due : Effect) (back : List Effect) → all ≡ done ++ act ∷ behind
+    → RunGoes setting slots backs (done ++ act ∷ []) (body ++ (front ++ due ∷ back)) → AnswersAllTheWay (blank slots) (sets_through setting backs [] [] all) (written (body ++ front))
+cut-answers setting slots backs done act behind all body front due back same goes =
+    let first : List Act = done ++ act ∷ [] in
+    let whole : List Effect = body ++ (front ++ due ∷ back) in
+    let parts : written whole ≡ written (body ++ front) ++ written (due ∷ back) =
+    ap written (sym (append_assoc body front (due ∷ back))) ∙ written-append (body ++ front) (due ∷ back) in
+    let sets : List (List Rule) = sets_through setting backs [] [] all in
+    let answers : AnswersAllTheWay (blank slots) sets (written whole) =
+    subst (λ acts. AnswersAllTheWay (blank slots) (sets_through setting backs [] [] acts) (written whole)) (sym (same ∙ sym (append_assoc done (act ∷ []) behind)))
+    (wider (blank slots) (sets_through setting backs [] [] first) (sets_through setting backs [] [] (first ++ behind)) (written whole) (more-sets setting backs [] [] first behind) goes.0) in
+    cut (blank slots) sets (written (body ++ front)) (written (due ∷ back)) (subst (λ writes. AnswersAllTheWay (blank slots) sets writes) parts answers)

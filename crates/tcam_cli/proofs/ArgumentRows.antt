@@ -8,7 +8,7 @@ use Rattle.clap.specs.ValueTests.{is_unsigned_in}
 use Rattle.clap.specs.Facts.{explicit_source}
 use Rattle.clap.specs.Walk.{Row, Rule, Text, action_of, at_row, default_rows, has_row, more_values, new_count, reading_by, stronger, used, used_as, values_or_missing, with_default, with_values, with_count, without, count_of}
 use Rattle.clap.specs.Matches.{count_text}
-use Rattle.clap.specs.Simple.{filled, with_index}
+use Rattle.clap.specs.Simple.{filled, new_rule, with_index}
 use Rattle.clap.specs.Kinds.{Kinds, or_else, range_kinds, values_kinds}
 use Rattle.clap.specs.Faults.{repeat_fault, use_fault}
 use Rattle.clap.specs.declared.builder.value_parser.Reading.{Reading}
@@ -19,7 +19,7 @@ use Rattle.clap.specs.declared.error.kind.ErrorKind.{ErrorKind}
 use Rattle.clap.specs.declared.error.kind.ErrorKind.TheVariants as kind
 use Rattle.clap.specs.declared.parser.matches.ValueSource.{ValueSource}
 use Rattle.clap.specs.declared.parser.matches.ValueSource.TheVariants.{CommandLine, DefaultValue}
-use Rattle.tcam_cli.specs.CommandLine.{number_position, slots_option, text_of}
+use Rattle.tcam_cli.specs.CommandLine.{depth_option, number_position, slots_option, text_of}
 
 -- the first row of an argument, if there is one
 abbrev pub row_of : Text → List Row → Option Row
@@ -221,29 +221,52 @@ position-keeps place id low high = record {
     uses [] rows none = absurd (some_kind _ _ none)
     uses (v ∷ vs) rows none = number-used id low high false _ v vs rows none
 
+-- an option with a number, which has a default
+abbrev numbered : Text → ℕ → ℕ → Text → Rule
+numbered id low high text = record (new_rule id) { long = Some id; action = Some action.Set; parser = Some (Unsigned low high); defaults = text ∷ [] }
+
+module _ (id : Text) (low high : ℕ) (text : Text) (fits : is_unsigned_in low high text ≡ true) where
+  numbered-default : (rows : List Row) → Good id low high rows → HasNumber id low high (with_default rows (filled (numbered id low high text))) × Good id low high (with_default rows (filled (numbered id low high text)))
+  numbered-default rows good = go (has_row id rows) refl
+    where
+      go : (b : Bool) → has_row id rows ≡ b
+          → HasNumber id low high (cond b rows (default_rows id (reading_by (filled (numbered id low high text))) (filled (numbered id low high text)).defaults rows))
+          × Good id low high (cond b rows (default_rows id (reading_by (filled (numbered id low high text))) (filled (numbered id low high text)).defaults rows))
+      go true is = (row-there id low high rows is good, good)
+      go false is =
+          let new = fresh id (more_values DefaultValue (text ∷ [])) (record { id = id; values = text ∷ []; count = None; source = Some DefaultValue; reading = reading_by (filled (numbered id low high text)) }) refl rows is in
+          (subst (λ (row : Option Row). is_unsigned_in low high (first_text row) ≡ true) (sym new) fits, subst (GoodIn low high) (sym new) fits)
+
+  numbered-keep : Keeps (Good id low high) (filled (numbered id low high text))
+  numbered-keep = record {
+    in_use = λ again once values rows none good. uses values rows (subst (λ (b : Bool). use_fault b (filled (numbered id low high text)) values rows ≡ []) once none);
+    by_default = λ rows good. (numbered-default rows good).1;
+  }
+    where
+      uses : (values : List Text) (rows : List Row) → use_fault false (filled (numbered id low high text)) values rows ≡ [] → Good id low high (used (filled (numbered id low high text)) values rows)
+      uses [] rows none = absurd (some_kind _ _ none)
+      uses (v ∷ vs) rows none = number-used id low high false _ v vs rows none
+
 abbrev pub slots_id : Text
 slots_id = codes "slots"
 
--- the number of slots, which has a default
+-- the number of slots
 pub slots-default : (rows : List Row) → Good slots_id 1 4096 rows → HasNumber slots_id 1 4096 (with_default rows (filled slots_option)) × Good slots_id 1 4096 (with_default rows (filled slots_option))
 unfolding slots_option
-slots-default rows good = go (has_row slots_id rows) refl
-  where
-    go : (b : Bool) → has_row slots_id rows ≡ b
-        → HasNumber slots_id 1 4096 (cond b rows (default_rows slots_id (reading_by (filled slots_option)) (filled slots_option).defaults rows))
-        × Good slots_id 1 4096 (cond b rows (default_rows slots_id (reading_by (filled slots_option)) (filled slots_option).defaults rows))
-    go true is = (row-there slots_id 1 4096 rows is good, good)
-    go false is =
-        let new = fresh slots_id (more_values DefaultValue (codes "4096" ∷ [])) (record { id = slots_id; values = codes "4096" ∷ []; count = None; source = Some DefaultValue; reading = reading_by (filled slots_option) }) refl rows is in
-        (subst (λ (row : Option Row). is_unsigned_in 1 4096 (first_text row) ≡ true) (sym new) refl, subst (GoodIn 1 4096) (sym new) refl)
+slots-default = numbered-default slots_id 1 4096 (codes "4096") refl
 
 pub slots-keep : Keeps (Good slots_id 1 4096) (filled slots_option)
 unfolding slots_option
-slots-keep = record {
-  in_use = λ again once values rows none good. uses values rows (subst (λ (b : Bool). use_fault b (filled slots_option) values rows ≡ []) once none);
-  by_default = λ rows good. (slots-default rows good).1;
-}
-  where
-    uses : (values : List Text) (rows : List Row) → use_fault false (filled slots_option) values rows ≡ [] → Good slots_id 1 4096 (used (filled slots_option) values rows)
-    uses [] rows none = absurd (some_kind _ _ none)
-    uses (v ∷ vs) rows none = number-used slots_id 1 4096 false _ v vs rows none
+slots-keep = numbered-keep slots_id 1 4096 (codes "4096") refl
+
+abbrev pub depth_id : Text
+depth_id = codes "depth"
+
+-- the depth of probes
+pub depth-default : (rows : List Row) → Good depth_id 0 15 rows → HasNumber depth_id 0 15 (with_default rows (filled depth_option)) × Good depth_id 0 15 (with_default rows (filled depth_option))
+unfolding depth_option
+depth-default = numbered-default depth_id 0 15 (codes "0") refl
+
+pub depth-keep : Keeps (Good depth_id 0 15) (filled depth_option)
+unfolding depth_option
+depth-keep = numbered-keep depth_id 0 15 (codes "0") refl

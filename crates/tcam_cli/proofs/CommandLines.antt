@@ -5,13 +5,13 @@ use Rattle.clap.proofs.OnLiterals.{clap_on_literals}
 use Rattle.rule_store.specs.declared.Mode.TheVariants.{Cover, Bits}
 use Rattle.batch_order.specs.declared.Placement.TheVariants.{Middle, Rank}
 use Rattle.replay.specs.declared.Family.TheVariants.{Route, Acl, Route6, Acl6}
-use Rattle.tcam_cli.specs.CommandLine.{acl_command, gen_command, job_of, number_position, placement_option, ranges_option, route_command, script_setting, slots_option, tcam_command, tcam_top, trace_flag}
+use Rattle.tcam_cli.specs.CommandLine.{acl_command, depth_option, gen_command, job_of, number_position, placement_option, ranges_option, route_command, script_setting, slots_option, tcam_command, tcam_top, trace_flag}
 use Rattle.tcam_cli.specs.Headline.{NoJob, Tells, Reads, Makes}
 use Rattle.tcam_cli.specs.OwnTexts.{acl_help, acl6_help, gen_help, help_text, route_help, version_text}
 
 -- what a proof unfolds to compute what words ask for
 unfoldable the_declaration : ⊤
-unfolding clap_on_literals tcam_command tcam_top route_command acl_command gen_command slots_option ranges_option placement_option trace_flag number_position
+unfolding clap_on_literals tcam_command tcam_top route_command acl_command gen_command slots_option ranges_option placement_option trace_flag depth_option number_position
 the_declaration = tt
 
 unknown : job_of (codes "tcam" ∷ codes "frob" ∷ []) ≡ NoJob
@@ -30,19 +30,19 @@ too-many-slots : job_of (codes "tcam" ∷ codes "route" ∷ codes "--slots" ∷ 
 unfolding the_declaration
 too-many-slots = refl
 
-routes : job_of (codes "tcam" ∷ codes "route" ∷ []) ≡ Reads (script_setting Route 4096 Cover Middle false)
+routes : job_of (codes "tcam" ∷ codes "route" ∷ []) ≡ Reads (script_setting Route 4096 Cover Middle false 0)
 unfolding the_declaration
 routes = refl
 
-some-slots : job_of (codes "tcam" ∷ codes "route" ∷ codes "--slots" ∷ codes "8" ∷ []) ≡ Reads (script_setting Route 8 Cover Middle false)
+some-slots : job_of (codes "tcam" ∷ codes "route" ∷ codes "--slots" ∷ codes "8" ∷ []) ≡ Reads (script_setting Route 8 Cover Middle false 0)
 unfolding the_declaration
 some-slots = refl
 
-routes-of-six : job_of (codes "tcam" ∷ codes "route6" ∷ codes "--trace" ∷ codes "--slots" ∷ codes "8" ∷ []) ≡ Reads (script_setting Route6 8 Cover Middle true)
+routes-of-six : job_of (codes "tcam" ∷ codes "route6" ∷ codes "--trace" ∷ codes "--slots" ∷ codes "8" ∷ []) ≡ Reads (script_setting Route6 8 Cover Middle true 0)
 unfolding the_declaration
 routes-of-six = refl
 
-lists-of-six : job_of (codes "tcam" ∷ codes "acl6" ∷ codes "--ranges" ∷ codes "bits" ∷ codes "--placement" ∷ codes "rank" ∷ []) ≡ Reads (script_setting Acl6 4096 Bits Rank false)
+lists-of-six : job_of (codes "tcam" ∷ codes "acl6" ∷ codes "--ranges" ∷ codes "bits" ∷ codes "--placement" ∷ codes "rank" ∷ []) ≡ Reads (script_setting Acl6 4096 Bits Rank false 0)
 unfolding the_declaration
 lists-of-six = refl
 
@@ -86,15 +86,15 @@ version-of-routes : job_of (codes "tcam" ∷ codes "route" ∷ codes "--version"
 unfolding the_declaration
 version-of-routes = refl
 
-plus : job_of (codes "tcam" ∷ codes "route" ∷ codes "--slots" ∷ codes "+008" ∷ []) ≡ Reads (script_setting Route 8 Cover Middle false)
+plus : job_of (codes "tcam" ∷ codes "route" ∷ codes "--slots" ∷ codes "+008" ∷ []) ≡ Reads (script_setting Route 8 Cover Middle false 0)
 unfolding the_declaration
 plus = refl
 
-lists : job_of (codes "tcam" ∷ codes "acl" ∷ []) ≡ Reads (script_setting Acl 4096 Cover Middle false)
+lists : job_of (codes "tcam" ∷ codes "acl" ∷ []) ≡ Reads (script_setting Acl 4096 Cover Middle false 0)
 unfolding the_declaration
 lists = refl
 
-slots-of-lists : job_of (codes "tcam" ∷ codes "acl" ∷ codes "--slots=8" ∷ []) ≡ Reads (script_setting Acl 8 Cover Middle false)
+slots-of-lists : job_of (codes "tcam" ∷ codes "acl" ∷ codes "--slots=8" ∷ []) ≡ Reads (script_setting Acl 8 Cover Middle false 0)
 unfolding the_declaration
 slots-of-lists = refl
 
@@ -110,7 +110,7 @@ help-of-lists : job_of (codes "tcam" ∷ codes "acl" ∷ codes "--help" ∷ []) 
 unfolding the_declaration
 help-of-lists = refl
 
-traced : job_of (codes "tcam" ∷ codes "route" ∷ codes "--trace" ∷ codes "--slots" ∷ codes "8" ∷ []) ≡ Reads (script_setting Route 8 Cover Middle true)
+traced : job_of (codes "tcam" ∷ codes "route" ∷ codes "--trace" ∷ codes "--slots" ∷ codes "8" ∷ []) ≡ Reads (script_setting Route 8 Cover Middle true 0)
 unfolding the_declaration
 traced = refl
 
@@ -122,19 +122,19 @@ traced-by-a-value : job_of (codes "tcam" ∷ codes "route" ∷ codes "--trace=tr
 unfolding the_declaration
 traced-by-a-value = refl
 
-traced-lists : job_of (codes "tcam" ∷ codes "acl" ∷ codes "--trace" ∷ []) ≡ Reads (script_setting Acl 4096 Cover Middle true)
+traced-lists : job_of (codes "tcam" ∷ codes "acl" ∷ codes "--trace" ∷ []) ≡ Reads (script_setting Acl 4096 Cover Middle true 0)
 unfolding the_declaration
 traced-lists = refl
 
-by-rank : job_of (codes "tcam" ∷ codes "route" ∷ codes "--placement" ∷ codes "rank" ∷ []) ≡ Reads (script_setting Route 4096 Cover Rank false)
+by-rank : job_of (codes "tcam" ∷ codes "route" ∷ codes "--placement" ∷ codes "rank" ∷ []) ≡ Reads (script_setting Route 4096 Cover Rank false 0)
 unfolding the_declaration
 by-rank = refl
 
-by-the-middle : job_of (codes "tcam" ∷ codes "route" ∷ codes "--placement" ∷ codes "middle" ∷ []) ≡ Reads (script_setting Route 4096 Cover Middle false)
+by-the-middle : job_of (codes "tcam" ∷ codes "route" ∷ codes "--placement" ∷ codes "middle" ∷ []) ≡ Reads (script_setting Route 4096 Cover Middle false 0)
 unfolding the_declaration
 by-the-middle = refl
 
-lists-by-rank : job_of (codes "tcam" ∷ codes "acl" ∷ codes "--trace" ∷ codes "--placement=rank" ∷ codes "--slots" ∷ codes "8" ∷ []) ≡ Reads (script_setting Acl 8 Cover Rank true)
+lists-by-rank : job_of (codes "tcam" ∷ codes "acl" ∷ codes "--trace" ∷ codes "--placement=rank" ∷ codes "--slots" ∷ codes "8" ∷ []) ≡ Reads (script_setting Acl 8 Cover Rank true 0)
 unfolding the_declaration
 lists-by-rank = refl
 
@@ -166,15 +166,15 @@ by-two-words-at-once : job_of (codes "tcam" ∷ codes "acl" ∷ codes "--placeme
 unfolding the_declaration
 by-two-words-at-once = refl
 
-made : job_of (codes "tcam" ∷ codes "gen" ∷ codes "1" ∷ codes "1" ∷ codes "2" ∷ []) ≡ Makes (script_setting Acl 4096 Cover Middle false) 1 1 2
+made : job_of (codes "tcam" ∷ codes "gen" ∷ codes "1" ∷ codes "1" ∷ codes "2" ∷ []) ≡ Makes (script_setting Acl 4096 Cover Middle false 0) 1 1 2
 unfolding the_declaration
 made = refl
 
-made-in-few-slots : job_of (codes "tcam" ∷ codes "gen" ∷ codes "1" ∷ codes "--slots" ∷ codes "8" ∷ codes "--placement=rank" ∷ codes "256" ∷ codes "64" ∷ []) ≡ Makes (script_setting Acl 8 Cover Rank false) 1 256 64
+made-in-few-slots : job_of (codes "tcam" ∷ codes "gen" ∷ codes "1" ∷ codes "--slots" ∷ codes "8" ∷ codes "--placement=rank" ∷ codes "256" ∷ codes "64" ∷ []) ≡ Makes (script_setting Acl 8 Cover Rank false 0) 1 256 64
 unfolding the_declaration
 made-in-few-slots = refl
 
-made-of-the-greatest-seed : job_of (codes "tcam" ∷ codes "gen" ∷ codes "2147483647" ∷ codes "1" ∷ codes "1" ∷ []) ≡ Makes (script_setting Acl 4096 Cover Middle false) 2147483647 1 1
+made-of-the-greatest-seed : job_of (codes "tcam" ∷ codes "gen" ∷ codes "2147483647" ∷ codes "1" ∷ codes "1" ∷ []) ≡ Makes (script_setting Acl 4096 Cover Middle false 0) 2147483647 1 1
 unfolding the_declaration
 made-of-the-greatest-seed = refl
 
@@ -226,19 +226,31 @@ made-with-a-trace : job_of (codes "tcam" ∷ codes "gen" ∷ codes "1" ∷ codes
 unfolding the_declaration
 made-with-a-trace = refl
 
-made-in-bits : job_of (codes "tcam" ∷ codes "gen" ∷ codes "1" ∷ codes "1" ∷ codes "1" ∷ codes "--ranges" ∷ codes "bits" ∷ []) ≡ Makes (script_setting Acl 4096 Bits Middle false) 1 1 1
+made-in-bits : job_of (codes "tcam" ∷ codes "gen" ∷ codes "1" ∷ codes "1" ∷ codes "1" ∷ codes "--ranges" ∷ codes "bits" ∷ []) ≡ Makes (script_setting Acl 4096 Bits Middle false 0) 1 1 1
 unfolding the_declaration
 made-in-bits = refl
 
-lists-in-bits : job_of (codes "tcam" ∷ codes "acl" ∷ codes "--ranges" ∷ codes "bits" ∷ []) ≡ Reads (script_setting Acl 4096 Bits Middle false)
+lists-in-bits : job_of (codes "tcam" ∷ codes "acl" ∷ codes "--ranges" ∷ codes "bits" ∷ []) ≡ Reads (script_setting Acl 4096 Bits Middle false 0)
 unfolding the_declaration
 lists-in-bits = refl
 
-lists-in-bits-by-rank : job_of (codes "tcam" ∷ codes "acl" ∷ codes "--placement" ∷ codes "rank" ∷ codes "--ranges=bits" ∷ codes "--trace" ∷ codes "--slots" ∷ codes "8" ∷ []) ≡ Reads (script_setting Acl 8 Bits Rank true)
+lists-in-bits-by-rank : job_of (codes "tcam" ∷ codes "acl" ∷ codes "--placement" ∷ codes "rank" ∷ codes "--ranges=bits" ∷ codes "--trace" ∷ codes "--slots" ∷ codes "8" ∷ []) ≡ Reads (script_setting Acl 8 Bits Rank true 0)
 unfolding the_declaration
 lists-in-bits-by-rank = refl
 
-lists-in-covers : job_of (codes "tcam" ∷ codes "acl" ∷ codes "--ranges" ∷ codes "cover" ∷ []) ≡ Reads (script_setting Acl 4096 Cover Middle false)
+deep : job_of (codes "tcam" ∷ codes "route6" ∷ codes "--depth" ∷ codes "15" ∷ []) ≡ Reads (script_setting Route6 4096 Cover Middle false 15)
+unfolding the_declaration
+deep = refl
+
+too-deep : job_of (codes "tcam" ∷ codes "acl" ∷ codes "--depth=16" ∷ []) ≡ NoJob
+unfolding the_declaration
+too-deep = refl
+
+made-in-depth : job_of (codes "tcam" ∷ codes "gen" ∷ codes "1" ∷ codes "1" ∷ codes "1" ∷ codes "--depth" ∷ codes "1" ∷ []) ≡ NoJob
+unfolding the_declaration
+made-in-depth = refl
+
+lists-in-covers : job_of (codes "tcam" ∷ codes "acl" ∷ codes "--ranges" ∷ codes "cover" ∷ []) ≡ Reads (script_setting Acl 4096 Cover Middle false 0)
 unfolding the_declaration
 lists-in-covers = refl
 

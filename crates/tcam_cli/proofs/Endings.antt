@@ -5,7 +5,8 @@ use Rattle.script_lines.specs.declared.LineFault.{LineFault}
 use Rattle.script_lines.specs.Lines.{limits, NumberedLine, ScriptLines, LinesEnd, EndOfInput, Faulty, ends_at, onto_lines, lines_from, lines_of}
 use Rattle.replay.specs.declared.Act.{Act}
 use Rattle.replay.specs.Script.{Script, ScriptEnd, Whole, FaultAt, Reading, NumberedAct, stops_at, onto_acts, byte_end, acts_from, script_of, pending_after, probes_after, limit_fault}
-use Rattle.replay.specs.Run.{Setting, Effect, Prints, written, printed, Progress}
+use Rattle.replay.specs.Effects.{Setting, Effect, Prints, events_in, printed}
+use Rattle.replay.specs.Run.{Progress}
 use Rattle.tcam_cli.specs.declared.Status.{Status}
 use Rattle.tcam_cli.specs.declared.Status.TheVariants.{Done, Refused}
 use Rattle.tcam_cli.specs.Headline.{acts_of, whole_lines, script_so_far, status_of, IsOutcome, IsComplete}
@@ -14,7 +15,7 @@ use Rattle.script_lines.specs.Reader.{HeldBytes, HandsWhole, HandsLast, KeepsAll
 use Rattle.tcam_cli.specs.Turns.{onto_all, acts_next, IsGoing, IsAllRead, IsRead, acts_only}
 use Rattle.script_lines.proofs.FirstLines.{lines-whole, lines-pending, lines-last}
 use Rattle.tcam_cli.proofs.WholeLines.{whole-line, whole-none}
-use Rattle.replay.proofs.Effects.{written-append, printed-append}
+use Rattle.replay.proofs.Effects.{events-append, printed-append}
 
 -- ---- what a line does to the script
 
@@ -171,8 +172,8 @@ outcome-complete setting slots script came last (FaultAt line text) status effec
     let Q : Status → Type 0 = λ s. IsOutcome setting slots script came s effects [] in
     subst Q (sym e) (subst P e whole, refl)
 
-pub written-line : (effects : List Effect) (line : List ℕ) → written effects ≡ written (effects ++ Prints line ∷ [])
-written-line effects line = sym (append-nil (written effects)) ∙ sym (written-append effects (Prints line ∷ []))
+pub written-line : (effects : List Effect) (line : List ℕ) → events_in effects ≡ events_in (effects ++ Prints line ∷ [])
+written-line effects line = sym (append-nil (events_in effects)) ∙ sym (events-append effects (Prints line ∷ []))
 
 pub printed-line : (effects : List Effect) (line : List ℕ) → printed effects ++ line ≡ printed (effects ++ Prints line ∷ []) ++ []
 printed-line effects line =

@@ -14,7 +14,8 @@ use Rattle.rule_model.specs.Rank.{ipv4_route_rank, list_rank}
 use Rattle.rule_model.specs.Rule.{route_rule}
 use Rattle.replay.specs.Script.{Whole, script_of}
 use Rattle.replay.specs.Text.{accepted_line, refused_line, fault_line}
-use Rattle.replay.specs.Run.{Setting, Prints, Progress, start, ending, after_refusal, after_segment}
+use Rattle.replay.specs.Effects.{Setting, Prints}
+use Rattle.replay.specs.Run.{Progress, start, ending, after_refusal, after_segment}
 use Rattle.tcam_cli.specs.declared.Status.TheVariants.{Done, Refused, Script as ScriptFault, Usage}
 use Rattle.std.proofs.lemmas.Option.{none-some}
 use Rattle.std.proofs.Math.Seq.{take-nil}
@@ -39,7 +40,7 @@ use Rattle.tcam_cli.specs.CommandLine.{script_setting}
 use Rattle.tcam_cli.specs.Headline.{NoJob, Reads, IsCarriedOut}
 
 abbrev routes : ℕ → Setting
-routes slots = script_setting Route slots Cover Middle false
+routes slots = script_setting Route slots Cover Middle false 0
 
 abbrev feed : List ℕ → List ℕ
 feed line = line ++ 10 ∷ []
@@ -57,7 +58,7 @@ empty = (
     effects = Prints (ending (routes 8) (start 8)) ∷ [];
     partial = [];
     outcome = (record { body = []; last = start 8; run = (refl, refl); status_is = refl; effects_are = refl }, refl);
-    journal_is = refl;
+    events_is = refl;
     report_is = refl;
   },
 )
@@ -128,7 +129,7 @@ refused = (
       },
       refl,
     );
-    journal_is = refl;
+    events_is = refl;
     report_is = refl;
   },
 )
@@ -154,7 +155,7 @@ faulty = (
       },
       refl,
     );
-    journal_is = refl;
+    events_is = refl;
     report_is = refl;
   },
 )
@@ -334,7 +335,7 @@ accepted = (
       },
       refl,
     );
-    journal_is = refl;
+    events_is = refl;
     report_is = refl;
   },
 )

@@ -5,14 +5,15 @@ use Rattle.script_lines.specs.declared.Line.{Line}
 use Rattle.script_lines.specs.declared.LineFault.{LineFault}
 use Rattle.script_lines.specs.declared.LineFault.TheVariants as fault
 use Rattle.script_lines.specs.Lines.{Faulty, ends_at, numbered}
-use Rattle.tcam_device.specs.declared.Write.{Write}
+use Rattle.tcam_device.specs.declared.Action.{Action}
 use Rattle.replay.specs.declared.Act.{Act}
 use Rattle.replay.specs.declared.RunFault.{RunFault}
 use Rattle.replay.specs.declared.RunFault.TheVariants as run_fault
 use Rattle.replay.specs.Running.{limit_text}
 use Rattle.replay.specs.Script.{ScriptEnd, Whole, FaultAt, Reading, NumberedAct, byte_end, script_of, pending_after, probes_after, limit_fault}
 use Rattle.replay.specs.Text.{fault_line}
-use Rattle.replay.specs.Run.{Setting, Progress, Runs, printed, ending}
+use Rattle.replay.specs.Effects.{Setting, printed}
+use Rattle.replay.specs.Run.{Progress, Runs, ending}
 use Rattle.tcam_cli.specs.declared.Status.{Status}
 use Rattle.tcam_cli.specs.declared.Status.TheVariants.{Done, Refused, Script as ScriptFault, ReadFault, WriteFault}
 use Rattle.tcam_cli.specs.Headline.{MatchesOutcome, acts_of, last_line, script_so_far, status_of}
@@ -23,7 +24,7 @@ use Rattle.script_lines.specs.Reader.{HeldBytes, lines_held, Hands, Again}
 use Rattle.replay.specs.Carried.{IsAt, Carries, Wants}
 use Rattle.tcam_cli.specs.Turns.{onto_all, acts_next, IsGoing, IsAllRead, IsRead, acts_only, SoFar, Ends, Closes, GoesOn, WantsNext, status_of_fault}
 use Rattle.tcam_cli.proofs.Outcomes.{Stops, closed-outcome, stopped-outcome}
-use Rattle.tcam_cli.proofs.OneMore.{run-at, run-more, does-journal, does-report, step-pending, step-probes}
+use Rattle.tcam_cli.proofs.OneMore.{run-at, run-more, does-events, does-report, step-pending, step-probes}
 use Rattle.tcam_cli.proofs.Endings.{HandsOne, line-none, line-fault, line-full, line-act, next-line, line-here, bytes-fault, bytes-end, so-far, onto-nil, onto-more, only-more, act-here}
 
 abbrev not-end : Result (Option Line) LineFault → Type 0
@@ -54,27 +55,27 @@ not-whole run_fault.BatchFull room e = absurd (cc)
 not-whole run_fault.ProbesFull room e = absurd (cc)
 not-whole (run_fault.Held left) room e = absurd (cc)
 
-module _ (setting : Setting) (slots : ℕ) (bytes : List ℕ) (old : HeldBytes) (left : List ℕ) (last : Progress) (journal : List Write) (start before : Option (List ℕ)) (s : SoFar setting slots bytes old left last journal start before) where
-  ends-by : (taken now : List ℕ) (result : Status) (journal_new : List Write) (after : Option (List ℕ))
-      → MatchesOutcome setting slots (script_of (reading setting.family) bytes) (script_so_far (reading setting.family) taken) result journal_new start after
-      → ((result ≡ Done) ⊎ (result ≡ Refused) → now ≡ []) → Ends setting slots bytes taken now result journal_new start after
-  ends-by taken now result journal_new after is all =
-      record { effects = is.effects; partial = is.partial; outcome = is.outcome; journal_is = is.journal_is; report = is.report_is; all = all }
+module _ (setting : Setting) (slots : ℕ) (bytes : List ℕ) (old : HeldBytes) (left : List ℕ) (last : Progress) (events : List Action) (start before : Option (List ℕ)) (s : SoFar setting slots bytes old left last events start before) where
+  ends-by : (taken now : List ℕ) (result : Status) (events_new : List Action) (after : Option (List ℕ))
+      → MatchesOutcome setting slots (script_of (reading setting.family) bytes) (script_so_far (reading setting.family) taken) result events_new start after
+      → ((result ≡ Done) ⊎ (result ≡ Refused) → now ≡ []) → Ends setting slots bytes taken now result events_new start after
+  ends-by taken now result events_new after is all =
+      record { effects = is.effects; partial = is.partial; outcome = is.outcome; events_is = is.events_is; report = is.report_is; all = all }
 
   -- the last line is written, or a part of it
   closed : (taken now : List ℕ) (end : ScriptEnd) (after : Option (List ℕ)) (result : Status) → script_of (reading setting.family) bytes ≡ record { acts = s.acts; last = end }
       → Closes (last_line setting last end) (status_of last end) result before after → ((result ≡ Done) ⊎ (result ≡ Refused) → now ≡ [])
-      → Ends setting slots bytes taken now result journal start after
+      → Ends setting slots bytes taken now result events start after
   closed taken now end after result is closes all =
       let script = script_of (reading setting.family) bytes in
-      ends-by taken now result journal after
-      (closed-outcome setting slots script (script_so_far (reading setting.family) taken) (acts_only s.acts) s.effects last journal start before s.run s.journal_is s.report after result (ap acts_of is)
+      ends-by taken now result events after
+      (closed-outcome setting slots script (script_so_far (reading setting.family) taken) (acts_only s.acts) s.effects last events start before s.run s.events_is s.report after result (ap acts_of is)
       (subst (λ end. Closes (last_line setting last end) (status_of last end) result before after) (sym (ap (λ script. script.last) is)) closes)) all
 
   -- a fault of a byte
   pub exit-bytes : (taken now : List ℕ) (after : Option (List ℕ)) (result : Status) (found : LineFault) (number : ℕ) (text : List ℕ) → byte_end (Faulty found) ≡ FaultAt number text
       → Again old.over (Err found) → (old.over ≡ over.Going → lines_held old left ≡ ends_at (Faulty found)) → Closes (fault_line number text) ScriptFault result before after
-      → Ends setting slots bytes taken now result journal start after
+      → Ends setting slots bytes taken now result events start after
   exit-bytes taken now after result found number text end again hands closes =
       let p = length last.batch in
       let q = length last.probes in
@@ -86,7 +87,7 @@ module _ (setting : Setting) (slots : ℕ) (bytes : List ℕ) (old : HeldBytes) 
   -- the end of the input
   pub exit-end : (new : HeldBytes) (taken now : List ℕ) (after : Option (List ℕ)) (result : Status)
       → (old.over ≡ over.Going → Hands old left (Ok None) new now) → (old.over ≢ over.Going → left ≡ now) → Closes (ending setting last) (status_of last Whole) result before after
-      → Ends setting slots bytes taken now result journal start after
+      → Ends setting slots bytes taken now result events start after
   exit-end new taken now after result hands rests closes =
       let p = length last.batch in
       let q = length last.probes in
@@ -103,7 +104,7 @@ module _ (setting : Setting) (slots : ℕ) (bytes : List ℕ) (old : HeldBytes) 
 
   -- a failed read
   pub exit-read : (new : HeldBytes) (taken now : List ℕ) → Again old.over (Err fault.Read) → (old.over ≡ over.Going → Hands old left (Err fault.Read) new now) → bytes ≡ taken ++ now
-      → Ends setting slots bytes taken now ReadFault journal start before
+      → Ends setting slots bytes taken now ReadFault events start before
   exit-read new taken now again hands parts =
       let p = length last.batch in
       let q = length last.probes in
@@ -114,7 +115,7 @@ module _ (setting : Setting) (slots : ℕ) (bytes : List ℕ) (old : HeldBytes) 
         effects = s.effects;
         partial = [];
         outcome = (record { sound = ap (λ script. script.last) same; last = last; run = subst (λ script. Runs setting slots (acts_of script) s.effects last) (sym same) s.run }, refl);
-        journal_is = s.journal_is;
+        events_is = s.events_is;
         report = subst (Appends start before) (sym (append-nil (printed s.effects))) s.report;
         all = λ e. elim e [ inl d ↦ absurd (cc) | inr r ↦ absurd (cc) ];
       }
@@ -127,7 +128,7 @@ module _ (setting : Setting) (slots : ℕ) (bytes : List ℕ) (old : HeldBytes) 
         still-going old.over (reading setting.family) bytes old left s.acts (length last.batch) (length last.probes) (Ok (Some line)) other again s.read
 
     -- it is skipped
-    pub goes-none : reading setting.family (numbered line).text ≡ Ok None → GoesOn setting slots s.acts bytes new now last journal start before
+    pub goes-none : reading setting.family (numbered line).text ≡ Ok None → GoesOn setting slots s.acts bytes new now last events start before
     goes-none is =
         let p = length last.batch in
         let q = length last.probes in
@@ -136,7 +137,7 @@ module _ (setting : Setting) (slots : ℕ) (bytes : List ℕ) (old : HeldBytes) 
             acts = s.acts;
             effects = s.effects;
             run = s.run;
-            journal_is = s.journal_is;
+            events_is = s.events_is;
             report = s.report;
             read = next-line (reading setting.family) bytes old left (numbered line) new now s.acts s.acts p q p q going.1 (hands going.0) (λ rest. ap (onto_all s.acts) (line-none (reading setting.family) p q (numbered line) rest is));
           };
@@ -146,7 +147,7 @@ module _ (setting : Setting) (slots : ℕ) (bytes : List ℕ) (old : HeldBytes) 
 
     -- it has no sense
     pub exit-word : (taken : List ℕ) (after : Option (List ℕ)) (result : Status) (text : List ℕ) → reading setting.family (numbered line).text ≡ Err text → Closes (fault_line line.number text) ScriptFault result before after
-        → Ends setting slots bytes taken now result journal start after
+        → Ends setting slots bytes taken now result events start after
     exit-word taken after result text is closes =
         let p = length last.batch in
         let q = length last.probes in
@@ -157,7 +158,7 @@ module _ (setting : Setting) (slots : ℕ) (bytes : List ℕ) (old : HeldBytes) 
     -- there is no room for its act
     pub exit-full : (taken : List ℕ) (after : Option (List ℕ)) (result : Status) (act : Act) (text : List ℕ) → reading setting.family (numbered line).text ≡ Ok (Some act)
         → limit_fault act (length last.batch) (length last.probes) ≡ Some text → Closes (fault_line line.number text) ScriptFault result before after
-        → Ends setting slots bytes taken now result journal start after
+        → Ends setting slots bytes taken now result events start after
     exit-full taken after result act text is full closes =
         let p = length last.batch in
         let q = length last.probes in
@@ -166,11 +167,11 @@ module _ (setting : Setting) (slots : ℕ) (bytes : List ℕ) (old : HeldBytes) 
         (closes-script (fault_line line.number text) result before after now closes)
 
     -- its act is carried out, or cut
-    module _ (act : Act) (is : reading setting.family (numbered line).text ≡ Ok (Some act)) (room : limit_fault act (length last.batch) (length last.probes) ≡ None) (journal_new : List Write) (after : Option (List ℕ)) where
-      at : IsAt slots journal last
-      at = run-at setting slots _ s.effects last journal s.run s.journal_is
+    module _ (act : Act) (is : reading setting.family (numbered line).text ≡ Ok (Some act)) (room : limit_fault act (length last.batch) (length last.probes) ≡ None) (events_new : List Action) (after : Option (List ℕ)) where
+      at : IsAt slots events last
+      at = run-at setting slots _ s.effects last events s.run s.events_is
 
-      pub goes-on : (next : Progress) → (IsAt slots journal last → Carries setting last act next journal journal_new before after) → GoesOn setting slots s.acts bytes new now next journal_new start after
+      pub goes-on : (next : Progress) → (IsAt slots events last → Carries setting last act next events events_new before after) → GoesOn setting slots s.acts bytes new now next events_new start after
       goes-on next carries =
           let made = carries at in
           let p = length last.batch in
@@ -181,8 +182,8 @@ module _ (setting : Setting) (slots : ℕ) (bytes : List ℕ) (old : HeldBytes) 
               acts = acts;
               effects = s.effects ++ made.effects;
               run = subst (λ a. Runs setting slots a (s.effects ++ made.effects) next) (only-more s.acts line.number act) (run-more setting slots (acts_only s.acts) s.effects last act made.effects next s.run made.step);
-              journal_is = does-journal s.effects made.effects [] journal journal_new before after made.does s.journal_is;
-              report = subst (Appends start after) (append-nil (printed (s.effects ++ made.effects))) (does-report s.effects made.effects [] journal journal_new start before after made.does s.report);
+              events_is = does-events s.effects made.effects [] events events_new before after made.does s.events_is;
+              report = subst (Appends start after) (append-nil (printed (s.effects ++ made.effects))) (does-report s.effects made.effects [] events events_new start before after made.does s.report);
               read = next-line (reading setting.family) bytes old left (numbered line) new now s.acts acts p q (length next.batch) (length next.probes) going.1 (hands going.0) (λ rest.
                   ap (onto_all s.acts) (line-act (reading setting.family) p q (numbered line) rest act is room)
                   ∙ onto-more s.acts line.number act (acts_next (reading setting.family) (pending_after act p) (probes_after act q) rest)
@@ -197,13 +198,13 @@ module _ (setting : Setting) (slots : ℕ) (bytes : List ℕ) (old : HeldBytes) 
       here = act-here (reading setting.family) bytes old left (numbered line) new now act s.acts _ _ going.1 (hands going.0) is room
 
       -- by its fault
-      pub exit-stopped : (taken : List ℕ) (why : RunFault) → limit_text (Err why) ≡ None → Stops slots setting last act why journal journal_new before after
-          → Ends setting slots bytes taken now (status_of_fault why) journal_new start after
+      pub exit-stopped : (taken : List ℕ) (why : RunFault) → limit_text (Err why) ≡ None → Stops slots setting last act why events events_new before after
+          → Ends setting slots bytes taken now (status_of_fault why) events_new start after
       exit-stopped taken why full is =
-          ends-by taken now (status_of_fault why) journal_new after
-          (stopped-outcome setting slots (script_of (reading setting.family) bytes) (script_so_far (reading setting.family) taken) (acts_only s.acts) s.effects last journal start before s.run s.journal_is s.report
-          act here.0 here.1 journal_new after why full is)
+          ends-by taken now (status_of_fault why) events_new after
+          (stopped-outcome setting slots (script_of (reading setting.family) bytes) (script_so_far (reading setting.family) taken) (acts_only s.acts) s.effects last events start before s.run s.events_is s.report
+          act here.0 here.1 events_new after why full is)
           (not-whole why full)
 
-      pub wants-next : Wants setting last act journal journal_new before after → WantsNext setting s.acts bytes last journal journal_new before after
+      pub wants-next : Wants setting last act events events_new before after → WantsNext setting s.acts bytes last events events_new before after
       wants-next wants = record { act = act; later = here.0; acts_are = here.1; wants = wants }

@@ -3,11 +3,11 @@ use Rattle.std.proofs.Common.{false, ◌≡◌, ◌⊎◌, inl, inr, ℕ, Option
 use Rattle.std.specs.Prelude.{codes}
 use Rattle.std.specs.List.{concat}
 use Rattle.script_lines.specs.Given.{HasEnd, MayGive}
-use Rattle.tcam_device.specs.declared.Write.{Write}
+use Rattle.tcam_device.specs.declared.Action.{Action}
 use Rattle.rule_store.specs.declared.Mode.TheVariants.{Cover}
 use Rattle.batch_order.specs.declared.Placement.TheVariants.{Middle}
 use Rattle.replay.specs.declared.Family.TheVariants.{Route}
-use Rattle.replay.specs.Run.{Setting}
+use Rattle.replay.specs.Effects.{Setting}
 use Rattle.tcam_cli.specs.declared.Status.{Status}
 use Rattle.tcam_cli.specs.declared.Status.TheVariants.{Done, Refused, Script as ScriptFault}
 use Rattle.tcam_cli.specs.CommandLine.{script_setting}
@@ -15,14 +15,14 @@ use Rattle.tcam_cli.specs.Headline.{Reads, MayEnd}
 use Rattle.tcam_cli.specs.Given.{IsPromisedByGiven}
 
 abbrev routes : Setting
-routes = script_setting Route 8 Cover Middle false
+routes = script_setting Route 8 Cover Middle false 0
 
 -- ---- Done and Refused come only where the source said that the input is at its end
 
-pub done-ended : (setting : Setting) (slots : ℕ) (status : Status) (given_old given_new : List (List ℕ)) (taken_old taken_new : Option (List ℕ)) (journal : List Write)
-    → IsPromisedByGiven (Reads setting) slots status given_old given_new taken_old taken_new journal → (status ≡ Done) ⊎ (status ≡ Refused)
+pub done-ended : (setting : Setting) (slots : ℕ) (status : Status) (given_old given_new : List (List ℕ)) (taken_old taken_new : Option (List ℕ)) (events : List Action)
+    → IsPromisedByGiven (Reads setting) slots status given_old given_new taken_old taken_new events → (status ≡ Done) ⊎ (status ≡ Refused)
     → (pieces : List (List ℕ)) × (given_new ≡ given_old ++ pieces) × ((HasEnd pieces → ⊥) → ⊥)
-done-ended setting slots status given_old given_new taken_old taken_new journal (pieces, is, holds) whole = (
+done-ended setting slots status given_old given_new taken_old taken_new events (pieces, is, holds) whole = (
   pieces,
   is,
   λ open_end.
@@ -36,12 +36,12 @@ done-ended setting slots status given_old given_new taken_old taken_new journal 
 abbrev cut : List ℕ
 cut = codes "route add 10.0.0.0/"
 
-cut-is-no-fault : (slots : ℕ) (taken_old taken_new : Option (List ℕ)) (journal : List Write)
-    → IsPromisedByGiven (Reads routes) slots ScriptFault [] (cut ∷ []) taken_old taken_new journal → ⊥
-cut-is-no-fault slots taken_old taken_new journal (pieces, is, holds) =
+cut-is-no-fault : (slots : ℕ) (taken_old taken_new : Option (List ℕ)) (events : List Action)
+    → IsPromisedByGiven (Reads routes) slots ScriptFault [] (cut ∷ []) taken_old taken_new events → ⊥
+cut-is-no-fault slots taken_old taken_new events (pieces, is, holds) =
     let here : pieces ≡ cut ∷ [] = sym is in
     let rest : List ℕ = codes "8 7" in
     let may : MayGive (cut ++ rest) (cut ∷ []) rest = record { bytes = refl; end = λ e. elim e [ inl bad ↦ absurd (cc) | inr bad ↦ absurd bad ] } in
     let ends : MayEnd ScriptFault (Reads routes) (Some (cut ++ rest)) = (holds (cut ++ rest) rest (subst (λ p. MayGive (cut ++ rest) p rest) (sym here) may)).ends in
-    let bad : Done ≡ ScriptFault = ends.1 in
+    let bad : Done ≡ ScriptFault = ends.1.1 in
     absurd (cc)

@@ -9,10 +9,11 @@ use Rattle.script_lines.specs.declared.Over.TheVariants as over
 use Rattle.script_lines.specs.Given.{HasEnd, MayGive}
 use Rattle.script_lines.specs.Reader.{HeldBytes, IsOpenLine, KeepsAll, LastAtOpenLine}
 use Rattle.script_lines.proofs.Pieces.{concat-append, concat-one, end-either}
-use Rattle.tcam_device.specs.declared.Write.{Write}
+use Rattle.tcam_device.specs.declared.Action.{Action}
 use Rattle.replay.specs.declared.Act.{Act}
 use Rattle.replay.specs.Script.{Script, Reading, NumberedAct, Whole}
-use Rattle.replay.specs.Run.{Setting, Effect, Progress, Runs, written, printed}
+use Rattle.replay.specs.Effects.{Setting, Effect, events_in, printed}
+use Rattle.replay.specs.Run.{Progress, Runs}
 use Rattle.replay.specs.Carried.{IsAt, Does}
 use Rattle.tcam_cli.specs.declared.Status.{Status}
 use Rattle.tcam_cli.specs.declared.Status.TheVariants.{Memory}
@@ -24,54 +25,54 @@ use Rattle.tcam_cli.proofs.OneMore.{run-at}
 use Rattle.tcam_cli.proofs.GivenRuns.{may-second}
 use Rattle.tcam_cli.proofs.Endings.{so-far}
 
--- ---- journal and report only grow
+-- ---- events and report only grow
 
-pub does-grows : (effects : List Effect) (partial : List ℕ) (journal_old journal_new : List Write) (taken_old taken_new : Option (List ℕ))
-    → Does effects partial journal_old journal_new taken_old taken_new → Grows journal_old journal_new taken_old taken_new
-does-grows effects partial journal_old journal_new taken_old taken_new does =
-    record { writes = written effects; journal = does.journal; bytes = printed effects ++ partial; report = does.report }
+pub does-grows : (effects : List Effect) (partial : List ℕ) (events_old events_new : List Action) (taken_old taken_new : Option (List ℕ))
+    → Does effects partial events_old events_new taken_old taken_new → Grows events_old events_new taken_old taken_new
+does-grows effects partial events_old events_new taken_old taken_new does =
+    record { actions = events_in effects; events = does.events; bytes = printed effects ++ partial; report = does.report }
 
-appends-grows : (journal : List Write) (taken_old taken_new : Option (List ℕ)) (bytes : List ℕ) → Appends taken_old taken_new bytes → Grows journal journal taken_old taken_new
-appends-grows journal taken_old taken_new bytes grown = record { writes = []; journal = sym (append-nil journal); bytes = bytes; report = grown }
+appends-grows : (events : List Action) (taken_old taken_new : Option (List ℕ)) (bytes : List ℕ) → Appends taken_old taken_new bytes → Grows events events taken_old taken_new
+appends-grows events taken_old taken_new bytes grown = record { actions = []; events = sym (append-nil events); bytes = bytes; report = grown }
 
-pub same-grows : (journal : List Write) (taken : Option (List ℕ)) → Grows journal journal taken taken
-same-grows journal taken = appends-grows journal taken taken [] (Appends-nil taken)
+pub same-grows : (events : List Action) (taken : Option (List ℕ)) → Grows events events taken taken
+same-grows events taken = appends-grows events taken taken [] (Appends-nil taken)
 
-pub closes-grows : (journal : List Write) (line : List ℕ) (last status : Status) (taken_old taken_new : Option (List ℕ)) → Closes line last status taken_old taken_new
-    → Grows journal journal taken_old taken_new
-closes-grows journal line last status taken_old taken_new (inl c) = appends-grows journal taken_old taken_new line c.1
-closes-grows journal line last status taken_old taken_new (inr (is, (partial, rest, part, grown))) = appends-grows journal taken_old taken_new partial grown
+pub closes-grows : (events : List Action) (line : List ℕ) (last status : Status) (taken_old taken_new : Option (List ℕ)) → Closes line last status taken_old taken_new
+    → Grows events events taken_old taken_new
+closes-grows events line last status taken_old taken_new (inl c) = appends-grows events taken_old taken_new line c.1
+closes-grows events line last status taken_old taken_new (inr (is, (partial, rest, part, grown))) = appends-grows events taken_old taken_new partial grown
 
 -- the device is where the run stands
-pub so-far-at : (setting : Setting) (slots : ℕ) (bytes : List ℕ) (held : HeldBytes) (left : List ℕ) (last : Progress) (journal : List Write) (start taken : Option (List ℕ))
-    → SoFar setting slots bytes held left last journal start taken → IsAt slots journal last
-so-far-at setting slots bytes held left last journal start taken s = run-at setting slots (acts_only s.acts) s.effects last journal s.run s.journal_is
+pub so-far-at : (setting : Setting) (slots : ℕ) (bytes : List ℕ) (held : HeldBytes) (left : List ℕ) (last : Progress) (events : List Action) (start taken : Option (List ℕ))
+    → SoFar setting slots bytes held left last events start taken → IsAt slots events last
+so-far-at setting slots bytes held left last events start taken s = run-at setting slots (acts_only s.acts) s.effects last events s.run s.events_is
 
 -- ---- at the last of some reads
 
 -- the lines that were whole before the last read are carried out and told
-abbrev pub InTime : Setting → ℕ → List (List ℕ) → List Write → List ℕ → List ℕ → Type 0
-InTime setting slots pieces journal accepted_old accepted_new =
-    (front : List (List ℕ)) (last : List ℕ) → pieces ≡ front ++ last ∷ [] → IsInTime setting slots front journal accepted_old accepted_new
+abbrev pub InTime : Setting → ℕ → List (List ℕ) → List Action → List ℕ → List ℕ → Type 0
+InTime setting slots pieces events accepted_old accepted_new =
+    (front : List (List ℕ)) (last : List ℕ) → pieces ≡ front ++ last ∷ [] → IsInTime setting slots front events accepted_old accepted_new
 
 no-push : (front : List (List ℕ)) (last : List ℕ) → [] ≢ front ++ last ∷ []
 no-push [] last e = absurd (cc)
 no-push (piece ∷ front) last e = absurd (cc)
 
-pub in-time-none : (setting : Setting) (slots : ℕ) (journal : List Write) (accepted_old accepted_new : List ℕ) → InTime setting slots [] journal accepted_old accepted_new
-in-time-none setting slots journal accepted_old accepted_new = λ front last e. absurd (no-push front last e)
+pub in-time-none : (setting : Setting) (slots : ℕ) (events : List Action) (accepted_old accepted_new : List ℕ) → InTime setting slots [] events accepted_old accepted_new
+in-time-none setting slots events accepted_old accepted_new = λ front last e. absurd (no-push front last e)
 
 -- in time, and in time still
-still-in-time : (setting : Setting) (slots : ℕ) (before : List (List ℕ)) (journal more : List Write) (old mid new bytes : List ℕ) → new ≡ mid ++ bytes
-    → IsInTime setting slots before journal old mid → IsInTime setting slots before (journal ++ more) old new
-still-in-time setting slots before journal more old mid new bytes grown is = record {
+still-in-time : (setting : Setting) (slots : ℕ) (before : List (List ℕ)) (events more : List Action) (old mid new bytes : List ℕ) → new ≡ mid ++ bytes
+    → IsInTime setting slots before events old mid → IsInTime setting slots before (events ++ more) old new
+still-in-time setting slots before events more old mid new bytes grown is = record {
   open_end = is.open_end;
   sound = is.sound;
   effects = is.effects;
   progress = is.progress;
   run = is.run;
-  journal_rest = is.journal_rest ++ more;
-  journal_is = ap (λ l. l ++ more) is.journal_is ∙ append_assoc (written is.effects) is.journal_rest more;
+  events_rest = is.events_rest ++ more;
+  events_is = ap (λ l. l ++ more) is.events_is ∙ append_assoc (events_in is.effects) is.events_rest more;
   report_rest = is.report_rest ++ bytes;
   report_is = grown ∙ ap (λ l. l ++ bytes) is.report_is ∙ append_assoc (old ++ printed is.effects) is.report_rest bytes;
 }
@@ -83,7 +84,7 @@ still-going over.Ended reads bytes old left acts p q other read = absurd (other 
 still-going (over.Stopped stopped) reads bytes old left acts p q other read = absurd read
 
 -- a read comes while a part of one line is held: the acts of what was given are those that are carried out
-known-before : (setting : Setting) (slots : ℕ) (p front : List (List ℕ)) (bytes left rest : List ℕ) (old : HeldBytes) (before : Progress) (writes : List Write) (start taken : Option (List ℕ))
+known-before : (setting : Setting) (slots : ℕ) (p front : List (List ℕ)) (bytes left rest : List ℕ) (old : HeldBytes) (before : Progress) (writes : List Action) (start taken : Option (List ℕ))
     → (s : SoFar setting slots bytes old left before writes start taken)
     → bytes ≡ concat p ++ left → left ≡ concat front ++ rest → (old.over ≢ over.Going → ⊥) → IsOpenLine old.before (old.pending ++ concat front)
     → given_so_far setting (p ++ front) ≡ record { acts = s.acts; last = Whole }
@@ -98,7 +99,7 @@ known-before setting slots p front bytes left rest old before writes start taken
     so-far (reading setting.family) bytes (concat (p ++ front)) old left (record old { pending = old.pending ++ concat front }) rest s.acts _ _ read kept parts
 
 -- so all lines before it are carried out and told
-module _ (setting : Setting) (slots : ℕ) (p front : List (List ℕ)) (last : List ℕ) (old : HeldBytes) (before : Progress) (writes : List Write) (accepted_old accepted_new : List ℕ)
+module _ (setting : Setting) (slots : ℕ) (p front : List (List ℕ)) (last : List ℕ) (old : HeldBytes) (before : Progress) (writes : List Action) (accepted_old accepted_new : List ℕ)
     (so_far : (left now : List ℕ) → MayGive left p now → SoFar setting slots left old now before writes (Some accepted_old) (Some accepted_new))
     (open_end : HasEnd p → ⊥) (going : old.over ≢ over.Going → ⊥) where
   abbrev all : List ℕ
@@ -117,27 +118,27 @@ module _ (setting : Setting) (slots : ℕ) (p front : List (List ℕ)) (last : L
         effects = s.effects;
         progress = before;
         run = subst P (sym here) s.run;
-        journal_rest = [];
-        journal_is = s.journal_is ∙ sym (append-nil (written s.effects));
+        events_rest = [];
+        events_is = s.events_is ∙ sym (append-nil (events_in s.effects));
         report_rest = [];
         report_is = s.report ∙ sym (append-nil (accepted_old ++ printed s.effects));
       }
 
 -- one turn more
-pub turn-in-time : (setting : Setting) (slots : ℕ) (p q : List (List ℕ)) (old : HeldBytes) (before : Progress) (journal_old journal_new : List Write) (accepted_old accepted_mid accepted_new : List ℕ)
-    → ((left now : List ℕ) → MayGive left p now → SoFar setting slots left old now before journal_old (Some accepted_old) (Some accepted_mid))
-    → (HasEnd p → q ≡ []) → (old.over ≢ over.Going → q ≡ []) → LastAtOpenLine old.before old.pending q → Grows journal_old journal_new (Some accepted_mid) (Some accepted_new)
-    → InTime setting slots p journal_old accepted_old accepted_mid → InTime setting slots (p ++ q) journal_new accepted_old accepted_new
-turn-in-time setting slots p q old before writes journal_new accepted_old accepted_mid accepted_new so_far ends rests (inl none) grows is =
-    rw grows.journal (λ front piece e.
-    still-in-time setting slots front writes grows.writes accepted_old accepted_mid accepted_new grows.bytes grows.report
+pub turn-in-time : (setting : Setting) (slots : ℕ) (p q : List (List ℕ)) (old : HeldBytes) (before : Progress) (events_old events_new : List Action) (accepted_old accepted_mid accepted_new : List ℕ)
+    → ((left now : List ℕ) → MayGive left p now → SoFar setting slots left old now before events_old (Some accepted_old) (Some accepted_mid))
+    → (HasEnd p → q ≡ []) → (old.over ≢ over.Going → q ≡ []) → LastAtOpenLine old.before old.pending q → Grows events_old events_new (Some accepted_mid) (Some accepted_new)
+    → InTime setting slots p events_old accepted_old accepted_mid → InTime setting slots (p ++ q) events_new accepted_old accepted_new
+turn-in-time setting slots p q old before writes events_new accepted_old accepted_mid accepted_new so_far ends rests (inl none) grows is =
+    rw grows.events (λ front piece e.
+    still-in-time setting slots front writes grows.actions accepted_old accepted_mid accepted_new grows.bytes grows.report
     (is front piece (sym (append-nil p) ∙ ap (λ l. p ++ l) (sym none) ∙ e)))
-turn-in-time setting slots p q old before writes journal_new accepted_old accepted_mid accepted_new so_far ends rests (inr (first, last, parts, plain, open_first)) grows is =
-    rw grows.journal (λ front piece e.
+turn-in-time setting slots p q old before writes events_new accepted_old accepted_mid accepted_new so_far ends rests (inr (first, last, parts, plain, open_first)) grows is =
+    rw grows.events (λ front piece e.
     let some : q ≢ [] = λ none. no-push first last (sym none ∙ parts) in
     let same = same_from_push (p ++ first) front last piece (append_assoc p first (last ∷ []) ∙ ap (λ l. p ++ l) (sym parts) ∙ e) in
     let here = read-in-time setting slots p first last old before writes accepted_old accepted_mid so_far (λ end. some (ends end)) (λ other. some (rests other)) plain open_first in
-    still-in-time setting slots front writes grows.writes accepted_old accepted_mid accepted_new grows.bytes grows.report
+    still-in-time setting slots front writes grows.actions accepted_old accepted_mid accepted_new grows.bytes grows.report
     (subst (λ f. IsInTime setting slots f writes accepted_old accepted_mid) same.0 here))
 
 -- ---- the acts that are carried out begin with those that were known before the last read
@@ -146,17 +147,17 @@ abbrev Begins : Setting → List (List ℕ) → List NumberedAct → Type 0
 Begins setting pieces acts =
     (front : List (List ℕ)) (last : List ℕ) → pieces ≡ front ++ last ∷ [] → (more : List Act) × (acts_only acts ≡ acts_of (given_so_far setting front) ++ more)
 
-pub record StandsAt (setting : Setting) (slots : ℕ) (pieces : List (List ℕ)) (bytes : List ℕ) (held : HeldBytes) (left : List ℕ) (progress : Progress) (journal : List Write) (taken_old taken_new : Option (List ℕ)) : Type 0 where
-  pub so_far : SoFar setting slots bytes held left progress journal taken_old taken_new
+pub record StandsAt (setting : Setting) (slots : ℕ) (pieces : List (List ℕ)) (bytes : List ℕ) (held : HeldBytes) (left : List ℕ) (progress : Progress) (events : List Action) (taken_old taken_new : Option (List ℕ)) : Type 0 where
+  pub so_far : SoFar setting slots bytes held left progress events taken_old taken_new
   pub begins : Begins setting pieces so_far.acts
 
 -- before any read
-pub stands-first : (setting : Setting) (slots : ℕ) (bytes : List ℕ) (held : HeldBytes) (left : List ℕ) (progress : Progress) (journal : List Write) (taken_old taken_new : Option (List ℕ))
-    → SoFar setting slots bytes held left progress journal taken_old taken_new → StandsAt setting slots [] bytes held left progress journal taken_old taken_new
-stands-first setting slots bytes held left progress journal taken_old taken_new s = record { so_far = s; begins = λ front last e. absurd (no-push front last e) }
+pub stands-first : (setting : Setting) (slots : ℕ) (bytes : List ℕ) (held : HeldBytes) (left : List ℕ) (progress : Progress) (events : List Action) (taken_old taken_new : Option (List ℕ))
+    → SoFar setting slots bytes held left progress events taken_old taken_new → StandsAt setting slots [] bytes held left progress events taken_old taken_new
+stands-first setting slots bytes held left progress events taken_old taken_new s = record { so_far = s; begins = λ front last e. absurd (no-push front last e) }
 
 -- with the reads of one turn more
-begins-read : (setting : Setting) (slots : ℕ) (p q : List (List ℕ)) (old : HeldBytes) (before : Progress) (writes : List Write) (start taken : Option (List ℕ)) (left now : List ℕ)
+begins-read : (setting : Setting) (slots : ℕ) (p q : List (List ℕ)) (old : HeldBytes) (before : Progress) (writes : List Action) (start taken : Option (List ℕ)) (left now : List ℕ)
     → (s : SoFar setting slots left old (concat q ++ now) before writes start taken)
     → (old.over ≢ over.Going → q ≡ []) → LastAtOpenLine old.before old.pending q → MayGive left (p ++ q) now → Begins setting p s.acts → Begins setting (p ++ q) s.acts
 begins-read setting slots p q old before writes start taken left now s rests (inl none) may is =
@@ -176,52 +177,52 @@ begins-more setting pieces old new more grown is =
     λ front last e. let (some, first) = is front last e in
     (some ++ more, grown ∙ ap (λ l. l ++ more) first ∙ append_assoc (acts_of (given_so_far setting front)) some more)
 
-pub stands-next : (setting : Setting) (slots : ℕ) (p q : List (List ℕ)) (old : HeldBytes) (before : Progress) (new : HeldBytes) (after : Progress) (journal_old journal_new : List Write) (start mid end : Option (List ℕ)) (left now : List ℕ)
-    → TurnsBy setting slots old before q None new after journal_old journal_new mid end → MayGive left (p ++ q) now
-    → StandsAt setting slots p left old (concat q ++ now) before journal_old start mid → StandsAt setting slots (p ++ q) left new now after journal_new start end
-stands-next setting slots p q old before new after journal_old journal_new start mid end left now turn may s =
+pub stands-next : (setting : Setting) (slots : ℕ) (p q : List (List ℕ)) (old : HeldBytes) (before : Progress) (new : HeldBytes) (after : Progress) (events_old events_new : List Action) (start mid end : Option (List ℕ)) (left now : List ℕ)
+    → TurnsBy setting slots old before q None new after events_old events_new mid end → MayGive left (p ++ q) now
+    → StandsAt setting slots p left old (concat q ++ now) before events_old start mid → StandsAt setting slots (p ++ q) left new now after events_new start end
+stands-next setting slots p q old before new after events_old events_new start mid end left now turn may s =
     let on = turn.goes left (concat q ++ now) now start (may-second left now p q may) s.so_far in
     record {
       so_far = on.so_far;
       begins = begins-more setting (p ++ q) s.so_far.acts on.so_far.acts on.more on.acts_are
-          (begins-read setting slots p q old before journal_old start mid left now s.so_far turn.rests turn.last may s.begins);
+          (begins-read setting slots p q old before events_old start mid left now s.so_far turn.rests turn.last may s.begins);
     }
 
 -- memory was wanting at an act that was not known before the last read
-abbrev WantsAll : Setting → ℕ → List (List ℕ) → List Write → List ℕ → List ℕ → Type 0
-WantsAll setting slots pieces journal accepted_old accepted_new =
-    (front : List (List ℕ)) (last : List ℕ) → pieces ≡ front ++ last ∷ [] → (left after : List ℕ) → MayGive left pieces after → WantsInTime setting slots front left journal accepted_old accepted_new
+abbrev WantsAll : Setting → ℕ → List (List ℕ) → List Action → List ℕ → List ℕ → Type 0
+WantsAll setting slots pieces events accepted_old accepted_new =
+    (front : List (List ℕ)) (last : List ℕ) → pieces ≡ front ++ last ∷ [] → (left after : List ℕ) → MayGive left pieces after → WantsInTime setting slots front left events accepted_old accepted_new
 
-pub wants-in-time : (setting : Setting) (slots : ℕ) (p q : List (List ℕ)) (old : HeldBytes) (before : Progress) (status : Status) (new : HeldBytes) (after : Progress) (journal_old journal_new : List Write) (accepted_old accepted_mid accepted_new left now front_last : List ℕ) (front : List (List ℕ))
-    → TurnsBy setting slots old before q (Some status) new after journal_old journal_new (Some accepted_mid) (Some accepted_new) → status ≡ Memory → MayGive left (p ++ q) now
-    → StandsAt setting slots p left old (concat q ++ now) before journal_old (Some accepted_old) (Some accepted_mid) → p ++ q ≡ front ++ front_last ∷ []
-    → WantsInTime setting slots front left journal_new accepted_old accepted_new
-wants-in-time setting slots p q old before status new after journal_old journal_new accepted_old accepted_mid accepted_new left now last front turn memory may s is =
+pub wants-in-time : (setting : Setting) (slots : ℕ) (p q : List (List ℕ)) (old : HeldBytes) (before : Progress) (status : Status) (new : HeldBytes) (after : Progress) (events_old events_new : List Action) (accepted_old accepted_mid accepted_new left now front_last : List ℕ) (front : List (List ℕ))
+    → TurnsBy setting slots old before q (Some status) new after events_old events_new (Some accepted_mid) (Some accepted_new) → status ≡ Memory → MayGive left (p ++ q) now
+    → StandsAt setting slots p left old (concat q ++ now) before events_old (Some accepted_old) (Some accepted_mid) → p ++ q ≡ front ++ front_last ∷ []
+    → WantsInTime setting slots front left events_new accepted_old accepted_new
+wants-in-time setting slots p q old before status new after events_old events_new accepted_old accepted_mid accepted_new left now last front turn memory may s is =
     let next = turn.wants (ap Some memory) left (concat q ++ now) now (Some accepted_old) (may-second left now p q may) s.so_far in
-    let (more, begins) = begins-read setting slots p q old before journal_old (Some accepted_old) (Some accepted_mid) left now s.so_far turn.rests turn.last may s.begins front last is in
+    let (more, begins) = begins-read setting slots p q old before events_old (Some accepted_old) (Some accepted_mid) left now s.so_far turn.rests turn.last may s.begins front last is in
     record {
       effects = s.so_far.effects;
       wants = record { done = acts_only s.so_far.acts; act = next.act; later = next.later; acts = next.acts_are; before = before; run = s.so_far.run; needs = next.wants.needs };
       more = more;
       done_is = begins;
-      journal_is = next.wants.does.journal ∙ append-nil journal_old ∙ s.so_far.journal_is;
+      events_is = next.wants.does.events ∙ append-nil events_old ∙ s.so_far.events_is;
       report_is = next.wants.does.report ∙ append-nil accepted_mid ∙ s.so_far.report;
     }
 
 -- ---- by what the source gave
 
-pub reads-in-time : (setting : Setting) (slots : ℕ) (status : Status) (given_old given_new pieces : List (List ℕ)) (journal : List Write) (accepted_old accepted_new : List ℕ) → given_new ≡ given_old ++ pieces
-    → InTime setting slots pieces journal accepted_old accepted_new → (status ≡ Memory → WantsAll setting slots pieces journal accepted_old accepted_new)
-    → ReadsInTime (Reads setting) slots status given_old given_new journal accepted_old accepted_new
-reads-in-time setting slots status given_old given_new pieces journal accepted_old accepted_new given is wants =
+pub reads-in-time : (setting : Setting) (slots : ℕ) (status : Status) (given_old given_new pieces : List (List ℕ)) (events : List Action) (accepted_old accepted_new : List ℕ) → given_new ≡ given_old ++ pieces
+    → InTime setting slots pieces events accepted_old accepted_new → (status ≡ Memory → WantsAll setting slots pieces events accepted_old accepted_new)
+    → ReadsInTime (Reads setting) slots status given_old given_new events accepted_old accepted_new
+reads-in-time setting slots status given_old given_new pieces events accepted_old accepted_new given is wants =
     λ front last e.
     let same : pieces ≡ front ++ last ∷ [] = append_cancel_left given_old pieces (front ++ last ∷ []) (sym given ∙ e ∙ append_assoc given_old front (last ∷ [])) in
     (is front last same, λ memory left after may. wants memory front last same left after (subst (λ l. MayGive left l after) (sym same) may))
 
 -- a job that reads nothing
-pub nothing-read : (job : Job) (slots : ℕ) (status : Status) (given : List (List ℕ)) (journal : List Write) (accepted : List ℕ) → ReadsInTime job slots status given given journal accepted accepted
-nothing-read NoJob slots status given journal accepted = refl
-nothing-read (Tells text) slots status given journal accepted = refl
-nothing-read (Makes setting seed rules batches) slots status given journal accepted = refl
-nothing-read (Reads setting) slots status given journal accepted =
-    reads-in-time setting slots status given given [] journal accepted accepted (sym (append-nil given)) (in-time-none setting slots journal accepted accepted) (λ memory front last e. absurd (no-push front last e))
+pub nothing-read : (job : Job) (slots : ℕ) (status : Status) (given : List (List ℕ)) (events : List Action) (accepted : List ℕ) → ReadsInTime job slots status given given events accepted accepted
+nothing-read NoJob slots status given events accepted = refl
+nothing-read (Tells text) slots status given events accepted = refl
+nothing-read (Makes setting seed rules batches) slots status given events accepted = refl
+nothing-read (Reads setting) slots status given events accepted =
+    reads-in-time setting slots status given given [] events accepted accepted (sym (append-nil given)) (in-time-none setting slots events accepted accepted) (λ memory front last e. absurd (no-push front last e))

@@ -4,7 +4,7 @@ use Rattle.std.specs.Prelude.{codes}
 use Rattle.std.specs.Io.KnownBytes.{Appends}
 use Rattle.std.proofs.KnownBytes.{Appends-nil}
 use Rattle.std.proofs.lemmas.Bool.{false_from_ne_true, eqb-true}
-use Rattle.tcam_device.specs.declared.Write.{Write}
+use Rattle.tcam_device.specs.declared.Action.{Action}
 use Rattle.rule_gen.specs.declared.Made.{Made}
 use Rattle.rule_gen.specs.declared.Made.TheVariants as made
 use Rattle.rule_gen.specs.Batches.{AreBatches}
@@ -13,7 +13,8 @@ use Rattle.replay.specs.declared.Act.{Act}
 use Rattle.replay.specs.declared.RunFault.{RunFault}
 use Rattle.replay.specs.declared.RunFault.TheVariants as run_fault
 use Rattle.replay.specs.Script.{Whole, limit_fault, most_pending, pending_after}
-use Rattle.replay.specs.Run.{Setting, Effect, Progress, Runs, ending, start, written, printed}
+use Rattle.replay.specs.Effects.{Setting, Effect, events_in, printed}
+use Rattle.replay.specs.Run.{Progress, Runs, ending, start}
 use Rattle.replay.specs.Carried.{IsAt, Carries}
 use Rattle.replay.specs.Running.{limit_text}
 use Rattle.tcam_cli.specs.declared.Status.{Status}
@@ -22,7 +23,7 @@ use Rattle.tcam_cli.specs.Headline.{IsCarriedOut, Makes, MayEnd, acts_of, status
 use Rattle.tcam_cli.specs.MadeScript.{made_act, made_numbered, made_script}
 use Rattle.tcam_cli.specs.Turns.{Closes, status_of_fault}
 use Rattle.tcam_cli.proofs.Decided.{complete-decided}
-use Rattle.tcam_cli.proofs.OneMore.{run-at, run-more, does-journal, does-report}
+use Rattle.tcam_cli.proofs.OneMore.{run-at, run-more, does-events, does-report}
 use Rattle.tcam_cli.proofs.Outcomes.{Stops, closed-outcome, stopped-outcome}
 
 map_append : (done left : List Made) → map made_act (done ++ left) ≡ map made_act done ++ map made_act left
@@ -58,57 +59,57 @@ made-fits most maker left command act come probes answer next is are few limit =
 
 -- ---- the commands so far are carried out
 
-pub record MadeSoFar (setting : Setting) (slots : ℕ) (all left : List Made) (progress : Progress) (journal : List Write) (taken_old taken_new : Option (List ℕ)) : Type 0 where
+pub record MadeSoFar (setting : Setting) (slots : ℕ) (all left : List Made) (progress : Progress) (events : List Action) (taken_old taken_new : Option (List ℕ)) : Type 0 where
   pub done : List Made
   pub parts : all ≡ done ++ left
   pub effects : List Effect
   pub run : Runs setting slots (map made_act done) effects progress
-  pub journal_is : journal ≡ written effects
+  pub events_is : events ≡ events_in effects
   pub report : Appends taken_old taken_new (printed effects)
 
-pub made-first : (setting : Setting) (slots : ℕ) (all left : List Made) (progress : Progress) (journal : List Write) (taken : Option (List ℕ))
-    → left ≡ all → progress ≡ start slots → journal ≡ [] → MadeSoFar setting slots all left progress journal taken taken
-made-first setting slots all left progress journal taken whole begun blank = record {
+pub made-first : (setting : Setting) (slots : ℕ) (all left : List Made) (progress : Progress) (events : List Action) (taken : Option (List ℕ))
+    → left ≡ all → progress ≡ start slots → events ≡ [] → MadeSoFar setting slots all left progress events taken taken
+made-first setting slots all left progress events taken whole begun blank = record {
   done = [];
   parts = sym whole;
   effects = [];
   run = (refl, begun);
-  journal_is = blank;
+  events_is = blank;
   report = Appends-nil taken;
 }
 
-pub made-at : (setting : Setting) (slots : ℕ) (all left : List Made) (progress : Progress) (journal : List Write) (taken_old taken_new : Option (List ℕ))
-    → MadeSoFar setting slots all left progress journal taken_old taken_new → IsAt slots journal progress
-made-at setting slots all left progress journal taken_old taken_new s = run-at setting slots (map made_act s.done) s.effects progress journal s.run s.journal_is
+pub made-at : (setting : Setting) (slots : ℕ) (all left : List Made) (progress : Progress) (events : List Action) (taken_old taken_new : Option (List ℕ))
+    → MadeSoFar setting slots all left progress events taken_old taken_new → IsAt slots events progress
+made-at setting slots all left progress events taken_old taken_new s = run-at setting slots (map made_act s.done) s.effects progress events s.run s.events_is
 
-pub made-more : (setting : Setting) (slots : ℕ) (all left : List Made) (command : Made) (progress next : Progress) (journal journal_new : List Write) (start taken after : Option (List ℕ))
-    → MadeSoFar setting slots all (command ∷ left) progress journal start taken → Carries setting progress (made_act command) next journal journal_new taken after
-    → MadeSoFar setting slots all left next journal_new start after
-made-more setting slots all left command progress next journal journal_new start taken after s carried = record {
+pub made-more : (setting : Setting) (slots : ℕ) (all left : List Made) (command : Made) (progress next : Progress) (events events_new : List Action) (start taken after : Option (List ℕ))
+    → MadeSoFar setting slots all (command ∷ left) progress events start taken → Carries setting progress (made_act command) next events events_new taken after
+    → MadeSoFar setting slots all left next events_new start after
+made-more setting slots all left command progress next events events_new start taken after s carried = record {
   done = s.done ++ command ∷ [];
   parts = s.parts ∙ sym (append_assoc s.done (command ∷ []) left);
   effects = s.effects ++ carried.effects;
   run = subst (λ acts. Runs setting slots acts (s.effects ++ carried.effects) next) (sym (map_append s.done (command ∷ [])))
       (run-more setting slots (map made_act s.done) s.effects progress (made_act command) carried.effects next s.run carried.step);
-  journal_is = does-journal s.effects carried.effects [] journal journal_new taken after carried.does s.journal_is;
+  events_is = does-events s.effects carried.effects [] events events_new taken after carried.does s.events_is;
   report = subst (Appends start after) (append-nil (printed (s.effects ++ carried.effects)))
-      (does-report s.effects carried.effects [] journal journal_new start taken after carried.does s.report);
+      (does-report s.effects carried.effects [] events events_new start taken after carried.does s.report);
 }
 
 -- ---- the ends
 
-pub made-ended : (setting own : Setting) (slots seed rules batches : ℕ) (left : List Made) (last : Progress) (journal : List Write) (start before after : Option (List ℕ)) (result : Status)
-    → MadeSoFar setting slots (made_commands seed rules batches) left last journal start before → left ≡ [] → result ≢ ReadFault
+pub made-ended : (setting own : Setting) (slots seed rules batches : ℕ) (left : List Made) (last : Progress) (events : List Action) (start before after : Option (List ℕ)) (result : Status)
+    → MadeSoFar setting slots (made_commands seed rules batches) left last events start before → left ≡ [] → result ≢ ReadFault
     → own ≡ setting → Closes (ending own last) (status_of last Whole) result before after → (source : Option (List ℕ))
-    → IsCarriedOut (Makes setting seed rules batches) slots result source source start after journal
-made-ended setting own slots seed rules batches left last journal start before after result s none other same closes source =
+    → IsCarriedOut (Makes setting seed rules batches) slots result source source start after events
+made-ended setting own slots seed rules batches left last events start before after result s none other same closes source =
     let script = made_script seed rules batches in
     let whole : acts_of script ≡ map made_act s.done =
     acts-made (made_commands seed rules batches) ∙ ap (map made_act) (s.parts ∙ ap (λ behind. s.done ++ behind) none ∙ append-nil s.done) in (
       refl,
       (
         other,
-        closed-outcome setting slots script script (map made_act s.done) s.effects last journal start before s.run s.journal_is s.report after result whole
+        closed-outcome setting slots script script (map made_act s.done) s.effects last events start before s.run s.events_is s.report after result whole
             (subst (λ own. Closes (ending own last) (status_of last Whole) result before after) same closes),
       ),
     )
@@ -121,35 +122,35 @@ no-read run_fault.BatchFull room e = absurd (cc)
 no-read run_fault.ProbesFull room e = absurd (cc)
 no-read (run_fault.Held left) room e = absurd (cc)
 
-pub made-stopped : (setting : Setting) (slots seed rules batches : ℕ) (left : List Made) (command : Made) (last : Progress) (journal journal_new : List Write) (start before after : Option (List ℕ)) (why : RunFault)
-    → MadeSoFar setting slots (made_commands seed rules batches) (command ∷ left) last journal start before → limit_text (Err why) ≡ None
-    → Stops slots setting last (made_act command) why journal journal_new before after → (source : Option (List ℕ))
-    → IsCarriedOut (Makes setting seed rules batches) slots (status_of_fault why) source source start after journal_new
-made-stopped setting slots seed rules batches left command last journal journal_new start before after why s full is source =
+pub made-stopped : (setting : Setting) (slots seed rules batches : ℕ) (left : List Made) (command : Made) (last : Progress) (events events_new : List Action) (start before after : Option (List ℕ)) (why : RunFault)
+    → MadeSoFar setting slots (made_commands seed rules batches) (command ∷ left) last events start before → limit_text (Err why) ≡ None
+    → Stops slots setting last (made_act command) why events events_new before after → (source : Option (List ℕ))
+    → IsCarriedOut (Makes setting seed rules batches) slots (status_of_fault why) source source start after events_new
+made-stopped setting slots seed rules batches left command last events events_new start before after why s full is source =
     let script = made_script seed rules batches in
     let acts : acts_of script ≡ map made_act s.done ++ made_act command ∷ map made_act left =
     acts-made (made_commands seed rules batches) ∙ ap (map made_act) s.parts ∙ map_append s.done (command ∷ left) in (
       refl,
       (
         no-read why full,
-        stopped-outcome setting slots script script (map made_act s.done) s.effects last journal start before s.run s.journal_is s.report
-            (made_act command) (map made_act left) acts journal_new after why full is,
+        stopped-outcome setting slots script script (map made_act s.done) s.effects last events start before s.run s.events_is s.report
+            (made_act command) (map made_act left) acts events_new after why full is,
       ),
     )
 
 -- how such a job may end, by what it did
-pub made-ends : (setting : Setting) (slots seed rules batches : ℕ) (status : Status) (source taken_old taken_new : Option (List ℕ)) (journal : List Write)
-    → IsCarriedOut (Makes setting seed rules batches) slots status source source taken_old taken_new journal → MayEnd status (Makes setting seed rules batches) source
-made-ends setting slots seed rules batches Done source taken_old taken_new journal is = sym (complete-decided setting slots (made_script seed rules batches) Done is.1.1.effects is.1.1.outcome.0)
-made-ends setting slots seed rules batches Refused source taken_old taken_new journal is = sym (complete-decided setting slots (made_script seed rules batches) Refused is.1.1.effects is.1.1.outcome.0)
-made-ends setting slots seed rules batches ScriptFault source taken_old taken_new journal is =
+pub made-ends : (setting : Setting) (slots seed rules batches : ℕ) (status : Status) (source taken_old taken_new : Option (List ℕ)) (events : List Action)
+    → IsCarriedOut (Makes setting seed rules batches) slots status source source taken_old taken_new events → MayEnd status (Makes setting seed rules batches) source
+made-ends setting slots seed rules batches Done source taken_old taken_new events is = complete-decided setting slots (made_script seed rules batches) Done is.1.1.effects is.1.1.outcome.0
+made-ends setting slots seed rules batches Refused source taken_old taken_new events is = complete-decided setting slots (made_script seed rules batches) Refused is.1.1.effects is.1.1.outcome.0
+made-ends setting slots seed rules batches ScriptFault source taken_old taken_new events is =
     absurd (no-fault is.1.1.outcome.0.last.refused is.1.1.outcome.0.status_is)
   where
     no-fault : (refused : Bool) → ScriptFault ≡ elim refused [ true ↦ Refused | false ↦ Done ] → ⊥
     no-fault true e = cc
     no-fault false e = cc
-made-ends setting slots seed rules batches ReadFault source taken_old taken_new journal is = absurd (is.1.0 refl)
-made-ends setting slots seed rules batches WriteFault source taken_old taken_new journal is = tt
-made-ends setting slots seed rules batches DeviceFault source taken_old taken_new journal is = tt
-made-ends setting slots seed rules batches Memory source taken_old taken_new journal is = tt
-made-ends setting slots seed rules batches Usage source taken_old taken_new journal is = absurd is.1.1.outcome
+made-ends setting slots seed rules batches ReadFault source taken_old taken_new events is = absurd (is.1.0 refl)
+made-ends setting slots seed rules batches WriteFault source taken_old taken_new events is = tt
+made-ends setting slots seed rules batches DeviceFault source taken_old taken_new events is = tt
+made-ends setting slots seed rules batches Memory source taken_old taken_new events is = tt
+made-ends setting slots seed rules batches Usage source taken_old taken_new events is = absurd is.1.1.outcome

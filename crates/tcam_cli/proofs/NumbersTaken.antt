@@ -1,7 +1,8 @@
 -- Where clap finds no fault, the numbers of a subcommand are in their ranges, and the tests of them pass.
-use Rattle.std.proofs.Common.{◌≡◌, ◌∙◌, ◌&&◌, ℕ, Bool, cond, true, false, not, refl, sym, subst, ap, List, [], ◌∷◌, codes, Option, Some, None}
+use Rattle.std.proofs.Common.{◌≡◌, ◌∙◌, ◌&&◌, ℕ, Bool, cond, true, false, not, refl, sym, subst, ap, List, [], ◌∷◌, ◌++◌, codes, Option, Some, None}
 use Rattle.std.specs.Prelude.{fold}
 use Rattle.std.specs.List.{list_any}
+use Rattle.std.proofs.lemmas.List.Sums.{fold-append}
 use Rattle.std.specs.Str.{bytes_eq}
 use Rattle.clap.specs.ValueTests.{is_unsigned_in}
 use Rattle.clap.specs.Takes.{is_given}
@@ -10,18 +11,23 @@ use Rattle.clap.specs.Simple.{Shape, argument_words, built, filled, help_rule, s
 use Rattle.clap.specs.Faults.{fault_of, level_fault}
 use Rattle.replay.specs.declared.Family.{Family}
 use Rattle.replay.specs.declared.Family.TheVariants.{Route, Acl, Route6, Acl6}
-use Rattle.tcam_cli.specs.CommandLine.{acl_command, gen_command, is_traced, job_at, job_of_rows, job_of_subcommand, made_at, mode_by, number_of, number_position, placed_by, placement_option, ranges_option, route_command, slots_option, tcam_command, tcam_top, text_of, trace_flag}
+use Rattle.tcam_cli.specs.CommandLine.{acl_command, depth_option, gen_command, is_traced, job_at, job_of_rows, job_of_subcommand, made_at, mode_by, number_of, number_position, placed_by, placement_option, ranges_option, route_command, script_by, slots_option, tcam_command, tcam_top, text_of, trace_flag}
 use Rattle.tcam_cli.specs.Asked.{job_by, tested_job, tested_job_of_rows, tested_made, tested_script}
 use Rattle.tcam_cli.specs.Headline.{Job}
-use Rattle.tcam_cli.proofs.ArgumentRows.{AllKeep, Good, HasNumber, apart-keeps, has-apart, number-given, or_no, position, position-keeps, slots-default, slots-keep, slots_id}
+use Rattle.tcam_cli.proofs.ArgumentRows.{AllKeep, Good, HasNumber, apart-keeps, depth-default, depth-keep, depth_id, has-apart, number-given, or_no, position, position-keeps, slots-default, slots-keep, slots_id}
 use Rattle.tcam_cli.proofs.TakenRows.{IsTaken, built-gives, level-taken}
 
 -- ---- the jobs by tests that pass
 
-script-tested : (family : Family) (rows : List Row) → HasNumber slots_id 1 4096 rows
-    → job_at family (number_of slots_id rows) (mode_by family rows) (placed_by rows) (is_traced rows) ≡ tested_script family rows
-script-tested family rows slots =
-    sym (ap (λ b. job_by (cond b (Some (number_of slots_id rows)) None) (λ n. job_at family n (mode_by family rows) (placed_by rows) (is_traced rows))) slots)
+-- what a script is asked for by two tests
+abbrev read_by : Family → List Row → Bool → Bool → Job
+read_by family rows slots depth =
+    job_by (cond slots (Some (number_of slots_id rows)) None) (λ s.
+    job_by (cond depth (Some (number_of depth_id rows)) None) (λ d. job_at family s (mode_by family rows) (placed_by rows) (is_traced rows) d))
+
+script-tested : (family : Family) (rows : List Row) → HasNumber slots_id 1 4096 rows → HasNumber depth_id 0 15 rows → script_by family rows ≡ tested_script family rows
+script-tested family rows slots depth =
+    sym (ap (λ b. read_by family rows b (is_unsigned_in 0 15 (text_of depth_id rows))) slots ∙ ap (λ b. read_by family rows true b) depth)
 
 abbrev seed_id : Text
 seed_id = codes "seed"
@@ -71,10 +77,17 @@ has-still id low high (a ∷ rest) others rows has =
 
 -- what stands behind --slots
 abbrev route_rest : List Rule
-route_rest = filled placement_option ∷ filled trace_flag ∷ filled help_rule ∷ []
+route_rest = filled placement_option ∷ filled trace_flag ∷ filled depth_option ∷ filled help_rule ∷ []
 
 abbrev list_rest : List Rule
-list_rest = filled ranges_option ∷ filled placement_option ∷ filled trace_flag ∷ filled help_rule ∷ []
+list_rest = filled ranges_option ∷ filled placement_option ∷ filled trace_flag ∷ filled depth_option ∷ filled help_rule ∷ []
+
+-- what stands before --depth
+abbrev route_front : List Rule
+route_front = filled slots_option ∷ filled placement_option ∷ filled trace_flag ∷ []
+
+abbrev list_front : List Rule
+list_front = filled slots_option ∷ filled ranges_option ∷ filled placement_option ∷ filled trace_flag ∷ []
 
 module _ (s : Shape) (rest : List Rule) (others : AreOthers slots_id rest) (are : s.rules ≡ filled slots_option ∷ rest) (once : s.args_override_self ≡ false) (words : List Text) (none : level_fault s [] nothing_held words false [] ≡ []) where
   script-slots : HasNumber slots_id 1 4096 (rows_after s.rules [] words)
@@ -84,6 +97,31 @@ module _ (s : Shape) (rest : List Rule) (others : AreOthers slots_id rest) (are 
       let taken = level-taken (Good slots_id 1 4096) s keep once tt words none in
       subst (HasNumber slots_id 1 4096) (sym (taken.after ∙ ap (fold with_default taken.rows) are))
       (has-still slots_id 1 4096 rest others (with_default taken.rows (filled slots_option)) (slots-default taken.rows taken.good).0)
+
+-- an argument behind others keeps what they keep
+all-behind : (P : List Row → Type 0) (front back : List Rule) → AllKeep P front → AllKeep P back → AllKeep P (front ++ back)
+all-behind P [] back ahead behind = behind
+all-behind P (a ∷ front) back ahead behind = (ahead.0, all-behind P front back ahead.1 behind)
+
+keep-defaults : (P : List Row → Type 0) (rules : List Rule) → AllKeep P rules → (rows : List Row) → P rows → P (fold with_default rows rules)
+keep-defaults P [] all rows good = good
+keep-defaults P (a ∷ rest) all rows good = keep-defaults P rest all.1 (with_default rows a) (all.0.by_default rows good)
+
+module _ (s : Shape) (front : List Rule) (others : AreOthers depth_id front) (are : s.rules ≡ front ++ filled depth_option ∷ filled help_rule ∷ []) (once : s.args_override_self ≡ false) (words : List Text)
+    (none : level_fault s [] nothing_held words false [] ≡ []) where
+  script-depth : HasNumber depth_id 0 15 (rows_after s.rules [] words)
+  unfolding depth_option
+  script-depth =
+      let ahead : AllKeep (Good depth_id 0 15) front = others-keep depth_id 0 15 front others in
+      let keep : AllKeep (Good depth_id 0 15) s.rules =
+      subst (AllKeep (Good depth_id 0 15)) (sym are)
+      (all-behind (Good depth_id 0 15) front (filled depth_option ∷ filled help_rule ∷ []) ahead (depth-keep, others-keep depth_id 0 15 (filled help_rule ∷ []) refl)) in
+      let taken = level-taken (Good depth_id 0 15) s keep once tt words none in
+      let before = fold with_default taken.rows front in
+      let good = keep-defaults (Good depth_id 0 15) front ahead taken.rows taken.good in
+      subst (HasNumber depth_id 0 15)
+      (sym (taken.after ∙ ap (fold with_default taken.rows) are ∙ fold-append with_default taken.rows front (filled depth_option ∷ filled help_rule ∷ [])))
+      (has-still depth_id 0 15 (filled help_rule ∷ []) refl (with_default before (filled depth_option)) (depth-default before good).0)
 
 -- ---- the subcommand for made commands
 
@@ -117,12 +155,8 @@ module _ (s : Shape) (are : s.rules ≡ gen_rules) (once : s.args_override_self 
     gen-taken : IsTaken (Good id low high) s words
     gen-taken = level-taken (Good id low high) s (subst (AllKeep (Good id low high)) (sym are) keep) once tt words none
 
-    keep-defaults : (rules : List Rule) → AllKeep (Good id low high) rules → (rows : List Row) → Good id low high rows → Good id low high (fold with_default rows rules)
-    keep-defaults [] all rows good = good
-    keep-defaults (a ∷ rest) all rows good = keep-defaults rest all.1 (with_default rows a) (all.0.by_default rows good)
-
     gen-good : Good id low high (rows_after s.rules [] words)
-    gen-good = subst (Good id low high) (sym (gen-taken.after ∙ ap (fold with_default gen-taken.rows) are)) (keep-defaults gen_rules keep gen-taken.rows gen-taken.good)
+    gen-good = subst (Good id low high) (sym (gen-taken.after ∙ ap (fold with_default gen-taken.rows) are)) (keep-defaults (Good id low high) gen_rules keep gen-taken.rows gen-taken.good)
 
     gen-given : AreGiven (rows_after s.rules [] words)
     gen-given = all-given (rows_after s.rules [] words) (subst (λ (rules : List Rule). list_any (λ a. a.required && not (is_given a.id (rows_after s.rules [] words))) rules ≡ false) are gen-taken.given)
@@ -160,7 +194,7 @@ module _ (s : Shape) (are : s.rules ≡ gen_rules) (once : s.args_override_self 
       let given = gen-given seed_id 0 2147483647 seed in
       let taken = gen-taken slots_id 1 4096 slots in
       let before = fold with_default taken.rows front in
-      let good = keep-defaults slots_id 1 4096 slots front ahead taken.rows taken.good in
+      let good = keep-defaults (Good slots_id 1 4096) front ahead taken.rows taken.good in
       let has : HasNumber slots_id 1 4096 (rows_after s.rules [] words) =
       subst (HasNumber slots_id 1 4096) (sym (taken.after ∙ ap (fold with_default taken.rows) are))
       (has-still slots_id 1 4096 made_rest refl (with_default before (filled slots_option)) (slots-default before good).0) in
@@ -170,16 +204,19 @@ module _ (s : Shape) (are : s.rules ≡ gen_rules) (once : s.args_override_self 
 
 -- where clap finds no fault, the tests of the numbers pass
 pub tested : (words : List Text) → fault_of tcam_command words ≡ [] → (o : Option (Text × List Row)) → subcommand_of tcam_command words ≡ o → job_of_subcommand o ≡ tested_job o
-unfolding tcam_command tcam_top route_command acl_command gen_command slots_option ranges_option placement_option trace_flag number_position
+unfolding tcam_command tcam_top route_command acl_command gen_command slots_option ranges_option placement_option trace_flag depth_option number_position
 tested words none None are = refl
 tested words none (Some (name, rows)) are =
     built-gives (λ name rows. job_of_rows name rows ≡ tested_job_of_rows name rows) (built tcam_command) (
-      λ words none. script-tested Route (rows_after (filled slots_option ∷ route_rest) [] words) (script-slots _ route_rest refl refl refl words none),
+      λ words none. script-tested Route (rows_after (filled slots_option ∷ route_rest) [] words) (script-slots _ route_rest refl refl refl words none) (script-depth _ route_front refl refl refl words none),
       (
-        λ words none. script-tested Acl (rows_after (filled slots_option ∷ list_rest) [] words) (script-slots _ list_rest refl refl refl words none),
+        λ words none. script-tested Acl (rows_after (filled slots_option ∷ list_rest) [] words) (script-slots _ list_rest refl refl refl words none) (script-depth _ list_front refl refl refl words none),
         (
-          λ words none. script-tested Route6 (rows_after (filled slots_option ∷ route_rest) [] words) (script-slots _ route_rest refl refl refl words none),
-          (λ words none. script-tested Acl6 (rows_after (filled slots_option ∷ list_rest) [] words) (script-slots _ list_rest refl refl refl words none), (λ words none. gen-made _ refl refl words none, tt)),
+          λ words none. script-tested Route6 (rows_after (filled slots_option ∷ route_rest) [] words) (script-slots _ route_rest refl refl refl words none) (script-depth _ route_front refl refl refl words none),
+          (
+            λ words none. script-tested Acl6 (rows_after (filled slots_option ∷ list_rest) [] words) (script-slots _ list_rest refl refl refl words none) (script-depth _ list_front refl refl refl words none),
+            (λ words none. gen-made _ refl refl words none, tt),
+          ),
         ),
       ),
     ) (argument_words tcam_command words) name rows none are

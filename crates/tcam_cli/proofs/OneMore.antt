@@ -1,33 +1,47 @@
 -- One act more.
-use Rattle.std.proofs.Common.{◌≡◌, ℕ, Option, List, [], ◌∷◌, ◌++◌, length, refl, ap, sym, ◌∙◌, subst, append_assoc, append-nil, length-append}
+use Rattle.std.proofs.Common.{◌≡◌, ℕ, inl, inr, Option, List, [], ◌∷◌, ◌++◌, length, take, refl, ap, sym, ◌∙◌, subst, append_assoc, append-nil, length-append}
 use Rattle.std.specs.Io.KnownBytes.{Appends}
 use Rattle.std.proofs.KnownBytes.{Appends-trans}
 use Rattle.rule_store.specs.Verdict.{Verdict, Accepted, Unsound, OutOfBits, OutOfSlots, verdict}
-use Rattle.tcam_device.specs.declared.Write.{Write}
+use Rattle.tcam_device.specs.declared.Action.{Action}
+use Rattle.tcam_device.specs.Flight.{writes_in}
 use Rattle.tcam_device.specs.State.{state_after, replay}
 use Rattle.replay.specs.declared.Act.{Act}
-use Rattle.replay.specs.declared.Act.TheVariants.{Command, Probe, Packet, Commit}
+use Rattle.replay.specs.declared.Act.TheVariants.{Command, Probe, Packet, Commit, Trial}
 use Rattle.replay.specs.Script.{pending_after, probes_after}
-use Rattle.replay.specs.Run.{Setting, Effect, written, printed, Progress, start, write_effects, Judged, HasEffects, Run, Runs}
+use Rattle.replay.specs.Effects.{Setting, Effect, events_in, written, printed}
+use Rattle.replay.specs.Run.{Progress, start, Commits, Tries, Judged, HasEffects, Run, Runs}
 use Rattle.replay.specs.Carried.{IsAt, Does}
 use Rattle.tcam_device.proofs.Spans.{state_after-append}
-use Rattle.replay.proofs.Effects.{written-append, printed-append, written-writes}
+use Rattle.replay.proofs.Effects.{events-append, written-append, printed-append}
+use Rattle.replay.proofs.Written.{written-return, written-segment}
+use Rattle.commit_writes.proofs.Undone.{undo_ends}
 use Rattle.std.specs.List.{AllByRecursion}
 use Rattle.tcam_cli.specs.AllTheWay.{IsNoProbe}
 
-judged-state : (setting : Setting) (old : Progress) (v : Verdict) (effects : List Effect) (new : Progress) → Judged setting old v effects new → new.state ≡ state_after old.state (written effects)
+judged-state : (setting : Setting) (old : Progress) (v : Verdict) (effects : List Effect) (new : Progress) → Judged Commits setting old v effects new → new.state ≡ state_after old.state (written effects)
 judged-state setting old Accepted effects new step =
     ap (λ p. p.state) step.after
-    ∙ ap (state_after old.state) (sym (written-writes setting old.probes 1 old.state step.made) ∙ sym (append-nil _) ∙ sym (written-append (write_effects setting old.probes 1 old.state step.made) _) ∙ sym (ap written step.effects_are))
+    ∙ ap (state_after old.state) (sym (written-segment setting old step.made _) ∙ sym (ap written step.effects_are))
 judged-state setting old (Unsound fault) effects new step = ap (λ p. p.state) step.1 ∙ ap (state_after old.state) (sym (ap written step.0))
 judged-state setting old (OutOfBits field needed free) effects new step = ap (λ p. p.state) step.1 ∙ ap (state_after old.state) (sym (ap written step.0))
 judged-state setting old (OutOfSlots needed free) effects new step = ap (λ p. p.state) step.1 ∙ ap (state_after old.state) (sym (ap written step.0))
+
+tried-state : (most : ℕ) (setting : Setting) (old : Progress) (v : Verdict) (effects : List Effect) (new : Progress) → Judged (Tries most) setting old v effects new → new.state ≡ state_after old.state (written effects)
+tried-state most setting old Accepted effects new (inl commits) = judged-state setting old Accepted effects new commits.0
+tried-state most setting old Accepted effects new (inr returns) =
+    ap (λ p. p.state) returns.after ∙ sym (undo_ends old.state (take most returns.made))
+    ∙ ap (state_after old.state) (sym (written-return setting old most returns.made _) ∙ sym (ap written returns.effects_are))
+tried-state most setting old (Unsound fault) effects new step = ap (λ p. p.state) step.1 ∙ ap (state_after old.state) (sym (ap written step.0))
+tried-state most setting old (OutOfBits field needed free) effects new step = ap (λ p. p.state) step.1 ∙ ap (state_after old.state) (sym (ap written step.0))
+tried-state most setting old (OutOfSlots needed free) effects new step = ap (λ p. p.state) step.1 ∙ ap (state_after old.state) (sym (ap written step.0))
 
 pub step-state : (setting : Setting) (old : Progress) (act : Act) (effects : List Effect) (new : Progress) → HasEffects setting old act effects new → new.state ≡ state_after old.state (written effects)
 step-state setting old (Command change) effects new step = ap (λ p. p.state) step.1 ∙ ap (state_after old.state) (sym (ap written step.0))
 step-state setting old (Probe key) effects new step = ap (λ p. p.state) step.1 ∙ ap (state_after old.state) (sym (ap written step.0))
 step-state setting old (Packet key) effects new step = ap (λ p. p.state) step.1 ∙ ap (state_after old.state) (sym (ap written step.0))
 step-state setting old Commit effects new step = judged-state setting old (verdict setting.slots setting.mode old.rules old.batch) effects new step
+step-state setting old (Trial most) effects new step = tried-state most setting old (verdict setting.slots setting.mode old.rules old.batch) effects new step
 
 -- the state of a run is what its writes leave
 run-state-from : (setting : Setting) (old : Progress) (acts : List Act) (effects : List Effect) (new : Progress) → Run setting old acts effects new → new.state ≡ state_after old.state (written effects)
@@ -42,9 +56,9 @@ pub run-state : (setting : Setting) (slots : ℕ) (acts : List Act) (effects : L
 run-state setting slots acts effects last run = run-state-from setting (start slots) acts effects last run
 
 -- so the device is where the run stands
-pub run-at : (setting : Setting) (slots : ℕ) (acts : List Act) (effects : List Effect) (last : Progress) (journal : List Write) → Runs setting slots acts effects last
-    → journal ≡ written effects → IsAt slots journal last
-run-at setting slots acts effects last journal run told = run-state setting slots acts effects last run ∙ ap (replay slots) (sym told)
+pub run-at : (setting : Setting) (slots : ℕ) (acts : List Act) (effects : List Effect) (last : Progress) (events : List Action) → Runs setting slots acts effects last
+    → events ≡ events_in effects → IsAt slots events last
+run-at setting slots acts effects last events run told = run-state setting slots acts effects last run ∙ ap (λ actions. replay slots (writes_in actions)) (sym told)
 
 -- one act more
 run-more-from : (setting : Setting) (old : Progress) (acts : List Act) (effects : List Effect) (mid : Progress) (act : Act) (front : List Effect) (new : Progress)
@@ -60,30 +74,46 @@ pub run-more : (setting : Setting) (slots : ℕ) (acts : List Act) (effects : Li
 run-more setting slots acts effects mid act front new run step = run-more-from setting (start slots) acts effects mid act front new run step
 
 -- what is pending after an act
-judged-batch : (setting : Setting) (old : Progress) (v : Verdict) (effects : List Effect) (new : Progress) → Judged setting old v effects new → length new.batch ≡ 0
+judged-batch : (setting : Setting) (old : Progress) (v : Verdict) (effects : List Effect) (new : Progress) → Judged Commits setting old v effects new → length new.batch ≡ 0
 judged-batch setting old Accepted effects new step = ap (λ p. length p.batch) step.after
 judged-batch setting old (Unsound fault) effects new step = ap (λ p. length p.batch) step.1
 judged-batch setting old (OutOfBits field needed free) effects new step = ap (λ p. length p.batch) step.1
 judged-batch setting old (OutOfSlots needed free) effects new step = ap (λ p. length p.batch) step.1
+
+tried-batch : (most : ℕ) (setting : Setting) (old : Progress) (v : Verdict) (effects : List Effect) (new : Progress) → Judged (Tries most) setting old v effects new → length new.batch ≡ 0
+tried-batch most setting old Accepted effects new (inl commits) = ap (λ p. length p.batch) commits.0.after
+tried-batch most setting old Accepted effects new (inr returns) = ap (λ p. length p.batch) returns.after
+tried-batch most setting old (Unsound fault) effects new step = ap (λ p. length p.batch) step.1
+tried-batch most setting old (OutOfBits field needed free) effects new step = ap (λ p. length p.batch) step.1
+tried-batch most setting old (OutOfSlots needed free) effects new step = ap (λ p. length p.batch) step.1
 
 pub step-pending : (setting : Setting) (old : Progress) (act : Act) (effects : List Effect) (new : Progress) → HasEffects setting old act effects new → length new.batch ≡ pending_after act (length old.batch)
 step-pending setting old (Command change) effects new step = ap (λ p. length p.batch) step.1 ∙ length-append old.batch (change ∷ [])
 step-pending setting old (Probe key) effects new step = ap (λ p. length p.batch) step.1
 step-pending setting old (Packet key) effects new step = ap (λ p. length p.batch) step.1
 step-pending setting old Commit effects new step = judged-batch setting old (verdict setting.slots setting.mode old.rules old.batch) effects new step
+step-pending setting old (Trial most) effects new step = tried-batch most setting old (verdict setting.slots setting.mode old.rules old.batch) effects new step
 
 -- how many probes there are after an act
-judged-probes : (setting : Setting) (old : Progress) (v : Verdict) (effects : List Effect) (new : Progress) → Judged setting old v effects new → new.probes ≡ old.probes
+judged-probes : (setting : Setting) (old : Progress) (v : Verdict) (effects : List Effect) (new : Progress) → Judged Commits setting old v effects new → new.probes ≡ old.probes
 judged-probes setting old Accepted effects new step = ap (λ p. p.probes) step.after
 judged-probes setting old (Unsound fault) effects new step = ap (λ p. p.probes) step.1
 judged-probes setting old (OutOfBits field needed free) effects new step = ap (λ p. p.probes) step.1
 judged-probes setting old (OutOfSlots needed free) effects new step = ap (λ p. p.probes) step.1
+
+tried-probes : (most : ℕ) (setting : Setting) (old : Progress) (v : Verdict) (effects : List Effect) (new : Progress) → Judged (Tries most) setting old v effects new → new.probes ≡ old.probes
+tried-probes most setting old Accepted effects new (inl commits) = ap (λ p. p.probes) commits.0.after
+tried-probes most setting old Accepted effects new (inr returns) = ap (λ p. p.probes) returns.after
+tried-probes most setting old (Unsound fault) effects new step = ap (λ p. p.probes) step.1
+tried-probes most setting old (OutOfBits field needed free) effects new step = ap (λ p. p.probes) step.1
+tried-probes most setting old (OutOfSlots needed free) effects new step = ap (λ p. p.probes) step.1
 
 pub step-probes : (setting : Setting) (old : Progress) (act : Act) (effects : List Effect) (new : Progress) → HasEffects setting old act effects new → length new.probes ≡ probes_after act (length old.probes)
 step-probes setting old (Command change) effects new step = ap (λ p. length p.probes) step.1
 step-probes setting old (Probe key) effects new step = ap (λ p. length p.probes) step.1 ∙ length-append old.probes (key ∷ [])
 step-probes setting old (Packet key) effects new step = ap (λ p. length p.probes) step.1
 step-probes setting old Commit effects new step = ap length (judged-probes setting old (verdict setting.slots setting.mode old.rules old.batch) effects new step)
+step-probes setting old (Trial most) effects new step = ap length (tried-probes most setting old (verdict setting.slots setting.mode old.rules old.batch) effects new step)
 
 -- acts without a probe leave the probes
 pub none-probed : (setting : Setting) (old : Progress) (acts : List Act) (effects : List Effect) (new : Progress) → AllByRecursion IsNoProbe acts → Run setting old acts effects new → new.probes ≡ old.probes
@@ -93,17 +123,19 @@ none-probed setting old (Probe key ∷ acts) effects new none (front, mid, back,
 none-probed setting old (Packet key ∷ acts) effects new none (front, mid, back, step, rest, whole) = none-probed setting mid acts back new none.1 rest ∙ ap (λ p. p.probes) step.1
 none-probed setting old (Commit ∷ acts) effects new none (front, mid, back, step, rest, whole) =
     none-probed setting mid acts back new none.1 rest ∙ judged-probes setting old (verdict setting.slots setting.mode old.rules old.batch) front mid step
+none-probed setting old (Trial most ∷ acts) effects new none (front, mid, back, step, rest, whole) =
+    none-probed setting mid acts back new none.1 rest ∙ tried-probes most setting old (verdict setting.slots setting.mode old.rules old.batch) front mid step
 
--- journal and report after more effects
-pub does-journal : (effects more : List Effect) (partial : List ℕ) (journal_old journal_new : List Write) (taken_old taken_new : Option (List ℕ))
-    → Does more partial journal_old journal_new taken_old taken_new → journal_old ≡ written effects → journal_new ≡ written (effects ++ more)
-does-journal effects more partial journal_old journal_new taken_old taken_new does was =
-    rw does.journal (ap (λ w. w ++ written more) was ∙ sym (written-append effects more))
+-- device and report after more effects
+pub does-events : (effects more : List Effect) (partial : List ℕ) (events_old events_new : List Action) (taken_old taken_new : Option (List ℕ))
+    → Does more partial events_old events_new taken_old taken_new → events_old ≡ events_in effects → events_new ≡ events_in (effects ++ more)
+does-events effects more partial events_old events_new taken_old taken_new does was =
+    rw does.events (ap (λ actions. actions ++ events_in more) was ∙ sym (events-append effects more))
 
-pub does-report : (effects more : List Effect) (partial : List ℕ) (journal_old journal_new : List Write) (start taken_old taken_new : Option (List ℕ))
-    → Does more partial journal_old journal_new taken_old taken_new → Appends start taken_old (printed effects)
+pub does-report : (effects more : List Effect) (partial : List ℕ) (events_old events_new : List Action) (start taken_old taken_new : Option (List ℕ))
+    → Does more partial events_old events_new taken_old taken_new → Appends start taken_old (printed effects)
     → Appends start taken_new (printed (effects ++ more) ++ partial)
-does-report effects more partial journal_old journal_new start taken_old taken_new does was =
+does-report effects more partial events_old events_new start taken_old taken_new does was =
     let same : printed effects ++ (printed more ++ partial) ≡ printed (effects ++ more) ++ partial =
     sym (append_assoc (printed effects) (printed more) partial) ∙ ap (λ p. p ++ partial) (sym (printed-append effects more)) in
     subst (Appends start taken_new) same (Appends-trans start taken_old taken_new (printed effects) (printed more ++ partial) was does.report)

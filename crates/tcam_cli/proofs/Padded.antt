@@ -9,19 +9,23 @@ use Rattle.rule_store.specs.declared.Command.TheVariants.{Add}
 use Rattle.rule_store.specs.Verdict.{verdict}
 use Rattle.ternary_word.specs.declared.Entry.{Entry}
 use Rattle.tcam_device.specs.declared.Write.TheVariants.{Slot}
+use Rattle.tcam_device.specs.declared.Action.TheVariants.{Written}
+use Rattle.tcam_device.specs.Flight.{writes_in}
 use Rattle.commit_writes.specs.Bits.{no_bits}
 use Rattle.batch_order.proofs.Padded.{one-write}
 use Rattle.rule_store.specs.declared.Mode.TheVariants.{Cover}
 use Rattle.batch_order.specs.declared.Placement.TheVariants.{Middle}
 use Rattle.replay.specs.declared.Family.TheVariants.{Route}
-use Rattle.replay.specs.Run.{Setting, Effect, Prints, Progress, Commits, Judged, start, written, write_effects, slots_in_use}
-use Rattle.replay.proofs.Effects.{written-append, written-writes}
+use Rattle.replay.specs.Effects.{Setting, Effect, Prints, written}
+use Rattle.replay.specs.Run.{Progress, Commits, Judged, start, slots_in_use}
+use Rattle.replay.proofs.Effects.{written-append}
+use Rattle.replay.proofs.Written.{written-segment}
 use Rattle.tcam_cli.specs.declared.Status.TheVariants.{Done}
 use Rattle.tcam_cli.specs.CommandLine.{script_setting}
 use Rattle.tcam_cli.specs.Headline.{Reads, IsCarriedOut}
 
 abbrev setting : Setting
-setting = script_setting Route 8 Cover Middle false
+setting = script_setting Route 8 Cover Middle false 0
 
 -- the addition of a route, pending
 abbrev pending : Progress
@@ -31,17 +35,15 @@ pending = record (start 8) { batch = Add (route_rule (ipv4_route_rank (ipv4_bloc
 one-commit : (effects : List Effect) (new : Progress) → Commits setting pending effects new → length (written effects) ≡ 1
 one-commit effects new commits =
     let made : written effects ≡ commits.made =
-    ap written commits.effects_are
-    ∙ (written-append (write_effects setting [] 1 pending.state commits.made) (Prints _ ∷ [])
-    ∙ (append-nil _ ∙ written-writes setting [] 1 pending.state commits.made)) in
+    ap written commits.effects_are ∙ written-segment setting pending commits.made _ in
     ap length made ∙ one-write setting.placement Cover no_bits pending.batch (slots_in_use setting pending.state) commits.made refl refl refl commits.placed
 
-judged : (before : Progress) (effects : List Effect) (new : Progress) → before ≡ pending → Judged setting before (verdict setting.slots setting.mode before.rules before.batch) effects new → length (written effects) ≡ 1
+judged : (before : Progress) (effects : List Effect) (new : Progress) → before ≡ pending → Judged Commits setting before (verdict setting.slots setting.mode before.rules before.batch) effects new → length (written effects) ≡ 1
 judged before effects new is commits =
-    one-commit effects new (subst (λ (p : Progress). Judged setting p (verdict setting.slots setting.mode p.rules p.batch) effects new) is commits)
+    one-commit effects new (subst (λ (p : Progress). Judged Commits setting p (verdict setting.slots setting.mode p.rules p.batch) effects new) is commits)
 
 -- the entry goes into one slot, and is moved once more
-padded : (entry : Entry) → IsCarriedOut (Reads setting) 8 Done (Some (codes "route add 10.0.0.0/8 7" ++ 10 ∷ codes "commit")) (Some []) (Some []) (Some []) (Slot 2 (Some entry) ∷ Slot 3 (Some entry) ∷ Slot 2 None ∷ []) → ⊥
+padded : (entry : Entry) → IsCarriedOut (Reads setting) 8 Done (Some (codes "route add 10.0.0.0/8 7" ++ 10 ∷ codes "commit")) (Some []) (Some []) (Some []) (Written (Slot 2 (Some entry)) ∷ Written (Slot 3 (Some entry)) ∷ Written (Slot 2 None) ∷ []) → ⊥
 padded entry claim =
     let outcome = claim.1 in
     let whole = outcome.outcome.0 in
@@ -52,5 +54,5 @@ padded entry claim =
     add.5 ∙ (ap (λ (front : List Effect). front ++ add.2) add.3.0 ∙ (commit.5 ∙ (ap (λ (back : List Effect). commit.0 ++ back) commit.4.0 ∙ append-nil commit.0))) in
     let made : written outcome.effects ≡ written commit.0 =
     ap written whole.effects_are ∙ (written-append whole.body (Prints _ ∷ []) ∙ (append-nil (written whole.body) ∙ ap written body)) in
-    let count : 3 ≡ 1 = ap length outcome.journal_is ∙ (ap length made ∙ one) in
+    let count : 3 ≡ 1 = ap (λ actions. length (writes_in actions)) outcome.events_is ∙ (ap length made ∙ one) in
     omega (arith, count)

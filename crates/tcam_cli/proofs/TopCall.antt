@@ -1,9 +1,9 @@
 -- The jobs beside a script's.
 use Rattle.std.proofs.Common.{◌≡◌, inl, inr, ℕ, Option, Some, None, IfSome, List, [], ◌++◌, refl, sym, append-nil}
 use Rattle.std.proofs.KnownBytes.{Appends-nil}
-use Rattle.tcam_device.specs.declared.Write.{Write}
+use Rattle.tcam_device.specs.declared.Action.{Action}
 use Rattle.replay.specs.Script.{Script}
-use Rattle.replay.specs.Run.{Setting}
+use Rattle.replay.specs.Effects.{Setting}
 use Rattle.tcam_cli.specs.declared.Status.{Status}
 use Rattle.tcam_cli.specs.declared.Status.TheVariants.{Done, Memory, Usage}
 use Rattle.tcam_cli.specs.Headline.{Job, NoJob, Tells, Reads, Makes, IsTold, IsToldAlone, IsCarriedOut, MatchesOutcome}
@@ -13,19 +13,19 @@ nothing-told : (text : List ℕ) (last : Status) (taken : Option (List ℕ)) →
 nothing-told text last None = tt
 nothing-told text last (Some bytes) = ([], sym (append-nil bytes), inr (inr (refl, refl)))
 
-nothing-done : (setting : Setting) (slots : ℕ) (script came : Script) (taken : Option (List ℕ)) (journal : List Write) → journal ≡ []
-    → MatchesOutcome setting slots script came Memory journal taken taken
-nothing-done setting slots script came taken journal blank =
-    record { effects = []; partial = []; outcome = (inl refl, refl); journal_is = blank; report_is = Appends-nil taken }
+nothing-done : (setting : Setting) (slots : ℕ) (script came : Script) (taken : Option (List ℕ)) (events : List Action) → events ≡ []
+    → MatchesOutcome setting slots script came Memory events taken taken
+nothing-done setting slots script came taken events blank =
+    record { effects = []; partial = []; outcome = (inl refl, refl); events_is = blank; report_is = Appends-nil taken }
 
 -- memory was wanting before anything was done
-pub memory-carried : (job : Job) (slots : ℕ) (left taken : Option (List ℕ)) (journal : List Write) → journal ≡ [] → IsCarriedOut job slots Memory left left taken taken journal
-memory-carried NoJob slots left taken journal blank = (refl, blank, nothing-told _ Usage taken)
-memory-carried (Tells text) slots left taken journal blank = (refl, blank, nothing-told text Done taken)
-memory-carried (Reads setting) slots None taken journal blank = tt
-memory-carried (Reads setting) slots (Some old) taken journal blank =
-    (record { taken = []; parts = refl; all = λ e. elim e [ inl d ↦ absurd (cc) | inr r ↦ absurd (cc) ] }, nothing-done setting slots _ _ taken journal blank)
-memory-carried (Makes setting seed rules batches) slots left taken journal blank = (refl, (λ e. absurd (cc), nothing-done setting slots _ _ taken journal blank))
+pub memory-carried : (job : Job) (slots : ℕ) (left taken : Option (List ℕ)) (events : List Action) → events ≡ [] → IsCarriedOut job slots Memory left left taken taken events
+memory-carried NoJob slots left taken events blank = (refl, blank, nothing-told _ Usage taken)
+memory-carried (Tells text) slots left taken events blank = (refl, blank, nothing-told text Done taken)
+memory-carried (Reads setting) slots None taken events blank = tt
+memory-carried (Reads setting) slots (Some old) taken events blank =
+    (record { taken = []; parts = refl; all = λ e. elim e [ inl d ↦ absurd (cc) | inr r ↦ absurd (cc) ] }, nothing-done setting slots _ _ taken events blank)
+memory-carried (Makes setting seed rules batches) slots left taken events blank = (refl, (λ e. absurd (cc), nothing-done setting slots _ _ taken events blank))
 
 told-text : (text : List ℕ) (last result : Status) (before after : Option (List ℕ)) → Closes text last result before after
     → IfSome before (λ b. IfSome after (λ a. (report : List ℕ) × (a ≡ b ++ report) × IsTold text last result report))
@@ -34,6 +34,6 @@ told-text text last result (Some b) None closes = tt
 told-text text last result (Some b) (Some a) (inl (e, line)) = (text, line, inl (e, refl))
 told-text text last result (Some b) (Some a) (inr (e, (partial, rest, part, line))) = (partial, line, inr (inl (e, (rest, part))))
 
-pub told-alone : (text : List ℕ) (last result : Status) (left before after : Option (List ℕ)) (journal : List Write) → journal ≡ [] → Closes text last result before after
-    → IsToldAlone text last result left left before after journal
-told-alone text last result left before after journal blank closes = (refl, blank, told-text text last result before after closes)
+pub told-alone : (text : List ℕ) (last result : Status) (left before after : Option (List ℕ)) (events : List Action) → events ≡ [] → Closes text last result before after
+    → IsToldAlone text last result left left before after events
+told-alone text last result left before after events blank closes = (refl, blank, told-text text last result before after closes)

@@ -4,14 +4,14 @@ use Rattle.std.specs.Prelude.{codes}
 use Rattle.rule_store.specs.declared.Mode.TheVariants.{Cover}
 use Rattle.batch_order.specs.declared.Placement.TheVariants.{Middle}
 use Rattle.replay.specs.declared.Family.TheVariants.{Route, Acl}
-use Rattle.tcam_device.specs.declared.Write.{Write}
+use Rattle.tcam_device.specs.declared.Action.{Action}
 use Rattle.replay.specs.declared.Act.{Act}
-use Rattle.replay.specs.Run.{Setting, written}
+use Rattle.replay.specs.Effects.{Setting, events_in}
 use Rattle.tcam_cli.specs.declared.Status.TheVariants.{Done, Refused, Script as ScriptFault, ReadFault, WriteFault, DeviceFault, Usage}
 use Rattle.tcam_cli.specs.Headline.{NoJob, Reads, Makes, IsCarriedOut, MayEnd}
 
 abbrev setting : Setting
-setting = record { slots = 8; mode = Cover; placement = Middle; family = Route; trace = false }
+setting = record { slots = 8; mode = Cover; placement = Middle; family = Route; trace = false; depth = 0 }
 
 -- a line at fault was taken, and then a read failed: nothing is printed, status 3
 passed-over : IsCarriedOut (Reads setting) 8 ReadFault (Some (codes "frob" ++ 10 ∷ codes "more")) (Some (codes "more")) (Some []) (Some []) [] → ⊥
@@ -27,11 +27,11 @@ unread claim = let all = claim.0.all (inl refl) in cc
 
 -- the last line is left out, or an end line is printed where the script is at fault
 dropped : MayEnd Done (Reads setting) (Some (codes "commit" ++ 10 ∷ codes "frob")) → ⊥
-dropped claim = cc
+dropped claim = let is = claim.1 in cc
 
 -- a script's fault where there is none
 invented : MayEnd ScriptFault (Reads setting) (Some (codes "commit")) → ⊥
-invented claim = let is = claim.1 in cc
+invented claim = let is = claim.1.1 in cc
 
 -- usage
 lazy : MayEnd Usage (Reads setting) None → ⊥
@@ -39,27 +39,27 @@ lazy claim = cc
 
 -- two routes for eight slots
 accepted : MayEnd Done (Reads setting) (Some (codes "route add 10.0.0.0/8 7" ++ 10 ∷ codes "commit"))
-accepted = refl
+accepted = ([], refl)
 
 overfull : MayEnd Refused (Reads (record setting { slots = 1 })) (Some (codes "route add 10.0.0.0/8 7" ++ 10 ∷ codes "route add 11.0.0.0/8 7" ++ 10 ∷ codes "commit"))
-overfull = refl
+overfull = ([], refl)
 
 -- what no job without a script ends with
 untouched : MayEnd DeviceFault NoJob None → ⊥
 untouched claim = claim
 
 unasked : MayEnd Done NoJob None → ⊥
-unasked claim = cc
+unasked claim = let is = claim.1 in cc
 
 -- a device write after the line that could not be written
 no-act : (done : List Act) (act : Act) (later : List Act) → [] ≡ done ++ act ∷ later → ⊥
 no-act [] act later same = cc
 no-act (first ∷ done) act later same = cc
 
-writes-on : (write : Write) → IsCarriedOut (Reads setting) 8 WriteFault (Some []) (Some []) (Some []) (Some []) (write ∷ []) → ⊥
-writes-on write claim = elim claim.1.outcome.due [
+writes-on : (action : Action) → IsCarriedOut (Reads setting) 8 WriteFault (Some []) (Some []) (Some []) (Some []) (action ∷ []) → ⊥
+writes-on action claim = elim claim.1.outcome.due [
   | inl at ↦ no-act at.done at.act at.later at.acts
-  | inr end ↦ let same : write ∷ [] ≡ [] = claim.1.journal_is ∙ ap written end.run.0 in cc
+  | inr end ↦ let same : action ∷ [] ≡ [] = claim.1.events_is ∙ ap events_in end.run.0 in cc
 ]
 
 -- a device's fault where no write is due
@@ -97,7 +97,7 @@ made-usage claim = cc
 
 -- the second batch has no room in one slot: a body that leaves it off is done
 made-full : MayEnd Refused (Makes (record made { slots = 1 }) 1 1 2) None
-made-full = refl
+made-full = ([], refl)
 
 made-short : MayEnd Done (Makes (record made { slots = 1 }) 1 1 2) None → ⊥
-made-short claim = cc
+made-short claim = let is = claim.1 in cc

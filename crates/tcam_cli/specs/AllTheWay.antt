@@ -1,6 +1,6 @@
 -- What packets see of a run, in the words of rule sets: the acts lead from set to set, and after each device write
 -- every packet key has the answer of one of these sets or of the next one.
-use Rattle.std.specs.Prelude.{◌≡◌, ℕ, ◌+◌, ◌-◌, ◌≤◌, ◌⊎◌, false, Option, Some, IfSome, List, [], ◌∷◌, ◌++◌, length, take, slice_get}
+use Rattle.std.specs.Prelude.{◌≡◌, ℕ, ◌+◌, ◌-◌, ◌≤◌, ◌⊎◌, Bool, true, false, Option, Some, IfSome, List, [], ◌∷◌, ◌++◌, length, take, drop, slice_get}
 use Rattle.std.specs.List.{AllByRecursion}
 use Rattle.rule_model.specs.declared.Rule.{Rule}
 use Rattle.rule_store.specs.declared.Command.{Command as Change}
@@ -10,30 +10,40 @@ use Rattle.tcam_device.specs.declared.Write.{Write}
 use Rattle.tcam_device.specs.State.{State, blank, Shows, state_after}
 use Rattle.tcam_device.specs.Hitless.{ShowsOldOrNew}
 use Rattle.replay.specs.declared.Act.{Act}
-use Rattle.replay.specs.declared.Act.TheVariants.{Command, Probe, Packet, Commit}
+use Rattle.replay.specs.declared.Act.TheVariants.{Command, Probe, Packet, Commit, Trial}
 use Rattle.replay.specs.Script.{Script, script_of}
-use Rattle.replay.specs.Run.{Setting}
+use Rattle.replay.specs.Effects.{Setting}
 use Rattle.tcam_cli.specs.declared.Status.{Status}
 use Rattle.tcam_cli.specs.declared.Status.TheVariants.{Done, Refused, Script as ScriptFault, ReadFault, WriteFault, DeviceFault, Memory, Usage}
-use Rattle.tcam_cli.specs.Headline.{Job, NoJob, Tells, Reads, Makes, acts_of, script_so_far}
+use Rattle.tcam_cli.specs.Headline.{Job, NoJob, Tells, Reads, Makes, acts_of, is_back, script_so_far}
 use Rattle.tcam_cli.specs.MadeScript.{made_script}
 use Rattle.tcam_cli.specs.Readings.{reading}
 
--- the sets that acts lead through, by the rule lists alone: the first, and one more for each accepted commit
-abbrev pub sets_through : Setting → List Rule → List Change → List Act → List (List Rule)
-sets_through setting rules batch [] = rules ∷ []
-sets_through setting rules batch (Command change ∷ acts) = sets_through setting rules (batch ++ change ∷ []) acts
-sets_through setting rules batch (Probe key ∷ acts) = sets_through setting rules batch acts
-sets_through setting rules batch (Packet key ∷ acts) = sets_through setting rules batch acts
-sets_through setting rules batch (Commit ∷ acts) =
+-- The sets that acts lead through, by the rule lists and by which accepted trials are taken back: the first, one more for each
+-- accepted commit, and for a trial that is taken back the new set and then the old one again.
+abbrev pub sets_through : Setting → List Bool → List Rule → List Change → List Act → List (List Rule)
+sets_through setting backs rules batch [] = rules ∷ []
+sets_through setting backs rules batch (Command change ∷ acts) = sets_through setting backs rules (batch ++ change ∷ []) acts
+sets_through setting backs rules batch (Probe key ∷ acts) = sets_through setting backs rules batch acts
+sets_through setting backs rules batch (Packet key ∷ acts) = sets_through setting backs rules batch acts
+sets_through setting backs rules batch (Commit ∷ acts) =
     elim (verdict setting.slots setting.mode rules batch) [
-      | Accepted ↦ rules ∷ sets_through setting (set_after rules batch) [] acts
-      | _ ↦ sets_through setting rules [] acts
+      | Accepted ↦ rules ∷ sets_through setting backs (set_after rules batch) [] acts
+      | _ ↦ sets_through setting backs rules [] acts
+    ]
+sets_through setting backs rules batch (Trial most ∷ acts) =
+    elim (verdict setting.slots setting.mode rules batch) [
+      | Accepted ↦
+          elim (is_back backs) [
+            | true ↦ rules ∷ set_after rules batch ∷ sets_through setting (drop 1 backs) rules [] acts
+            | false ↦ rules ∷ sets_through setting (drop 1 backs) (set_after rules batch) [] acts
+          ]
+      | _ ↦ sets_through setting backs rules [] acts
     ]
 
 -- the sets that a script leads a blank device through: the empty one first
-abbrev pub sets_of : Setting → Script → List (List Rule)
-sets_of setting script = sets_through setting [] [] (acts_of script)
+abbrev pub sets_of : Setting → List Bool → Script → List (List Rule)
+sets_of setting backs script = sets_through setting backs [] [] (acts_of script)
 
 -- every key has the answer of the set at this place, or of the next one, where there is one
 abbrev pub ShowsSetOrNext : State → List (List Rule) → ℕ → Type 0
@@ -58,17 +68,17 @@ pub record EndsAtLast (state : State) (sets : List (List Rule)) (writes : List W
 
 -- These acts are the first of the script, and so are their sets. All of them are carried out, so the writes end at the
 -- last of their sets.
-pub record EndsAfter (state : State) (setting : Setting) (script : Script) (done : List Act) (writes : List Write) : Type 0 where
+pub record EndsAfter (state : State) (setting : Setting) (backs : List Bool) (script : Script) (done : List Act) (writes : List Write) : Type 0 where
   pub later : List Act
   pub acts : acts_of script ≡ done ++ later
   pub behind : List (List Rule)
-  pub sets : sets_of setting script ≡ sets_through setting [] [] done ++ behind
-  pub answers : AnswersAllTheWay state (sets_through setting [] [] done) writes
-  pub ends : EndsAtLast state (sets_through setting [] [] done) writes
+  pub sets : sets_of setting backs script ≡ sets_through setting backs [] [] done ++ behind
+  pub answers : AnswersAllTheWay state (sets_through setting backs [] [] done) writes
+  pub ends : EndsAtLast state (sets_through setting backs [] [] done) writes
 
 -- some first acts of the script are carried out whole: all, none, or any number of them
-abbrev pub EndsAfterSome : State → Setting → Script → List Write → Type 0
-EndsAfterSome state setting script writes = (done : List Act) × EndsAfter state setting script done writes
+abbrev pub EndsAfterSome : State → Setting → List Bool → Script → List Write → Type 0
+EndsAfterSome state setting backs script writes = (done : List Act) × EndsAfter state setting backs script done writes
 
 -- an act that has no line written after a write
 abbrev pub IsNoProbe : Act → Type 0
@@ -76,6 +86,7 @@ IsNoProbe (Command change) = Unit {0}
 IsNoProbe (Probe key) = ⊥
 IsNoProbe (Packet key) = Unit {0}
 IsNoProbe Commit = Unit {0}
+IsNoProbe (Trial most) = Unit {0}
 
 -- no write has a line of its own: no trace is wanted, and the script has no probe
 abbrev pub TellsNoWrite : Setting → Script → Type 0
@@ -86,20 +97,21 @@ TellsNoWrite setting script = (setting.trace ≡ false) × AllByRecursion IsNoPr
 -- want of memory leaves no commit half made, nor does a line that fails where no write has a line of its own. A device
 -- write that fails each time may, and so may the line of a write: the writes then end within a commit, where each key
 -- has the answer of the set before it or of the one after it (`answers` of IsHitlessRun), and nothing more can be said.
-abbrev pub EndsAs : State → Setting → Script → Script → Status → List Write → Type 0
-EndsAs state setting script came Done writes = EndsAtLast state (sets_of setting script) writes
-EndsAs state setting script came Refused writes = EndsAtLast state (sets_of setting script) writes
-EndsAs state setting script came ScriptFault writes = EndsAtLast state (sets_of setting script) writes
-EndsAs state setting script came ReadFault writes = EndsAfter state setting script (acts_of came) writes
-EndsAs state setting script came WriteFault writes = TellsNoWrite setting script → EndsAfterSome state setting script writes
-EndsAs state setting script came DeviceFault writes = Unit {0}
-EndsAs state setting script came Memory writes = EndsAfterSome state setting script writes
-EndsAs state setting script came Usage writes = ⊥
+abbrev pub EndsAs : State → Setting → List Bool → Script → Script → Status → List Write → Type 0
+EndsAs state setting backs script came Done writes = EndsAtLast state (sets_of setting backs script) writes
+EndsAs state setting backs script came Refused writes = EndsAtLast state (sets_of setting backs script) writes
+EndsAs state setting backs script came ScriptFault writes = EndsAtLast state (sets_of setting backs script) writes
+EndsAs state setting backs script came ReadFault writes = EndsAfter state setting backs script (acts_of came) writes
+EndsAs state setting backs script came WriteFault writes = TellsNoWrite setting script → EndsAfterSome state setting backs script writes
+EndsAs state setting backs script came DeviceFault writes = Unit {0}
+EndsAs state setting backs script came Memory writes = EndsAfterSome state setting backs script writes
+EndsAs state setting backs script came Usage writes = ⊥
 
--- what packets see of a run over a script, on a device that was blank
+-- What packets see of a run over a script, on a device that was blank: its trials were taken back, or not, as these say.
 pub record IsHitlessRun (setting : Setting) (device_slots : ℕ) (script came : Script) (status : Status) (journal : List Write) : Type 0 where
-  pub answers : AnswersAllTheWay (blank device_slots) (sets_of setting script) journal
-  pub ends : EndsAs (blank device_slots) setting script came status journal
+  pub backs : List Bool
+  pub answers : AnswersAllTheWay (blank device_slots) (sets_of setting backs script) journal
+  pub ends : EndsAs (blank device_slots) setting backs script came status journal
 
 -- What packets see of a job over a device that was blank, where the source is told; of one that foretells nothing
 -- specs/Given.antt speaks, and made commands need none. A job without a script writes nothing.

@@ -28,7 +28,8 @@ number_given least greatest id rows = number_within least greatest (text_of id r
 -- the words the tests pass, and the two are one
 abbrev pub tested_script : Family → List Row → Job
 tested_script family rows =
-    job_by (number_given 1 4096 (codes "slots") rows) (λ slots. job_at family slots (mode_by family rows) (placed_by rows) (is_traced rows))
+    job_by (number_given 1 4096 (codes "slots") rows) (λ slots.
+    job_by (number_given 0 15 (codes "depth") rows) (λ depth. job_at family slots (mode_by family rows) (placed_by rows) (is_traced rows) depth))
 
 abbrev pub tested_made : List Row → Job
 tested_made rows =
@@ -53,8 +54,8 @@ tested_job (Some (name, rows)) = tested_job_of_rows name rows
 
 -- what an answer says that words ask for
 abbrev pub asked_by : Asked → Job
-asked_by (asked.Script family slots mode placement trace) = Reads (script_setting family slots mode placement trace)
-asked_by (asked.Made slots mode placement seed rules batches) = Makes (script_setting Acl slots mode placement false) seed rules batches
+asked_by (asked.Script family slots mode placement trace depth) = Reads (script_setting family slots mode placement trace depth)
+asked_by (asked.Made slots mode placement seed rules batches) = Makes (script_setting Acl slots mode placement false 0) seed rules batches
 asked_by (asked.Help topic) = Tells (help_on topic)
 asked_by asked.Version = Tells version_text
 
@@ -70,7 +71,7 @@ pub record AreMadeNumbers (slots seed rules batches : ℕ) : Type 0 where
 
 -- the numbers of an answer are in their ranges
 abbrev pub IsWithin : Asked → Type 0
-IsWithin (asked.Script family slots mode placement trace) = (1 ≤ slots) × (slots ≤ 4096)
+IsWithin (asked.Script family slots mode placement trace depth) = (1 ≤ slots) × (slots ≤ 4096) × (depth ≤ 15)
 IsWithin (asked.Made slots mode placement seed rules batches) = AreMadeNumbers slots seed rules batches
 IsWithin (asked.Help topic) = Unit {0}
 IsWithin asked.Version = Unit {0}

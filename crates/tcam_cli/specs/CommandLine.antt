@@ -16,17 +16,17 @@ use Rattle.batch_order.specs.declared.Placement.{Placement}
 use Rattle.batch_order.specs.declared.Placement.TheVariants.{Middle, Rank}
 use Rattle.replay.specs.declared.Family.{Family}
 use Rattle.replay.specs.declared.Family.TheVariants.{Route, Acl, Route6, Acl6}
-use Rattle.replay.specs.Run.{Setting}
+use Rattle.replay.specs.Effects.{Setting}
 use Rattle.tcam_cli.specs.declared.own_texts.Topic.{Topic}
 use Rattle.tcam_cli.specs.declared.own_texts.Topic.TheVariants as about
 use Rattle.tcam_cli.specs.Headline.{Job, NoJob, Tells, Reads, Makes}
 use Rattle.tcam_cli.specs.OwnTexts.{help_on, version_text}
 
 -- a script of a family over so many slots in use, port ranges tested as the mode says, each insertion aiming as the
--- placement says, with a trace or without
-abbrev pub script_setting : Family → ℕ → Mode → Placement → Bool → Setting
-script_setting family slots mode placement trace =
-    record { slots = slots; mode = mode; placement = placement; family = family; trace = trace }
+-- placement says, with a trace or without, and with the words of probes searched after so many further writes
+abbrev pub script_setting : Family → ℕ → Mode → Placement → Bool → ℕ → Setting
+script_setting family slots mode placement trace depth =
+    record { slots = slots; mode = mode; placement = placement; family = family; trace = trace; depth = depth }
 
 -- --slots, a number from 1 to 4096, by default 4096
 unfoldable pub slots_option : Rule
@@ -57,14 +57,25 @@ placement_option = record (new_rule (codes "placement")) {
 unfoldable pub trace_flag : Rule
 trace_flag = record (new_rule (codes "trace")) { long = Some (codes "trace"); action = Some SetTrue }
 
+-- --depth, a number from 0 to 15, by default 0
+unfoldable pub depth_option : Rule
+depth_option = record (new_rule (codes "depth")) {
+  long = Some (codes "depth");
+  action = Some Set;
+  parser = Some (Unsigned 0 15);
+  defaults = codes "0" ∷ [];
+}
+
 -- a subcommand for route scripts, by its name
 unfoldable pub route_command : Text → App
-route_command name = with_rule (with_rule (with_rule (new_app name) slots_option) placement_option) trace_flag
+route_command name =
+    with_rule (with_rule (with_rule (with_rule (new_app name) slots_option) placement_option) trace_flag) depth_option
 
 -- a subcommand for access-list scripts, by its name
 unfoldable pub acl_command : Text → App
 acl_command name =
-    with_rule (with_rule (with_rule (with_rule (new_app name) slots_option) ranges_option) placement_option) trace_flag
+    with_rule (with_rule (with_rule (with_rule (with_rule (new_app name) slots_option) ranges_option) placement_option) trace_flag)
+    depth_option
 
 -- a required number of a range, which stands behind the subcommand in its order
 unfoldable pub number_position : Text → ℕ → ℕ → Rule
@@ -136,20 +147,21 @@ abbrev pub placed_by : List Row → Option Placement
 placed_by rows = placement_in (text_of (codes "placement") rows)
 
 -- a script of a family over so many slots, where the words of --ranges and --placement name a mode and a placement
-abbrev pub job_at : Family → ℕ → Option Mode → Option Placement → Bool → Job
-job_at family slots None placement trace = NoJob
-job_at family slots (Some mode) None trace = NoJob
-job_at family slots (Some mode) (Some placement) trace = Reads (script_setting family slots mode placement trace)
+abbrev pub job_at : Family → ℕ → Option Mode → Option Placement → Bool → ℕ → Job
+job_at family slots None placement trace depth = NoJob
+job_at family slots (Some mode) None trace depth = NoJob
+job_at family slots (Some mode) (Some placement) trace depth = Reads (script_setting family slots mode placement trace depth)
 
 -- the commands of a seed, over so many slots, where these words name them: so many batches of so many rules
 abbrev pub made_at : ℕ → Option Mode → Option Placement → ℕ → ℕ → ℕ → Job
 made_at slots None placement seed rules batches = NoJob
 made_at slots (Some mode) None seed rules batches = NoJob
-made_at slots (Some mode) (Some placement) seed rules batches = Makes (script_setting Acl slots mode placement false) seed rules batches
+made_at slots (Some mode) (Some placement) seed rules batches = Makes (script_setting Acl slots mode placement false 0) seed rules batches
 
 -- a script of a family, by its arguments
 abbrev pub script_by : Family → List Row → Job
-script_by family rows = job_at family (number_of (codes "slots") rows) (mode_by family rows) (placed_by rows) (is_traced rows)
+script_by family rows =
+    job_at family (number_of (codes "slots") rows) (mode_by family rows) (placed_by rows) (is_traced rows) (number_of (codes "depth") rows)
 
 -- what a subcommand and its arguments ask for: a script of its family over so many slots, or made commands
 abbrev pub job_of_rows : Text → List Row → Job

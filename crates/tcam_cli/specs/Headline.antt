@@ -1,7 +1,7 @@
 -- What the top call promises: for every script the commits are accepted or refused as the rule lists alone say; after
 -- every device write each packet gets the old or the new rule set's answer, and after a commit's last write the new
 -- one; a refused commit writes nothing; and an insertion takes at most 1 + 2 m (1 + c) writes.
-use Rattle.std.specs.Prelude.{◌≡◌, ◌≢◌, ℕ, ◌-◌, ◌==◌, true, false, Bool, Option, Some, option_map, IfSome, List, [], ◌∷◌, ◌++◌, length, take, map, ◌⊎◌}
+use Rattle.std.specs.Prelude.{◌≡◌, ◌≢◌, ℕ, ◌-◌, ◌==◌, true, false, Bool, Option, Some, option_map, IfSome, List, [], ◌∷◌, ◌++◌, length, take, drop, map, ◌⊎◌}
 use Rattle.std.specs.Io.KnownBytes.{Appends}
 use Rattle.call_history.specs.Cause.{IsCounted}
 use Rattle.script_lines.specs.Lines.{line_feed, lines_of}
@@ -10,12 +10,15 @@ use Rattle.rule_store.specs.declared.Command.{Command as Change}
 use Rattle.rule_store.specs.Batch.{set_after}
 use Rattle.rule_store.specs.Verdict.{Accepted, verdict}
 use Rattle.tcam_device.specs.declared.Write.{Write}
+use Rattle.tcam_device.specs.declared.Action.{Action}
+use Rattle.tcam_device.specs.declared.Action.TheVariants.{Written}
 use Rattle.batch_order.specs.CarriedOut.{IsTried}
 use Rattle.replay.specs.declared.Act.{Act}
-use Rattle.replay.specs.declared.Act.TheVariants.{Command, Probe, Packet, Commit}
+use Rattle.replay.specs.declared.Act.TheVariants.{Command, Probe, Packet, Commit, Trial}
 use Rattle.replay.specs.Script.{Script, ScriptEnd, Whole, FaultAt, Reading, acts_from, script_of}
 use Rattle.replay.specs.Text.{fault_line, usage_line}
-use Rattle.replay.specs.Run.{Setting, Effect, Writes, Prints, written, printed, Progress, IsCutStep, TakesMemory, Runs, ending}
+use Rattle.replay.specs.Effects.{Setting, Effect, Acts, Prints, events_in, printed}
+use Rattle.replay.specs.Run.{Progress, IsCutStep, TakesMemory, Runs, ending}
 use Rattle.tcam_cli.specs.declared.Status.{Status}
 use Rattle.tcam_cli.specs.declared.Status.TheVariants.{Done, Refused, Script as ScriptFault, ReadFault, WriteFault, DeviceFault, Memory, Usage}
 use Rattle.tcam_cli.specs.Readings.{reading}
@@ -84,7 +87,7 @@ pub record IsCutAtLine (setting : Setting) (device_slots : ℕ) (script : Script
 -- A device write failed, each time it was tried: the effects before it.
 pub record IsCutAtWrite (setting : Setting) (device_slots : ℕ) (script : Script) (effects : List Effect) : Type 0 where
   pub write : Write
-  pub due : IsDue setting device_slots script effects (Writes write)
+  pub due : IsDue setting device_slots script effects (Acts (Written write))
 
 -- Memory was wanting at an act: the effects of those before it.
 pub record IsOutOfMemoryAtAct (setting : Setting) (device_slots : ℕ) (script : Script) (effects : List Effect) : Type 0 where
@@ -141,18 +144,18 @@ IsTold text last status report =
     ⊎ (((status ≡ WriteFault) × ((rest : List ℕ) × (text ≡ report ++ rest)))
     ⊎ ((status ≡ Memory) × (report ≡ [])))
 
--- The journal, and the report where it is told, are those of an outcome.
-pub record MatchesOutcome (setting : Setting) (device_slots : ℕ) (script came : Script) (status : Status) (journal : List Write) (taken_old taken_new : Option (List ℕ)) : Type 0 where
+-- The writes and drains of the device, and the report where it is told, are those of an outcome.
+pub record MatchesOutcome (setting : Setting) (device_slots : ℕ) (script came : Script) (status : Status) (events : List Action) (taken_old taken_new : Option (List ℕ)) : Type 0 where
   pub effects : List Effect
   pub partial : List ℕ
   pub outcome : IsOutcome setting device_slots script came status effects partial
-  pub journal_is : journal ≡ written effects
+  pub events_is : events ≡ events_in effects
   pub report_is : Appends taken_old taken_new (printed effects ++ partial)
 
 -- The same of a script that isn't read: no read of it fails, so that no part of it is all that came.
-abbrev pub MatchesMade : Setting → ℕ → Script → Status → List Write → Option (List ℕ) → Option (List ℕ) → Type 0
-MatchesMade setting device_slots script status journal taken_old taken_new =
-    (status ≢ ReadFault) × MatchesOutcome setting device_slots script script status journal taken_old taken_new
+abbrev pub MatchesMade : Setting → ℕ → Script → Status → List Action → Option (List ℕ) → Option (List ℕ) → Type 0
+MatchesMade setting device_slots script status events taken_old taken_new =
+    (status ≢ ReadFault) × MatchesOutcome setting device_slots script script status events taken_old taken_new
 
 -- what was taken of the source is the beginning of what was left, and all of it at the end of the input
 pub record TakesFrom (status : Status) (old new : List ℕ) : Type 0 where
@@ -161,56 +164,72 @@ pub record TakesFrom (status : Status) (old new : List ℕ) : Type 0 where
   pub all : (status ≡ Done) ⊎ (status ≡ Refused) → new ≡ []
 
 -- A job that touches neither source nor device, and prints one text.
-abbrev pub IsToldAlone : List ℕ → Status → Status → Option (List ℕ) → Option (List ℕ) → Option (List ℕ) → Option (List ℕ) → List Write → Type 0
-IsToldAlone text last status left_old left_new taken_old taken_new journal =
-    (left_new ≡ left_old) × (journal ≡ [])
+abbrev pub IsToldAlone : List ℕ → Status → Status → Option (List ℕ) → Option (List ℕ) → Option (List ℕ) → Option (List ℕ) → List Action → Type 0
+IsToldAlone text last status left_old left_new taken_old taken_new events =
+    (left_new ≡ left_old) × (events ≡ [])
     × IfSome taken_old (λ before. IfSome taken_new (λ after. (report : List ℕ) × (after ≡ before ++ report) × IsTold text last status report))
 
 -- The promise of a job over a device that was blank, each part where what it rests on is told of source and sink. Of a
 -- source that foretells nothing specs/Given.antt speaks. Made commands leave the source as it is.
-abbrev pub IsCarriedOut : Job → ℕ → Status → Option (List ℕ) → Option (List ℕ) → Option (List ℕ) → Option (List ℕ) → List Write → Type 0
-IsCarriedOut NoJob device_slots status left_old left_new taken_old taken_new journal =
-    IsToldAlone usage_line Usage status left_old left_new taken_old taken_new journal
-IsCarriedOut (Tells text) device_slots status left_old left_new taken_old taken_new journal =
-    IsToldAlone text Done status left_old left_new taken_old taken_new journal
-IsCarriedOut (Reads setting) device_slots status left_old left_new taken_old taken_new journal =
+abbrev pub IsCarriedOut : Job → ℕ → Status → Option (List ℕ) → Option (List ℕ) → Option (List ℕ) → Option (List ℕ) → List Action → Type 0
+IsCarriedOut NoJob device_slots status left_old left_new taken_old taken_new events =
+    IsToldAlone usage_line Usage status left_old left_new taken_old taken_new events
+IsCarriedOut (Tells text) device_slots status left_old left_new taken_old taken_new events =
+    IsToldAlone text Done status left_old left_new taken_old taken_new events
+IsCarriedOut (Reads setting) device_slots status left_old left_new taken_old taken_new events =
     IfSome left_old (λ old. IfSome left_new (λ new.
     TakesFrom status old new
     × MatchesOutcome setting device_slots (script_of (reading setting.family) old)
-    (script_so_far (reading setting.family) (take (length old - length new) old)) status journal taken_old taken_new))
-IsCarriedOut (Makes setting seed rules batches) device_slots status left_old left_new taken_old taken_new journal =
-    (left_new ≡ left_old) × MatchesMade setting device_slots (made_script seed rules batches) status journal taken_old taken_new
+    (script_so_far (reading setting.family) (take (length old - length new) old)) status events taken_old taken_new))
+IsCarriedOut (Makes setting seed rules batches) device_slots status left_old left_new taken_old taken_new events =
+    (left_new ≡ left_old) × MatchesMade setting device_slots (made_script seed rules batches) status events taken_old taken_new
 
--- whether a commit of the acts is refused, by the rule lists alone: the set before them and the batch that is pending
-abbrev pub any_refused : Setting → List Rule → List Change → List Act → Bool
-any_refused setting rules batch [] = false
-any_refused setting rules batch (Command change ∷ acts) = any_refused setting rules (batch ++ change ∷ []) acts
-any_refused setting rules batch (Probe key ∷ acts) = any_refused setting rules batch acts
-any_refused setting rules batch (Packet key ∷ acts) = any_refused setting rules batch acts
-any_refused setting rules batch (Commit ∷ acts) =
+-- whether the next trial that is accepted is taken back: each in their order, and none past the last
+abbrev pub is_back : List Bool → Bool
+is_back [] = false
+is_back (back ∷ backs) = back
+
+-- whether a commit of the acts is refused, by the rule lists alone and by which accepted trials are taken back: the set before
+-- the acts and the batch that is pending
+abbrev pub any_refused : Setting → List Bool → List Rule → List Change → List Act → Bool
+any_refused setting backs rules batch [] = false
+any_refused setting backs rules batch (Command change ∷ acts) = any_refused setting backs rules (batch ++ change ∷ []) acts
+any_refused setting backs rules batch (Probe key ∷ acts) = any_refused setting backs rules batch acts
+any_refused setting backs rules batch (Packet key ∷ acts) = any_refused setting backs rules batch acts
+any_refused setting backs rules batch (Commit ∷ acts) =
     elim (verdict setting.slots setting.mode rules batch) [
-      | Accepted ↦ any_refused setting (set_after rules batch) [] acts
+      | Accepted ↦ any_refused setting backs (set_after rules batch) [] acts
+      | _ ↦ true
+    ]
+any_refused setting backs rules batch (Trial most ∷ acts) =
+    elim (verdict setting.slots setting.mode rules batch) [
+      | Accepted ↦
+          elim (is_back backs) [
+            | true ↦ any_refused setting (drop 1 backs) rules [] acts
+            | false ↦ any_refused setting (drop 1 backs) (set_after rules batch) [] acts
+          ]
       | _ ↦ true
     ]
 
--- the status of a script that is carried out to its end, by the rule lists alone
-abbrev pub decided : Setting → Script → Status
-decided setting script =
+-- the status of a script that is carried out to its end, by the rule lists alone and by which trials are taken back
+abbrev pub decided : Setting → List Bool → Script → Status
+decided setting backs script =
     elim script.last [
-      | Whole ↦ elim (any_refused setting [] [] (acts_of script)) [ true ↦ Refused | false ↦ Done ]
+      | Whole ↦ elim (any_refused setting backs [] [] (acts_of script)) [ true ↦ Refused | false ↦ Done ]
       | FaultAt line text ↦ ScriptFault
     ]
 
--- the status that words and script alone decide, where the script is told or made
-abbrev pub decision : Job → Option (List ℕ) → Option Status
-decision NoJob left = Some Usage
-decision (Tells text) left = Some Done
-decision (Reads setting) left = option_map (λ bytes. decided setting (script_of (reading setting.family) bytes)) left
-decision (Makes setting seed rules batches) left = Some (decided setting (made_script seed rules batches))
+-- The status that words and script alone decide, where the script is told or made. Which trials are taken back rests on the
+-- number of their writes; a script without trials has one status, whatever is said of them.
+abbrev pub decision : Job → List Bool → Option (List ℕ) → Option Status
+decision NoJob backs left = Some Usage
+decision (Tells text) backs left = Some Done
+decision (Reads setting) backs left = option_map (λ bytes. decided setting backs (script_of (reading setting.family) bytes)) left
+decision (Makes setting seed rules batches) backs left = Some (decided setting backs (made_script seed rules batches))
 
 -- words and script alone decide this status, where the script is told or made
 abbrev pub IsDecided : Status → Job → Option (List ℕ) → Type 0
-IsDecided status job left = IfSome (decision job left) (λ is. is ≡ status)
+IsDecided status job left = (backs : List Bool) × IfSome (decision job backs left) (λ is. is ≡ status)
 
 -- a job that reads the source
 abbrev pub ReadsSource : Job → Type 0

@@ -34,6 +34,8 @@ help_text = codes "tcam: the table manager of a ternary content-addressable memo
     ++ 10 ∷ codes "                     or rank, its place among all entries, for a table that is"
     ++ 10 ∷ codes "                     loaded in one commit, or a list in its order"
     ++ 10 ∷ codes "    --trace          a line for each device write; gen has no such option"
+    ++ 10 ∷ codes "    --depth K        of scripts, after how many further writes the words of the"
+    ++ 10 ∷ codes "                     probes are searched: 0 to 15, by default 0, at once"
     ++ 10 ∷ 10 ∷ codes "Exit status:"
     ++ 10 ∷ codes "    0     the script was read, or made, to its end and no commit was refused,"
     ++ 10 ∷ codes "          or a text like this one was printed"
@@ -79,6 +81,7 @@ ipv6_named = record {
 -- the commands that all scripts have, as their helps list them
 unfoldable pub script_commands : Named → List ℕ
 script_commands named = codes "    commit                     carries out all changes since the last, or none"
+    ++ 10 ∷ codes "    trial K                    the same, and takes it back after write K of more"
     ++ 10 ∷ codes "    packet SRC DST PROTO SPORT DPORT    looks this packet up"
     ++ 10 ∷ codes "    probe SRC DST PROTO SPORT DPORT     looks it up after each later write"
     ++ 10 ∷ codes "    frame HEX                           looks up an " ++ named.version ++ codes " packet in hexadecimal"
@@ -94,6 +97,9 @@ placement_line = codes "    --placement P    where a new entry aims: middle, the
 unfoldable pub trace_line : List ℕ
 trace_line = codes "    --trace          a line for each device write"
 
+unfoldable pub depth_line : List ℕ
+depth_line = codes "    --depth K        probes are searched K writes later, 0 to 15, by default 0"
+
 -- those of an access list, from a script or made
 unfoldable pub list_options : List ℕ
 list_options = slots_line
@@ -103,7 +109,7 @@ list_options = slots_line
 -- the help of a script of routes, by its subcommand: its commands, their words, options and an example
 unfoldable pub route_help_of : List ℕ → List ℕ → Named → List ℕ
 route_help_of command rules named = codes "tcam " ++ command ++ codes ": carries out a script of " ++ rules ++ codes ", and writes a report."
-    ++ 10 ∷ 10 ∷ codes "    tcam " ++ command ++ codes " [--slots N] [--placement P] [--trace] < FILE"
+    ++ 10 ∷ 10 ∷ codes "    tcam " ++ command ++ codes " [--slots N] [--placement P] [--trace] [--depth K] < FILE"
     ++ 10 ∷ 10 ∷ codes "Commands of a script, one a line:"
     ++ 10 ∷ codes "    route add PREFIX RESULT    a new route: packets to the prefix get RESULT,"
     ++ 10 ∷ codes "                               unless a route of a longer prefix holds"
@@ -119,6 +125,7 @@ route_help_of command rules named = codes "tcam " ++ command ++ codes ": carries
     ++ 10 ∷ slots_line
     ++ 10 ∷ placement_line
     ++ 10 ∷ trace_line
+    ++ 10 ∷ depth_line
     ++ 10 ∷ 10 ∷ codes "Example of a script, whose packet gets the answer " ++ named.prefix ++ codes " 7:"
     ++ 10 ∷ codes "    route add " ++ named.prefix ++ codes " 7"
     ++ 10 ∷ codes "    commit"
@@ -135,7 +142,7 @@ route6_help = route_help_of (codes "route6") (codes "IPv6 routes") ipv6_named
 -- the help of a script of an access list, likewise
 unfoldable pub acl_help_of : List ℕ → List ℕ → Named → List ℕ
 acl_help_of command rules named = codes "tcam " ++ command ++ codes ": carries out a script of " ++ rules ++ codes ", and writes a report."
-    ++ 10 ∷ 10 ∷ codes "    tcam " ++ command ++ codes " [--slots N] [--ranges R] [--placement P] [--trace] < FILE"
+    ++ 10 ∷ 10 ∷ codes "    tcam " ++ command ++ codes " [--slots N] [--ranges R] [--placement P] [--trace] [--depth K] < FILE"
     ++ 10 ∷ 10 ∷ codes "Commands of a script, one a line, with the source's side and ports first:"
     ++ 10 ∷ codes "    acl add SEQ ACTION SIDE SIDE PROTOSPEC PORTSPEC PORTSPEC"
     ++ 10 ∷ codes "                               a new rule: packets that meet its conditions"
@@ -153,6 +160,7 @@ acl_help_of command rules named = codes "tcam " ++ command ++ codes ": carries o
     ++ 10 ∷ 10 ∷ codes "Options, of which tcam --help says more:"
     ++ 10 ∷ list_options
     ++ 10 ∷ trace_line
+    ++ 10 ∷ depth_line
     ++ 10 ∷ 10 ∷ codes "Example of a script, whose packet gets the answer 10 permit:"
     ++ 10 ∷ codes "    acl add 10 permit any " ++ named.prefix ++ codes " tcp any 443"
     ++ 10 ∷ codes "    commit"

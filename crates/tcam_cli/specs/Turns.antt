@@ -7,14 +7,15 @@ use Rattle.script_lines.specs.Lines.{limits, ScriptLines, lines_from, lines_of}
 use Rattle.rule_model.specs.declared.IpVersion.{IpVersion}
 use Rattle.rule_model.specs.declared.IpVersion.TheVariants.{V4, V6}
 use Rattle.rule_model.specs.AddressBlock.{AddressBlock, IsIpv4Block}
-use Rattle.tcam_device.specs.declared.Write.{Write}
+use Rattle.tcam_device.specs.declared.Action.{Action}
 use Rattle.route_reader.specs.declared.RouteCommand.{RouteCommand}
 use Rattle.route_reader.specs.declared.RouteCommand.TheVariants as route
 use Rattle.replay.specs.declared.Act.{Act}
 use Rattle.replay.specs.declared.RunFault.{RunFault}
 use Rattle.replay.specs.declared.RunFault.TheVariants as fault
 use Rattle.replay.specs.Script.{Script, Reading, NumberedAct, Whole, acts_from, script_of}
-use Rattle.replay.specs.Run.{Setting, Effect, written, printed, Progress, Runs}
+use Rattle.replay.specs.Effects.{Setting, Effect, events_in, printed}
+use Rattle.replay.specs.Run.{Progress, Runs}
 use Rattle.replay.specs.Outside.{AppendsPart}
 use Rattle.replay.specs.Carried.{Wants}
 use Rattle.replay.specs.Running.{Running}
@@ -79,20 +80,20 @@ abbrev pub acts_only : List NumberedAct → List Act
 acts_only acts = map (λ numbered. numbered.act) acts
 
 -- the acts so far are carried out, also where no device tells of it
-pub record SoFar (setting : Setting) (slots : ℕ) (bytes : List ℕ) (held : HeldBytes) (left : List ℕ) (progress : Progress) (journal : List Write) (taken_old taken_new : Option (List ℕ)) : Type 0 where
+pub record SoFar (setting : Setting) (slots : ℕ) (bytes : List ℕ) (held : HeldBytes) (left : List ℕ) (progress : Progress) (events : List Action) (taken_old taken_new : Option (List ℕ)) : Type 0 where
   pub acts : List NumberedAct
   pub effects : List Effect
   pub run : Runs setting slots (acts_only acts) effects progress
-  pub journal_is : journal ≡ written effects
+  pub events_is : events ≡ events_in effects
   pub report : Appends taken_old taken_new (printed effects)
   pub read : IsRead held.over (reading setting.family) bytes held left acts (length progress.batch) (length progress.probes)
 
 -- a run over a script ends, with these bytes taken of it
-pub record Ends (setting : Setting) (slots : ℕ) (bytes taken left : List ℕ) (status : Status) (journal : List Write) (taken_old taken_new : Option (List ℕ)) : Type 0 where
+pub record Ends (setting : Setting) (slots : ℕ) (bytes taken left : List ℕ) (status : Status) (events : List Action) (taken_old taken_new : Option (List ℕ)) : Type 0 where
   pub effects : List Effect
   pub partial : List ℕ
   pub outcome : IsOutcome setting slots (script_of (reading setting.family) bytes) (script_so_far (reading setting.family) taken) status effects partial
-  pub journal_is : journal ≡ written effects
+  pub events_is : events ≡ events_in effects
   pub report : Appends taken_old taken_new (printed effects ++ partial)
   pub all : (status ≡ Done) ⊎ (status ≡ Refused) → left ≡ []
 
@@ -116,36 +117,36 @@ pub record IsBetweenLines (held : HeldBytes) (run : Running) : Type 0 where
   pub commits : run.commits ≤ held.before
   pub within : held.before ≤ 16777216
 
--- a journal and a report that a call has added to
-pub record Grows (journal_old journal_new : List Write) (taken_old taken_new : Option (List ℕ)) : Type 0 where
-  pub writes : List Write
-  pub journal : journal_new ≡ journal_old ++ writes
+-- a device and a report that a call has added to
+pub record Grows (events_old events_new : List Action) (taken_old taken_new : Option (List ℕ)) : Type 0 where
+  pub actions : List Action
+  pub events : events_new ≡ events_old ++ actions
   pub bytes : List ℕ
   pub report : Appends taken_old taken_new bytes
 
 -- one turn more: the acts carried out before it, and perhaps one
-pub record GoesOn (setting : Setting) (slots : ℕ) (acts : List NumberedAct) (bytes : List ℕ) (held : HeldBytes) (left : List ℕ) (progress : Progress) (journal : List Write) (taken_old taken_new : Option (List ℕ)) : Type 0 where
-  pub so_far : SoFar setting slots bytes held left progress journal taken_old taken_new
+pub record GoesOn (setting : Setting) (slots : ℕ) (acts : List NumberedAct) (bytes : List ℕ) (held : HeldBytes) (left : List ℕ) (progress : Progress) (events : List Action) (taken_old taken_new : Option (List ℕ)) : Type 0 where
+  pub so_far : SoFar setting slots bytes held left progress events taken_old taken_new
   pub more : List Act
   pub acts_are : acts_only so_far.acts ≡ acts_only acts ++ more
 
 -- memory is wanting at the act after these, and nothing is done for it
-pub record WantsNext (setting : Setting) (acts : List NumberedAct) (bytes : List ℕ) (before : Progress) (journal_old journal_new : List Write) (taken_old taken_new : Option (List ℕ)) : Type 0 where
+pub record WantsNext (setting : Setting) (acts : List NumberedAct) (bytes : List ℕ) (before : Progress) (events_old events_new : List Action) (taken_old taken_new : Option (List ℕ)) : Type 0 where
   pub act : Act
   pub later : List Act
   pub acts_are : acts_of (script_of (reading setting.family) bytes) ≡ acts_only acts ++ act ∷ later
-  pub wants : Wants setting before act journal_old journal_new taken_old taken_new
+  pub wants : Wants setting before act events_old events_new taken_old taken_new
 
 -- what a turn of a run comes to, whatever bytes come after those that were given in it
-pub record TurnsBy (setting : Setting) (slots : ℕ) (old : HeldBytes) (before : Progress) (pieces : List (List ℕ)) (result : Option Status) (new : HeldBytes) (after : Progress) (journal_old journal_new : List Write) (taken_old taken_new : Option (List ℕ)) : Type 0 where
+pub record TurnsBy (setting : Setting) (slots : ℕ) (old : HeldBytes) (before : Progress) (pieces : List (List ℕ)) (result : Option Status) (new : HeldBytes) (after : Progress) (events_old events_new : List Action) (taken_old taken_new : Option (List ℕ)) : Type 0 where
   pub goes : IfNone result ((bytes left now : List ℕ) (start : Option (List ℕ)) → MayGive left pieces now
-      → (so_far : SoFar setting slots bytes old left before journal_old start taken_old) → GoesOn setting slots so_far.acts bytes new now after journal_new start taken_new)
+      → (so_far : SoFar setting slots bytes old left before events_old start taken_old) → GoesOn setting slots so_far.acts bytes new now after events_new start taken_new)
   pub ends : IfSome result (λ status. (bytes taken left now : List ℕ) (start : Option (List ℕ)) → MayGive left pieces now → bytes ≡ taken ++ now
-      → SoFar setting slots bytes old left before journal_old start taken_old → Ends setting slots bytes taken now status journal_new start taken_new)
+      → SoFar setting slots bytes old left before events_old start taken_old → Ends setting slots bytes taken now status events_new start taken_new)
   pub wants : result ≡ Some Memory → (bytes left now : List ℕ) (start : Option (List ℕ)) → MayGive left pieces now
-      → (so_far : SoFar setting slots bytes old left before journal_old start taken_old) → WantsNext setting so_far.acts bytes before journal_old journal_new taken_old taken_new
+      → (so_far : SoFar setting slots bytes old left before events_old start taken_old) → WantsNext setting so_far.acts bytes before events_old events_new taken_old taken_new
   pub ended : HasEnd pieces → IfNone result (new.over ≡ over.Ended)
   pub rests : old.over ≢ over.Going → pieces ≡ []
   pub last : LastAtOpenLine old.before old.pending pieces
   pub grows : (bytes left now : List ℕ) (start : Option (List ℕ)) → MayGive left pieces now
-      → SoFar setting slots bytes old left before journal_old start taken_old → Grows journal_old journal_new taken_old taken_new
+      → SoFar setting slots bytes old left before events_old start taken_old → Grows events_old events_new taken_old taken_new

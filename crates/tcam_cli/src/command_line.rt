@@ -5,7 +5,7 @@ ghost use Rattle.clap.specs.Words.{app_of, rule_of, rows_of, found_of, subcomman
 ghost use Rattle.clap.specs.declared.builder.command.Command.TheViews.{out-Command};
 ghost use Rattle.tcam_cli.specs.CommandLine.{job_of, job_of_fault, mode_by, mode_in, placement_in, topic_in, topic_named};
 ghost use Rattle.tcam_cli.specs.Asked.{IsWithin, asked_by, number_within, tested_job, tested_made, tested_script};
-ghost use Rattle.tcam_cli.specs.CommandLine.{acl_command as acl_app, gen_command as gen_app, number_position, placement_option, ranges_option, route_command as route_app, slots_option, tcam_command as tcam_app, text_of as text_in, trace_flag};
+ghost use Rattle.tcam_cli.specs.CommandLine.{acl_command as acl_app, depth_option, gen_command as gen_app, number_position, placement_option, ranges_option, route_command as route_app, slots_option, tcam_command as tcam_app, text_of as text_in, trace_flag};
 ghost use Rattle.tcam_cli.specs.Headline.{NoJob};
 
 use crate::own_texts::Topic;
@@ -19,13 +19,15 @@ use std::alloc::{AllocError, Global};
 #[derive(Clone, Copy, Debug, PartialEq, Eq)]
 pub enum Asked {
     /// A script of this family from the source, with so many slots in use, 1 to 4,096, where port ranges are tested as
-    /// the mode says and each insertion aims as the placement says, and with a trace or without.
+    /// the mode says and each insertion aims as the placement says, with a trace or without, and with the words of probes
+    /// searched after so many further writes, at most 15.
     Script {
         family: Family,
         slots: u32,
         mode: Mode,
         placement: Placement,
         trace: bool,
+        depth: u32,
     },
     /// Commands of an access list that are made from a seed up to 2,147,483,647, 1 to 64 batches of 1 to 256 rules each,
     /// over so many slots, in this mode and by this placement, and without a trace. No source is read.
@@ -96,6 +98,18 @@ fn trace_arg<'a>(alloc: Global) -> Arg<'a>
         .action(ArgAction::SetTrue)
 }
 
+/// After how many further writes the words of the probes are searched.
+fn depth_arg<'a>(alloc: Global) -> Arg<'a>
+    ensures rule { rule_of result ≡ depth_option }
+    ensures global { result.global ≡ false }
+{
+    Arg::new(alloc, "depth")
+        .long("depth")
+        .action(ArgAction::Set)
+        .value_parser(clap::value_parser!(u64).range(0..16))
+        .default_value("0")
+}
+
 /// A subcommand for route scripts, by its name.
 fn route_command<'a>(alloc: Global, name: &'a str) -> Result<Command<'a>, AllocError>
     ensures app { IfOk result (λ c. app_of c ≡ route_app name.entry.now) }
@@ -105,7 +119,8 @@ fn route_command<'a>(alloc: Global, name: &'a str) -> Result<Command<'a>, AllocE
         Command::new(alloc, name)
             .arg(slots_arg(alloc))?
             .arg(placement_arg(alloc))?
-            .arg(trace_arg(alloc))?,
+            .arg(trace_arg(alloc))?
+            .arg(depth_arg(alloc))?,
     )
 }
 
@@ -119,7 +134,8 @@ fn acl_command<'a>(alloc: Global, name: &'a str) -> Result<Command<'a>, AllocErr
             .arg(slots_arg(alloc))?
             .arg(ranges_arg(alloc))?
             .arg(placement_arg(alloc))?
-            .arg(trace_arg(alloc))?,
+            .arg(trace_arg(alloc))?
+            .arg(depth_arg(alloc))?,
     )
 }
 
@@ -216,6 +232,7 @@ fn job_of_script(family: Family, found: &ArgMatches) -> Option<Asked>
         mode: mode_of(family, found)?,
         placement: placement_of(text_of(found, "placement"))?,
         trace: text_of(found, "trace") == "true",
+        depth: number_of(text_of(found, "depth"), 0, 15)?,
     })
 }
 

@@ -51,6 +51,8 @@ Options:
                      or rank, its place among all entries, for a table that is
                      loaded in one commit, or a list in its order
     --trace          a line for each device write; gen has no such option
+    --depth K        of scripts, after how many further writes the words of the
+                     probes are searched: 0 to 15, by default 0, at once
 
 Exit status:
     0     the script was read, or made, to its end and no commit was refused,
@@ -70,7 +72,7 @@ The manual is docs/SCRIPT.md.
 const ROUTE_HELP: &str = "\
 tcam route: carries out a script of routes, and writes a report.
 
-    tcam route [--slots N] [--placement P] [--trace] < FILE
+    tcam route [--slots N] [--placement P] [--trace] [--depth K] < FILE
 
 Commands of a script, one a line:
     route add PREFIX RESULT    a new route: packets to the prefix get RESULT,
@@ -78,6 +80,7 @@ Commands of a script, one a line:
     route set PREFIX RESULT    the route of this prefix gives RESULT
     route del PREFIX           the route of this prefix goes
     commit                     carries out all changes since the last, or none
+    trial K                    the same, and takes it back after write K of more
     packet SRC DST PROTO SPORT DPORT    looks this packet up
     probe SRC DST PROTO SPORT DPORT     looks it up after each later write
     frame HEX                           looks up an IPv4 packet in hexadecimal
@@ -93,6 +96,7 @@ Options, of which tcam --help says more:
     --slots N        N slots in use, 1 to 4096, by default 4096
     --placement P    where a new entry aims: middle, the default, or rank
     --trace          a line for each device write
+    --depth K        probes are searched K writes later, 0 to 15, by default 0
 
 Example of a script, whose packet gets the answer 10.0.0.0/8 7:
     route add 10.0.0.0/8 7
@@ -106,7 +110,7 @@ The manual is docs/SCRIPT.md.
 const ACL_HELP: &str = "\
 tcam acl: carries out a script of an access list, and writes a report.
 
-    tcam acl [--slots N] [--ranges R] [--placement P] [--trace] < FILE
+    tcam acl [--slots N] [--ranges R] [--placement P] [--trace] [--depth K] < FILE
 
 Commands of a script, one a line, with the source's side and ports first:
     acl add SEQ ACTION SIDE SIDE PROTOSPEC PORTSPEC PORTSPEC
@@ -115,6 +119,7 @@ Commands of a script, one a line, with the source's side and ports first:
     acl set SEQ ACTION         the rule of this number gives ACTION
     acl del SEQ                the rule of this number goes
     commit                     carries out all changes since the last, or none
+    trial K                    the same, and takes it back after write K of more
     packet SRC DST PROTO SPORT DPORT    looks this packet up
     probe SRC DST PROTO SPORT DPORT     looks it up after each later write
     frame HEX                           looks up an IPv4 packet in hexadecimal
@@ -133,6 +138,7 @@ Options, of which tcam --help says more:
     --ranges R       how port ranges are tested: cover, the default, or bits
     --placement P    where a new entry aims: middle, the default, or rank
     --trace          a line for each device write
+    --depth K        probes are searched K writes later, 0 to 15, by default 0
 
 Example of a script, whose packet gets the answer 10 permit:
     acl add 10 permit any 10.0.0.0/8 tcp any 443
@@ -146,7 +152,7 @@ The manual is docs/SCRIPT.md.
 const ROUTE6_HELP: &str = "\
 tcam route6: carries out a script of IPv6 routes, and writes a report.
 
-    tcam route6 [--slots N] [--placement P] [--trace] < FILE
+    tcam route6 [--slots N] [--placement P] [--trace] [--depth K] < FILE
 
 Commands of a script, one a line:
     route add PREFIX RESULT    a new route: packets to the prefix get RESULT,
@@ -154,6 +160,7 @@ Commands of a script, one a line:
     route set PREFIX RESULT    the route of this prefix gives RESULT
     route del PREFIX           the route of this prefix goes
     commit                     carries out all changes since the last, or none
+    trial K                    the same, and takes it back after write K of more
     packet SRC DST PROTO SPORT DPORT    looks this packet up
     probe SRC DST PROTO SPORT DPORT     looks it up after each later write
     frame HEX                           looks up an IPv6 packet in hexadecimal
@@ -169,6 +176,7 @@ Options, of which tcam --help says more:
     --slots N        N slots in use, 1 to 4096, by default 4096
     --placement P    where a new entry aims: middle, the default, or rank
     --trace          a line for each device write
+    --depth K        probes are searched K writes later, 0 to 15, by default 0
 
 Example of a script, whose packet gets the answer 2001:db8::/32 7:
     route add 2001:db8::/32 7
@@ -182,7 +190,7 @@ The manual is docs/SCRIPT.md.
 const ACL6_HELP: &str = "\
 tcam acl6: carries out a script of an IPv6 access list, and writes a report.
 
-    tcam acl6 [--slots N] [--ranges R] [--placement P] [--trace] < FILE
+    tcam acl6 [--slots N] [--ranges R] [--placement P] [--trace] [--depth K] < FILE
 
 Commands of a script, one a line, with the source's side and ports first:
     acl add SEQ ACTION SIDE SIDE PROTOSPEC PORTSPEC PORTSPEC
@@ -191,6 +199,7 @@ Commands of a script, one a line, with the source's side and ports first:
     acl set SEQ ACTION         the rule of this number gives ACTION
     acl del SEQ                the rule of this number goes
     commit                     carries out all changes since the last, or none
+    trial K                    the same, and takes it back after write K of more
     packet SRC DST PROTO SPORT DPORT    looks this packet up
     probe SRC DST PROTO SPORT DPORT     looks it up after each later write
     frame HEX                           looks up an IPv6 packet in hexadecimal
@@ -209,6 +218,7 @@ Options, of which tcam --help says more:
     --ranges R       how port ranges are tested: cover, the default, or bits
     --placement P    where a new entry aims: middle, the default, or rank
     --trace          a line for each device write
+    --depth K        probes are searched K writes later, 0 to 15, by default 0
 
 Example of a script, whose packet gets the answer 10 permit:
     acl add 10 permit any 2001:db8::/32 tcp any 443

@@ -61,16 +61,16 @@ pub fn run<S: Source, K: Sink, D: Device>(
     device: &mut D,
 ) -> Status
     requires slots { 4096 ≤ D.slot_count device.old }
-    requires blank { D.journal device.old ≡ [] }
+    requires blank { D.events device.old ≡ [] }
     requires none_in_flight { D.flight device.old ≡ [] }
     ensures carried_out { IsCarriedOut (job_of (map (λ w. string_bytes w) words.now)) (D.slot_count device.old) result
-        (S.left source.old) (S.left source.new) (K.taken sink.old) (K.taken sink.new) (D.journal device.new) }
+        (S.left source.old) (S.left source.new) (K.taken sink.old) (K.taken sink.new) (D.events device.new) }
     ensures hitless { IsHitlessJob (job_of (map (λ w. string_bytes w) words.now)) (D.slot_count device.old) result
         (S.left source.old) (S.left source.new) (D.journal device.new) }
     ensures given { (which : Bool) → IsPromisedByGiven (job_of (map (λ w. string_bytes w) words.now)) (D.slot_count device.old) result
-        (S.given source.old) (S.given source.new) (counted which (K.taken sink.old) (K.accepted sink.old)) (counted which (K.taken sink.new) (K.accepted sink.new)) (D.journal device.new) }
+        (S.given source.old) (S.given source.new) (counted which (K.taken sink.old) (K.accepted sink.old)) (counted which (K.taken sink.new) (K.accepted sink.new)) (D.events device.new) }
     ensures in_time { ReadsInTime (job_of (map (λ w. string_bytes w) words.now)) (D.slot_count device.old) result
-        (S.given source.old) (S.given source.new) (D.journal device.new) (K.accepted sink.old) (K.accepted sink.new) }
+        (S.given source.old) (S.given source.new) (D.events device.new) (K.accepted sink.old) (K.accepted sink.new) }
     ensures told { (IsSome (S.left source.old) → IsSome (S.left source.new)) × (IsSome (K.taken sink.old) → IsSome (K.taken sink.new)) }
     ensures slot_count { D.slot_count device.new ≡ D.slot_count device.old }
     ensures causes { HasCauses (job_of (map (λ w. string_bytes w) words.now)) (S.left source.old) result (length (D.journal device.new))
@@ -85,8 +85,9 @@ pub fn run<S: Source, K: Sink, D: Device>(
                 mode,
                 placement,
                 trace,
+                depth,
             },
-        ) => match Run::new(alloc, slots, mode, placement, family, trace) {
+        ) => match Run::new(alloc, slots, mode, placement, family, trace, depth) {
             Ok(mut run) => run_script(&mut run, source, sink, device),
             Err(_) => Status::Memory,
         },
@@ -99,7 +100,7 @@ pub fn run<S: Source, K: Sink, D: Device>(
                 rules,
                 batches,
             },
-        ) => match Run::new(alloc, slots, mode, placement, Family::Acl, false) {
+        ) => match Run::new(alloc, slots, mode, placement, Family::Acl, false, 0) {
             Ok(mut run) => run_made(&mut run, seed, rules, batches, sink, device),
             Err(_) => Status::Memory,
         },
@@ -121,14 +122,14 @@ fn run_script<S: Source, K: Sink, D: Device>(
     requires idle { run.old.manager.held ≡ None }
     requires whole { run.old.broken ≡ false }
     requires begun { progress_of (D.slot_count device.old) run.old ≡ start (D.slot_count device.old) }
-    requires blank { D.journal device.old ≡ [] }
+    requires blank { D.events device.old ≡ [] }
     requires none_in_flight { D.flight device.old ≡ [] }
     ensures carried_out { IsCarriedOut (Reads (setting_of run.old)) (D.slot_count device.old) result
-        (S.left source.old) (S.left source.new) (K.taken sink.old) (K.taken sink.new) (D.journal device.new) }
+        (S.left source.old) (S.left source.new) (K.taken sink.old) (K.taken sink.new) (D.events device.new) }
     ensures given { (which : Bool) → IsPromisedByGiven (Reads (setting_of run.old)) (D.slot_count device.old) result
-        (S.given source.old) (S.given source.new) (counted which (K.taken sink.old) (K.accepted sink.old)) (counted which (K.taken sink.new) (K.accepted sink.new)) (D.journal device.new) }
+        (S.given source.old) (S.given source.new) (counted which (K.taken sink.old) (K.accepted sink.old)) (counted which (K.taken sink.new) (K.accepted sink.new)) (D.events device.new) }
     ensures in_time { ReadsInTime (Reads (setting_of run.old)) (D.slot_count device.old) result
-        (S.given source.old) (S.given source.new) (D.journal device.new) (K.accepted sink.old) (K.accepted sink.new) }
+        (S.given source.old) (S.given source.new) (D.events device.new) (K.accepted sink.old) (K.accepted sink.new) }
     ensures told { (IsSome (S.left source.old) → IsSome (S.left source.new)) × (IsSome (K.taken sink.old) → IsSome (K.taken sink.new)) }
     ensures slot_count { D.slot_count device.new ≡ D.slot_count device.old }
     ensures causes { HasCauses (Reads (setting_of run.old)) (S.left source.old) result (length (D.journal device.new))
@@ -160,10 +161,10 @@ fn turn<S: Source, K: Sink, D: Device>(
     ensures setting { setting_of run.new ≡ setting_of run.old }
     ensures gives { (pieces : List (List ℕ)) × GivesPieces (S.given source.old) (S.given source.new) (S.left source.old) (S.left source.new) pieces
         × ((which : Bool) → TurnsBy (setting_of run.old) (D.slot_count device.old) lines.old (progress_of (D.slot_count device.old) run.old) pieces result
-        lines.new (progress_of (D.slot_count device.old) run.new) (D.journal device.old) (D.journal device.new) (counted which (K.taken sink.old) (K.accepted sink.old)) (counted which (K.taken sink.new) (K.accepted sink.new))) }
+        lines.new (progress_of (D.slot_count device.old) run.new) (D.events device.old) (D.events device.new) (counted which (K.taken sink.old) (K.accepted sink.old)) (counted which (K.taken sink.new) (K.accepted sink.new))) }
     ensures rests { lines.old.over ≢ Going → (S.left source.new ≡ S.left source.old) × (lines.new ≡ lines.old) }
     ensures no_usage { result ≢ Some Status.Usage }
-    ensures none_in_flight { D.flight device.new ≡ [] }
+    ensures none_in_flight { IfNone result (D.flight device.new ≡ []) }
     ensures read { IsCounted (result ≡ Some Status.ReadFault) (S.faults source.old) (S.faults source.new) }
     ensures leaves { Leaves K.taken K.faults sink.old sink.new D.slot_count D.journal D.faults device.old device.new (result ≡ Some Status.WriteFault) (result ≡ Some Status.DeviceFault) }
 {
@@ -208,10 +209,10 @@ fn run_made<K: Sink, D: Device>(
     requires idle { run.old.manager.held ≡ None }
     requires whole { run.old.broken ≡ false }
     requires begun { progress_of (D.slot_count device.old) run.old ≡ start (D.slot_count device.old) }
-    requires blank { D.journal device.old ≡ [] }
+    requires blank { D.events device.old ≡ [] }
     requires none_in_flight { D.flight device.old ≡ [] }
     ensures carried_out { (which : Bool) → (left : Option (List ℕ)) → IsCarriedOut (Makes (setting_of run.old) seed rules batches) (D.slot_count device.old) result
-        left left (counted which (K.taken sink.old) (K.accepted sink.old)) (counted which (K.taken sink.new) (K.accepted sink.new)) (D.journal device.new) }
+        left left (counted which (K.taken sink.old) (K.accepted sink.old)) (counted which (K.taken sink.new) (K.accepted sink.new)) (D.events device.new) }
     ensures leaves { Leaves K.taken K.faults sink.old sink.new D.slot_count D.journal D.faults device.old device.new (result ≡ Status.WriteFault) (result ≡ Status.DeviceFault) }
 {
     let mut maker = Maker::new(seed, rules, batches);
@@ -366,6 +367,7 @@ fn common_act(command: &CommonCommand) -> Act
         CommonCommand::Probe(key) => Act::Probe(*key),
         CommonCommand::Packet(key) => Act::Packet(*key),
         CommonCommand::Commit => Act::Commit,
+        CommonCommand::Trial(most) => Act::Trial(*most),
     }
 }
 

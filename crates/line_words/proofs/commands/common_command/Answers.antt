@@ -1,7 +1,7 @@
 use Rattle.std.proofs.Common.{rules, arith}
 use Rattle.std.proofs.lemmas.Slice.Eq.{text_from_reads}
 use Rattle.std.specs.Prelude.{codes}
-use Rattle.line_words.specs.declared.commands.CommonCommand.TheVariants.{Probe, Packet}
+use Rattle.line_words.specs.declared.commands.CommonCommand.TheVariants.{Probe, Packet, Trial}
 use Rattle.line_words.proofs.Mapped.{mapped}
 use Rattle.line_words.proofs.commands.common_command.Goals as goal
 
@@ -14,6 +14,11 @@ pub returns-in-packet : goal.returns-in-packet
 returns-in-packet c =
     let word = text_from_reads c.args.first.now (codes "packet") (omega arith) (search rules) in
     rw (word, ← c.key_of-in-packet.ensures) (mapped c.key_of-in-packet.result Packet c.map-in-packet.result c.map-in-packet.ensures.cases)
+
+pub returns-in-trial : goal.returns-in-trial
+returns-in-trial c =
+    let word = text_from_reads c.args.first.now (codes "trial") (omega arith) (search rules) in
+    rw (word, ← c.trial_of.ensures) (mapped c.trial_of.result Trial c.map-in-trial.result c.map-in-trial.ensures.cases)
 
 pub returns-in-commit : goal.returns-in-commit
 returns-in-commit c =

@@ -1,7 +1,7 @@
 use Rattle.std.proofs.Common.{◌≤◌, length, lit≤}
 use Rattle.packet_keys.specs.declared.FrameFault.TheVariants.{Empty, Version, HeaderLength, Short}
 use Rattle.line_words.specs.declared.WordFault.{WordFault}
-use Rattle.line_words.specs.declared.WordFault.TheVariants.{UnknownCommand, WordCount, BadPrefix, HostBits, BadResult, BadSequence, BadAction, BadProtocol, BadPorts, BadAddress, BadHex, Frame}
+use Rattle.line_words.specs.declared.WordFault.TheVariants.{UnknownCommand, WordCount, BadPrefix, HostBits, BadResult, BadSequence, BadCount, BadAction, BadProtocol, BadPorts, BadAddress, BadHex, Frame}
 use Rattle.line_words.specs.Texts.{word_fault_text}
 use Rattle.tcam_cli.proofs.top.fault_text.Goals as goal
 
@@ -13,6 +13,7 @@ short BadPrefix = lit≤ tt
 short HostBits = lit≤ tt
 short BadResult = lit≤ tt
 short BadSequence = lit≤ tt
+short BadCount = lit≤ tt
 short BadAction = lit≤ tt
 short BadProtocol = lit≤ tt
 short BadPorts = lit≤ tt

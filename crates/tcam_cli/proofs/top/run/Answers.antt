@@ -7,6 +7,7 @@ use Rattle.replay.specs.declared.Family.TheVariants.{Acl}
 use Rattle.tcam_cli.specs.Headline.{Makes, Reads, Tells}
 use Rattle.tcam_cli.proofs.Begun.{begins}
 use Rattle.replay.proofs.Leaving.{uncounted}
+use Rattle.tcam_device.specs.Flight.{writes_in}
 use Rattle.tcam_cli.proofs.FaultCounts.{made-tried}
 use Rattle.tcam_cli.proofs.MadeRuns.{made-ends}
 use Rattle.tcam_cli.proofs.TopCall.{memory-carried, told-alone}
@@ -20,7 +21,7 @@ run_script-requires-clause-begun g c =
     let slots = g.D.Writable.slot_count c.args.device.now in
     let range = rw c.in-Ok-Script.field-0-is at c.in-Ok-Script.ensures.within in
     let within : c.in-Ok-Script.slots ≤ slots = omega (arith, range.1) in
-    ap (progress_of slots) c.in-Ok.ensures ∙ begins c.in-Ok-Script.mode c.in-Ok-Script.placement c.in-Ok-Script.family c.in-Ok-Script.slots slots c.in-Ok-Script.trace within
+    ap (progress_of slots) c.in-Ok.ensures ∙ begins c.in-Ok-Script.mode c.in-Ok-Script.placement c.in-Ok-Script.family c.in-Ok-Script.slots slots c.in-Ok-Script.trace c.in-Ok-Script.depth within
 
 pub returns-in-Ok-clause-carried_out : goal.returns-in-Ok-clause-carried_out
 returns-in-Ok-clause-carried_out g c =
@@ -31,7 +32,9 @@ pub returns-in-Ok-clause-hitless : goal.returns-in-Ok-clause-hitless
 returns-in-Ok-clause-hitless g c =
     let asked = rw c.in-Ok-Script.field-0-is at c.in-Ok-Script.ensures.asked in
     let carried = c.run_script.ensures.carried_out in
-    rw (asked ∙ ap (λ (run : Running). Reads (setting_of run)) (sym c.in-Ok.ensures)) (search hitless-job)
+    rw (asked ∙ ap (λ (run : Running). Reads (setting_of run)) (sym c.in-Ok.ensures), g.met.D.Writable.agrees c.run_script.new.device)
+    (hitless-job (Reads (setting_of c.in-Ok.run')) (g.D.Writable.slot_count c.args.device.now) c.run_script.result (g.S.Source.left c.args.source.now) (g.S.Source.left c.run_script.new.source)
+    (g.K.Sink.taken c.args.sink.now) (g.K.Sink.taken c.run_script.new.sink) (g.D.Writable.events c.run_script.new.device) carried)
 
 pub returns-in-Ok-clause-given : goal.returns-in-Ok-clause-given
 returns-in-Ok-clause-given g c = λ which.
@@ -52,7 +55,8 @@ pub returns-in-Err-clause-carried_out : goal.returns-in-Err-clause-carried_out
 returns-in-Err-clause-carried_out g c = memory-carried _ _ _ _ _ c.requires.blank
 
 pub returns-in-Err-clause-hitless : goal.returns-in-Err-clause-hitless
-returns-in-Err-clause-hitless g c = hitless-job _ _ _ _ _ _ _ _ (memory-carried _ _ _ (g.K.Sink.taken c.args.sink.now) _ c.requires.blank)
+returns-in-Err-clause-hitless g c =
+    rw (g.met.D.Writable.agrees c.args.device.now) (hitless-job _ _ _ _ _ _ _ _ (memory-carried _ _ _ (g.K.Sink.taken c.args.sink.now) _ c.requires.blank))
 
 pub returns-in-Err-clause-given : goal.returns-in-Err-clause-given
 returns-in-Err-clause-given g c = λ which. promised-none _ _ _ _ _ _ _ (λ left. memory-carried _ _ left _ _ c.requires.blank) (λ left. tt)
@@ -80,7 +84,8 @@ pub returns-in-Err-Memory-clause-carried_out : goal.returns-in-Err-Memory-clause
 returns-in-Err-Memory-clause-carried_out g c = memory-carried _ _ _ _ _ c.requires.blank
 
 pub returns-in-Err-Memory-clause-hitless : goal.returns-in-Err-Memory-clause-hitless
-returns-in-Err-Memory-clause-hitless g c = hitless-job _ _ _ _ _ _ _ _ (memory-carried _ _ _ (g.K.Sink.taken c.args.sink.now) _ c.requires.blank)
+returns-in-Err-Memory-clause-hitless g c =
+    rw (g.met.D.Writable.agrees c.args.device.now) (hitless-job _ _ _ _ _ _ _ _ (memory-carried _ _ _ (g.K.Sink.taken c.args.sink.now) _ c.requires.blank))
 
 pub returns-in-Ok-Help-clause-given : goal.returns-in-Ok-Help-clause-given
 returns-in-Ok-Help-clause-given g c = λ which.
@@ -127,7 +132,7 @@ run_made-requires-clause-begun g c =
     let most = numbers.most_slots in
     let device = c.requires.slots in
     let within : c.in-Ok-Made.slots ≤ slots = omega (arith, most, device) in
-    ap (progress_of slots) c.in-Ok-new.ensures ∙ begins c.in-Ok-Made.mode c.in-Ok-Made.placement Acl c.in-Ok-Made.slots slots false within
+    ap (progress_of slots) c.in-Ok-new.ensures ∙ begins c.in-Ok-Made.mode c.in-Ok-Made.placement Acl c.in-Ok-Made.slots slots false 0 within
 
 pub returns-in-Ok-new-clause-carried_out : goal.returns-in-Ok-new-clause-carried_out
 returns-in-Ok-new-clause-carried_out g c =
@@ -138,9 +143,9 @@ returns-in-Ok-new-clause-carried_out g c =
 pub returns-in-Ok-new-clause-hitless : goal.returns-in-Ok-new-clause-hitless
 returns-in-Ok-new-clause-hitless g c =
     let asked = rw c.in-Ok-Made.field-0-is at c.in-Ok-Made.ensures.asked in
-    rw (asked ∙ ap (λ (run : Running). Makes (setting_of run) c.in-Ok-Made.seed c.in-Ok-Made.rules c.in-Ok-Made.batches) (sym c.in-Ok-new.ensures))
+    rw (asked ∙ ap (λ (run : Running). Makes (setting_of run) c.in-Ok-Made.seed c.in-Ok-Made.rules c.in-Ok-Made.batches) (sym c.in-Ok-new.ensures), g.met.D.Writable.agrees c.run_made.new.device)
     (hitless-job (Makes (setting_of c.in-Ok-new.run') c.in-Ok-Made.seed c.in-Ok-Made.rules c.in-Ok-Made.batches) (g.D.Writable.slot_count c.args.device.now) c.run_made.result
-    (g.S.Source.left c.args.source.now) (g.S.Source.left c.args.source.now) (g.K.Sink.taken c.args.sink.now) (g.K.Sink.taken c.run_made.new.sink) (g.D.Writable.journal c.run_made.new.device)
+    (g.S.Source.left c.args.source.now) (g.S.Source.left c.args.source.now) (g.K.Sink.taken c.args.sink.now) (g.K.Sink.taken c.run_made.new.sink) (g.D.Writable.events c.run_made.new.device)
     (c.run_made.ensures.carried_out true (g.S.Source.left c.args.source.now)))
 
 pub returns-in-Ok-new-clause-given : goal.returns-in-Ok-new-clause-given
@@ -156,12 +161,13 @@ returns-in-Ok-new-clause-causes g c =
     rw (asked ∙ ap (λ (run : Running). Makes (setting_of run) c.in-Ok-Made.seed c.in-Ok-Made.rules c.in-Ok-Made.batches) (sym c.in-Ok-new.ensures)) (record {
       read = uncounted _ (g.S.Source.faults c.args.source.now) (g.S.Source.faults c.args.source.now) carried.1.0 refl;
       write = c.run_made.ensures.leaves.sink_cause;
-      device = made-tried _ _ _ _ _ _ _ _ _ _ _ c.requires.blank c.run_made.ensures.leaves;
+      device = made-tried _ _ _ _ _ _ _ _ _ _ _ (g.met.D.Writable.agrees c.args.device.now ∙ ap writes_in c.requires.blank) c.run_made.ensures.leaves;
       ends = made-ends _ _ _ _ _ _ (g.S.Source.left c.args.source.now) _ _ _ carried;
     })
 
 pub returns-in-Err-new-clause-hitless : goal.returns-in-Err-new-clause-hitless
-returns-in-Err-new-clause-hitless g c = hitless-job _ _ _ _ _ _ _ _ (memory-carried _ _ _ (g.K.Sink.taken c.args.sink.now) _ c.requires.blank)
+returns-in-Err-new-clause-hitless g c =
+    rw (g.met.D.Writable.agrees c.args.device.now) (hitless-job _ _ _ _ _ _ _ _ (memory-carried _ _ _ (g.K.Sink.taken c.args.sink.now) _ c.requires.blank))
 
 pub returns-in-Err-new-clause-given : goal.returns-in-Err-new-clause-given
 returns-in-Err-new-clause-given g c = λ which. promised-none _ _ _ _ _ _ _ (λ left. memory-carried _ _ left _ _ c.requires.blank) (λ left. tt)

@@ -4,7 +4,8 @@ use Rattle.rule_gen.specs.Batches.{AreBatches}
 use Rattle.rule_gen.specs.Made.{made_commands}
 use Rattle.rule_gen.specs.declared.Made.{Made}
 use Rattle.replay.specs.declared.Family.{Family}
-use Rattle.replay.specs.Run.{Progress, Setting}
+use Rattle.replay.specs.Effects.{Setting}
+use Rattle.replay.specs.Run.{Progress}
 use Rattle.replay.specs.Running.{IsActOf, progress_of, setting_of}
 use Rattle.replay.specs.Carried.{Carries}
 use Rattle.replay.proofs.Leaving.{leaves-line, leaves-then, uncounted}
@@ -42,7 +43,7 @@ apply-requires g c =
     let few = i.commits in
     record {
       slots = omega (arith, slots, count, within);
-      none_in_flight = i.none_in_flight;
+      none_in_flight = λ _. i.none_in_flight;
       act = subst (λ (family : Family). IsActOf family c.act_of_made.result) (sym family) c.act_of_made.ensures.list;
       whole = i.whole;
       commits = omega (arith, few);
@@ -67,10 +68,10 @@ acts-preserved g c =
     let few = i.commits in
     let more = a.commits in
     let here : (which : Bool) → MadeSoFar (setting_of c.acts.run) (g.D.Writable.slot_count c.acts.device) (made_commands c.args.seed c.args.rules c.args.batches) (c.in-Some.made ∷ c.next.new.self)
-    (progress_of (g.D.Writable.slot_count c.acts.device) c.acts.run) (g.D.Writable.journal c.acts.device) (counted which (g.K.Sink.taken c.args.sink.now) (g.K.Sink.accepted c.args.sink.now))
+    (progress_of (g.D.Writable.slot_count c.acts.device) c.acts.run) (g.D.Writable.events c.acts.device) (counted which (g.K.Sink.taken c.args.sink.now) (g.K.Sink.accepted c.args.sink.now))
     (counted which (g.K.Sink.taken c.acts.sink) (g.K.Sink.accepted c.acts.sink)) = λ which. rw (i.setting, i.leaves.slot_count, ← next) (i.made which) in
     let carried : (which : Bool) → Carries (setting_of c.acts.run) (progress_of (g.D.Writable.slot_count c.acts.device) c.acts.run) (made_act c.in-Some.made) (progress_of (g.D.Writable.slot_count c.acts.device) c.apply.new.self)
-    (g.D.Writable.journal c.acts.device) (g.D.Writable.journal c.apply.new.device) (counted which (g.K.Sink.taken c.acts.sink) (g.K.Sink.accepted c.acts.sink)) (counted which (g.K.Sink.taken c.apply.new.sink) (g.K.Sink.accepted c.apply.new.sink)) =
+    (g.D.Writable.events c.acts.device) (g.D.Writable.events c.apply.new.device) (counted which (g.K.Sink.taken c.acts.sink) (g.K.Sink.accepted c.acts.sink)) (counted which (g.K.Sink.taken c.apply.new.sink) (g.K.Sink.accepted c.apply.new.sink)) =
     λ which. rw (← c.act_of_made.ensures.act) (a.acts which (made-at _ _ _ _ _ _ _ _ (here which))) in
     let are = subst (λ (maker : List Made). AreBatches (2 * c.args.rules) (length c.acts.run.pending) maker) next i.room in
     record {
@@ -80,7 +81,7 @@ acts-preserved g c =
       commits = omega (arith, one, few, more);
       room = subst (λ come. AreBatches (2 * c.args.rules) come c.next.new.self) (sym (step-pending (setting_of c.acts.run) (progress_of (g.D.Writable.slot_count c.acts.device) c.acts.run) (made_act c.in-Some.made) (carried true).effects (progress_of (g.D.Writable.slot_count c.acts.device) c.apply.new.self) (carried true).step)) (made-pending (2 * c.args.rules) c.in-Some.made c.next.new.self (length c.acts.run.pending) are);
       made = λ which. rw (← i.setting, ← i.leaves.slot_count) (made-more _ _ _ _ c.in-Some.made _ _ _ _ _ _ _ (here which) (carried which));
-      none_in_flight = a.none_in_flight;
+      none_in_flight = a.in_flight;
       leaves = leaves-then _ _ _ _ _ _ _ _ _ _ _ ⊥ ⊥ ⊥ ⊥ (λ e. e) (λ e. e) i.leaves (leaves-none _ _ _ _ _ _ _ _ _ _ _ a.leaves (λ e. cc) (λ e. cc));
     }
 
@@ -89,7 +90,7 @@ returns-in_default-clause-carried_out g c = λ which source.
     let i = c.acts.invariant in
     let slots = g.D.Writable.slot_count c.args.device.now in
     let last = progress_of slots c.acts.run in
-    made-ended (setting_of c.args.run.now) (setting_of c.acts.run) slots c.args.seed c.args.rules c.args.batches c.acts.maker last (g.D.Writable.journal c.acts.device) _ _ _ c.finish.result (i.made which) (c.in_default.ensures.end.0 refl)
+    made-ended (setting_of c.args.run.now) (setting_of c.acts.run) slots c.args.seed c.args.rules c.args.batches c.acts.maker last (g.D.Writable.events c.acts.device) _ _ _ c.finish.result (i.made which) (c.in_default.ensures.end.0 refl)
     c.finish.ensures.kind.1 i.setting ((c.finish.ensures.closes slots).closes which) source
 
 pub returns-in_default-clause-leaves : goal.returns-in_default-clause-leaves
@@ -105,9 +106,9 @@ returns-in-Err-clause-carried_out g c = λ which source.
     let next = c.in-Some.ensures.next in
     let none = made-fits (2 * c.args.rules) _ _ c.in-Some.made _ _ _ (Err why) next c.act_of_made.ensures.act i.room (omega (arith, most)) (c.in-Err.ensures.limit c.acts.invariant.idle) in
     let slots = g.D.Writable.slot_count c.acts.device in
-    let here : MadeSoFar (setting_of c.acts.run) slots (made_commands c.args.seed c.args.rules c.args.batches) (c.in-Some.made ∷ c.next.new.self) (progress_of slots c.acts.run) (g.D.Writable.journal c.acts.device)
+    let here : MadeSoFar (setting_of c.acts.run) slots (made_commands c.args.seed c.args.rules c.args.batches) (c.in-Some.made ∷ c.next.new.self) (progress_of slots c.acts.run) (g.D.Writable.events c.acts.device)
     (counted which (g.K.Sink.taken c.args.sink.now) (g.K.Sink.accepted c.args.sink.now)) (counted which (g.K.Sink.taken c.acts.sink) (g.K.Sink.accepted c.acts.sink)) = rw (i.setting, i.leaves.slot_count, ← next) (i.made which) in
-    let is : Stops slots (setting_of c.acts.run) (progress_of slots c.acts.run) (made_act c.in-Some.made) why (g.D.Writable.journal c.acts.device) (g.D.Writable.journal c.apply.new.device)
+    let is : Stops slots (setting_of c.acts.run) (progress_of slots c.acts.run) (made_act c.in-Some.made) why (g.D.Writable.events c.acts.device) (g.D.Writable.events c.apply.new.device)
     (counted which (g.K.Sink.taken c.acts.sink) (g.K.Sink.accepted c.acts.sink)) (counted which (g.K.Sink.taken c.apply.new.sink) (g.K.Sink.accepted c.apply.new.sink)) =
     rw (← c.act_of_made.ensures.act) (stops _ _ _ _ why _ _ _ _ (c.in-Err.ensures.acts which)) in
     rw (c.status_of_fault.ensures.status, ← i.setting, ← i.leaves.slot_count)

@@ -9,6 +9,7 @@ use Rattle.replay.specs.Running.{progress_of, setting_of}
 use Rattle.replay.specs.Outside.{Leaves}
 use Rattle.replay.proofs.Leaving.{leaves-line, leaves-then, uncounted}
 use Rattle.tcam_cli.specs.declared.Status.TheVariants.{WriteFault, DeviceFault}
+use Rattle.tcam_device.specs.Flight.{writes_in}
 use Rattle.tcam_cli.proofs.FaultCounts.{leaves-none, made-tried, status-leaves}
 use Rattle.tcam_cli.proofs.WholeRun.{starts, told-source, counted-last, carried, may-end}
 use Rattle.tcam_cli.proofs.top.run_script.Goals as goal
@@ -47,7 +48,7 @@ acts-preserved g c =
             let stays : HasEnd i.gives.0 → t.gives.0 ≡ [] = λ e. turn.rests (no-more _ (i.gives.2 e)) in
             let may = may-all (i.gives.0 ++ t.gives.0) in
             let s = i.gives.3 false _ (concat t.gives.0 ++ []) (may-first _ [] i.gives.0 t.gives.0 may stays) in
-            turn-in-time (setting_of c.args.run.now) (g.D.Writable.slot_count c.args.device.now) i.gives.0 t.gives.0 c.acts.lines (progress_of (g.D.Writable.slot_count c.args.device.now) c.acts.run) (g.D.Writable.journal c.acts.device) _ _ _ _ (λ left now may. (i.gives.3 false left now may).so_far) stays turn.rests turn.last
+            turn-in-time (setting_of c.args.run.now) (g.D.Writable.slot_count c.args.device.now) i.gives.0 t.gives.0 c.acts.lines (progress_of (g.D.Writable.slot_count c.args.device.now) c.acts.run) (g.D.Writable.events c.acts.device) _ _ _ _ (λ left now may. (i.gives.3 false left now may).so_far) stays turn.rests turn.last
             (turn.grows (concat (i.gives.0 ++ t.gives.0)) (concat t.gives.0 ++ []) [] (Some (g.K.Sink.accepted c.args.sink.now)) (may-second _ [] i.gives.0 t.gives.0 may) (rw (i.setting, i.leaves.slot_count) s.so_far)) i.gives.4,
       );
       none_in_flight = t.none_in_flight;
@@ -61,7 +62,7 @@ returns-in-Some-clause-carried_out g c =
     let t = c.in-Some.ensures in
     let stays : HasEnd i.gives.0 → t.gives.0 ≡ [] = λ e. (t.gives.2 true).rests (no-more _ (i.gives.2 e)) in
     let all = gives-trans _ _ _ _ _ _ i.gives.0 t.gives.0 i.gives.1 t.gives.1 stays (λ e. (t.rests (no-more _ (i.gives.2 e))).0) in
-    carried (setting_of c.args.run.now) (g.D.Writable.slot_count c.args.device.now) c.in-Some.status (g.S.Source.left c.args.source.now) (g.S.Source.left c.turn.new.source) (g.D.Writable.journal c.turn.new.device) (g.K.Sink.taken c.args.sink.now) (g.K.Sink.taken c.turn.new.sink)
+    carried (setting_of c.args.run.now) (g.D.Writable.slot_count c.args.device.now) c.in-Some.status (g.S.Source.left c.args.source.now) (g.S.Source.left c.turn.new.source) (g.D.Writable.events c.turn.new.device) (g.K.Sink.taken c.args.sink.now) (g.K.Sink.taken c.turn.new.sink)
     (concat (i.gives.0 ++ t.gives.0), all.taken) (ends-told _ _ c.in-Some.status _ _ _ _ (i.gives.0 ++ t.gives.0) _ _ _ all (λ left taken now may parts.
     let s = i.gives.3 true left (concat t.gives.0 ++ now) (may-first left now i.gives.0 t.gives.0 may stays) in
     rw (← i.setting, ← i.leaves.slot_count) ((t.gives.2 true).ends left taken (concat t.gives.0 ++ now) now _ (may-second left now i.gives.0 t.gives.0 may) parts (rw (i.setting, i.leaves.slot_count) s.so_far))))
@@ -73,7 +74,7 @@ returns-in-Some-clause-given g c = λ which.
     let stays : HasEnd i.gives.0 → t.gives.0 ≡ [] = λ e. (t.gives.2 true).rests (no-more _ (i.gives.2 e)) in
     let all = gives-trans _ _ _ _ _ _ i.gives.0 t.gives.0 i.gives.1 t.gives.1 stays (λ e. (t.rests (no-more _ (i.gives.2 e))).0) in
     promised (setting_of c.args.run.now) (g.D.Writable.slot_count c.args.device.now) c.in-Some.status (g.S.Source.given c.args.source.now) (g.S.Source.given c.turn.new.source) (g.S.Source.left c.args.source.now) (g.S.Source.left c.turn.new.source) (i.gives.0 ++ t.gives.0)
-    (g.D.Writable.journal c.turn.new.device) (counted which (g.K.Sink.taken c.args.sink.now) (g.K.Sink.accepted c.args.sink.now)) (counted which (g.K.Sink.taken c.turn.new.sink) (g.K.Sink.accepted c.turn.new.sink))
+    (g.D.Writable.events c.turn.new.device) (counted which (g.K.Sink.taken c.args.sink.now) (g.K.Sink.accepted c.args.sink.now)) (counted which (g.K.Sink.taken c.turn.new.sink) (g.K.Sink.accepted c.turn.new.sink))
     (λ e. t.no_usage (ap Some e)) all (λ left taken now may parts.
     let s = i.gives.3 which left (concat t.gives.0 ++ now) (may-first left now i.gives.0 t.gives.0 may stays) in
     rw (← i.setting, ← i.leaves.slot_count) ((t.gives.2 which).ends left taken (concat t.gives.0 ++ now) now _ (may-second left now i.gives.0 t.gives.0 may) parts (rw (i.setting, i.leaves.slot_count) s.so_far)))
@@ -89,8 +90,8 @@ returns-in-Some-clause-causes g c =
     record {
       read = counted-last (g.S.Source.faults c.args.source.now) (g.S.Source.faults c.acts.source) (g.S.Source.faults c.turn.new.source) c.in-Some.status _ i.reads t.read;
       write = whole.sink_cause;
-      device = made-tried _ _ _ _ _ _ _ _ _ _ _ c.requires.blank whole;
-      ends = may-end (setting_of c.args.run.now) (g.D.Writable.slot_count c.args.device.now) c.in-Some.status (g.S.Source.left c.args.source.now) (g.S.Source.left c.turn.new.source) (g.D.Writable.journal c.turn.new.device) (g.K.Sink.taken c.args.sink.now) (g.K.Sink.taken c.turn.new.sink)
+      device = made-tried _ _ _ _ _ _ _ _ _ _ _ (g.met.D.Writable.agrees c.args.device.now ∙ ap writes_in c.requires.blank) whole;
+      ends = may-end (setting_of c.args.run.now) (g.D.Writable.slot_count c.args.device.now) c.in-Some.status (g.S.Source.left c.args.source.now) (g.S.Source.left c.turn.new.source) (g.D.Writable.events c.turn.new.device) (g.K.Sink.taken c.args.sink.now) (g.K.Sink.taken c.turn.new.sink)
           (concat (i.gives.0 ++ t.gives.0), all.taken) (λ e. t.no_usage (ap Some e)) (ends-told _ _ c.in-Some.status _ _ _ _ (i.gives.0 ++ t.gives.0) _ _ _ all (λ left taken now may parts.
           let s = i.gives.3 true left (concat t.gives.0 ++ now) (may-first left now i.gives.0 t.gives.0 may stays) in
           rw (← i.setting, ← i.leaves.slot_count) ((t.gives.2 true).ends left taken (concat t.gives.0 ++ now) now _ (may-second left now i.gives.0 t.gives.0 may) parts (rw (i.setting, i.leaves.slot_count) s.so_far))));
@@ -116,7 +117,7 @@ returns-in-Some-clause-in_time g c =
     let may = may-all (i.gives.0 ++ t.gives.0) in
     let s = i.gives.3 false _ (concat t.gives.0 ++ []) (may-first _ [] i.gives.0 t.gives.0 may stays) in
     reads-in-time (setting_of c.args.run.now) (g.D.Writable.slot_count c.args.device.now) c.in-Some.status _ _ (i.gives.0 ++ t.gives.0) _ _ _ all.given
-    (turn-in-time (setting_of c.args.run.now) (g.D.Writable.slot_count c.args.device.now) i.gives.0 t.gives.0 c.acts.lines (progress_of (g.D.Writable.slot_count c.args.device.now) c.acts.run) (g.D.Writable.journal c.acts.device) _ _ _ _ (λ left now may. (i.gives.3 false left now may).so_far) stays turn.rests turn.last
+    (turn-in-time (setting_of c.args.run.now) (g.D.Writable.slot_count c.args.device.now) i.gives.0 t.gives.0 c.acts.lines (progress_of (g.D.Writable.slot_count c.args.device.now) c.acts.run) (g.D.Writable.events c.acts.device) _ _ _ _ (λ left now may. (i.gives.3 false left now may).so_far) stays turn.rests turn.last
     (turn.grows (concat (i.gives.0 ++ t.gives.0)) (concat t.gives.0 ++ []) [] (Some (g.K.Sink.accepted c.args.sink.now)) (may-second _ [] i.gives.0 t.gives.0 may) (rw (i.setting, i.leaves.slot_count) s.so_far)) i.gives.4)
     (λ memory front last e left after may.
     rw (← i.setting, ← i.leaves.slot_count) (wants-in-time _ _ i.gives.0 t.gives.0 _ _ _ _ _ _ _ _ _ _ left after last front turn memory may

@@ -15,8 +15,8 @@ invariant-acts g l = record {
       × (HasEnd pieces → l.lines.over ≡ over.Ended)
       × ((which : Bool) (left now : List ℕ) → MayGive left pieces now
       → StandsAt (setting_of l.fn.run) (g.D.Writable.slot_count l.fn.device) pieces left l.lines now (progress_of (g.D.Writable.slot_count l.fn.device) l.run)
-      (g.D.Writable.journal l.device) (counted which (g.K.Sink.taken l.fn.sink) (g.K.Sink.accepted l.fn.sink)) (counted which (g.K.Sink.taken l.sink) (g.K.Sink.accepted l.sink)))
-      × InTime (setting_of l.fn.run) (g.D.Writable.slot_count l.fn.device) pieces (g.D.Writable.journal l.device) (g.K.Sink.accepted l.fn.sink) (g.K.Sink.accepted l.sink);
+      (g.D.Writable.events l.device) (counted which (g.K.Sink.taken l.fn.sink) (g.K.Sink.accepted l.fn.sink)) (counted which (g.K.Sink.taken l.sink) (g.K.Sink.accepted l.sink)))
+      × InTime (setting_of l.fn.run) (g.D.Writable.slot_count l.fn.device) pieces (g.D.Writable.events l.device) (g.K.Sink.accepted l.fn.sink) (g.K.Sink.accepted l.sink);
   none_in_flight : g.D.Writable.flight l.device ≡ [];
   leaves : Leaves g.K.Sink.taken g.K.Sink.faults l.fn.sink l.sink g.D.Writable.slot_count g.D.Writable.journal g.D.Writable.faults l.fn.device l.device ⊥ ⊥;
   reads : g.S.Source.faults l.source ≡ g.S.Source.faults l.fn.source;

@@ -98,10 +98,10 @@ returns-in-Err-BatchFull-clause-gives g c =
       h.ensures.gives.1,
       λ which. turns-some _ _ _ _ _ _ _ _ _ _ _ _ _ _ h.ensures.gives.2 c.fault-in-Err-BatchFull.ensures.kind.3 (λ bytes left now start may s.
           let same = rw c.in-Err-BatchFull.field-0-is at (c.in-Err-BatchFull.ensures.acts which) in
-          rw same.journal (closes-grows _ _ _ _ _ _ (rw same.report at (c.fault-in-Err-BatchFull.ensures.closes.closes which))))
+          rw same.events (closes-grows _ _ _ _ _ _ (rw same.report at (c.fault-in-Err-BatchFull.ensures.closes.closes which))))
           (λ bytes taken begun now start may parts s.
           let same = rw c.in-Err-BatchFull.field-0-is at (c.in-Err-BatchFull.ensures.acts which) in
-          rw same.journal (exit-full _ _ bytes _ begun _ _ start _ s h.line c.next.new.self now (rw h.field-0-is at h.ensures.again) (λ going. rw h.field-0-is at (h.ensures.gives.2.hands going begun now may))
+          rw same.events (exit-full _ _ bytes _ begun _ _ start _ s h.line c.next.new.self now (rw h.field-0-is at h.ensures.again) (λ going. rw h.field-0-is at (h.ensures.gives.2.hands going begun now may))
           taken _ _ _ _ (c.in-Ok-Some-read_act.ensures.ok ∙ ap Ok c.in-Ok-Some-read_act.field-0-is) (sym (rw c.in-Err-BatchFull.field-0-is at (c.in-Err-BatchFull.ensures.limit c.requires.stands.idle))) (rw same.report at (c.fault-in-Err-BatchFull.ensures.closes.closes which)))),
     )
 
@@ -112,10 +112,10 @@ returns-in-Err-ProbesFull-clause-gives g c =
       h.ensures.gives.1,
       λ which. turns-some _ _ _ _ _ _ _ _ _ _ _ _ _ _ h.ensures.gives.2 c.fault-in-Err-ProbesFull.ensures.kind.3 (λ bytes left now start may s.
           let same = rw c.in-Err-ProbesFull.field-0-is at (c.in-Err-ProbesFull.ensures.acts which) in
-          rw same.journal (closes-grows _ _ _ _ _ _ (rw same.report at (c.fault-in-Err-ProbesFull.ensures.closes.closes which))))
+          rw same.events (closes-grows _ _ _ _ _ _ (rw same.report at (c.fault-in-Err-ProbesFull.ensures.closes.closes which))))
           (λ bytes taken begun now start may parts s.
           let same = rw c.in-Err-ProbesFull.field-0-is at (c.in-Err-ProbesFull.ensures.acts which) in
-          rw same.journal (exit-full _ _ bytes _ begun _ _ start _ s h.line c.next.new.self now (rw h.field-0-is at h.ensures.again) (λ going. rw h.field-0-is at (h.ensures.gives.2.hands going begun now may))
+          rw same.events (exit-full _ _ bytes _ begun _ _ start _ s h.line c.next.new.self now (rw h.field-0-is at h.ensures.again) (λ going. rw h.field-0-is at (h.ensures.gives.2.hands going begun now may))
           taken _ _ _ _ (c.in-Ok-Some-read_act.ensures.ok ∙ ap Ok c.in-Ok-Some-read_act.field-0-is) (sym (rw c.in-Err-ProbesFull.field-0-is at (c.in-Err-ProbesFull.ensures.limit c.requires.stands.idle))) (rw same.report at (c.fault-in-Err-ProbesFull.ensures.closes.closes which)))),
     )
 

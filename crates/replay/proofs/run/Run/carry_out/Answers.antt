@@ -1,14 +1,26 @@
--- The writes are those that are left of the commit, and a part of them where sink or device fails.
-use Rattle.std.proofs.Common.{true, rules, IsSome, ap, sym, ◌∙◌, subst}
+-- The actions are those that are left of the commit, and a part of them where sink or device fails.
+use Rattle.std.proofs.Common.{true, rules, IsSome, ap, refl, sym, ◌∙◌, subst}
+use Rattle.std.specs.Io.KnownBytes.{Appends}
+use Rattle.script_lines.specs.Given.{counted}
+use Rattle.replay.specs.Effects.{printed}
+use Rattle.replay.specs.Outside.{CutsLines}
+use Rattle.replay.specs.InFlight.{AreOf}
 use Rattle.replay.specs.Running.{Running, setting_of}
-use Rattle.replay.proofs.Halfway.{few-left, few-made, goes-forward, made-run_held, after-writes_run}
-use Rattle.replay.proofs.Exits.{cut-held, cut-setting, cut-some, resumes-cut, resumes-all, resumes-last}
+use Rattle.replay.proofs.Acting.{some-held}
+use Rattle.replay.proofs.Halfway.{few-left, few-made, idle-now, made-run_held, after-writes_run, setting-counted}
+use Rattle.replay.proofs.Exits.{as-last, cut-held, cut-setting, cut-some, is-seen, resumes-cut, resumes-all, resumes-last, resumes-searching}
+use Rattle.replay.proofs.Leftover.{are-of-left, few-waiting, words-cut_run}
 use Rattle.replay.proofs.run.Run.carry_out.Goals as goal
-use Rattle.replay.proofs.run.Run.carry_out.Goals.{in-Ok-write_accepted, in-Err-write_accepted}
+use Rattle.replay.proofs.run.Run.carry_out.Goals.{in-Ok-write_ended, in-Err-write_ended}
 
-pub make_writes-requires-clause-forward : goal.make_writes-requires-clause-forward
-make_writes-requires-clause-forward g c =
-    goes-forward _ (c.self.invariant.halfway (subst (λ (run : Running). IsSome run.manager.held) (sym c.self.view_is) c.requires.held))
+pub make_writes-requires-clause-in_flight : goal.make_writes-requires-clause-in_flight
+make_writes-requires-clause-in_flight g c =
+    subst (λ (run : Running). AreOf run.probes run.waiting (g.D.Writable.flight c.args.device.now)) (sym c.self.view_is)
+    (are-of-left c.args.self.now (g.D.Writable.flight c.args.device.now) c.requires.held c.requires.in_flight)
+
+pub make_writes-requires-clause-waiting : goal.make_writes-requires-clause-waiting
+make_writes-requires-clause-waiting g c =
+    few-waiting _ (c.self.invariant.halfway (subst (λ (run : Running). IsSome run.manager.held) (sym c.self.view_is) c.requires.held))
 
 pub make_writes-requires-clause-few : goal.make_writes-requires-clause-few
 make_writes-requires-clause-few g c =
@@ -17,50 +29,103 @@ make_writes-requires-clause-few g c =
 pub invariant_of-self : goal.invariant_of-self
 invariant_of-self g c =
     let held = subst (λ (run : Running). IsSome run.manager.held) (sym c.self.view_is) c.requires.held in
-    cut-held c.in-Err.fault _ c.make_writes.new.manager _ _ _ _ _ _ _ c.self.invariant held (c.in-Err.ensures.makes true)
+    cut-held c.in-Err.fault _ _ c.make_writes.new.manager _ c.make_writes.new.count _ _ _ _ c.self.invariant held (c.in-Err.ensures.makes true)
 
 pub returns-in-Err-clause-resumes : goal.returns-in-Err-clause-resumes
-returns-in-Err-clause-resumes g c = λ which before front unfinished at.
-    resumes-cut _ before front _ c.args.self.now c.self.view_is c.self.invariant c.requires.slots _ _ unfinished at c.in-Err.fault c.make_writes.new.manager _ _ _ (c.in-Err.ensures.makes which)
+returns-in-Err-clause-resumes g c = λ which before front unfinished at current.
+    let seen = is-seen _ before front _ c.args.self.now c.self.view_is c.self.invariant c.requires.slots (g.D.Writable.events c.args.device.now) (g.D.Writable.events c.args.device.now) unfinished at _ current in
+    resumes-cut _ before front _ c.args.self.now c.self.view_is c.self.invariant c.requires.slots (g.D.Writable.events c.args.device.now) (g.D.Writable.events c.make_writes.new.device) unfinished at _ current c.in-Err.fault c.make_writes.new.manager c.make_writes.new.count (g.D.Writable.flight c.make_writes.new.device) _ _ (c.in-Err.ensures.makes which)
+    (λ is. (c.in-Err.ensures.seen (λ e. absurd (cc)) seen).current)
+
+pub returns-in-Err-clause-in_flight : goal.returns-in-Err-clause-in_flight
+returns-in-Err-clause-in_flight g c =
+    let kind = cut-some c.in-Err.fault _ _ _ _ _ _ _ _ _ _ _ _ (c.in-Err.ensures.makes true) in
+    let held : IsSome c.make_writes.new.manager.held = subst (λ held. IsSome held) (sym (some-held _ _ _ _ kind.0)) refl in
+    words-cut_run _ c.make_writes.new.manager c.make_writes.new.count c.in-Err.fault (g.D.Writable.flight c.args.device.now) (g.D.Writable.flight c.make_writes.new.device) c.self.invariant kind.2 held (λ is. c.in-Err.ensures.in_flight (λ e. absurd (cc)))
 
 pub returns-in-Err-clause-kind : goal.returns-in-Err-clause-kind
-returns-in-Err-clause-kind g c = (cut-some c.in-Err.fault _ _ _ _ _ _ _ _ _ _ (c.in-Err.ensures.makes true)).2
+returns-in-Err-clause-kind g c = (cut-some c.in-Err.fault _ _ _ _ _ _ _ _ _ _ _ _ (c.in-Err.ensures.makes true)).2
 
 pub returns-in-Err-clause-setting : goal.returns-in-Err-clause-setting
-returns-in-Err-clause-setting g c = cut-setting c.in-Err.fault _ c.make_writes.new.manager _ _ _ _ _ _ _ c.self.invariant (c.in-Err.ensures.makes true) ∙ ap setting_of c.self.view_is
+returns-in-Err-clause-setting g c =
+    cut-setting c.in-Err.fault _ _ c.make_writes.new.manager _ c.make_writes.new.count _ _ _ _ c.self.invariant (c.in-Err.ensures.makes true) ∙ ap setting_of c.self.view_is
 
 pub invariant_of-self-2 : goal.invariant_of-self-2
 invariant_of-self-2 g c =
     let held = subst (λ (run : Running). IsSome run.manager.held) (sym c.self.view_is) c.requires.held in
-    made-run_held _ (c.self.invariant.halfway held) _ _ _ _ c.in-Ok.done c.make_writes.new.manager _ _ _ _ (c.in-Ok.ensures.makes true) c.self.invariant
+    made-run_held _ _ (c.self.invariant.halfway held) _ _ c.make_writes.new.count c.in-Ok.ended c.make_writes.new.manager _ _ _ _ (c.in-Ok.ensures.makes true) c.self.invariant
 
 pub count_commit-requires-clause-idle : goal.count_commit-requires-clause-idle
-count_commit-requires-clause-idle g c = let made = c.in-Ok.ensures.makes true in search rules
+count_commit-requires-clause-idle g c =
+    let held = subst (λ (run : Running). IsSome run.manager.held) (sym c.self.view_is) c.requires.held in
+    let none = idle-now _ _ (c.self.invariant.halfway held) _ _ c.make_writes.new.count c.in-Ok.ended c.make_writes.new.manager _ _ _ _ (c.in-Ok.ensures.makes true) in
+    search rules
 
 pub overflow_add-self : goal.overflow_add-self
 overflow_add-self g c =
     let held = subst (λ (run : Running). IsSome run.manager.held) (sym c.self.view_is) c.requires.held in
-    let few = few-made _ (c.self.invariant.halfway held) _ _ _ _ c.in-Ok.done c.make_writes.new.manager _ _ _ _ (c.in-Ok.ensures.makes true) in
+    let few = few-made _ _ (c.self.invariant.halfway held) _ _ c.make_writes.new.count c.in-Ok.ended c.make_writes.new.manager _ _ _ _ (c.in-Ok.ensures.makes true) in
     search rules
 
 pub invariant_of-self-3 : goal.invariant_of-self-3
 invariant_of-self-3 g c =
     let held = subst (λ (run : Running). IsSome run.manager.held) (sym c.self.view_is) c.requires.held in
-    after-writes_run _ (c.self.invariant.halfway held) _ _ _ _ c.in-Ok.done c.make_writes.new.manager _ _ _ _ (c.in-Ok.ensures.makes true) _
+    after-writes_run _ _ (c.self.invariant.halfway held) _ _ c.make_writes.new.count c.in-Ok.ended c.make_writes.new.manager _ _ _ _ (c.in-Ok.ensures.makes true) _
     (c.self-2.view_is ∙ c.count_commit.ensures) c.self.invariant
 
+pub invariant_of-self-in-Err-search_all : goal.invariant_of-self-in-Err-search_all
+invariant_of-self-in-Err-search_all g c =
+    let held = subst (λ (run : Running). IsSome run.manager.held) (sym c.self.view_is) c.requires.held in
+    after-writes_run _ _ (c.self.invariant.halfway held) _ _ c.make_writes.new.count c.in-Ok.ended c.make_writes.new.manager _ _ _ _ (c.in-Ok.ensures.makes true) _
+    (c.self-2.view_is ∙ c.count_commit.ensures) c.self.invariant
+
+pub returns-in-Err-search_all-clause-setting : goal.returns-in-Err-search_all-clause-setting
+returns-in-Err-search_all-clause-setting g c =
+    let held = subst (λ (run : Running). IsSome run.manager.held) (sym c.self.view_is) c.requires.held in
+    setting-counted _ _ (c.self.invariant.halfway held) _ _ c.make_writes.new.count c.in-Ok.ended c.make_writes.new.manager _ _ _ _ (c.in-Ok.ensures.makes true) _ (c.self-2.view_is ∙ c.count_commit.ensures)
+    ∙ ap setting_of c.self.view_is
+
+-- a line of the words that are searched behind the last action is cut
+pub returns-in-Err-search_all-clause-resumes : goal.returns-in-Err-search_all-clause-resumes
+returns-in-Err-search_all-clause-resumes g c = λ which before front unfinished at current.
+    let made = c.in-Ok.ensures in
+    let slots = made.leaves.slot_count in
+    let all = made.makes which in
+    let closed = c.self-2.view_is ∙ c.count_commit.ensures in
+    let seen = is-seen _ before front _ c.args.self.now c.self.view_is c.self.invariant c.requires.slots (g.D.Writable.events c.args.device.now) (g.D.Writable.events c.args.device.now) unfinished at _ current in
+    let now = rw slots at (made.seen (λ e. cc) seen) in
+    let cuts = as-last _ before front _ c.args.self.now c.self.view_is c.self.invariant c.requires.slots (g.D.Writable.events c.args.device.now) (g.D.Writable.events c.make_writes.new.device) unfinished at _ current c.in-Ok.ended c.make_writes.new.manager c.make_writes.new.count _ _ all _ closed
+    (λ lines. CutsLines lines (counted which (g.K.Sink.taken c.make_writes.new.sink) (g.K.Sink.accepted c.make_writes.new.sink)) (counted which (g.K.Sink.taken c.search_all.new.sink) (g.K.Sink.accepted c.search_all.new.sink))) _ _ (g.met.D.Writable.agrees c.make_writes.new.device) made.serves now (made.in_flight (λ e. cc)) (rw slots at (c.in-Err-search_all.ensures.lines.part which)) in
+    rw c.in-Err-search_all.ensures.events (resumes-searching _ before front _ c.args.self.now c.self.view_is c.self.invariant c.requires.slots (g.D.Writable.events c.args.device.now) (g.D.Writable.events c.make_writes.new.device) unfinished at _ current c.in-Ok.ended c.make_writes.new.manager c.make_writes.new.count _ _ all _ closed _ (g.D.Writable.flight c.search_all.new.device) cuts)
+
+-- or all of them are told, and then its own line, or a part of that
 pub returns-clause-resumes : goal.returns-clause-resumes
-returns-clause-resumes g c = λ which before front unfinished at. elim c.match-write_accepted.branch [
-  | in-Ok-write_accepted w ↦ rw w.result-is
-      (resumes-all _ before front _ c.args.self.now c.self.view_is c.self.invariant c.requires.slots _ _ unfinished at c.in-Ok.done c.make_writes.new.manager _ _ _ (c.in-Ok.ensures.makes which) _
-      (c.self-2.view_is ∙ c.count_commit.ensures) _ (w.in-Ok-write_accepted.ensures.whole which))
-  | in-Err-write_accepted w ↦ rw w.result-is
-      (resumes-last _ before front _ c.args.self.now c.self.view_is c.self.invariant c.requires.slots _ _ unfinished at c.in-Ok.done c.make_writes.new.manager _ _ _ (c.in-Ok.ensures.makes which) _
-      (c.self-2.view_is ∙ c.count_commit.ensures) _ (w.in-Err-write_accepted.ensures.part which))
-]
+returns-clause-resumes g c = λ which before front unfinished at current.
+    let made = c.in-Ok.ensures in
+    let slots = made.leaves.slot_count in
+    let all = made.makes which in
+    let closed = c.self-2.view_is ∙ c.count_commit.ensures in
+    let seen = is-seen _ before front _ c.args.self.now c.self.view_is c.self.invariant c.requires.slots (g.D.Writable.events c.args.device.now) (g.D.Writable.events c.args.device.now) unfinished at _ current in
+    let now = rw slots at (made.seen (λ e. cc) seen) in
+    let last = as-last _ before front _ c.args.self.now c.self.view_is c.self.invariant c.requires.slots (g.D.Writable.events c.args.device.now) (g.D.Writable.events c.make_writes.new.device) unfinished at _ current c.in-Ok.ended c.make_writes.new.manager c.make_writes.new.count _ _ all _ closed
+    (λ lines. Appends (counted which (g.K.Sink.taken c.make_writes.new.sink) (g.K.Sink.accepted c.make_writes.new.sink)) (counted which (g.K.Sink.taken c.search_all.new.sink) (g.K.Sink.accepted c.search_all.new.sink)) (printed lines)) _ _ (g.met.D.Writable.agrees c.make_writes.new.device) made.serves now (made.in_flight (λ e. cc)) (rw slots at (c.in-Ok-search_all.ensures.lines.whole which)) in
+    elim c.match-write_ended.branch [
+      | in-Ok-write_ended w ↦ rw (w.result-is, c.in-Ok-search_all.ensures.events)
+          (resumes-all _ before front _ c.args.self.now c.self.view_is c.self.invariant c.requires.slots (g.D.Writable.events c.args.device.now) (g.D.Writable.events c.make_writes.new.device) unfinished at _ current c.in-Ok.ended c.make_writes.new.manager c.make_writes.new.count _ _ all _ closed _ last _ (g.D.Writable.flight c.search_all.new.device)
+          (w.in-Ok-write_ended.ensures.whole which))
+      | in-Err-write_ended w ↦ rw (w.result-is, c.in-Ok-search_all.ensures.events)
+          (resumes-last _ before front _ c.args.self.now c.self.view_is c.self.invariant c.requires.slots (g.D.Writable.events c.args.device.now) (g.D.Writable.events c.make_writes.new.device) unfinished at _ current c.in-Ok.ended c.make_writes.new.manager c.make_writes.new.count _ _ all _ closed _ last _ (g.D.Writable.flight c.search_all.new.device)
+          (w.in-Err-write_ended.ensures.part which))
+    ]
 
 pub returns-clause-idle : goal.returns-clause-idle
-returns-clause-idle g c = let made = c.in-Ok.ensures.makes true in search rules
+returns-clause-idle g c =
+    let held = subst (λ (run : Running). IsSome run.manager.held) (sym c.self.view_is) c.requires.held in
+    let none = idle-now _ _ (c.self.invariant.halfway held) _ _ c.make_writes.new.count c.in-Ok.ended c.make_writes.new.manager _ _ _ _ (c.in-Ok.ensures.makes true) in
+    search rules
 
 pub returns-clause-setting : goal.returns-clause-setting
-returns-clause-setting g c = let made = c.in-Ok.ensures.makes true in search rules
+returns-clause-setting g c =
+    let held = subst (λ (run : Running). IsSome run.manager.held) (sym c.self.view_is) c.requires.held in
+    setting-counted _ _ (c.self.invariant.halfway held) _ _ c.make_writes.new.count c.in-Ok.ended c.make_writes.new.manager _ _ _ _ (c.in-Ok.ensures.makes true) _ (c.self-2.view_is ∙ c.count_commit.ensures)
+    ∙ ap setting_of c.self.view_is

@@ -1,34 +1,46 @@
 -- What the manager holds is the commit of the batch, and what it refuses is refused by the verdict.
-use Rattle.std.proofs.Common.{◌≡◌, None, rules, sym, subst}
+use Rattle.std.proofs.Common.{◌≡◌, None, rules, sym, subst, ◌∙◌}
 use Rattle.replay.specs.Running.{Running}
 use Rattle.replay.proofs.Exits.{refused-acts, taken-acts, taken-run, taken-stays}
 use Rattle.replay.proofs.Leaving.{leaves-line, line-counted, no-write}
+use Rattle.replay.proofs.Leftover.{left-taken, words-from, words-kept}
 use Rattle.replay.proofs.run.Run.commit.Goals as goal
 
 pub invariant_of-self : goal.invariant_of-self
 invariant_of-self g c =
     let idle = subst (λ (run : Running). run.manager.held ≡ None) (sym c.self.view_is) c.requires.idle in
-    taken-run _ c.in-Ok.field-0 c.prepare.new.self c.self.invariant idle c.in-Ok.ensures.ready c.in-Ok.ensures.judged
+    taken-run _ c.in-Ok.field-0 c.prepare.new.self c.self.invariant idle c.in-Ok.ensures.ready c.in-Ok.ensures.judged c.args.most
 
 pub returns-in-Ok-clause-acts : goal.returns-in-Ok-clause-acts
 returns-in-Ok-clause-acts g c = λ which.
     let idle = subst (λ (run : Running). run.manager.held ≡ None) (sym c.self.view_is) c.requires.idle in
-    taken-acts _ c.in-Ok.field-0 c.prepare.new.self c.self.invariant idle c.in-Ok.ensures.ready c.in-Ok.ensures.judged _ c.args.self.now _ c.self.view_is _ _ _ _ c.carry_out.result c.carry_out.ensures.setting
-    c.carry_out.ensures.kind (rw (c.prepare.ensures.slot_count, c.prepare.ensures.journal) at (c.carry_out.ensures.resumes which))
+    taken-acts _ c.in-Ok.field-0 c.prepare.new.self c.self.invariant idle c.in-Ok.ensures.ready c.in-Ok.ensures.judged c.args.most _ c.args.self.now _ c.self.view_is _ _ _ _ (c.prepare.ensures.flight ∙ c.requires.none_in_flight) _ _ c.carry_out.result c.carry_out.ensures.setting
+    c.carry_out.ensures.kind (rw (c.prepare.ensures.slot_count, c.prepare.ensures.events) at (c.carry_out.ensures.resumes which))
 
 pub returns-in-Ok-clause-unfinished : goal.returns-in-Ok-clause-unfinished
 returns-in-Ok-clause-unfinished g c = λ which.
     let idle = subst (λ (run : Running). run.manager.held ≡ None) (sym c.self.view_is) c.requires.idle in
-    taken-stays _ c.in-Ok.field-0 c.prepare.new.self c.self.invariant idle c.in-Ok.ensures.ready c.in-Ok.ensures.judged _ c.args.self.now _ c.self.view_is _ _ _ _ c.carry_out.result
-    (rw (c.prepare.ensures.slot_count, c.prepare.ensures.journal) at (c.carry_out.ensures.resumes which))
+    taken-stays _ c.in-Ok.field-0 c.prepare.new.self c.self.invariant idle c.in-Ok.ensures.ready c.in-Ok.ensures.judged c.args.most _ c.args.self.now _ c.self.view_is _ _ _ _ (c.prepare.ensures.flight ∙ c.requires.none_in_flight) _ _ c.carry_out.result
+    (rw (c.prepare.ensures.slot_count, c.prepare.ensures.events) at (c.carry_out.ensures.resumes which))
 
 pub returns-in-Err-clause-acts : goal.returns-in-Err-clause-acts
 returns-in-Err-clause-acts g c = λ which.
-    refused-acts c.refuse.result _ _ c.args.self.now c.refuse.new.self c.in-Err.refusal c.prepare.new.self _ _ _ _ c.self.view_is c.requires.idle c.in-Err.ensures.judged
-    (search rules) c.in-Err.ensures.refused c.prepare.ensures.journal c.refuse.ensures.refused c.refuse.ensures.kind (c.refuse.ensures.line.whole which) (c.refuse.ensures.line.part which)
+    refused-acts c.args.most c.refuse.result _ _ c.args.self.now c.refuse.new.self c.in-Err.refusal c.prepare.new.self _ _ _ _ c.self.view_is c.requires.idle c.in-Err.ensures.judged
+    (search rules) c.in-Err.ensures.refused c.prepare.ensures.events c.refuse.ensures.refused c.refuse.ensures.kind (c.refuse.ensures.line.whole which) (c.refuse.ensures.line.part which)
 
 pub returns-in-Err-clause-leaves : goal.returns-in-Err-clause-leaves
 returns-in-Err-clause-leaves g c =
     let line = c.refuse.ensures.line in
     leaves-line _ _ _ _ _ _ _ _ _ _ _ line.told c.prepare.ensures.slot_count c.prepare.ensures.journal c.prepare.ensures.faults
     (line-counted c.refuse.result _ _ c.refuse.ensures.kind line.cause) (no-write c.refuse.result c.refuse.ensures.kind)
+
+pub carry_out-requires-clause-in_flight : goal.carry_out-requires-clause-in_flight
+carry_out-requires-clause-in_flight g c =
+    let idle = subst (λ (run : Running). run.manager.held ≡ None) (sym c.self.view_is) c.requires.idle in
+    left-taken _ c.prepare.new.self c.args.most _ c.self.invariant idle (c.prepare.ensures.flight ∙ c.requires.none_in_flight)
+
+pub returns-in-Ok-clause-in_flight : goal.returns-in-Ok-clause-in_flight
+returns-in-Ok-clause-in_flight g c = words-from c.carry_out.new.self c.carry_out.result (g.D.Writable.flight c.prepare.new.device) (g.D.Writable.flight c.args.device.now) (g.D.Writable.flight c.carry_out.new.device) c.prepare.ensures.flight c.carry_out.ensures.in_flight
+
+pub returns-in-Err-clause-in_flight : goal.returns-in-Err-clause-in_flight
+returns-in-Err-clause-in_flight g c = words-kept c.refuse.new.self c.refuse.result (g.D.Writable.flight c.args.device.now) (g.D.Writable.flight c.prepare.new.device) c.prepare.ensures.flight c.requires.none_in_flight (no-write c.refuse.result c.refuse.ensures.kind)

@@ -2,15 +2,16 @@
 use Rattle.std.proofs.Common.{refl}
 use Rattle.replay.proofs.Acts.{push-acts, probe-acts}
 use Rattle.replay.proofs.Leaving.{leaves-line, line-counted, no-fault, no-write, uncounted}
+use Rattle.replay.proofs.Leftover.{words-kept}
 use Rattle.replay.proofs.run.Run.perform.Goals as goal
 
 pub returns-in-Command-clause-acts : goal.returns-in-Command-clause-acts
 returns-in-Command-clause-acts g c = λ which.
-    push-acts c.push.result _ c.args.self.now c.push.new.self c.args.act.now c.in-Command.command (g.D.Writable.journal c.args.device.now) _ c.in-Command.is c.push.ensures.pushed c.push.ensures.unchanged c.push.ensures.kind
+    push-acts c.push.result _ c.args.self.now c.push.new.self c.args.act.now c.in-Command.command (g.D.Writable.events c.args.device.now) _ c.in-Command.is c.push.ensures.pushed c.push.ensures.unchanged c.push.ensures.kind
 
 pub returns-in-Probe-clause-acts : goal.returns-in-Probe-clause-acts
 returns-in-Probe-clause-acts g c = λ which.
-    probe-acts c.probe.result _ c.args.self.now c.probe.new.self c.args.act.now c.in-Probe.key (g.D.Writable.journal c.args.device.now) _ c.in-Probe.is c.probe.ensures.probed c.probe.ensures.unchanged c.probe.ensures.kind
+    probe-acts c.probe.result _ c.args.self.now c.probe.new.self c.args.act.now c.in-Probe.key (g.D.Writable.events c.args.device.now) _ c.in-Probe.is c.probe.ensures.probed c.probe.ensures.unchanged c.probe.ensures.kind
 
 pub returns-in-Command-clause-leaves : goal.returns-in-Command-clause-leaves
 returns-in-Command-clause-leaves g c =
@@ -20,3 +21,9 @@ returns-in-Command-clause-leaves g c =
 pub returns-in-Packet-clause-leaves : goal.returns-in-Packet-clause-leaves
 returns-in-Packet-clause-leaves g c =
     leaves-line _ _ _ _ _ _ _ _ _ _ _ c.packet.ensures.told refl refl refl (line-counted c.packet.result _ _ c.packet.ensures.kind c.packet.ensures.cause) (no-write c.packet.result c.packet.ensures.kind)
+
+pub returns-in-Command-clause-in_flight : goal.returns-in-Command-clause-in_flight
+returns-in-Command-clause-in_flight g c = words-kept c.push.new.self c.push.result (g.D.Writable.flight c.args.device.now) (g.D.Writable.flight c.args.device.now) refl c.requires.none_in_flight (no-fault c.push.result c.push.ensures.kind).1
+
+pub returns-in-Packet-clause-in_flight : goal.returns-in-Packet-clause-in_flight
+returns-in-Packet-clause-in_flight g c = words-kept c.args.self.now c.packet.result (g.D.Writable.flight c.args.device.now) (g.D.Writable.flight c.args.device.now) refl c.requires.none_in_flight (no-write c.packet.result c.packet.ensures.kind)

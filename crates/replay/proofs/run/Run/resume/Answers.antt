@@ -2,14 +2,21 @@
 use Rattle.std.proofs.Common.{rules, ◌≡◌, None, ◌∙◌}
 use Rattle.replay.proofs.Halfway.{never-idle}
 use Rattle.replay.proofs.Exits.{marked-resumes}
+use Rattle.replay.proofs.Leftover.{none-of-left, words-marked}
 use Rattle.replay.proofs.run.Run.resume.Goals as goal
 
 pub returns-clause-resumes : goal.returns-clause-resumes
-returns-clause-resumes g c = λ which before front unfinished at.
-    marked-resumes c.carry_out-result.result _ before front c.carry_out-result.new.self c.mark.new.self _ _ _ _ c.mark.ensures (c.carry_out-result.ensures.broken ∙ c.requires.whole)
-    (c.carry_out-result.ensures.resumes which before front unfinished at)
+returns-clause-resumes g c = λ which before front unfinished at current.
+    marked-resumes c.carry_out-result.result _ before _ front c.carry_out-result.new.self c.mark.new.self _ _ _ _ _ c.mark.ensures (c.carry_out-result.ensures.broken ∙ c.requires.whole)
+    (c.carry_out-result.ensures.resumes which before front unfinished at current)
 
 pub returns-then-is_none-clause-resumes : goal.returns-then-is_none-clause-resumes
-returns-then-is_none-clause-resumes g c = λ which before front unfinished at.
+returns-then-is_none-clause-resumes g c = λ which before front unfinished at current.
     let none : c.args.self.now.manager.held ≡ None = search rules in
     absurd (never-idle c.args.self.now unfinished.halfway none)
+
+pub returns-clause-in_flight : goal.returns-clause-in_flight
+returns-clause-in_flight g c = words-marked c.carry_out-result.new.self _ c.carry_out-result.result _ _ c.mark.ensures c.carry_out-result.ensures.in_flight
+
+pub returns-then-is_none-clause-in_flight : goal.returns-then-is_none-clause-in_flight
+returns-then-is_none-clause-in_flight g c = none-of-left c.args.self.now (g.D.Writable.flight c.args.device.now) (search rules) c.requires.in_flight

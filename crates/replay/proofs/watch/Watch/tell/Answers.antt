@@ -1,26 +1,39 @@
--- The trace line stands before those of the probes, and either may be cut.
-use Rattle.std.proofs.Common.{◌≡◌, true, false, sym, ap, ◌∙◌}
+-- The trace line stands before those of the words that are searched, and either may be cut.
+use Rattle.std.proofs.Common.{rules, ◌≡◌, ◌≤◌, ◌+◌, ◌++◌, ◌∙◌, length, take, subst, sym, arith}
+use Rattle.script_lines.specs.Given.{counted}
+use Rattle.tcam_device.specs.State.{replay}
+use Rattle.replay.specs.Effects.{traced}
+use Rattle.replay.specs.InFlight.{found_after}
+use Rattle.replay.specs.Outside.{CutsLines}
 use Rattle.replay.specs.Running.{Watching}
-use Rattle.replay.proofs.Telling.{line-then, line-cut, trace-named}
+use Rattle.replay.specs.Text.{trace_line}
+use Rattle.replay.proofs.InFlight.{are-more, enough-of, found-full, room-of}
+use Rattle.replay.proofs.Telling.{cuts-behind}
 use Rattle.replay.proofs.watch.Watch.tell.Goals as goal
-use Rattle.replay.proofs.watch.Watch.tell.Goals.{then-self+in_ok-write_trace, else-self}
 
-pub returns-in_err-write_trace : goal.returns-in_err-write_trace
-returns-in_err-write_trace g c =
-    let asked : c.args.self.now.trace ≡ true = ap (λ (watch : Watching). watch.trace) (sym c.self.view_is) ∙ c.if-self.true in
-    let named : c.self.inside.family ≡ c.args.self.now.family = ap (λ (watch : Watching). watch.family) c.self.view_is in
-    rw asked (line-cut g.K.Sink.taken g.K.Sink.accepted g.K.Sink.faults _ _ c.from_residual.result _ _ _ c.from_residual.ensures.0
-    (trace-named g.K.Sink.taken g.K.Sink.accepted g.K.Sink.faults _ _ _ c.args.self.now.family c.self.inside.family c.args.number c.args.write.now named c.in_err-write_trace.ensures))
+pub translate-requires : goal.translate-requires
+translate-requires g c =
+    let few : length c.args.self.now.probes ≤ 16 = subst (λ (one : Watching). length one.probes ≤ 16) c.self.view_is c.self.invariant.0 in
+    let deep : c.args.self.now.depth ≤ 15 = subst (λ (one : Watching). one.depth ≤ 15) c.self.view_is c.self.invariant.2 in
+    let waiting = c.requires.few in
+    record { room = room-of _ c.args.waiting _ c.requires.words (omega (arith, deep, waiting)) few }
 
-pub returns : goal.returns
-returns g c = elim c.if-self.branch [
-  | then-self+in_ok-write_trace w ↦
-      let asked : c.args.self.now.trace ≡ true = ap (λ (watch : Watching). watch.trace) (sym c.self.view_is) ∙ w.if-self.true in
-      let named : c.self.inside.family ≡ c.args.self.now.family = ap (λ (watch : Watching). watch.family) c.self.view_is in
-      rw asked (line-then g.K.Sink.taken g.K.Sink.accepted g.K.Sink.faults _ _ _ _ _ _
-      (trace-named g.K.Sink.taken g.K.Sink.accepted g.K.Sink.faults _ _ _ c.args.self.now.family c.self.inside.family c.args.number c.args.write.now named w.in_ok-write_trace.ensures)
-      (rw w.sink-is at c.look_up.ensures))
-  | else-self w ↦
-      let unasked : c.args.self.now.trace ≡ false = ap (λ (watch : Watching). watch.trace) (sym c.self.view_is) ∙ w.if-self.false in
-      rw unasked (rw w.sink-is at c.look_up.ensures)
-]
+pub returns-in_err-search-clause-lines : goal.returns-in_err-search-clause-lines
+returns-in_err-search-clause-lines g c =
+    let watch = c.args.self.now in
+    let state = replay (g.D.Writable.slot_count c.args.device.now) (g.D.Writable.journal c.args.device.now) in
+    let flight = g.D.Writable.flight c.args.device.now in
+    let t = c.translate.ensures in
+    let first = c.in_ok-tell_write.ensures in
+    let lines = c.in_err-search.ensures.lines in
+    let full : c.args.waiting ≡ c.args.self.now.depth = subst (λ (one : Watching). c.args.waiting ≡ one.depth) c.self.view_is c.if-waiting-depth.true in
+    record {
+      whole = λ which. search rules;
+      part = λ which. cuts-behind c.from_residual-in_err-search.result (traced watch.trace (trace_line watch.family c.args.number c.args.write.now))
+          (found_after watch.family watch.probes watch.depth c.args.number c.args.waiting state flight)
+          (counted which (g.K.Sink.taken c.args.sink.now) (g.K.Sink.accepted c.args.sink.now)) (counted which (g.K.Sink.taken c.tell_write.new.sink) (g.K.Sink.accepted c.tell_write.new.sink)) (counted which (g.K.Sink.taken c.search.new.sink) (g.K.Sink.accepted c.search.new.sink)) (first.whole which)
+          (subst (λ more. CutsLines more (counted which (g.K.Sink.taken c.tell_write.new.sink) (g.K.Sink.accepted c.tell_write.new.sink)) (counted which (g.K.Sink.taken c.search.new.sink) (g.K.Sink.accepted c.search.new.sink)))
+          (sym (found-full watch.family watch.probes watch.depth c.args.number c.args.waiting state flight full)) (rw (t.slots, t.journal, t.flight) at (lines.part which)));
+      told = λ some. lines.told (first.told some);
+      cause = search rules;
+    }

@@ -1,0 +1,82 @@
+-- What a run does to the outside, and the effects of one commit: its writes, its drain, and the lines of its probes.
+use Rattle.std.specs.Prelude.{ℕ, zero, suc, ◌+◌, ◌==◌, Bool, true, false, min, List, [], ◌∷◌, ◌++◌, if◌then◌else◌}
+use Rattle.rule_model.specs.declared.Key.{Key}
+use Rattle.rule_store.specs.declared.Mode.{Mode}
+use Rattle.tcam_device.specs.declared.Write.{Write}
+use Rattle.tcam_device.specs.declared.Action.{Action}
+use Rattle.tcam_device.specs.declared.Action.TheVariants.{Written, Drained}
+use Rattle.tcam_device.specs.State.{State, apply, lookup}
+use Rattle.tcam_device.specs.Flight.{writes_in}
+use Rattle.batch_order.specs.declared.Placement.{Placement}
+use Rattle.replay.specs.declared.Family.{Family}
+use Rattle.replay.specs.Text.{probe_line, trace_line, drain_line}
+
+-- what the words of a command line ask for: the slots in use, the encoding of ranges, where insertions aim, the family,
+-- a trace, and after how many further writes a probe's word is searched
+pub record Setting : Type 0 where
+  pub slots : ℕ
+  pub mode : Mode
+  pub placement : Placement
+  pub family : Family
+  pub trace : Bool
+  pub depth : ℕ
+
+-- What a run does to the outside: it writes or drains the device, or it prints a line.
+pub data Effect : Type 0 where
+  Acts : (action : Action) → Effect
+  Prints : (line : List ℕ) → Effect
+
+-- the writes and drains of some effects
+abbrev pub events_in : List Effect → List Action
+events_in [] = []
+events_in (Acts action ∷ effects) = action ∷ events_in effects
+events_in (Prints line ∷ effects) = events_in effects
+
+-- their journal
+abbrev pub written : List Effect → List Write
+written effects = writes_in (events_in effects)
+
+-- the report of some effects
+abbrev pub printed : List Effect → List ℕ
+printed [] = []
+printed (Acts action ∷ effects) = printed effects
+printed (Prints line ∷ effects) = line ++ printed effects
+
+-- a trace line, where a trace is wanted
+abbrev pub traced : Bool → List ℕ → List Effect
+traced trace line = if trace then Prints line ∷ [] else []
+
+-- each probe's answer after so many writes, in the order of the probes: what the device answers its key when its word is
+-- searched
+abbrev pub searches_of : Family → ℕ → State → ℕ → List Key → List Effect
+searches_of family number state probe [] = []
+searches_of family number state probe (key ∷ keys) =
+    Prints (probe_line family number probe (lookup state key)) ∷ searches_of family number state (probe + 1) keys
+
+-- the words in flight of the probes of so many writes are searched, the oldest first
+abbrev pub flushed : Family → List Key → ℕ → State → ℕ → List Effect
+flushed family probes number state zero = []
+flushed family probes number state (suc more) = searches_of family number state 1 probes ++ flushed family probes number state more
+
+-- after a write all probes are translated, and those that were so a depth of writes before are searched
+abbrev pub searched_after : Setting → List Key → ℕ → ℕ → State → List Effect
+searched_after setting probes number waiting state =
+    elim (waiting == setting.depth) [ true ↦ searches_of setting.family number state 1 probes | false ↦ [] ]
+
+-- of how many writes the probes' words are in flight after some actions
+abbrev pub waiting_after : ℕ → ℕ → List Action → ℕ
+waiting_after depth waiting [] = waiting
+waiting_after depth waiting (Written write ∷ actions) = waiting_after depth (min (waiting + 1) depth) actions
+waiting_after depth waiting (Drained ∷ actions) = waiting_after depth 0 actions
+
+-- What some actions of a commit do, after so many of its writes and with the words of so many of these in flight. Before a
+-- drain all words in flight are searched.
+abbrev pub effects_of : Setting → List Key → ℕ → ℕ → State → List Action → List Effect
+effects_of setting probes number waiting state [] = []
+effects_of setting probes number waiting state (Written write ∷ actions) =
+    Acts (Written write) ∷ (traced setting.trace (trace_line setting.family (number + 1) write)
+    ++ (searched_after setting probes (number + 1) waiting (apply state write)
+    ++ effects_of setting probes (number + 1) (min (waiting + 1) setting.depth) (apply state write) actions))
+effects_of setting probes number waiting state (Drained ∷ actions) =
+    flushed setting.family probes number state waiting
+    ++ Acts Drained ∷ (traced setting.trace (drain_line number) ++ effects_of setting probes number 0 state actions)

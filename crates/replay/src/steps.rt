@@ -1,0 +1,213 @@
+//! The commit under way, action by action: its writes, its drain, and what is told of each.
+
+ghost use Rattle.std.specs.Prelude.{⊤, ℕ, ◌≡◌, ◌≢◌, ◌+◌, ◌<◌, ◌≤◌, ◌^◌, ◌++◌, ◌∷◌, [], Bool, Err, IsSome, IsTrue, IfOk, IfSome, OnOk, OnErr, length, min};
+ghost use Rattle.std.specs.List.{AllByRecursion};
+ghost use Rattle.script_lines.specs.Given.{counted};
+ghost use Rattle.rule_model.specs.Key.{IsKey};
+ghost use Rattle.tcam_device.specs.State.{replay};
+ghost use Rattle.tcam_device.specs.Flight.{writes_in};
+ghost use Rattle.tcam_device.specs.declared.Action.TheVariants as Action;
+ghost use Rattle.batch_order.specs.CarriedOut.{HasRoomBothWays, IsTried};
+ghost use Rattle.batch_order.specs.Managed.{IsOn, live_now};
+ghost use Rattle.batch_order.specs.Steps.{KeepsCurrent, ServesNow, Steps, actions_of, awaits_drain, next_of};
+ghost use Rattle.replay.specs.Text.{drain_line, trace_line};
+ghost use Rattle.replay.specs.Effects.{traced};
+ghost use Rattle.replay.specs.InFlight.{AreOf, IsSeen, flight_after, found_after};
+ghost use Rattle.replay.specs.Outside.{Leaves, WritesLines};
+ghost use Rattle.replay.specs.Running.{Makes, TurnsAt, left_of, rest_of};
+
+use crate::watch::{Count, Watch};
+use crate::{RunFault, TRIES};
+use batch_order::{Done, Manager, Step};
+use script_lines::{Failed, Sink};
+use tcam_device::{Device, DeviceFault, Writable, Write};
+
+/// How a commit of a run ends.
+#[derive(Clone, Copy, Debug, PartialEq, Eq)]
+pub(crate) enum Ended {
+    /// All of its writes are made.
+    Finished(Done),
+    /// It was a trial with more writes than it may have, and is taken back.
+    Reverted,
+}
+
+/// Makes the writes that are left of the commit under way, one at a time, and tells each of them, with the number behind
+/// those that were told before. Before its drain the words in flight are searched. `Sink` comes where a line can't be written,
+/// and `Device` where a write failed each time it was tried. The words of the last writes stay in flight.
+pub(crate) fn make_writes<K: Sink, D: Device>(
+    manager: &mut Manager,
+    watch: &Watch,
+    count: &mut Count,
+    most: Option<u32>,
+    sink: &mut K,
+    device: &mut D,
+) -> Result<Ended, RunFault>
+    requires slots { manager.old.slots ≤ D.slot_count device.old }
+    requires in_flight { AreOf watch.now.probes count.old.waiting (D.flight device.old) }
+    requires waiting { count.old.waiting ≤ watch.now.depth }
+    requires held { IsSome manager.old.held }
+    requires room { HasRoomBothWays manager.old.held (D.spare device.old) }
+    requires few { IfSome manager.old.held (λ held. count.old.told + length (writes_in (left_of (rest_of most count.old.told) manager.old.state held)) ≤ 2 ^ 40) }
+    ensures makes { (which : Bool) → Makes (IsSeen (D.slot_count device.old) (D.events device.old) (D.flight device.old) manager.old)
+        most manager.old manager.new watch.now (D.slot_count device.old) count.old count.new result
+        (D.events device.old) (D.events device.new) (counted which (K.taken sink.old) (K.accepted sink.old)) (counted which (K.taken sink.new) (K.accepted sink.new)) }
+    ensures in_flight { result ≢ Err RunFault.Sink → AreOf watch.now.probes count.new.waiting (D.flight device.new) }
+    ensures seen { result ≢ Err RunFault.Sink → IsSeen (D.slot_count device.old) (D.events device.old) (D.flight device.old) manager.old
+        → IsSeen (D.slot_count device.new) (D.events device.new) (D.flight device.new) manager.new }
+    ensures serves { OnOk result (ServesNow manager.new) }
+    ensures room { HasRoomBothWays manager.new.held (D.spare device.new) }
+    ensures leaves { Leaves K.taken K.faults sink.old sink.new D.slot_count D.journal D.faults device.old device.new (result ≡ Err RunFault.Sink) (result ≡ Err RunFault.Device) }
+{
+    'making: loop {
+        turn_round(manager, most, count.told);
+        match step_tried(manager, device) {
+            Ok(Step::Wrote(write)) => match tell_write(watch, count, &write, sink, device) {
+                Ok(()) => {}
+                Err(Failed) => return Err(RunFault::Sink),
+            },
+            Ok(Step::Waiting(_)) => {
+                match watch.search_all(count, sink, device) {
+                    Ok(()) => {}
+                    Err(Failed) => return Err(RunFault::Sink),
+                }
+                pass_drain(manager, device);
+                match tell_drain(watch, count, sink) {
+                    Ok(()) => {}
+                    Err(Failed) => return Err(RunFault::Sink),
+                }
+            }
+            Ok(Step::Drained) => match tell_drain(watch, count, sink) {
+                Ok(()) => {}
+                Err(Failed) => return Err(RunFault::Sink),
+            },
+            Ok(Step::Finished(done)) => return Ok(Ended::Finished(done)),
+            Ok(Step::Reverted(_)) => return Ok(Ended::Reverted),
+            // A commit is under way.
+            Ok(Step::Idle) => unreachable!(),
+            Err(DeviceFault) => return Err(RunFault::Device),
+        }
+    }
+}
+
+// Turns a trial round that has made as many writes as it may, and has more to make.
+fn turn_round(manager: &mut Manager, most: Option<u32>, told: u64)
+    ensures turns { TurnsAt most told manager.old manager.old.held manager.new }
+    ensures state { manager.new.state ≡ manager.old.state }
+    ensures current { live_now manager.new ≡ live_now manager.old }
+    ensures both_ways { (spare : ℕ) → HasRoomBothWays manager.old.held spare → HasRoomBothWays manager.new.held spare }
+{
+    let Some(limit) = most else {
+        return;
+    };
+    let Some(left) = manager.left() else {
+        return;
+    };
+    if left > 0 && told >= u64::from(limit) {
+        // One that is turned round already goes on.
+        let _turned = manager.abort();
+    }
+}
+
+// Counts a write that was made, and tells of it and of the probes that are searched then.
+fn tell_write<K: Sink, D: Device>(
+    watch: &Watch,
+    count: &mut Count,
+    write: &Write,
+    sink: &mut K,
+    device: &mut D,
+) -> Result<(), Failed>
+    requires words { AreOf watch.now.probes count.old.waiting (D.flight device.old) }
+    requires few { count.old.waiting ≤ watch.now.depth }
+    requires told { count.old.told < 2 ^ 40 }
+    ensures told { count.new.told ≡ count.old.told + 1 }
+    ensures waiting { count.new.waiting ≡ min (count.old.waiting + 1) watch.now.depth }
+    ensures lines { WritesLines K.taken K.accepted K.faults sink.old sink.new
+        (traced watch.now.trace (trace_line watch.now.family (count.old.told + 1) write.now) ++ found_after watch.now.family watch.now.probes watch.now.depth (count.old.told + 1) count.old.waiting (replay (D.slot_count device.old) (D.journal device.old)) (D.flight device.old)) result }
+    ensures flight { OnOk result (D.flight device.new ≡ flight_after watch.now.probes watch.now.depth count.old.waiting (replay (D.slot_count device.old) (D.journal device.old)) (D.flight device.old)) }
+    ensures keys { AllByRecursion IsKey watch.now.probes }
+    ensures journal { D.journal device.new ≡ D.journal device.old }
+    ensures events { D.events device.new ≡ D.events device.old }
+    ensures spare { D.spare device.new ≡ D.spare device.old }
+    ensures slots { D.slot_count device.new ≡ D.slot_count device.old }
+    ensures faults { D.faults device.new ≡ D.faults device.old }
+{
+    let waiting = count.waiting;
+    count.told += 1;
+    if waiting < watch.depth() {
+        count.waiting += 1;
+    }
+    watch.tell(count.told, waiting, write, sink, device)
+}
+
+// Tells of a drain that was made: no word is in flight behind it.
+fn tell_drain<K: Sink>(watch: &Watch, count: &mut Count, sink: &mut K) -> Result<(), Failed>
+    ensures told { count.new.told ≡ count.old.told }
+    ensures waiting { count.new.waiting ≡ 0 }
+    ensures lines { WritesLines K.taken K.accepted K.faults sink.old sink.new (traced watch.now.trace (drain_line count.old.told)) result }
+{
+    count.waiting = 0;
+    watch.tell_drain(count.told, sink)
+}
+
+// Makes the drain that is next, with no word in flight.
+fn pass_drain<D: Writable>(manager: &mut Manager, device: &mut D)
+    requires slots { manager.old.slots ≤ D.slot_count device.old }
+    requires drain { IsTrue (awaits_drain manager.old.held) }
+    requires none_in_flight { D.flight device.old ≡ [] }
+    requires room { HasRoomBothWays manager.old.held (D.spare device.old) }
+    ensures stepped { Steps manager.old 0 manager.old.held Step.Drained manager.new }
+    ensures events { D.events device.new ≡ D.events device.old ++ Action.Drained ∷ [] }
+    ensures journal { D.journal device.new ≡ D.journal device.old }
+    ensures spare { D.spare device.new + 1 ≡ D.spare device.old }
+    ensures room { HasRoomBothWays manager.new.held (D.spare device.new) }
+    ensures flight { D.flight device.new ≡ [] }
+    ensures slot_count { D.slot_count device.new ≡ D.slot_count device.old }
+    ensures faults { D.faults device.new ≡ D.faults device.old }
+    ensures stays_on { IsOn (D.slot_count device.old) (D.journal device.old) manager.old → IsOn (D.slot_count device.new) (D.journal device.new) manager.new }
+{
+    match manager.step(device) {
+        Ok(_) => {}
+        Err(DeviceFault) => unreachable!(),
+    }
+}
+
+// Takes the next step of the commit under way. A write that fails is tried again at once, `TRIES` times in all; an Err
+// says that each of them failed, and nothing has changed then.
+fn step_tried<D: Writable>(manager: &mut Manager, device: &mut D) -> Result<Step, DeviceFault>
+    requires slots { manager.old.slots ≤ D.slot_count device.old }
+    requires room { HasRoomBothWays manager.old.held (D.spare device.old) }
+    ensures stepped { IfOk result (λ step. Steps manager.old (length (D.flight device.old)) manager.old.held step manager.new) }
+    ensures keeps { IfOk result (λ step. KeepsCurrent manager.old step manager.new) }
+    ensures serves { OnOk result (ServesNow manager.new) }
+    ensures same_slots { manager.new.slots ≡ manager.old.slots }
+    ensures stays_on { IsOn (D.slot_count device.old) (D.journal device.old) manager.old → IsOn (D.slot_count device.new) (D.journal device.new) manager.new }
+    ensures journal { IfOk result (λ step. D.journal device.new ≡ D.journal device.old ++ writes_in (actions_of step)) }
+    ensures events { IfOk result (λ step. D.events device.new ≡ D.events device.old ++ actions_of step) }
+    ensures spare { IfOk result (λ step. D.spare device.new + length (actions_of step) ≡ D.spare device.old) }
+    ensures room { HasRoomBothWays manager.new.held (D.spare device.new) }
+    ensures failed { OnErr result (manager.new ≡ manager.old) }
+    ensures journal_err { OnErr result (D.journal device.new ≡ D.journal device.old) }
+    ensures events_err { OnErr result (D.events device.new ≡ D.events device.old) }
+    ensures spare_err { OnErr result (D.spare device.new ≡ D.spare device.old) }
+    ensures due { OnErr result (IsSome (next_of manager.old.held)) }
+    ensures flight { D.flight device.new ≡ D.flight device.old }
+    ensures slot_count { D.slot_count device.new ≡ D.slot_count device.old }
+    ensures tried { IfOk result (λ step. IsTried 4 (length (writes_in (actions_of step))) ⊥ (D.faults device.old) (D.faults device.new)) }
+    ensures tried_err { OnErr result (IsTried 4 0 ⊤ (D.faults device.old) (D.faults device.new)) }
+{
+    let mut failures = 0;
+    'trying: loop {
+        match manager.step(device) {
+            Ok(step) => {
+                let _rules = manager.rules();
+                return Ok(step);
+            }
+            Err(DeviceFault) => {
+                failures += 1;
+                if failures == TRIES {
+                    return Err(DeviceFault);
+                }
+            }
+        }
+    }
+}

@@ -1,0 +1,12 @@
+use Rattle.std.proofs.Common.{rules, ◌≡◌, ◌∙◌, Some, ap}
+use Rattle.clap.specs.declared.builder.value_parser.ValueParser.TheVariants as vp
+use Rattle.tcam_cli.specs.CommandLine.{depth_option}
+use Rattle.tcam_cli.proofs.command_line.depth_arg.Goals as goal
+
+pub returns-clause-rule : goal.returns-clause-rule
+unfolding depth_option
+returns-clause-rule c =
+    let given = c.value_parser-2.ensures.given in
+    let made : c.range.result ≡ vp.Unsigned 0 15 = rw c.value_parser.ensures at c.range.ensures in
+    let parser_is : c.value_parser-2.result.value_parser ≡ Some (vp.Unsigned 0 15) = given.1 ∙ ap Some (given.2 ∙ made) in
+    search rules
