@@ -1,4 +1,5 @@
-//! Tests of whole runs whose device fails: at each write of a script, at all of its tries, and how they go on behind that.
+//! Tests of whole runs whose device fails: at each write of a script, at all of its tries, and how they go on behind that,
+//! also with a trial that is taken back.
 //! They stand apart from `integration_tests`, so that both are proved at once.
 #![tactic(auto)]
 
@@ -6,3 +7,5 @@
 mod resumed;
 #[cfg(test)]
 mod stuck;
+#[cfg(test)]
+mod tried;

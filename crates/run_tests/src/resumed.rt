@@ -63,7 +63,11 @@ commit 4 ok writes 2 words 0 most 2 span 0
 ";
 
 /// Three commits of a route each, and a probe.
-fn begin<D: Device>(run: &mut Run, sink: &mut MemSink, device: &mut D) -> Result<(), Fail>
+pub(crate) fn begin<D: Device>(
+    run: &mut Run,
+    sink: &mut MemSink,
+    device: &mut D,
+) -> Result<(), Fail>
     requires going { CanGoOn run.old (D.slot_count device.old) (D.spare device.old) (D.flight device.old) }
     requires few { run.old.commits < 50 }
     ensures going { OnOk result (CanGoOn run.new (D.slot_count device.new) (D.spare device.new) (D.flight device.new)) }
@@ -128,7 +132,7 @@ fn goes_on<D: Device>(
 }
 
 /// A run of routes, for a device of eight slots or more.
-fn run_of_routes(alloc: Global, depth: u32) -> Result<Run, Fail>
+pub(crate) fn run_of_routes(alloc: Global, depth: u32) -> Result<Run, Fail>
     requires { depth ≤ 15 }
     ensures going { IfOk result (λ run. (slots spare : ℕ) → (flight : Flight) → 8 ≤ slots → flight ≡ [] → CanGoOn run slots spare flight) }
     ensures begins { IfOk result (λ run. run.commits ≡ 0) }

@@ -102,7 +102,7 @@ fn resume<D: Device>(run: &mut Run, sink: &mut MemSink, device: &mut D) -> Resul
 }
 
 /// The result that a key has in the device.
-fn result_of<D: Device>(device: &D, key: &Key) -> Option<u32> {
+pub(crate) fn result_of<D: Device>(device: &D, key: &Key) -> Option<u32> {
     match device.look(key) {
         Some((_, answer)) => Some(answer),
         None => None,
@@ -157,6 +157,21 @@ pub(crate) fn commit<D: Device>(
     ensures few { run.new.commits ≤ run.old.commits + 1 }
 {
     let outcome = apply(run, &Act::Commit, sink, device);
+    is_cut(&outcome)
+}
+
+/// Tries the pending batch, which is taken back where it has more than one write, and tells whether the device cut that.
+pub(crate) fn try_out<D: Device>(
+    run: &mut Run,
+    sink: &mut MemSink,
+    device: &mut D,
+) -> Result<bool, Fail>
+    requires going { CanGoOn run.old (D.slot_count device.old) (D.spare device.old) (D.flight device.old) }
+    requires few { run.old.commits < 100 }
+    ensures going { OnOk result (CanGoOn run.new (D.slot_count device.new) (D.spare device.new) (D.flight device.new)) }
+    ensures few { run.new.commits ≤ run.old.commits + 1 }
+{
+    let outcome = apply(run, &Act::Trial(1), sink, device);
     is_cut(&outcome)
 }
 
