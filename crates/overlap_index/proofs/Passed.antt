@@ -1,9 +1,10 @@
 -- Live pieces that a search passes over by the columns beside them, for those on one side or for an equal one.
-use Rattle.std.proofs.Common.{◌≡◌, ℕ, zero, suc, Bool, true, false, ◌+◌, ◌-◌, ◌<◌, ◌≤◌, Option, Some, None, List, [], ◌∷◌, ◌++◌, length, map, drop, get_or, arith, inl, inr, refl, sym, ◌∙◌, ap, ap₂, subst, le-leb, eq-eqb, append_assoc}
-use Rattle.std.specs.Prelude.{◌==◌, ◌&&◌, not, nat_eq, nat_le, nat_lt}
+use Rattle.std.proofs.Common.{◌≡◌, ℕ, zero, suc, Bool, true, false, ◌+◌, ◌-◌, ◌<◌, ◌≤◌, Option, Some, None, List, [], ◌∷◌, ◌++◌, length, map, drop, get_or, arith, inl, inr, refl, sym, ◌∙◌, ap, ap₂, subst, le-leb, eq-eqb, eqb-true, append_assoc}
+use Rattle.std.specs.Prelude.{Contains, ◌==◌, ◌&&◌, not, nat_eq, nat_le, nat_lt}
 use Rattle.std.specs.Option.{option_eq}
 use Rattle.std.proofs.lemmas.Bool.{both_ways, cases_Bool, cases_lt, cond-true, cond-false, and_parts, and_from, or_left, or_right, not-true, lt-ltb, false_from_ne_true}
 use Rattle.std.proofs.lemmas.List.{append-nil, drop_all, drop_more, get_or-map, get_or_default}
+use Rattle.rule_model.specs.AddressBlock.{AddressBlock}
 use Rattle.rule_model.specs.PortRange.{PortRange, is_disjoint}
 use Rattle.rule_model.specs.declared.Piece.{Piece}
 use Rattle.overlap_index.specs.declared.scan.Side.{Side}
@@ -18,6 +19,10 @@ use Rattle.overlap_index.proofs.Blocks.{meet_near, first_below_last}
 record AreNear (a b : Spans) : Type 0 where
   dst_starts : a.dst.first ≤ b.dst.last
   dst_ends : b.dst.first ≤ a.dst.last
+  next_starts : a.next.first ≤ b.next.last
+  next_ends : b.next.first ≤ a.next.last
+  low_starts : a.low.first ≤ b.low.last
+  low_ends : b.low.first ≤ a.low.last
   src_starts : a.src.first ≤ b.src.last
   src_ends : b.src.first ≤ a.src.last
   ports_start : a.ports.first ≤ b.ports.last
@@ -33,23 +38,30 @@ ranges_near a b meet = (
 -- the blocks of a piece on one side are near
 over_near : (upper lower : LivePiece) → is_over upper lower ≡ true → AreNear (spans_of upper.piece) (spans_of lower.piece)
 over_near upper lower e =
+    let first_fits : 0 ≤ 96 = omega arith in
+    let next_fits : 32 ≤ 96 = omega arith in
+    let low_fits : 96 ≤ 96 = omega arith in
     let blocks = (and_parts _ _ (and_parts _ _ (and_parts _ _ (and_parts _ _ e).0).0).0).0 in
-    let src = meet_near upper.piece.src lower.piece.src (and_parts _ _ blocks).0 in
-    let dst = meet_near upper.piece.dst lower.piece.dst (and_parts _ _ blocks).1 in
+    let src = meet_near 0 upper.piece.src lower.piece.src first_fits (and_parts _ _ blocks).0 in
+    let dst = meet_near 0 upper.piece.dst lower.piece.dst first_fits (and_parts _ _ blocks).1 in
+    let next = meet_near 32 upper.piece.dst lower.piece.dst next_fits (and_parts _ _ blocks).1 in
+    let low = meet_near 96 upper.piece.dst lower.piece.dst low_fits (and_parts _ _ blocks).1 in
     let ports = ranges_near upper.piece.dport lower.piece.dport (and_parts _ _ (and_parts _ _ e).0).1 in
-    record { dst_starts = dst.0; dst_ends = dst.1; src_starts = src.0; src_ends = src.1; ports_start = ports.0; ports_end = ports.1 }
+    record { dst_starts = dst.0; dst_ends = dst.1; next_starts = next.0; next_ends = next.1; low_starts = low.0; low_ends = low.1; src_starts = src.0; src_ends = src.1; ports_start = ports.0; ports_end = ports.1 }
 
 side_near : (side : Side) (other of : LivePiece) → is_on side other of ≡ true → AreNear (spans_of other.piece) (spans_of of.piece)
 side_near Above other of e = over_near other of e
-side_near Below other of e = let near = over_near of other e in record { dst_starts = near.dst_ends; dst_ends = near.dst_starts; src_starts = near.src_ends; src_ends = near.src_starts; ports_start = near.ports_end; ports_end = near.ports_start }
+side_near Below other of e = let near = over_near of other e in record { dst_starts = near.dst_ends; dst_ends = near.dst_starts; next_starts = near.next_ends; next_ends = near.next_starts; low_starts = near.low_ends; low_ends = near.low_starts; src_starts = near.src_ends; src_ends = near.src_starts; ports_start = near.ports_end; ports_end = near.ports_start }
 
 -- what the columns hold at a place, and the test of it
 near_at : (live : List LivePiece) (k : ℕ) (spans : Spans) (other : LivePiece) → k < length live → get_or live k other ≡ other → AreNear (spans_of other.piece) spans
     → is_near (columns_of live) spans k ≡ true
 near_at live k spans other inside at near =
-    and_from _ _ (and_from _ _
-    (and_from _ _ (starts (λ one. first_of one.piece.dst) spans.dst.last near.dst_starts) (ends (λ one. last_of one.piece.dst) spans.dst.first near.dst_ends))
-    (and_from _ _ (starts (λ one. first_of one.piece.src) spans.src.last near.src_starts) (ends (λ one. last_of one.piece.src) spans.src.first near.src_ends)))
+    and_from _ _ (and_from _ _ (and_from _ _ (and_from _ _
+    (and_from _ _ (starts (λ one. first_of 0 one.piece.dst) spans.dst.last near.dst_starts) (ends (λ one. last_of 0 one.piece.dst) spans.dst.first near.dst_ends))
+    (and_from _ _ (starts (λ one. first_of 32 one.piece.dst) spans.next.last near.next_starts) (ends (λ one. last_of 32 one.piece.dst) spans.next.first near.next_ends)))
+    (and_from _ _ (starts (λ one. first_of 96 one.piece.dst) spans.low.last near.low_starts) (ends (λ one. last_of 96 one.piece.dst) spans.low.first near.low_ends)))
+    (and_from _ _ (starts (λ one. first_of 0 one.piece.src) spans.src.last near.src_starts) (ends (λ one. last_of 0 one.piece.src) spans.src.first near.src_ends)))
     (and_from _ _ (starts (λ one. one.piece.dport.lo) spans.ports.last near.ports_start) (ends (λ one. one.piece.dport.hi) spans.ports.first near.ports_end))
   where
     holds : (of : LivePiece → ℕ) → get_or (map of live) k 0 ≡ of other
@@ -117,15 +129,24 @@ abbrev pub HasNone : List LivePiece → Piece → ℕ → ℕ → Type 0
 HasNone live piece priority place =
     (k : ℕ) (other : LivePiece) → k < place → k < length live → get_or live k other ≡ other → other.piece ≡ piece → other.rank ≡ priority → ⊥
 
+-- a piece that was found is one of the list
+pub found_here : (piece : Piece) (priority : ℕ) (live : List LivePiece) (place : ℕ) (one : LivePiece) → place < length live → get_or live place one ≡ one → one.piece ≡ piece → one.rank ≡ priority
+    → Contains live (record { id = one.id; piece = piece; rank = priority })
+found_here piece priority live place one inside at same rank =
+    let is : one ≡ record { id = one.id; piece = piece; rank = priority } = ap₂ (λ p r. record { id = one.id; piece = p; rank = r }) same rank in
+    subst (Contains live) is (place, inside, at)
+
 -- a place that isn't near hasn't the piece
 not_far : (piece : Piece) (live : List LivePiece) (k : ℕ) (other : LivePiece) → piece.dport.lo ≤ piece.dport.hi → k < length live → get_or live k other ≡ other → other.piece ≡ piece
     → is_near (columns_of live) (spans_of piece) k ≡ true
 not_far piece live k other ordered inside at same =
-    let dst = first_below_last other.piece.dst in
-    let src = first_below_last other.piece.src in
+    let dst = first_below_last 0 other.piece.dst in
+    let next = first_below_last 32 other.piece.dst in
+    let low = first_below_last 96 other.piece.dst in
+    let src = first_below_last 0 other.piece.src in
     let ports = subst (λ (p : Piece). p.dport.lo ≤ p.dport.hi) (sym same) ordered in
     subst (λ p. is_near (columns_of live) (spans_of p) k ≡ true) same
-    (near_at live k (spans_of other.piece) other inside at (record { dst_starts = dst; dst_ends = dst; src_starts = src; src_ends = src; ports_start = ports; ports_end = ports }))
+    (near_at live k (spans_of other.piece) other inside at (record { dst_starts = dst; dst_ends = dst; next_starts = next; next_ends = next; low_starts = low; low_ends = low; src_starts = src; src_ends = src; ports_start = ports; ports_end = ports }))
 
 -- places that aren't near haven't the piece
 pub none_far : (piece : Piece) (priority : ℕ) (live : List LivePiece) (columns : SpanColumns) (spans : Spans) (at next : ℕ) → columns ≡ columns_of live → spans ≡ spans_of piece
@@ -168,3 +189,40 @@ same_is_equal a b same = subst (λ p. equal_pieces a p ≡ true) same
   where
     two : (m n : ℕ) → (m == m && n == n) ≡ true
     two m n = and_from _ _ (eq-eqb m m refl) (eq-eqb n n refl)
+
+option_is_same : (a b : Option ℕ) → option_eq nat_eq a b ≡ true → a ≡ b
+option_is_same None None e = refl
+option_is_same (Some m) (Some n) e = ap Some (eqb-true m n e)
+option_is_same None (Some n) e = absurd (both_ways false refl e)
+option_is_same (Some m) None e = absurd (both_ways false refl e)
+
+block_is_same : (a b : AddressBlock) → (a.addr == b.addr && a.len == b.len) ≡ true → a ≡ b
+block_is_same a b e =
+    let both = and_parts _ _ e in
+    ap₂ (λ m n. record { addr = m; len = n }) (eqb-true a.addr b.addr both.0) (eqb-true a.len b.len both.1)
+
+range_is_same : (a b : PortRange) → (a.lo == b.lo && a.hi == b.hi) ≡ true → a ≡ b
+range_is_same a b e =
+    let both = and_parts _ _ e in
+    ap₂ (λ m n. record { lo = m; hi = n }) (eqb-true a.lo b.lo both.0) (eqb-true a.hi b.hi both.1)
+
+-- pieces that the tests find equal are
+pub equal_is_same : (a b : Piece) → equal_pieces a b ≡ true → a ≡ b
+equal_is_same a b e =
+    let after_src = and_parts _ _ e in
+    let after_dst = and_parts _ _ after_src.1 in
+    let after_proto = and_parts _ _ after_dst.1 in
+    let after_sport = and_parts _ _ after_proto.1 in
+    let after_dport = and_parts _ _ after_sport.1 in
+    let bits = and_parts _ _ after_dport.1 in
+    let src : a.src ≡ b.src = block_is_same a.src b.src after_src.0 in
+    let dst : a.dst ≡ b.dst = block_is_same a.dst b.dst after_dst.0 in
+    let proto : a.proto ≡ b.proto = option_is_same a.proto b.proto after_proto.0 in
+    let sport : a.sport ≡ b.sport = range_is_same a.sport b.sport after_sport.0 in
+    let dport : a.dport ≡ b.dport = range_is_same a.dport b.dport after_dport.0 in
+    let srcbit : a.srcbit ≡ b.srcbit = option_is_same a.srcbit b.srcbit bits.0 in
+    let dstbit : a.dstbit ≡ b.dstbit = option_is_same a.dstbit b.dstbit bits.1 in
+    ap₂ (λ s d. record { src = s; dst = d; proto = a.proto; sport = a.sport; dport = a.dport; srcbit = a.srcbit; dstbit = a.dstbit }) src dst
+    ∙ ap₂ (λ s d. record { src = b.src; dst = b.dst; proto = a.proto; sport = s; dport = d; srcbit = a.srcbit; dstbit = a.dstbit }) sport dport
+    ∙ ap₂ (λ s d. record { src = b.src; dst = b.dst; proto = a.proto; sport = b.sport; dport = b.dport; srcbit = s; dstbit = d }) srcbit dstbit
+    ∙ ap (λ p. record { src = b.src; dst = b.dst; proto = p; sport = b.sport; dport = b.dport; srcbit = b.srcbit; dstbit = b.dstbit }) proto

@@ -1,5 +1,5 @@
--- What the upper 32 bits of addresses, and ports, tell of live pieces that may overlap.
-use Rattle.std.specs.Prelude.{◌≡◌, ℕ, ◌+◌, ◌-◌, ◌*◌, ◌/◌, ◌^◌, Bool, ◌&&◌, nat_le, List, [], ◌∷◌, ◌++◌, length, map, slice_index}
+-- What windows of 32 bits of addresses, and ports, tell of live pieces that may overlap.
+use Rattle.std.specs.Prelude.{◌≡◌, ℕ, ◌+◌, ◌-◌, ◌*◌, ◌/◌, ◌%◌, ◌^◌, Bool, ◌&&◌, nat_le, List, [], ◌∷◌, ◌++◌, length, map, slice_index}
 use Rattle.std.specs.List.{swap_remove}
 use Rattle.rule_model.specs.AddressBlock.{AddressBlock}
 use Rattle.rule_model.specs.PortRange.{PortRange}
@@ -8,27 +8,47 @@ use Rattle.overlap_index.specs.declared.near.Span.{Span}
 use Rattle.overlap_index.specs.declared.near.Spans.{Spans}
 use Rattle.overlap_index.specs.declared.LivePiece.{LivePiece}
 
--- the upper 32 bits of a block's first address, and of its last
-abbrev pub first_of : AddressBlock → ℕ
-first_of block = block.addr / 2 ^ 96 / 2 ^ (32 - block.len) * 2 ^ (32 - block.len)
+-- Of a window of 32 bits of an address, with so many bits before it: the bits themselves, and how many of them a block
+-- of a length leaves open.
+abbrev pub window_of : ℕ → ℕ → ℕ
+window_of before addr = addr / 2 ^ (96 - before) % 2 ^ 32
 
-abbrev pub last_of : AddressBlock → ℕ
-last_of block = block.addr / 2 ^ 96 + (2 ^ (32 - block.len) - 1)
+abbrev pub open_bits : ℕ → ℕ → ℕ
+open_bits before len = 32 - (len - before)
 
--- both, the first port and the last, and those of a piece's two blocks and of its destination ports
-abbrev pub span_of : AddressBlock → Span
-span_of block = record { first = first_of block; last = last_of block }
+-- the least and the greatest of what the block's addresses have in a window
+abbrev pub first_of : ℕ → AddressBlock → ℕ
+first_of before block = window_of before block.addr / 2 ^ open_bits before block.len * 2 ^ open_bits before block.len
+
+abbrev pub last_of : ℕ → AddressBlock → ℕ
+last_of before block = window_of before block.addr + (2 ^ open_bits before block.len - 1)
+
+-- both, the first port and the last, and those of a piece: of three windows of its destination, the upper 32 bits, the
+-- next 32 and the lowest 32, of the upper 32 bits of its source, and of its destination ports
+abbrev pub span_of : ℕ → AddressBlock → Span
+span_of before block = record { first = first_of before block; last = last_of before block }
 
 abbrev pub ports_of : PortRange → Span
 ports_of range = record { first = range.lo; last = range.hi }
 
 abbrev pub spans_of : Piece → Spans
-spans_of piece = record { dst = span_of piece.dst; src = span_of piece.src; ports = ports_of piece.dport }
+spans_of piece =
+    record {
+      dst = span_of 0 piece.dst;
+      next = span_of 32 piece.dst;
+      low = span_of 96 piece.dst;
+      src = span_of 0 piece.src;
+      ports = ports_of piece.dport;
+    }
 
--- the first and the last addresses of some destinations and sources, and their destination ports, in columns
+-- the spans of some pieces in columns
 pub record SpanColumns : Type 0 where
   pub dst_firsts : List ℕ
   pub dst_lasts : List ℕ
+  pub next_firsts : List ℕ
+  pub next_lasts : List ℕ
+  pub low_firsts : List ℕ
+  pub low_lasts : List ℕ
   pub src_firsts : List ℕ
   pub src_lasts : List ℕ
   pub port_firsts : List ℕ
@@ -37,6 +57,10 @@ pub record SpanColumns : Type 0 where
 -- they are of one length
 pub record AreLevel (columns : SpanColumns) : Type 0 where
   pub dst_last : length columns.dst_lasts ≡ length columns.dst_firsts
+  pub next_first : length columns.next_firsts ≡ length columns.dst_firsts
+  pub next_last : length columns.next_lasts ≡ length columns.dst_firsts
+  pub low_first : length columns.low_firsts ≡ length columns.dst_firsts
+  pub low_last : length columns.low_lasts ≡ length columns.dst_firsts
   pub src_first : length columns.src_firsts ≡ length columns.dst_firsts
   pub src_last : length columns.src_lasts ≡ length columns.dst_firsts
   pub port_first : length columns.port_firsts ≡ length columns.dst_firsts
@@ -46,10 +70,14 @@ pub record AreLevel (columns : SpanColumns) : Type 0 where
 abbrev pub columns_of : List LivePiece → SpanColumns
 columns_of live =
     record {
-      dst_firsts = map (λ one. first_of one.piece.dst) live;
-      dst_lasts = map (λ one. last_of one.piece.dst) live;
-      src_firsts = map (λ one. first_of one.piece.src) live;
-      src_lasts = map (λ one. last_of one.piece.src) live;
+      dst_firsts = map (λ one. first_of 0 one.piece.dst) live;
+      dst_lasts = map (λ one. last_of 0 one.piece.dst) live;
+      next_firsts = map (λ one. first_of 32 one.piece.dst) live;
+      next_lasts = map (λ one. last_of 32 one.piece.dst) live;
+      low_firsts = map (λ one. first_of 96 one.piece.dst) live;
+      low_lasts = map (λ one. last_of 96 one.piece.dst) live;
+      src_firsts = map (λ one. first_of 0 one.piece.src) live;
+      src_lasts = map (λ one. last_of 0 one.piece.src) live;
       port_firsts = map (λ one. one.piece.dport.lo) live;
       port_lasts = map (λ one. one.piece.dport.hi) live;
     }
@@ -58,10 +86,14 @@ columns_of live =
 abbrev pub with_row : SpanColumns → Piece → SpanColumns
 with_row columns piece =
     record {
-      dst_firsts = columns.dst_firsts ++ first_of piece.dst ∷ [];
-      dst_lasts = columns.dst_lasts ++ last_of piece.dst ∷ [];
-      src_firsts = columns.src_firsts ++ first_of piece.src ∷ [];
-      src_lasts = columns.src_lasts ++ last_of piece.src ∷ [];
+      dst_firsts = columns.dst_firsts ++ first_of 0 piece.dst ∷ [];
+      dst_lasts = columns.dst_lasts ++ last_of 0 piece.dst ∷ [];
+      next_firsts = columns.next_firsts ++ first_of 32 piece.dst ∷ [];
+      next_lasts = columns.next_lasts ++ last_of 32 piece.dst ∷ [];
+      low_firsts = columns.low_firsts ++ first_of 96 piece.dst ∷ [];
+      low_lasts = columns.low_lasts ++ last_of 96 piece.dst ∷ [];
+      src_firsts = columns.src_firsts ++ first_of 0 piece.src ∷ [];
+      src_lasts = columns.src_lasts ++ last_of 0 piece.src ∷ [];
       port_firsts = columns.port_firsts ++ piece.dport.lo ∷ [];
       port_lasts = columns.port_lasts ++ piece.dport.hi ∷ [];
     }
@@ -71,6 +103,10 @@ without_row columns place =
     record {
       dst_firsts = swap_remove columns.dst_firsts place 0;
       dst_lasts = swap_remove columns.dst_lasts place 0;
+      next_firsts = swap_remove columns.next_firsts place 0;
+      next_lasts = swap_remove columns.next_lasts place 0;
+      low_firsts = swap_remove columns.low_firsts place 0;
+      low_lasts = swap_remove columns.low_lasts place 0;
       src_firsts = swap_remove columns.src_firsts place 0;
       src_lasts = swap_remove columns.src_lasts place 0;
       port_firsts = swap_remove columns.port_firsts place 0;
@@ -81,8 +117,9 @@ without_row columns place =
 abbrev pub meets_at : List ℕ → List ℕ → Span → ℕ → Bool
 meets_at firsts lasts span at = nat_le (slice_index firsts at) span.last && nat_le span.first (slice_index lasts at)
 
--- so have the destinations at that place, the sources and the destination ports
+-- so have the destinations at that place, in each window, the sources and the destination ports
 abbrev pub is_near : SpanColumns → Spans → ℕ → Bool
 is_near columns spans at =
-    meets_at columns.dst_firsts columns.dst_lasts spans.dst at && meets_at columns.src_firsts columns.src_lasts spans.src at
+    meets_at columns.dst_firsts columns.dst_lasts spans.dst at && meets_at columns.next_firsts columns.next_lasts spans.next at
+    && meets_at columns.low_firsts columns.low_lasts spans.low at && meets_at columns.src_firsts columns.src_lasts spans.src at
     && meets_at columns.port_firsts columns.port_lasts spans.ports at

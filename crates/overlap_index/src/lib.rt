@@ -10,9 +10,13 @@
 //! has the place of each, and the pieces that stand there are compared.
 //!
 //! A new id is compared with every live piece. But most of them have nothing to do with it, and almost all are told
-//! apart by their addresses alone. So each is looked at once, but eight at a time, by the upper 32 bits of its
-//! destination's first and last address, which stand in columns of their own. Where one of the eight is near, so are the
-//! sources and the destination ports, by columns of theirs; only those that are near by all three are compared by
+//! apart by their addresses alone. So each is looked at once, but eight at a time, by a window of 32 bits of its
+//! destination: the least and the greatest of what its addresses have there stand in columns of their own. Two blocks
+//! that overlap have a number in common in every window, so any one may tell them apart, in any order. There are three:
+//! the upper 32 bits, which are all of an IPv4 address, the next 32, by which routes within one IPv6 network differ, and
+//! the lowest 32, by which its hosts do. The last window of which the new piece leaves something out is looked at first,
+//! since the pieces of one network have those before in common. Where one of the eight is near by it, so are the other
+//! windows, the sources and the destination ports, by columns of theirs; only those that are near by all are compared by
 //! priority and piece. A rule's ports are cut into blocks that are apart, so ports tell most pieces of lists apart.
 //!
 //! Live pieces, and the columns beside them, stand in no order that matters: where one goes the last takes its place. In
@@ -21,16 +25,17 @@
 //! # What it cost
 //! A question costs time by the number of ids that it names, and not by the number of live pieces, and `is_above` takes
 //! the same time whatever is live. `add` and `id_of` pass over the live pieces once, eight in a step; `remove` takes as
-//! many steps as there are links that go, and moves one piece. First and last addresses, and not address and mask, are
+//! many steps as there are links that go, and moves one piece. Least and greatest numbers, and not number and mask, are
 //! in the columns, since the order of numbers is all that the proof needs then.
 //!
-//! Only `new` and `add` take memory: 36 bytes an id beside the piece, which stands once, and 24 bytes a pair of ids that
+//! Only `new` and `add` take memory: 52 bytes an id beside the piece, which stands once, and 24 bytes a pair of ids that
 //! overlap, whose room doubles where it grows. The worst list, each piece over each other, has n (n - 1) / 2 pairs: 12
 //! bytes times n squared, 201 MB at 4,096 ids and 51 GB at 65,536, in a block with room for up to twice as many.
 //!
 //! # What isn't promised
 //! Any order of the ids that are named. Lists in which many rules have both blocks and their ports in common, `any` say,
-//! gain nothing from the columns. Room for links isn't given back before the whole index is.
+//! gain nothing from the columns, nor do IPv6 blocks that differ in their third 32 bits alone. Room for links isn't given
+//! back before the whole index is.
 #![tactic(auto)]
 
 ghost use Rattle.std.specs.Prelude.{◌≡◌, ◌<◌, ◌≤◌, ◌↔◌, ℕ, [], ◌∷◌, ◌++◌, length, IsTrue, IsFalse, IsNone, IfSome, IfOk, OnOk, OnErr, Contains, nat_eq};

@@ -76,6 +76,32 @@ fn pieces(alloc: Global) -> Result<Vec<LivePiece>, Fail> {
     Ok(live)
 }
 
+// IPv6 blocks of one network of 32 bits, and of one of 64 within it, of all lengths from there on, some apart and some
+// nested, 29 of them. Every seventh is an IPv4 block instead, or the source's.
+fn pieces6(alloc: Global) -> Result<Vec<LivePiece>, Fail> {
+    let mut live: Vec<LivePiece> = Vec::new(alloc);
+    for id in 0..29u32 {
+        let len = 32 + id * 37 % 97;
+        let past = 128 - len;
+        let bits = u128::from(id % 5) * 0x3333_3333 + (u128::from(id % 3) * 0x5555_5555 << 64);
+        let addr = (0x2001_0db8u128 << 96) + bits;
+        let block = Prefix::v6(addr >> past << past, len as u8)
+            .ok()
+            .ok_or("no prefix")?;
+        let rank = list_rank(1 + id * 11 % 29);
+        let mut piece = Piece::whole(&route_rule(block, 0));
+        if id % 7 == 3 {
+            piece.src = piece.dst;
+            piece.dst = Prefix::any();
+        }
+        if id % 7 == 5 {
+            piece.dst = Prefix::v4(0x2001_0db8, 32).ok().ok_or("no prefix")?;
+        }
+        live.push(LivePiece { id, piece, rank })?;
+    }
+    Ok(live)
+}
+
 // Whether one of some pieces has an id.
 fn has_id(pieces: &[LivePiece], id: u32) -> bool
     ensures { result ≡ is_live pieces.now id }
@@ -130,23 +156,33 @@ fn index_of(
 }
 
 // What is linked to an id is what a plain loop finds, whether or not some ids have gone, and each piece is found.
+fn compare(
+    rt: &impl Abort,
+    alloc: Global,
+    live: &mut Vec<LivePiece>,
+    thinned: bool,
+) -> Result<(), Fail> {
+    let index = index_of(rt, alloc, live, thinned)?;
+    for of in &*live {
+        assert_eq!(rt; index.id_of(&of.piece, of.rank), Some(of.id));
+        assert_eq!(rt; index.id_of(&of.piece, list_rank(30)), None);
+        for side in [Side::Above, Side::Below] {
+            assert!(rt; is_live(&index, of.id));
+            let mut linked = linked(alloc, &index, side, of.id)?;
+            linked.sort()?;
+            let mut found = plain(alloc, side, of, live)?;
+            found.sort()?;
+            assert_eq!(rt; linked.as_slice(), found.as_slice());
+        }
+    }
+    Ok(())
+}
+
 #[test]
 fn links_what_a_scan_finds(rt: HostRuntime) -> Result<(), Fail> {
     for thinned in [false, true] {
-        let mut live = pieces(rt.alloc())?;
-        let index = index_of(&rt, rt.alloc(), &mut live, thinned)?;
-        for of in &live {
-            assert_eq!(rt; index.id_of(&of.piece, of.rank), Some(of.id));
-            assert_eq!(rt; index.id_of(&of.piece, list_rank(30)), None);
-            for side in [Side::Above, Side::Below] {
-                assert!(rt; is_live(&index, of.id));
-                let mut linked = linked(rt.alloc(), &index, side, of.id)?;
-                linked.sort()?;
-                let mut found = plain(rt.alloc(), side, of, &live)?;
-                found.sort()?;
-                assert_eq!(rt; linked.as_slice(), found.as_slice());
-            }
-        }
+        compare(&rt, rt.alloc(), &mut pieces(rt.alloc())?, thinned)?;
+        compare(&rt, rt.alloc(), &mut pieces6(rt.alloc())?, thinned)?;
     }
     Ok(())
 }

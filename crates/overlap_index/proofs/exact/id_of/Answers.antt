@@ -1,5 +1,5 @@
-use Rattle.std.proofs.Common.{◌≡◌, true, false, get_or, arith, sym, ◌∙◌, eq-eqb}
-use Rattle.overlap_index.proofs.Passed.{none_far, none_here, same_is_equal}
+use Rattle.std.proofs.Common.{◌≡◌, true, false, get_or, arith, sym, ◌∙◌, eq-eqb, eqb-true}
+use Rattle.overlap_index.proofs.Passed.{found_here, none_far, none_here, same_is_equal, equal_is_same}
 use Rattle.overlap_index.proofs.Rows.{columns_size}
 use Rattle.overlap_index.proofs.exact.id_of.Goals as goal
 use Rattle.overlap_index.proofs.exact.id_of.Goals.{else-eq-via-then-eq+else-eq-2, else-eq-via-else-eq}
@@ -27,3 +27,10 @@ loop-next-preserved c =
       inside = omega arith;
       none = none_far c.args.piece.now c.args.priority live c.args.columns.now c.spans_of-spans.result c.loop-next.next next c.requires c.spans_of-spans.ensures.value c.spans_of-spans.ensures.ordered c.loop-next.invariant.none c.next_near-next.ensures.passed;
     }
+
+pub returns-then-eq-2-clause-found : goal.returns-then-eq-2-clause-found
+returns-then-eq-2-clause-found c =
+    let one = c.index-pieces-next.result in
+    let same = equal_is_same one.piece c.args.piece.now (sym c.if-eq-2.ensures) in
+    let rank = eqb-true one.rank c.args.priority (sym c.if-eq.ensures) in
+    found_here c.args.piece.now c.args.priority c.args.pieces.now c.next_near-next.result one (omega arith) (sym c.index-pieces-next.is) same rank

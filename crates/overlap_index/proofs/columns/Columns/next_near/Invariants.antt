@@ -1,4 +1,4 @@
-use Rattle.std.proofs.Common.{◌≡◌, ℕ, ◌-◌, ◌<◌, ◌≤◌, false}
+use Rattle.std.proofs.Common.{◌≡◌, ℕ, ◌-◌, ◌<◌, ◌≤◌, false, length}
 use Rattle.overlap_index.specs.Near.{is_near}
 use Rattle.overlap_index.proofs.columns.Columns.next_near.Given as goal
 
@@ -6,7 +6,7 @@ use Rattle.overlap_index.proofs.columns.Columns.next_near.Given as goal
 abbrev pub invariant-loop-next : goal.invariant-loop-next
 invariant-loop-next l = record {
   from : l.at ≤ l.next;
-  inside : l.next ≤ l.places;
+  inside : l.next ≤ length l.self.dst_firsts;
   passed : (k : ℕ) → l.at ≤ k → k < l.next → is_near l.self l.spans k ≡ false;
 }
 
