@@ -166,6 +166,7 @@ impl Manager {
         ensures journal { D.journal device.new ≡ D.journal device.old }
         ensures events { D.events device.new ≡ D.events device.old }
         ensures flight { D.flight device.new ≡ D.flight device.old }
+        ensures slots { self.new.slots ≡ self.old.slots }
         ensures slot_count { D.slot_count device.new ≡ D.slot_count device.old }
         ensures faults { D.faults device.new ≡ D.faults device.old }
         ensures stays_on { IsOn (D.slot_count device.old) (D.journal device.old) self.old → IsOn (D.slot_count device.new) (D.journal device.new) self.new }
@@ -438,6 +439,7 @@ impl Manager {
         ensures room { HasRoomLeft self.new.held (D.spare device.new) }
         ensures both_ways { HasRoomBothWays self.old.held (D.spare device.old) → HasRoomBothWays self.new.held (D.spare device.new) }
         ensures flight { D.flight device.new ≡ D.flight device.old }
+        ensures slots { self.new.slots ≡ self.old.slots }
         ensures slot_count { D.slot_count device.new ≡ D.slot_count device.old }
         ensures tried { IsTried tries (length (D.journal device.new) - length (D.journal device.old)) (IsStuckBy result) (D.faults device.old) (D.faults device.new) }
         ensures stays_on { IsOn (D.slot_count device.old) (D.journal device.old) self.old → IsOn (D.slot_count device.new) (D.journal device.new) self.new }

@@ -22,7 +22,6 @@ record IsOnWay (old : Managed) (held : HeldCommit) (now : Managed) : Type 0 wher
   pub leads : one.rules ≡ held.rules
   pub turned : one.turned ≡ held.turned
   pub rules : now.rules ≡ old.rules
-  pub slots : now.slots ≡ old.slots
 
 acted-once : (old : Managed) (held : HeldCommit) (action : Action) → old.held ≡ Some held → IsOnWay old held (acted_by old action)
 acted-once old held action under = subst (IsOnWay old held) (sym (ap by under)) (way held.turned refl)
@@ -31,19 +30,19 @@ acted-once old held action under = subst (IsOnWay old held) (sym (ap by under)) 
     by one = elim one [ None ↦ old | Some held ↦ elim held.turned [ None ↦ forward_by old held action | Some undone ↦ back_by old held action ] ]
 
     on : (one : Action) → IsOnWay old held (forward_by old held one)
-    on (Written write) = record { one = _; under_way = refl; leads = refl; turned = refl; rules = refl; slots = refl }
-    on Drained = record { one = _; under_way = refl; leads = refl; turned = refl; rules = refl; slots = refl }
+    on (Written write) = record { one = _; under_way = refl; leads = refl; turned = refl; rules = refl }
+    on Drained = record { one = _; under_way = refl; leads = refl; turned = refl; rules = refl }
 
     back : (one : Action) → IsOnWay old held (back_by old held one)
-    back (Written write) = record { one = _; under_way = refl; leads = refl; turned = refl; rules = refl; slots = refl }
-    back Drained = record { one = held; under_way = under; leads = refl; turned = refl; rules = refl; slots = refl }
+    back (Written write) = record { one = _; under_way = refl; leads = refl; turned = refl; rules = refl }
+    back Drained = record { one = held; under_way = under; leads = refl; turned = refl; rules = refl }
 
     way : (turned : Option ℕ) → held.turned ≡ turned → IsOnWay old held (by (Some held))
     way None is = subst (IsOnWay old held) (sym (ap (λ t. elim t [ None ↦ forward_by old held action | Some undone ↦ back_by old held action ]) is)) (on action)
     way (Some undone) is = subst (IsOnWay old held) (sym (ap (λ t. elim t [ None ↦ forward_by old held action | Some undone ↦ back_by old held action ]) is)) (back action)
 
 acted-keeps : (actions : List Action) (old : Managed) (held : HeldCommit) → old.held ≡ Some held → IsOnWay old held (acted old actions)
-acted-keeps [] old held under = record { one = held; under_way = under; leads = refl; turned = refl; rules = refl; slots = refl }
+acted-keeps [] old held under = record { one = held; under_way = under; leads = refl; turned = refl; rules = refl }
 acted-keeps (action ∷ actions) old held under =
     let first = acted-once old held action under in
     let rest = acted-keeps actions (acted_by old action) first.one first.under_way in record {
@@ -52,7 +51,6 @@ acted-keeps (action ∷ actions) old held under =
       leads = rest.leads ∙ first.leads;
       turned = rest.turned ∙ first.turned;
       rules = rest.rules ∙ first.rules;
-      slots = rest.slots ∙ first.slots;
     }
 
 due-writes : (held : HeldCommit) → writes_in (actions_due held) ≡ writes_due held
@@ -69,9 +67,6 @@ left-writes (Some held) = due-writes held
 module _ (old new : Managed) (before after : List Write) (left : ℕ) (stops : StopsAt old new before after left) where
   way : IsOnWay old stops.held new
   way = subst (IsOnWay old stops.held) (sym stops.new_is) (acted-keeps stops.made old stops.held stops.under_way)
-
-  stopped-slots : new.slots ≡ old.slots
-  stopped-slots = way.slots
 
   -- what was made and what is left are together what was left before
   stopped-made : after ++ writes_left new.held ≡ before ++ writes_left old.held
@@ -108,9 +103,6 @@ module _ (old new : Managed) (before after : List Write) (left : ℕ) (stops : S
 module _ (old new : Managed) (before after : List Write) (words : ℕ) (why : Unfinished) (left : ℕ) (is : why ≡ Stuck left) (stops : StopsBy old new before after words why) where
   stuck : StopsAt old new before after left × IsSome (next_of new.held)
   stuck = subst (λ one. StopsBy old new before after words one) is stops
-
-  pub stuck-slots : new.slots ≡ old.slots
-  stuck-slots = stopped-slots old new before after left stuck.0
 
   pub stuck-made : after ++ writes_left new.held ≡ before ++ writes_left old.held
   stuck-made = stopped-made old new before after left stuck.0
