@@ -142,14 +142,14 @@ fn helps(rt: HostRuntime) -> Result<(), Fail> {
     let routes = "tcam route: carries out a script of routes, and writes a report.\n";
     let lists = "tcam acl: carries out a script of an access list, and writes a report.\n";
     let made = "tcam gen: carries out changes of an access list that it makes from a number, and\n";
-    tells_help(&rt, "tcam --help", program, 2523)?;
-    tells_help(&rt, "tcam -h acl", program, 2523)?;
-    tells_help(&rt, "tcam route --slots 8 -h", routes, 1623)?;
-    tells_help(&rt, "tcam acl --help", lists, 1978)?;
+    tells_help(&rt, "tcam --help", program, 2522)?;
+    tells_help(&rt, "tcam -h acl", program, 2522)?;
+    tells_help(&rt, "tcam route --slots 8 -h", routes, 1633)?;
+    tells_help(&rt, "tcam acl --help", lists, 1988)?;
     let routes6 = "tcam route6: carries out a script of IPv6 routes, and writes a report.\n";
     let lists6 = "tcam acl6: carries out a script of an IPv6 access list, and writes a report.\n";
-    tells_help(&rt, "tcam route6 -h", routes6, 1636)?;
-    tells_help(&rt, "tcam acl6 --slots 8 --help", lists6, 1997)?;
+    tells_help(&rt, "tcam route6 -h", routes6, 1646)?;
+    tells_help(&rt, "tcam acl6 --slots 8 --help", lists6, 2007)?;
     tells_help(&rt, "tcam gen -h", made, 893)
 }
 

@@ -70,7 +70,8 @@ pub record ActsOnce (rest : Option ℕ) (now : Managed) (held : HeldCommit) (act
   pub left_is : left_of next (state_after now.state (writes_in (action ∷ []))) one ≡ left
   pub same : IsSame rest next held one
 
--- What a step does to a commit: it makes the next action, waits with a drain for the words in flight, or comes to the end.
+-- What a step does to a commit: it makes the next action, waits with a drain for the words in flight, or comes to the
+-- end.
 pub data GoesOn (rest : Option ℕ) (now : Managed) (held : HeldCommit) (words : ℕ) (did : Step) (new : Managed) : Type 0 where
   Finishes : left_of rest now.state held ≡ [] → goes_back rest held ≡ false → did ≡ step.Finished held.counts → new ≡ record now { rules = held.rules; bits = held.bits; held = None } → GoesOn rest now held words did new
   Reverts : (undone : ℕ) → left_of rest now.state held ≡ [] → goes_back rest held ≡ true → did ≡ step.Reverted undone → new ≡ record now { held = None } → GoesOn rest now held words did new

@@ -96,8 +96,8 @@ makes-once most told now held action new is acts =
       same = subst (λ rest. IsSame (rest_of most told) rest held acts.one) next acts.same;
     }
 
--- Actions of a commit under way are being made: so many writes are told and the words of so many of these are in flight, and
--- the device has room for the actions that are left, and for the way back.
+-- Actions of a commit under way are being made: so many writes are told and the words of so many of these are in
+-- flight, and the device has room for the actions that are left, and for the way back.
 pub record IsMaking (most : Option ℕ) (begun now : Managed) (watch : Watching) (count count_now : Count) (events_begun events_now : List Action) (flight : Flight) (spare : ℕ) : Type 0 where
   pub some : MakesSome most count.told begun now
   pub come : HasCome watch count count_now some.made

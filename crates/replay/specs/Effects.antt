@@ -46,8 +46,8 @@ printed (Prints line ∷ effects) = line ++ printed effects
 abbrev pub traced : Bool → List ℕ → List Effect
 traced trace line = if trace then Prints line ∷ [] else []
 
--- each probe's answer after so many writes, in the order of the probes: what the device answers its key when its word is
--- searched
+-- each probe's answer after so many writes, in the order of the probes: what the device answers its key when its word
+-- is searched
 abbrev pub searches_of : Family → ℕ → State → ℕ → List Key → List Effect
 searches_of family number state probe [] = []
 searches_of family number state probe (key ∷ keys) =
@@ -58,7 +58,8 @@ abbrev pub flushed : Family → List Key → ℕ → State → ℕ → List Effe
 flushed family probes number state zero = []
 flushed family probes number state (suc more) = searches_of family number state 1 probes ++ flushed family probes number state more
 
--- after a write all probes are translated, and those that were so a depth of writes before are searched
+-- The lines behind a write, after which a word of each probe is made: where the words of a depth of writes wait
+-- already, the oldest are searched, and of depth 0 the new ones. Making a word is no effect.
 abbrev pub searched_after : Setting → List Key → ℕ → ℕ → State → List Effect
 searched_after setting probes number waiting state =
     elim (waiting == setting.depth) [ true ↦ searches_of setting.family number state 1 probes | false ↦ [] ]
@@ -69,8 +70,8 @@ waiting_after depth waiting [] = waiting
 waiting_after depth waiting (Written write ∷ actions) = waiting_after depth (min (waiting + 1) depth) actions
 waiting_after depth waiting (Drained ∷ actions) = waiting_after depth 0 actions
 
--- What some actions of a commit do, after so many of its writes and with the words of so many of these in flight. Before a
--- drain all words in flight are searched.
+-- What some actions of a commit do, after so many of its writes and with the words of so many of these in flight.
+-- Before a drain all words in flight are searched.
 abbrev pub effects_of : Setting → List Key → ℕ → ℕ → State → List Action → List Effect
 effects_of setting probes number waiting state [] = []
 effects_of setting probes number waiting state (Written write ∷ actions) =

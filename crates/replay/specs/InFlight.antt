@@ -42,7 +42,8 @@ found_all family number state size zero flight = []
 found_all family number state size (suc more) flight =
     found_lines family number state 1 (take size flight) ++ found_all family number state size more (drop size flight)
 
--- after a write the words of all probes are behind those in flight, and with those of so many writes before they are searched
+-- after a write the words of all probes are behind those in flight, and with those of so many writes before they are
+-- searched
 abbrev pub found_after : Family → List Key → ℕ → ℕ → ℕ → State → Flight → List Effect
 found_after family probes depth number waiting state flight =
     elim (waiting == depth) [

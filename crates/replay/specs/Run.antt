@@ -24,7 +24,8 @@ use Rattle.replay.specs.declared.Act.TheVariants.{Command, Probe, Packet, Commit
 use Rattle.replay.specs.Effects.{Setting, Effect, Acts, Prints, effects_of, flushed, waiting_after}
 use Rattle.replay.specs.Text.{packet_line, aborted_line, accepted_line, refused_line, end_line}
 
--- where a run stands: set, pending batch, probes, live ranges, device, commits, writes, and whether a commit was refused
+-- where a run stands: set, pending batch, probes, live ranges, device, commits, writes, and whether a commit was
+-- refused
 pub record Progress : Type 0 where
   pub rules : List Rule
   pub batch : List Change
@@ -72,7 +73,8 @@ after_segment setting old made =
       writes = old.writes + length made;
     }
 
--- where a run stands after a commit that was taken back by so many writes both ways: set, live ranges and device are as before
+-- where a run stands after a commit that was taken back by so many writes both ways: set, live ranges and device are as
+-- before
 abbrev pub after_return : Progress → ℕ → Progress
 after_return old writes = record old { batch = []; commits = old.commits + 1; writes = old.writes + writes }
 
@@ -109,8 +111,8 @@ pub record Commits (setting : Setting) (old : Progress) (effects : List Effect) 
 abbrev pub actions_back : Setting → Progress → ℕ → List Write → List Action
 actions_back setting old most made = back_from old.state (up_to_writes most (actions_for setting old made))
 
--- One that is taken back has more writes: it makes the first ones and undoes them, each with its lines, and prints how many
--- both ways.
+-- One that is taken back has more writes: it makes the first ones and undoes them, each with its lines, and prints how
+-- many both ways.
 pub record Returns (setting : Setting) (old : Progress) (most : ℕ) (effects : List Effect) (new : Progress) : Type 0 where
   pub made : List Write
   pub more : most < length made

@@ -36,17 +36,17 @@ use Rattle.replay.specs.declared.RunFault.{RunFault}
 use Rattle.replay.specs.declared.RunFault.TheVariants.{BatchFull, ProbesFull, Sink, Device, Memory, Held}
 use Rattle.replay.specs.Carried.{IsAt, Does, Carries, CutsAtLine, CutsAtWrite, CutsEffects, Wants}
 
--- what is told of each write: how rules are named, whether a trace is wanted, after how many further writes a probe's word is
--- searched, and the keys that are probed
+-- what is told of each write: how rules are named, whether a trace is wanted, after how many further writes a probe's
+-- word is searched, and the keys that are probed
 pub record Watching : Type 0 where
   pub family : Family
   pub trace : Bool
   pub depth : ℕ
   pub probes : List Key
 
--- The manager, what is told of each write, the pending batch, and what the report counts; how many writes of an unfinished
--- commit were made, each of them told, of how many of these the probes' words are in flight, and after how many it is taken
--- back, if it is a trial; and whether the sink failed.
+-- The manager, what is told of each write, the pending batch, and what the report counts; how many writes of an
+-- unfinished commit were made, each of them told, of how many of these the probes' words are in flight, and after how
+-- many it is taken back, if it is a trial; and whether the sink failed.
 pub record Running : Type 0 where
   pub manager : Managed
   pub family : Family
@@ -200,8 +200,8 @@ abbrev pub routes_of : IpVersion → Family
 routes_of V4 = Route
 routes_of V6 = Route6
 
--- A run between two calls: each commit made few writes. In a script of routes the rules are routes of its version, and the
--- pending changes are changes of such routes. A commit under way is that of the pending batch.
+-- A run between two calls: each commit made few writes. In a script of routes the rules are routes of its version, and
+-- the pending changes are changes of such routes. A commit under way is that of the pending batch.
 pub record IsRun (run : Running) : Type 0 where
   pub changes : (version : IpVersion) → run.family ≡ routes_of version → OnlyChangesRoutes version run.pending
   pub routes : (version : IpVersion) → run.family ≡ routes_of version → AllByRecursion (IsRoute version) run.manager.rules
@@ -338,7 +338,8 @@ abbrev pub ended_line : ℕ → Ended → ℕ → List ℕ
 ended_line commit (ended.Finished done) writes = accepted_line commit done
 ended_line commit ended.Reverted writes = aborted_line commit writes
 
--- All of them are made, and told where the device and the words in flight were as they should be when they began (`Seen`).
+-- All of them are made, and told where the device and the words in flight were as they should be when they began
+-- (`Seen`).
 pub record MakesAll (Seen : Type 0) (most : Option ℕ) (begun : Managed) (watch : Watching) (device_slots : ℕ) (count count_now : Count) (ended : Ended) (now : Managed) (events_begun events_now : List Action) (taken_begun taken_now : Option (List ℕ)) : Type 0 where
   pub held : HeldCommit
   pub actions : List Action

@@ -2,27 +2,28 @@
 //!
 //! A [`Run`] takes the acts of a script one at a time. A change joins the pending batch; a packet is looked up in the
 //! device as it stands; a commit is judged by the manager and, where it is taken, carried out write by write. Where a
-//! trace is wanted each write has its line. Each probe is looked up again after each write, in two events: its word is made
-//! then, and searched a depth of writes later, or before a drain or the commit's line.
+//! trace is wanted each write has its line. Each probe is looked up again after each write, in two events: its word is
+//! made then, and searched a depth of writes later, or before a drain or the commit's line.
 //!
 //! # The one hard idea
-//! What an act does is a list of effects, device writes and report lines in one order, said of rule lists, journal and
-//! report alone (`specs/Run`). A body that prints first and writes later has other effects, and so has one that answers
-//! a probe from the set and not from the device as it stands. `apply` has exactly the effects of its act, or those
-//! before the line or the write that failed, and no memory is taken between two writes of a commit. A write that fails
-//! is tried again at once, [`TRIES`] times in all.
+//! What an act does is a list of effects, device writes, drains and report lines in one order, said of rule lists,
+//! journal and report alone (`specs/Run`). A body that prints first and writes later has other effects, and so has one
+//! that answers a probe from the set and not from the device as it stands. `apply` has exactly the effects of its act,
+//! or those before the line or the write that failed, and no memory is taken between two writes of a commit. A write
+//! that fails is tried again at once, [`TRIES`] times in all.
 //!
 //! # How it stands
-//! `run` has the acts, `steps` the commit's loop, `watch` what is told after a write, `report` the lines, and `report_line`
-//! how they are made of words, in fixed room. Each line goes to the sink, with its line feed, before the next effect.
+//! `run` has the acts, `steps` the commit's loop, `watch` what is told after a write, `report` the lines, and
+//! `report_line` how they are made of words, in fixed room. Each line goes to the sink, with its line feed, before the
+//! next effect.
 //!
 //! # What it cost
 //! A line is written as soon as it is known, so a trace takes a call of the sink for each line. A failed line of a
 //! trace or a probe may stand within a commit; the commit is then still under way, as where a write fails.
 //!
 //! # A device that fails
-//! Where a write failed at all of its tries the rest of its commit is held, and [`Run::resume`] goes on with it: the writes
-//! and lines of both calls are those of the commit, each once. Until then no act is taken.
+//! Where a write failed at all of its tries the rest of its commit is held, and [`Run::resume`] goes on with it: the
+//! writes and lines of both calls are those of the commit, each once. Until then no act is taken.
 //!
 //! # What isn't promised
 //! That a run can go on after a failed line: a part of it may stand in the report, so no call may follow a fault of the
@@ -51,8 +52,9 @@ use thiserror::Error;
 /// has passed by then, and a lasting one is told soon.
 pub const TRIES: u32 = 4;
 
-/// What the rules of a script are, and of which version of IP. It decides how lines are read, how the report names rules,
-/// and which bounds hold: among routes nothing is crossed, and an insertion takes at most 33 writes of IPv4, 129 of IPv6.
+/// What the rules of a script are, and of which version of IP. It decides how lines are read, how the report names
+/// rules, and which bounds hold: among routes nothing is crossed, and an insertion takes at most 33 writes of IPv4, 129
+/// of IPv6.
 #[derive(Clone, Copy, Debug, PartialEq, Eq)]
 pub enum Family {
     /// Routes of IPv4, named by their prefix.

@@ -1,5 +1,6 @@
 //! The lines of a report.
-//! What is said of a sink's bytes (`WritesLine`) holds of either count of them: of what it tells, and of what it accepted.
+//! What is said of a sink's bytes (`WritesLine`) holds of either count of them: of what it tells, and of what it
+//! accepted.
 ghost use Rattle.std.specs.Prelude.{◌≡◌, ◌≢◌, ◌<◌, ◌≤◌, [], ◌∷◌, ◌++◌, length};
 ghost use Rattle.rule_store.specs.Verdict.{Accepted};
 ghost use Rattle.replay.specs.Text.{packet_line, probe_line, trace_line, drain_line, aborted_line, accepted_line, refused_line, fault_line, end_line};

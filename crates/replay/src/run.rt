@@ -59,9 +59,9 @@ impl Model for Run {
 
 impl Run {
     /// A run before its first act, over a blank device with so many slots in use, 1 to 4,096: no rules, no probe, and
-    /// no change pending. The mode says how port ranges are tested, and each insertion aims where the placement says. With a
-    /// trace each write of a commit has its line. The words of the probes are searched a depth of writes after the one that
-    /// they were made behind, at most 15. It fails only for want of memory.
+    /// no change pending. The mode says how port ranges are tested, and each insertion aims where the placement says.
+    /// With a trace each write of a commit has its line. The words of the probes are searched a depth of writes after
+    /// the one that they were made behind, at most 15. It fails only for want of memory.
     pub fn new(
         alloc: Global,
         slots: u32,
@@ -103,31 +103,32 @@ impl Run {
     ///
     /// A change joins the pending batch. With 4,096 changes pending the answer is `BatchFull`, and nothing has
     /// changed. A probe is looked up after each later write. With 16 probes the answer is `ProbesFull`, and nothing has
-    /// changed. A packet's line is what the set answers; the device is asked, which holds the run's writes and so answers
-    /// the same.
+    /// changed. A packet's line is what the set answers; the device is asked, which holds the run's writes and so
+    /// answers the same.
     ///
     /// A commit is judged by the set, the batch and the slots alone. A refused one writes nothing to the device: its
     /// line is written, with the first reason, and the set stays. An accepted one makes its writes one at a time, and
     /// none of them leaves a state in which a packet gets another answer than the old set's or the new one's. After
-    /// each write its line is written, where a trace is wanted, then a word is made of each probe, and the words that were
-    /// made a depth of writes before are searched, each with its line.
-    /// Then the set is the one after the batch, and the commit's line is written, with its numbers. Either is counted,
-    /// and drops the batch.
+    /// each write its line is written, where a trace is wanted, then a word is made of each probe, and the words that
+    /// were made a depth of writes before are searched, each with its line. Then the set is the one after the batch,
+    /// and the commit's line is written, with its numbers. Either is counted, and drops the batch.
     ///
-    /// `Held` comes exactly where a commit is unfinished after `Device`, before any other answer, with the writes that are
-    /// left; nothing has changed. `Memory` comes at a change, or at a commit that would be accepted. Nothing was done then,
-    /// and the run is as before. `Sink` comes exactly where the sink's count of failures rose: all that comes before the
-    /// line was done, and a part of the line was taken, perhaps none or all of it. No call may follow it. `Device` comes
-    /// where one write failed four times, and the device's count of failures rose by that: the writes of the commit before
-    /// the failed one were made and told, and its line wasn't written. The rest of it is held, and `resume` goes on with it.
-    /// A write that fails less often is made, once, and nothing tells of its failures.
+    /// `Held` comes exactly where a commit is unfinished after `Device`, before any other answer, with the writes that
+    /// are left; nothing has changed. `Memory` comes at a change, or at a commit that would be accepted. Nothing was
+    /// done then, and the run is as before. `Sink` comes exactly where the sink's count of failures rose: all that
+    /// comes before the line was done, and a part of the line was taken, perhaps none or all of it. No call may follow
+    /// it. `Device` comes where one write failed four times, and the device's count of failures rose by that: the
+    /// writes of the commit before the failed one were made and told, and its line wasn't written. The rest of it is
+    /// held, and `resume` goes on with it. A write that fails less often is made, once, and nothing tells of its
+    /// failures.
     ///
-    /// A trial is a commit that is taken back right after so many writes, where it has more: each of them is undone, the last
-    /// first, by a write that has its line as any other, and the set, the live ranges and the device are as before.
+    /// A trial is a commit that is taken back right after so many writes, where it has more: each of them is undone,
+    /// the last first, by a write that has its line as any other, and the set, the live ranges and the device are as
+    /// before.
     ///
-    /// While no commit is unfinished no word is in flight. The words of the probes are in flight within a commit alone, and
-    /// all of them are searched before its drain and before its line. Each line tells what an undivided look-up of its
-    /// probe's key would find at the moment of the search. A drain is no write; with a trace it has its line.
+    /// While no commit is unfinished no word is in flight. The words of the probes are in flight within a commit alone,
+    /// and all of them are searched before its drain and before its line. Each line tells what an undivided look-up of
+    /// its probe's key would find at the moment of the search. A drain is no write; with a trace it has its line.
     pub fn apply<K: Sink, D: Device>(
         &mut self,
         act: &Act,
@@ -163,13 +164,13 @@ impl Run {
     }
 
     /// Goes on with a commit that is unfinished after `Device`, from the write that failed, which has four tries again,
-    /// through the commit's line. Its writes keep their numbers, and no write and no line comes twice. `Ok` says that no
-    /// commit is unfinished, and where none was, nothing is done. It asks for the device as it was left, with the
+    /// through the commit's line. Its writes keep their numbers, and no write and no line comes twice. `Ok` says that
+    /// no commit is unfinished, and where none was, nothing is done. It asks for the device as it was left, with the
     /// words in flight that were left: those of the probes, for the last writes that were told.
     ///
     /// `Device` comes as in `apply`, and then `resume` may be called again: the caller says how often, and how long it
-    /// waits between. `Sink` comes as there, too, and no call may follow it. Nothing else comes, since all memory for the
-    /// commit was taken before its first write.
+    /// waits between. `Sink` comes as there, too, and no call may follow it. Nothing else comes, since all memory for
+    /// the commit was taken before its first write.
     pub fn resume<K: Sink, D: Device>(
         &mut self,
         sink: &mut K,
@@ -300,8 +301,8 @@ impl Run {
         }
     }
 
-    // Commits the pending batch, which is empty afterwards unless memory was wanting. A trial is taken back right after so
-    // many writes, where it has more.
+    // Commits the pending batch, which is empty afterwards unless memory was wanting. A trial is taken back right after
+    // so many writes, where it has more.
     fn commit<K: Sink, D: Device>(
         &mut self,
         most: Option<u32>,
@@ -364,7 +365,8 @@ impl Run {
         }
     }
 
-    // Makes and tells the writes that are left of the commit under way, counts it, drops its batch, and writes its line.
+    // Makes and tells the writes that are left of the commit under way, counts it, drops its batch, and writes its
+    // line.
     fn carry_out<K: Sink, D: Device>(
         &mut self,
         sink: &mut K,
@@ -410,8 +412,8 @@ impl Run {
     }
 
     /// Writes the last line of a run that came to its end: the rules of the set, their entries, the device writes of
-    /// its commits, none of which is unfinished, and the changes that are pending. Answers whether a commit was refused.
-    /// Where the sink fails, a part of the line was taken, perhaps none or all of it. The run stays as it was.
+    /// its commits, none of which is unfinished, and the changes that are pending. Answers whether a commit was
+    /// refused. Where the sink fails, a part of the line was taken, perhaps none or all of it. The run stays as it was.
     pub fn finish<K: Sink>(&mut self, sink: &mut K) -> Result<bool, Failed>
         requires whole { self.old.broken ≡ false }
         requires idle { self.old.manager.held ≡ None }

@@ -31,9 +31,10 @@ pub(crate) enum Ended {
     Reverted,
 }
 
-/// Makes the writes that are left of the commit under way, one at a time, and tells each of them, with the number behind
-/// those that were told before. Before its drain the words in flight are searched. `Sink` comes where a line can't be written,
-/// and `Device` where a write failed each time it was tried. The words of the last writes stay in flight.
+/// Makes the writes that are left of the commit under way, one at a time, and tells each of them, with the number
+/// behind those that were told before. Before its drain the words in flight are searched. `Sink` comes where a line
+/// can't be written, and `Device` where a write failed each time it was tried. The words of the last writes stay in
+/// flight.
 pub(crate) fn make_writes<K: Sink, D: Device>(
     manager: &mut Manager,
     watch: &Watch,

@@ -1,7 +1,7 @@
 //! What the report shows after each write of a commit.
 //!
-//! A probe is a look-up of two events: after each write the words of all probes are put into flight, and they are searched a
-//! depth of writes later. Behind the search a line tells what it answered.
+//! A probe is a look-up of two events: after each write the words of all probes are put into flight, and they are
+//! searched a depth of writes later. Behind the search a line tells what it answered.
 
 ghost use Rattle.std.specs.Prelude.{◌≡◌, ◌≢◌, ◌↔◌, ◌==◌, ◌+◌, ◌≤◌, ◌++◌, ◌∷◌, [], true, IsTrue, IfOk, OnOk, length, take, drop, min};
 ghost use Rattle.std.specs.List.{AllByRecursion};
@@ -24,8 +24,8 @@ use tcam_device::{Device, Write};
 /// The most keys that are probed.
 pub(crate) const MOST_PROBES: usize = 16;
 
-/// How far an unfinished commit has come: how many of its writes were made and told, and of how many of these the probes'
-/// words are in flight.
+/// How far an unfinished commit has come: how many of its writes were made and told, and of how many of these the
+/// probes' words are in flight.
 #[derive(Clone, Copy, Debug, PartialEq, Eq)]
 pub(crate) struct Count {
     pub(crate) told: u64,
@@ -108,9 +108,9 @@ impl Watch {
         self.probes.push_reserved(key);
     }
 
-    /// Tells of a write that was made and counted, while the words of so many writes before it wait: the words of all probes
-    /// follow them into flight, and with a depth of them waiting already the oldest are searched. Where the sink fails,
-    /// the lines before the one that it didn't take whole are written. It takes no memory.
+    /// Tells of a write that was made and counted, while the words of so many writes before it wait: the words of all
+    /// probes follow them into flight, and with a depth of them waiting already the oldest are searched. Where the sink
+    /// fails, the lines before the one that it didn't take whole are written. It takes no memory.
     pub(crate) fn tell<K: Sink, D: Device>(
         &self,
         number: u64,

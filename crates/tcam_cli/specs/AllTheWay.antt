@@ -19,8 +19,8 @@ use Rattle.tcam_cli.specs.Headline.{Job, NoJob, Tells, Reads, Makes, acts_of, is
 use Rattle.tcam_cli.specs.MadeScript.{made_script}
 use Rattle.tcam_cli.specs.Readings.{reading}
 
--- The sets that acts lead through, by the rule lists and by which accepted trials are taken back: the first, one more for each
--- accepted commit, and for a trial that is taken back the new set and then the old one again.
+-- The sets that acts lead through, by the rule lists and by which accepted trials are taken back: the first, one more
+-- for each accepted commit, and for a trial that is taken back the new set and then the old one again.
 abbrev pub sets_through : Setting → List Bool → List Rule → List Change → List Act → List (List Rule)
 sets_through setting backs rules batch [] = rules ∷ []
 sets_through setting backs rules batch (Command change ∷ acts) = sets_through setting backs rules (batch ++ change ∷ []) acts
@@ -107,7 +107,8 @@ EndsAs state setting backs script came DeviceFault writes = Unit {0}
 EndsAs state setting backs script came Memory writes = EndsAfterSome state setting backs script writes
 EndsAs state setting backs script came Usage writes = ⊥
 
--- What packets see of a run over a script, on a device that was blank: its trials were taken back, or not, as these say.
+-- What packets see of a run over a script, on a device that was blank: its trials were taken back, or not, as these
+-- say.
 pub record IsHitlessRun (setting : Setting) (device_slots : ℕ) (script came : Script) (status : Status) (journal : List Write) : Type 0 where
   pub backs : List Bool
   pub answers : AnswersAllTheWay (blank device_slots) (sets_of setting backs script) journal

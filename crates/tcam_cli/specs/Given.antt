@@ -1,6 +1,6 @@
--- The promise of the top call over every source, told or not, by the bytes that the source gave. A source that foretells
--- nothing is promised what each source is that may have given the same: the bytes given, and then any rest, which is
--- nothing where the source said that the input is at its end.
+-- The promise of the top call over every source, told or not, by the bytes that the source gave. A source that
+-- foretells nothing is promised what each source is that may have given the same: the bytes given, and then any rest,
+-- which is nothing where the source said that the input is at its end.
 use Rattle.std.specs.Prelude.{◌≡◌, ℕ, Option, List, [], ◌∷◌, ◌++◌}
 use Rattle.std.specs.List.{concat}
 use Rattle.script_lines.specs.Given.{HasEnd, MayGive, ByGiven}

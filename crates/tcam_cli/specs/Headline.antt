@@ -1,6 +1,8 @@
 -- What the top call promises: for every script the commits are accepted or refused as the rule lists alone say; after
--- every device write each packet gets the old or the new rule set's answer, and after a commit's last write the new
--- one; a refused commit writes nothing; and an insertion takes at most 1 + 2 m (1 + c) writes.
+-- every device write each packet gets the old or the new rule set's answer, and after the last write of a commit that
+-- finishes the new one, of a trial that is taken back the old one; a refused commit writes nothing; and an insertion
+-- takes at most 1 + 2 m (1 + c) writes. Writes, drains and lines come in one order: a probe's line stands a depth of
+-- writes behind its write, or before a drain or the commit's end, and a drain only where a commit gives new bits.
 use Rattle.std.specs.Prelude.{◌≡◌, ◌≢◌, ℕ, ◌-◌, ◌==◌, true, false, Bool, Option, Some, option_map, IfSome, List, [], ◌∷◌, ◌++◌, length, take, drop, map, ◌⊎◌}
 use Rattle.std.specs.Io.KnownBytes.{Appends}
 use Rattle.call_history.specs.Cause.{IsCounted}
@@ -189,8 +191,8 @@ abbrev pub is_back : List Bool → Bool
 is_back [] = false
 is_back (back ∷ backs) = back
 
--- whether a commit of the acts is refused, by the rule lists alone and by which accepted trials are taken back: the set before
--- the acts and the batch that is pending
+-- whether a commit of the acts is refused, by the rule lists alone and by which accepted trials are taken back: the set
+-- before the acts and the batch that is pending
 abbrev pub any_refused : Setting → List Bool → List Rule → List Change → List Act → Bool
 any_refused setting backs rules batch [] = false
 any_refused setting backs rules batch (Command change ∷ acts) = any_refused setting backs rules (batch ++ change ∷ []) acts
@@ -219,8 +221,8 @@ decided setting backs script =
       | FaultAt line text ↦ ScriptFault
     ]
 
--- The status that words and script alone decide, where the script is told or made. Which trials are taken back rests on the
--- number of their writes; a script without trials has one status, whatever is said of them.
+-- The status that words and script alone decide, where the script is told or made. Which trials are taken back rests on
+-- the number of their writes; a script without trials has one status, whatever is said of them.
 abbrev pub decision : Job → List Bool → Option (List ℕ) → Option Status
 decision NoJob backs left = Some Usage
 decision (Tells text) backs left = Some Done
@@ -256,9 +258,9 @@ MayEnd Done job left = IsDecided Done job left
 MayEnd Refused job left = IsDecided Refused job left
 MayEnd ScriptFault job left = ReadsSource job × IsDecided ScriptFault job left
 
--- A fault of source or sink exactly where its count rose, by one; of the device where its count rose by four, as by four
--- tries of one write, and beside them by at most three for each write that was made. Else it is want of memory, or the
--- status that words and script decide.
+-- A fault of source or sink exactly where its count rose, by one; of the device where its count rose by four, as by
+-- four tries of one write, and beside them by at most three for each write that was made. Else it is want of memory, or
+-- the status that words and script decide.
 pub record HasCauses (job : Job) (left : Option (List ℕ)) (status : Status) (made source_old source_new sink_old sink_new device_old device_new : ℕ) : Type 0 where
   pub read : IsCounted (status ≡ ReadFault) source_old source_new
   pub write : IsCounted (status ≡ WriteFault) sink_old sink_new

@@ -33,7 +33,7 @@ help_text = codes "tcam: the table manager of a ternary content-addressable memo
     ++ 10 ∷ codes "                     entries that it must stand between, which is the default;"
     ++ 10 ∷ codes "                     or rank, its place among all entries, for a table that is"
     ++ 10 ∷ codes "                     loaded in one commit, or a list in its order"
-    ++ 10 ∷ codes "    --trace          a line for each device write; gen has no such option"
+    ++ 10 ∷ codes "    --trace          a line for each device write and drain; not for gen"
     ++ 10 ∷ codes "    --depth K        of scripts, after how many further writes the words of the"
     ++ 10 ∷ codes "                     probes are searched: 0 to 15, by default 0, at once"
     ++ 10 ∷ 10 ∷ codes "Exit status:"
@@ -95,7 +95,7 @@ unfoldable pub placement_line : List ℕ
 placement_line = codes "    --placement P    where a new entry aims: middle, the default, or rank"
 
 unfoldable pub trace_line : List ℕ
-trace_line = codes "    --trace          a line for each device write"
+trace_line = codes "    --trace          a line for each device write and drain"
 
 unfoldable pub depth_line : List ℕ
 depth_line = codes "    --depth K        probes are searched K writes later, 0 to 15, by default 0"

@@ -1,4 +1,5 @@
--- Where a run over a script stands between two lines, what a turn comes to, how a run ends, and what a command of it has.
+-- Where a run over a script stands between two lines, what a turn comes to, how a run ends, and what a command of it
+-- has.
 use Rattle.std.specs.Prelude.{◌≡◌, ◌≢◌, ◌⊎◌, ℕ, ◌≤◌, ◌++◌, ◌∷◌, Bool, false, Option, None, Some, IsSome, IfNone, IfSome, List, [], length, map}
 use Rattle.std.specs.Io.KnownBytes.{Appends}
 use Rattle.call_history.specs.Cause.{IsCounted}
@@ -59,8 +60,8 @@ pub record IsGoing (reading : Reading) (bytes : List ℕ) (held : HeldBytes) (le
 abbrev pub IsAllRead : Reading → List ℕ → List ℕ → List NumberedAct → Type 0
 IsAllRead reading bytes left acts = (script_of reading bytes ≡ record { acts = acts; last = Whole }) × (left ≡ [])
 
--- The status of a run at an act that isn't carried out. A full batch and too many probes are at fault at a line; and no act
--- comes while a commit is unfinished, since a run ends at the device's failure.
+-- The status of a run at an act that isn't carried out. A full batch and too many probes are at fault at a line; and no
+-- act comes while a commit is unfinished, since a run ends at the device's failure.
 abbrev pub status_of_fault : RunFault → Status
 status_of_fault fault.Sink = WriteFault
 status_of_fault fault.Device = DeviceFault

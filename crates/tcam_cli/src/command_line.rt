@@ -19,8 +19,8 @@ use std::alloc::{AllocError, Global};
 #[derive(Clone, Copy, Debug, PartialEq, Eq)]
 pub enum Asked {
     /// A script of this family from the source, with so many slots in use, 1 to 4,096, where port ranges are tested as
-    /// the mode says and each insertion aims as the placement says, with a trace or without, and with the words of probes
-    /// searched after so many further writes, at most 15.
+    /// the mode says and each insertion aims as the placement says, with a trace or without, and with the words of
+    /// probes searched after so many further writes, at most 15.
     Script {
         family: Family,
         slots: u32,
@@ -29,8 +29,8 @@ pub enum Asked {
         trace: bool,
         depth: u32,
     },
-    /// Commands of an access list that are made from a seed up to 2,147,483,647, 1 to 64 batches of 1 to 256 rules each,
-    /// over so many slots, in this mode and by this placement, and without a trace. No source is read.
+    /// Commands of an access list that are made from a seed up to 2,147,483,647, 1 to 64 batches of 1 to 256 rules
+    /// each, over so many slots, in this mode and by this placement, and without a trace. No source is read.
     Made {
         slots: u32,
         mode: Mode,

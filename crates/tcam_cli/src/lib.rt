@@ -1,5 +1,5 @@
-//! The library of the program `tcam`: it reads a script of changes to routes or to an access list from a source, or makes
-//! one, carries it out over a device, and writes the report to a sink.
+//! The library of the program `tcam`: it reads a script of changes to routes or to an access list from a source, or
+//! makes one, carries it out over a device, and writes the report to a sink.
 //!
 //! # The one hard idea
 //! The promise is a clause of one function, [`run`], over any source, sink and device. Standard input foretells

@@ -50,7 +50,7 @@ Options:
                      entries that it must stand between, which is the default;
                      or rank, its place among all entries, for a table that is
                      loaded in one commit, or a list in its order
-    --trace          a line for each device write; gen has no such option
+    --trace          a line for each device write and drain; not for gen
     --depth K        of scripts, after how many further writes the words of the
                      probes are searched: 0 to 15, by default 0, at once
 
@@ -95,7 +95,7 @@ Commands of a script, one a line:
 Options, of which tcam --help says more:
     --slots N        N slots in use, 1 to 4096, by default 4096
     --placement P    where a new entry aims: middle, the default, or rank
-    --trace          a line for each device write
+    --trace          a line for each device write and drain
     --depth K        probes are searched K writes later, 0 to 15, by default 0
 
 Example of a script, whose packet gets the answer 10.0.0.0/8 7:
@@ -137,7 +137,7 @@ Options, of which tcam --help says more:
     --slots N        N slots in use, 1 to 4096, by default 4096
     --ranges R       how port ranges are tested: cover, the default, or bits
     --placement P    where a new entry aims: middle, the default, or rank
-    --trace          a line for each device write
+    --trace          a line for each device write and drain
     --depth K        probes are searched K writes later, 0 to 15, by default 0
 
 Example of a script, whose packet gets the answer 10 permit:
@@ -175,7 +175,7 @@ Commands of a script, one a line:
 Options, of which tcam --help says more:
     --slots N        N slots in use, 1 to 4096, by default 4096
     --placement P    where a new entry aims: middle, the default, or rank
-    --trace          a line for each device write
+    --trace          a line for each device write and drain
     --depth K        probes are searched K writes later, 0 to 15, by default 0
 
 Example of a script, whose packet gets the answer 2001:db8::/32 7:
@@ -217,7 +217,7 @@ Options, of which tcam --help says more:
     --slots N        N slots in use, 1 to 4096, by default 4096
     --ranges R       how port ranges are tested: cover, the default, or bits
     --placement P    where a new entry aims: middle, the default, or rank
-    --trace          a line for each device write
+    --trace          a line for each device write and drain
     --depth K        probes are searched K writes later, 0 to 15, by default 0
 
 Example of a script, whose packet gets the answer 10 permit:

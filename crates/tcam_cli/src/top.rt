@@ -44,15 +44,24 @@ use tcam_device::Device;
 /// product's own texts.
 ///
 /// After every single device write each packet key has the answer of the set before the commit or of the one after it,
-/// and after a commit's last write that of the one after it; a refused commit writes nothing. The answer is `Done` or
-/// `Refused` where the script was read to its end, `Refused` where some commit was refused; `Script` where a line is at
-/// fault, which the last line of the report names. `ReadFault` and `WriteFault` come exactly where the count of failures
-/// of source or sink rose. A device write that fails is tried again at once, four times in all; `DeviceFault` comes where
-/// the fourth failed too. After any of the three nothing more is read, written or printed. `Memory` comes
-/// for want of memory alone, before a commit's first write. `Usage` comes where the words are no command line, and
-/// there nothing else comes but a failing sink and want of memory. The lines of an act are handed to the sink before the
-/// next act is carried out. No input is taken in vain: of the lines that were whole before the last read none is at fault
-/// or wants memory, journal and accepted report begin with their effects, and no read before it was the end of the input.
+/// and after the last write of a commit that finishes that of the one after it; a refused commit writes nothing. A
+/// trial with more writes than it may make makes so many of them and then undoes each, the last one first: it ends with
+/// the set, the live ranges and the device as they were before it. A trial with no more is a commit.
+///
+/// A probe's line stands a depth of writes behind the write that it is for, or before a drain or the commit's line
+/// where that comes first, and has what the device answers the probe's key at that moment. The device is drained once
+/// in a commit that gives new bits, behind the words of its tables, unless it is a trial that is turned round by then,
+/// and not otherwise.
+///
+/// The answer is `Done` or `Refused` where the script was read to its end, `Refused` where some commit was refused;
+/// `Script` where a line is at fault, which the last line of the report names. `ReadFault` and `WriteFault` come
+/// exactly where the count of failures of source or sink rose. A device write that fails is tried again at once, four
+/// times in all; `DeviceFault` comes where the fourth failed too. After any of the three nothing more is read, written
+/// or printed. `Memory` comes for want of memory alone, before a commit's first write. `Usage` comes where the words
+/// are no command line, and there nothing else comes but a failing sink and want of memory. The lines of an act are
+/// handed to the sink before the next act is carried out. No input is taken in vain: of the lines that were whole
+/// before the last read none is at fault or wants memory, journal and accepted report begin with their effects, and no
+/// read before it was the end of the input.
 pub fn run<S: Source, K: Sink, D: Device>(
     alloc: Global,
     words: &[String],

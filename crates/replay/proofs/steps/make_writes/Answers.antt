@@ -1,4 +1,5 @@
--- A trial is turned round where it is time; a step makes the next action that is left, and one that fails leaves it; each is told.
+-- A trial is turned round where it is time; a step makes the next action that is left, and one that fails leaves it;
+-- each is told.
 use Rattle.std.proofs.Common.{true, rules, refl, sym, ap, arith, append-nil, ◌≡◌, ◌+◌, ◌^◌, ◌<◌, ◌≤◌, ◌∙◌, length, ◌++◌, ◌∷◌, List, [], Option, Some, subst}
 use Rattle.std.specs.Io.KnownBytes.{Appends}
 use Rattle.std.proofs.KnownBytes.{Appends-nil}
