@@ -1,0 +1,70 @@
+//! What a step wrote, in a word, and what packets get behind it.
+use crate::Driven;
+use batch_order::{Done, Field, Ready, Step};
+use rule_model::Key;
+use tcam_device::{Device, DeviceFault, Write};
+
+/// What one write did.
+#[derive(Clone, Copy, Debug, PartialEq, Eq)]
+pub enum Told {
+    /// It gave a port of a table a word.
+    Word(Field, u16, u16),
+    /// It put an entry into a slot.
+    Put(u32),
+    /// It emptied a slot.
+    Emptied(u32),
+}
+
+/// The results of three packets.
+pub type Results = [Option<u32>; 3];
+
+/// No packet hits.
+pub const NOTHING: Results = [None, None, None];
+
+/// What a step wrote: None where it made no write.
+pub fn what_it_wrote(step: &Step) -> Option<Told> {
+    match step {
+        Step::Wrote(Write::Table(field, port, word)) => Some(Told::Word(*field, *port, *word)),
+        Step::Wrote(Write::Slot(slot, Some(_))) => Some(Told::Put(*slot)),
+        Step::Wrote(Write::Slot(slot, None)) => Some(Told::Emptied(*slot)),
+        _ => None,
+    }
+}
+
+/// Makes one step, and one more where that was a drain.
+pub fn write<D: Device>(driven: &mut Driven<D>) -> Result<Step, DeviceFault> {
+    match driven.step()? {
+        Step::Drained => driven.step(),
+        other => Ok(other),
+    }
+}
+
+/// The results of three packets.
+pub fn results<D: Device>(driven: &Driven<D>, packets: &[Key; 3]) -> Results {
+    let [a, b, c] = packets;
+    [
+        driven.result_of(a),
+        driven.result_of(b),
+        driven.result_of(c),
+    ]
+}
+
+/// The results of three packets by the rules of the set.
+pub fn results_by_rules<D: Device>(driven: &Driven<D>, packets: &[Key; 3]) -> Results {
+    let [a, b, c] = packets;
+    [
+        driven.result_by_rules(a),
+        driven.result_by_rules(b),
+        driven.result_by_rules(c),
+    ]
+}
+
+/// The numbers of a plan, as those of a commit that was made.
+pub fn numbers_of(ready: &Ready) -> Done {
+    Done {
+        writes: ready.writes,
+        words: ready.words,
+        most: ready.most,
+        span: ready.span,
+    }
+}
