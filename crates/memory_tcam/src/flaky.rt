@@ -1,7 +1,7 @@
 // A device whose writes fail where they are told to.
-ghost use Rattle.std.specs.Prelude.{◌≡◌, ◌<◌, ◌≤◌, [], IfOk};
+ghost use Rattle.std.specs.Prelude.{◌≡◌, ◌<◌, ◌≤◌, [], slice_index, IfOk};
 ghost use Rattle.slot_order.specs.Order as order;
-ghost use Rattle.tcam_device.specs.State.{replay};
+ghost use Rattle.tcam_device.specs.State.{replay, table_of};
 ghost use Rattle.tcam_device.specs.Flight.{writes_in};
 
 use crate::MemTcam;
@@ -9,7 +9,7 @@ use call_history::Calls;
 use rule_model::{Key, Rank};
 use std::alloc::{AllocError, Global};
 use std::marker::Model;
-use tcam_device::{Device, DeviceFault, Writable, Write};
+use tcam_device::{Device, DeviceFault, Field, ReadBack, Writable, Write};
 use ternary_word::Entry;
 
 /// A device in memory of which the listed write calls fail.
@@ -56,6 +56,13 @@ impl<'a> FlakyTcam<'a> {
         ensures { result ≡ order.slot (replay self.now.device.slots (writes_in self.now.device.events)).slots slot }
     {
         self.device.slot(slot)
+    }
+
+    /// The word of a table at a port.
+    pub fn word(&self, field: Field, port: u16) -> u16
+        ensures { result ≡ slice_index (table_of field (replay self.now.device.slots (writes_in self.now.device.events))) port }
+    {
+        self.device.word(field, port)
     }
 }
 
@@ -177,5 +184,15 @@ impl<'a> Device for FlakyTcam<'a> {
         ensures faults { self.new.faults ≡ self.old.faults }
     {
         self.device.search()
+    }
+}
+
+impl<'a> ReadBack for FlakyTcam<'a> {
+    fn read_slot(&self, slot: u32) -> Option<Entry> {
+        self.slot(slot)
+    }
+
+    fn read_word(&self, field: Field, port: u16) -> u16 {
+        self.word(field, port)
     }
 }

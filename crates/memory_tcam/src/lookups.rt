@@ -1,7 +1,7 @@
 // Slots and tables in memory, with the words of look-ups in flight.
-ghost use Rattle.std.specs.Prelude.{◌≡◌, ◌<◌, ◌≤◌, [], length, drop, IfOk};
+ghost use Rattle.std.specs.Prelude.{◌≡◌, ◌<◌, ◌≤◌, [], length, drop, slice_index, IfOk};
 ghost use Rattle.slot_order.specs.Order as order;
-ghost use Rattle.tcam_device.specs.State.{IsInUse, apply, blank, lookup};
+ghost use Rattle.tcam_device.specs.State.{IsInUse, apply, blank, lookup, table_of};
 ghost use Rattle.tcam_device.specs.Flight.{most_in_flight, with_word, search_answer};
 
 use crate::memory::Memory;
@@ -9,7 +9,7 @@ use circular_buffer::HeapCircularBuffer;
 use rule_model::{Key, Rank};
 use std::alloc::{AllocError, Global};
 use std::marker::Model;
-use tcam_device::{MOST_IN_FLIGHT, Write};
+use tcam_device::{Field, MOST_IN_FLIGHT, Write};
 use ternary_word::{Entry, Word};
 
 /// A memory, and the words of it that are in flight with their keys. The queue has its room from the first, so no look-up
@@ -57,6 +57,13 @@ impl Lookups {
         ensures { result ≡ order.slot self.now.state.slots slot }
     {
         self.memory.slot(slot)
+    }
+
+    /// The word of a table at a port.
+    pub(crate) fn table_word(&self, field: Field, port: u16) -> u16
+        ensures { result ≡ slice_index (table_of field self.now.state) port }
+    {
+        self.memory.table_word(field, port)
     }
 
     /// Makes a write of a slot that there is, or of a table.

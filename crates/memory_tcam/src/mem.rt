@@ -1,7 +1,7 @@
 // A device in memory.
-ghost use Rattle.std.specs.Prelude.{◌≡◌, ◌<◌, ◌≤◌, [], IfOk};
+ghost use Rattle.std.specs.Prelude.{◌≡◌, ◌<◌, ◌≤◌, [], slice_index, IfOk};
 ghost use Rattle.slot_order.specs.Order as order;
-ghost use Rattle.tcam_device.specs.State.{replay};
+ghost use Rattle.tcam_device.specs.State.{replay, table_of};
 ghost use Rattle.tcam_device.specs.Flight.{writes_in};
 
 use crate::log::Log;
@@ -9,7 +9,7 @@ use crate::lookups::Lookups;
 use rule_model::{Key, Rank};
 use std::alloc::{AllocError, Global};
 use std::marker::Model;
-use tcam_device::{Device, DeviceFault, Writable, Write};
+use tcam_device::{Device, DeviceFault, Field, ReadBack, Writable, Write};
 use ternary_word::Entry;
 
 /// A device in memory, which never fails.
@@ -56,6 +56,13 @@ impl MemTcam {
         ensures { result ≡ order.slot (replay self.now.slots (writes_in self.now.events)).slots slot }
     {
         self.lookups.slot(slot)
+    }
+
+    /// The word of a table at a port.
+    pub fn word(&self, field: Field, port: u16) -> u16
+        ensures { result ≡ slice_index (table_of field (replay self.now.slots (writes_in self.now.events))) port }
+    {
+        self.lookups.table_word(field, port)
     }
 }
 
@@ -111,5 +118,15 @@ impl Device for MemTcam {
 
     fn search(&mut self) -> Option<Option<(Rank, u32)>> {
         self.lookups.search()
+    }
+}
+
+impl ReadBack for MemTcam {
+    fn read_slot(&self, slot: u32) -> Option<Entry> {
+        self.slot(slot)
+    }
+
+    fn read_word(&self, field: Field, port: u16) -> u16 {
+        self.word(field, port)
     }
 }

@@ -1,9 +1,9 @@
 // Slots and translation tables in memory, as a state.
-ghost use Rattle.std.specs.Prelude.{◌≡◌, ◌<◌, ◌≤◌, ◌^◌, [], ◌∷◌, length, replicate, None, IfOk};
+ghost use Rattle.std.specs.Prelude.{◌≡◌, ◌<◌, ◌≤◌, ◌^◌, [], ◌∷◌, length, replicate, slice_index, None, IfOk};
 ghost use Rattle.slot_order.specs.Order as order;
 ghost use Rattle.slot_order.specs.Order.{first_hit};
 ghost use Rattle.ternary_word.specs.Entry as entries;
-ghost use Rattle.tcam_device.specs.State.{IsInUse, apply, blank, told, lookup, search_word};
+ghost use Rattle.tcam_device.specs.State.{IsInUse, apply, blank, told, lookup, search_word, table_of};
 ghost use Rattle.tcam_device.specs.Flight.{word_answer};
 
 use lane_lookup::Columns;
@@ -89,6 +89,16 @@ impl Memory {
         match field {
             Field::Src => self.src[port as usize] = word,
             Field::Dst => self.dst[port as usize] = word,
+        }
+    }
+
+    /// The word of a table at a port.
+    pub(crate) fn table_word(&self, field: Field, port: u16) -> u16
+        ensures { result ≡ slice_index (table_of field self.now) port }
+    {
+        match field {
+            Field::Src => self.src[port as usize],
+            Field::Dst => self.dst[port as usize],
         }
     }
 

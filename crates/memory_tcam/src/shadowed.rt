@@ -9,7 +9,8 @@ use call_history::History;
 use rule_model::{Key, Rank};
 use std::alloc::{AllocError, Global};
 use std::marker::Model;
-use tcam_device::{Action, Device, DeviceFault, Hardware, Writable, Write};
+use tcam_device::{Action, Device, DeviceFault, Field, Hardware, ReadBack, Writable, Write};
+use ternary_word::Entry;
 
 /// A device made of hardware and its shadow: slots and tables in memory that follow the writes which the hardware
 /// answered Ok. So look-ups answer by what the hardware answered Ok, however little it tells. The journal, with the drains
@@ -190,5 +191,17 @@ impl<H: Hardware> Device for Shadowed<H> {
         ensures given { self.new.given ≡ self.old.given }
     {
         self.lookups.search()
+    }
+}
+
+/// Slots and tables are read from the memory beside the hardware. So this serves whoever lost the manager and kept the
+/// device; of hardware that outlived its shadow it tells nothing.
+impl<H: Hardware> ReadBack for Shadowed<H> {
+    fn read_slot(&self, slot: u32) -> Option<Entry> {
+        self.lookups.slot(slot)
+    }
+
+    fn read_word(&self, field: Field, port: u16) -> u16 {
+        self.lookups.table_word(field, port)
     }
 }

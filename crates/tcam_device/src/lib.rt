@@ -5,7 +5,7 @@
 //! not at all, takes no memory, since `reserve` has made room for it, and fails exactly where the device's count
 //! of failures rises. The writes since it was blank are its journal, and its state is the blank device with them
 //! applied in order. [`Device`] adds look-ups: tag and result of the least slot that hits the key's word in that
-//! state.
+//! state; and [`ReadBack`] that its slots and tables can be read.
 //!
 //! A look-up is undivided, `look`, or two events: `translate` makes the key's word by the tables as they stand then and
 //! puts it into flight, and `search` compares the oldest word in flight with the slots as they stand then. A drain among
@@ -23,11 +23,13 @@
 mod device;
 mod hardware;
 mod laws;
+mod read_back;
 mod writable;
 
 pub use device::Device;
 pub use hardware::Hardware;
 pub use laws::twice_as_once;
+pub use read_back::ReadBack;
 pub use rule_model::Field;
 use ternary_word::Entry;
 use thiserror::Error;
