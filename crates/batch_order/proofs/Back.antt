@@ -15,6 +15,7 @@ use Rattle.commit_writes.specs.Bits.{FieldBits, new_bits}
 use Rattle.rule_model.specs.declared.Field.TheVariants.{Src, Dst}
 use Rattle.rule_store.specs.Batch.{set_after}
 use Rattle.tcam_device.specs.Insertion.{is_table_write}
+use Rattle.batch_pieces.specs.Changes.{during_of}
 use Rattle.batch_order.specs.declared.Placement.{Placement}
 use Rattle.batch_order.specs.declared.Step.TheVariants as step
 use Rattle.batch_order.specs.Managed.{HeldCommit, Managed}
@@ -25,7 +26,7 @@ use Rattle.commit_writes.proofs.Undone.{restored}
 use Rattle.batch_order.specs.declared.held.Held.{Held}
 use Rattle.batch_order.specs.declared.translation.Translation.{Translation}
 use Rattle.batch_order.specs.Entries.{Entries}
-use Rattle.batch_order.specs.Kept.{IsManaged, bits_after, bits_of, current_of, during_of, held_of, held_writes, mode_of, most_made, one_less, settled_state, state_of}
+use Rattle.batch_order.specs.Kept.{IsManaged, bits_after, bits_of, current_of, held_of, held_writes, mode_of, most_made, one_less, settled_state, state_of}
 use Rattle.batch_order.specs.Planning.{as_write, as_writes}
 use Rattle.batch_order.specs.Steps.{Steps, StepsBack, StepsEither, current_back, due_write, next_of}
 use Rattle.batch_order.proofs.Carried.{held_size, view_of}

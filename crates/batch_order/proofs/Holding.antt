@@ -21,6 +21,7 @@ use Rattle.commit_writes.specs.Undo.{undo_writes}
 use Rattle.commit_writes.specs.PlannedBatch.{IsPlannedSegment, erased_slots, rewritten_entries}
 use Rattle.commit_writes.proofs.BatchRules.{right_after}
 use Rattle.commit_writes.proofs.Undone.{length-undo_writes}
+use Rattle.batch_pieces.specs.Changes.{during_of}
 use Rattle.batch_order.specs.declared.held.Held.{Held}
 use Rattle.batch_order.specs.declared.translation.Translation.{Translation}
 use Rattle.batch_order.specs.declared.Ready.{Ready}
@@ -29,7 +30,7 @@ use Rattle.batch_order.specs.Entries.{AddsIds, Entries}
 use Rattle.batch_order.specs.Planning.{as_writes}
 use Rattle.batch_order.specs.Restoring.{restorings}
 use Rattle.batch_order.proofs.Refused.{adds_first, adds_last}
-use Rattle.batch_order.specs.Kept.{IsManaged, IsArranged, bits_of, changed_by, during_of, held_of, held_writes, mode_of, settled_state, tables_of, translation_after}
+use Rattle.batch_order.specs.Kept.{IsManaged, IsArranged, bits_of, changed_by, held_of, held_writes, mode_of, settled_state, tables_of, translation_after}
 use Rattle.batch_order.specs.Kept as kept
 use Rattle.batch_order.specs.Managed.{HeldCommit, Holds, commit_of, ready_of, room_both_ways}
 use Rattle.batch_order.proofs.Unchanged.{arranged_same}

@@ -34,11 +34,12 @@ use Rattle.commit_writes.proofs.NoBits.{bit_writes-none}
 use Rattle.commit_writes.proofs.ServedTables.{bits_after}
 use Rattle.commit_writes.proofs.SlotWrites.{AreToSlots, LeavesTables, batch_slots}
 use Rattle.commit_writes.proofs.WholeSegment.{batch_segment}
+use Rattle.batch_pieces.specs.Changes.{coded_by}
 use Rattle.batch_order.specs.declared.translation.Translation.{Translation}
 use Rattle.batch_order.specs.declared.Placement.{Placement}
 use Rattle.batch_order.specs.Entries.{Entries}
 use Rattle.batch_order.specs.Planning.{IsSettled, IsStanding}
-use Rattle.batch_order.specs.Kept.{IsArranged, bits_of, changed_by, coded_by, mode_of, settled_state, tables_of, translated_by}
+use Rattle.batch_order.specs.Kept.{IsArranged, bits_of, changed_by, mode_of, settled_state, tables_of, translated_by}
 use Rattle.batch_order.specs.Placing.{words_of}
 use Rattle.batch_order.proofs.Numbered.{ids_apart, ids_few}
 use Rattle.batch_order.proofs.Since.{live_more}

@@ -20,13 +20,14 @@ use Rattle.commit_writes.proofs.ServedTables.{fresh_writes}
 use Rattle.commit_writes.proofs.SlotsBehind.{IsCutAtSlots, cut_at_slots}
 use Rattle.commit_writes.proofs.TableWrites.{AreToTables, bit_writes-tables}
 use Rattle.tcam_device.specs.State.{on_device}
+use Rattle.batch_pieces.specs.Changes.{during_of}
 use Rattle.batch_order.specs.declared.Placement.{Placement}
 use Rattle.batch_order.specs.declared.Step.{Step}
 use Rattle.batch_order.specs.declared.Step.TheVariants as step
 use Rattle.batch_order.specs.declared.held.Held.{Held}
 use Rattle.batch_order.specs.declared.translation.Translation.{Translation}
 use Rattle.batch_order.specs.Entries.{Entries}
-use Rattle.batch_order.specs.Kept.{IsManaged, bits_of, bits_after, current_of, drains_at, during_of, held_of, held_writes, mode_of, most_made, settled_state, state_of}
+use Rattle.batch_order.specs.Kept.{IsManaged, bits_of, bits_after, current_of, drains_at, held_of, held_writes, mode_of, most_made, settled_state, state_of}
 use Rattle.batch_order.specs.Managed.{HeldCommit, Managed, actions_due}
 use Rattle.batch_order.specs.Steps.{IsAllMade, Steps, StepsEither, StepsOn, awaits_drain, due_write, is_drain_next, next_of}
 use Rattle.batch_order.proofs.Carried.{view_of, drop-read, get-drop, held_size}

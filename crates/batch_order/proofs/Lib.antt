@@ -7,8 +7,6 @@ pub mod Entered
 pub mod Walked
 pub mod Standing
 pub mod Erased
-pub mod Named
-pub mod Changed
 pub mod Parted
 pub mod Cleared
 pub mod Needed

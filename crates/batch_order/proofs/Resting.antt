@@ -34,11 +34,12 @@ use Rattle.commit_writes.proofs.LiveRanges.{AreTranslated, translated, live_mean
 use Rattle.commit_writes.proofs.ServedLive.{bits_begun, early, late}
 use Rattle.commit_writes.proofs.ServedTables.{IsBitsStart}
 use Rattle.commit_writes.proofs.SetPieces.{set_served}
+use Rattle.batch_pieces.specs.Changes.{during_of}
 use Rattle.batch_order.specs.declared.Placement.{Placement}
 use Rattle.batch_order.specs.declared.held.Held.{Held}
 use Rattle.batch_order.specs.declared.translation.Translation.{Translation}
 use Rattle.batch_order.specs.Entries.{Entries}
-use Rattle.batch_order.specs.Kept.{IsManaged, bits_of, current_of, during_of, held_of, held_writes, mode_of, settled_state, state_of, tables_of}
+use Rattle.batch_order.specs.Kept.{IsManaged, bits_of, current_of, held_of, held_writes, mode_of, settled_state, state_of, tables_of}
 use Rattle.batch_order.specs.Steps.{ServesNow}
 use Rattle.batch_order.specs.Turning.{IsCurrentRight, IsHeldRight}
 use Rattle.batch_order.proofs.Answered.{idle_writes}

@@ -33,6 +33,7 @@ use Rattle.commit_writes.proofs.ServedTables.{IsBitsStart, tables_serve, words_d
 use Rattle.commit_writes.proofs.SlotWrites.{batch_slots, no_table}
 use Rattle.commit_writes.proofs.TableWrites.{all_tables, bit_writes-tables}
 use Rattle.commit_writes.proofs.Zips.{zip_right}
+use Rattle.batch_pieces.specs.Changes.{coded_by, during_of}
 use Rattle.batch_order.specs.declared.Placement.{Placement}
 use Rattle.batch_order.specs.declared.plan.Plan.{Plan}
 use Rattle.batch_order.specs.declared.planned_writes.PlannedWrite.{PlannedWrite}
@@ -41,7 +42,7 @@ use Rattle.batch_order.specs.declared.translation.Translation.{Translation}
 use Rattle.batch_order.specs.Entries.{Entries, KeepEntries}
 use Rattle.batch_order.specs.Planning.{IsSettled, IsPlannable, IsWithin, ArePlannedSince, as_write, as_writes, planned_moves}
 use Rattle.batch_order.specs.Entries.{HasId, HaveIds}
-use Rattle.batch_order.specs.Kept.{IsManaged, bits_of, coded_by, during_of, mode_of, settled_state, tables_of}
+use Rattle.batch_order.specs.Kept.{IsManaged, bits_of, mode_of, settled_state, tables_of}
 use Rattle.batch_order.specs.Placing.{aims_of, words_of}
 use Rattle.batch_order.proofs.Numbered.{arranged_number}
 use Rattle.batch_order.proofs.Judged.{HasRoom}

@@ -16,8 +16,9 @@ use Rattle.commit_writes.specs.Serving.{AreBitsOf, AreRangesOf, AreServing}
 use Rattle.commit_writes.specs.Planned.{with_slots}
 use Rattle.commit_writes.proofs.SlotWrites.{AreToSlots, LeavesTables, tables_left}
 use Rattle.rule_store.specs.Verdict.{coded_ranges}
+use Rattle.batch_pieces.specs.Changes.{coded_by, during_of}
 use Rattle.batch_order.specs.declared.translation.Translation.{Translation}
-use Rattle.batch_order.specs.Kept.{bits_of, coded_by, during_of, mode_of, settled_state, tables_of, translated_by}
+use Rattle.batch_order.specs.Kept.{bits_of, mode_of, settled_state, tables_of, translated_by}
 
 -- the mode stays
 pub mode_kept : (kept : Option Translation) (bits : Option FieldBits) (rules : List Rule) (writes : List Write) → mode_of (translated_by kept bits rules writes) ≡ mode_of kept

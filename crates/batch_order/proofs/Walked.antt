@@ -1,12 +1,13 @@
 -- Lists that a loop goes over: what is done so far, one item more.
-use Rattle.std.proofs.Common.{◌≡◌, ℕ, Bool, zero, suc, true, false, cond, ◌+◌, ◌<◌, List, [], ◌∷◌, ◌++◌, length, map, filter, flat_map, reverse, take, get_or, Contains, inl, inr, refl, ap, subst, sym, ◌∙◌}
+use Rattle.std.proofs.Common.{◌≡◌, ℕ, zero, suc, false, ◌+◌, ◌<◌, List, [], ◌∷◌, ◌++◌, length, map, take, get_or, Contains, inl, inr, ap, subst, sym, ◌∙◌}
 use Rattle.std.specs.Prelude.{nat_eq}
 use Rattle.std.specs.List.{AllByRecursion, AllZip, IsDistinct}
-use Rattle.std.proofs.lemmas.List.{append-nil, take_more, get_or_default, map-append, flat_map_more, reverse-append}
-use Rattle.std.proofs.lemmas.List.Elements.{Contains-push, filter-append}
+use Rattle.std.proofs.lemmas.List.{get_or_default, map-append}
+use Rattle.std.proofs.lemmas.List.Elements.{Contains-push}
 use Rattle.slot_order.proofs.Lists.{contains_cases, contains_none, AllByRecursion-member}
 use Rattle.overlap_index.proofs.Live.{all_apart}
 use Rattle.tcam_device.proofs.Wider.{all_take}
+use Rattle.batch_pieces.proofs.Walked.{take_next}
 
 -- what holds of all holds at a place
 pub all_at : {A : Type 0} (P : A → Type 0) (xs : List A) (place : ℕ) (x : A) → AllByRecursion P xs → place < length xs → get_or xs place x ≡ x → P x
@@ -15,9 +16,6 @@ all_at P xs place x all within is = AllByRecursion-member P xs x all (place, wit
 -- likewise of a number, which a loop reads with 0 past the end
 pub number_is : (xs : List ℕ) (place : ℕ) → place < length xs → get_or xs place (get_or xs place 0) ≡ get_or xs place 0
 number_is xs place within = get_or_default xs place (get_or xs place 0) 0 within
-
-pub take_next : {A : Type 0} (xs : List A) (place : ℕ) (x : A) → place < length xs → get_or xs place x ≡ x → take (place + 1) xs ≡ take place xs ++ x ∷ []
-take_next xs place x within is = take_more xs place x within ∙ ap (λ y. take place xs ++ y ∷ []) is
 
 distinct_take : (n : ℕ) (ids : List ℕ) → IsDistinct nat_eq ids → IsDistinct nat_eq (take n ids)
 unfolding IsDistinct
@@ -68,18 +66,3 @@ pub zip_next : {A B : Type 0} (R : A → B → Type 0) (xs : List A) (ys : List 
     → AllZip R (take place xs) ys → R x y → AllZip R (take (place + 1) xs) (ys ++ y ∷ [])
 zip_next R xs ys place x y within is all one =
     subst (λ some. AllZip R some (ys ++ y ∷ [])) (sym (take_next xs place x within is)) (zip_more R (take place xs) ys x y all one)
-
--- the images of one element more
-pub images_next : {X Y : Type 0} (images : X → List Y) (xs : List X) (place : ℕ) (x : X) → place < length xs → get_or xs place x ≡ x
-    → flat_map images (take (place + 1) xs) ≡ flat_map images (take place xs) ++ images x
-images_next images xs place x within is = ap (flat_map images) (take_next xs place x within is) ∙ sym (flat_map_more images [] (take place xs) x)
-
--- backwards the same are kept
-pub kept_reverse : {X : Type 0} (test : X → Bool) (xs : List X) → filter test (reverse xs) ≡ reverse (filter test xs)
-kept_reverse test [] = refl
-kept_reverse test (x ∷ xs) =
-    ap (filter test) (reverse-append (x ∷ []) xs) ∙ filter-append test (reverse xs) (x ∷ []) ∙ ap (λ some. some ++ filter test (x ∷ [])) (kept_reverse test xs) ∙ one (test x)
-  where
-    one : (passes : Bool) → reverse (filter test xs) ++ cond passes (x ∷ []) [] ≡ reverse (cond passes (x ∷ filter test xs) (filter test xs))
-    one true = sym (reverse-append (x ∷ []) (filter test xs))
-    one false = append-nil _

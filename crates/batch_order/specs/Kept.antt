@@ -25,6 +25,7 @@ use Rattle.commit_writes.specs.Undo.{undo_writes}
 use Rattle.commit_writes.specs.Shape.{set_pieces}
 use Rattle.commit_writes.specs.Planned.{AreEntriesOf, contents, with_slots}
 use Rattle.commit_writes.specs.PlannedBatch.{rewritten_entries, erased_live}
+use Rattle.batch_pieces.specs.Changes.{coded_by, during_of}
 use Rattle.batch_order.specs.declared.held.Held.{Held}
 use Rattle.batch_order.specs.declared.translation.Translation.{Translation}
 use Rattle.batch_order.specs.Entries.{AreLast, Entries}
@@ -45,16 +46,6 @@ bits_of (Some kept) = kept.bits
 abbrev pub tables_of : Option Translation → State
 tables_of None = blank 0
 tables_of (Some kept) = kept.tables
-
--- the live ranges while a commit is made
-abbrev pub during_of : Option FieldBits → FieldBits
-during_of None = no_bits
-during_of (Some bits) = bits
-
--- the mode that they are of
-abbrev pub coded_by : Option FieldBits → Mode
-coded_by None = Cover
-coded_by (Some bits) = Bits
 
 -- what is kept once the writes of a commit are made and its rules are the set's
 abbrev pub translated_by : Option Translation → Option FieldBits → List Rule → List Write → Option Translation

@@ -1,7 +1,6 @@
 pub mod Entries
 pub mod Planning
 pub mod Placing
-pub mod Changes
 pub mod Managed
 pub mod Steps
 pub mod Turning

@@ -5,7 +5,7 @@ ghost use Rattle.rule_store.specs.Verdict.{entries_of};
 ghost use Rattle.batch_order.specs.Placing as placing;
 
 use crate::Placement;
-use crate::pieces::Ranked;
+use batch_pieces::Ranked;
 use move_planner::Aim;
 use rule_store::{Mode, Store};
 

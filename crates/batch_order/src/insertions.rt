@@ -12,9 +12,9 @@ ghost use Rattle.batch_order.specs.Planning.{IsPlannable, IsLastLive, IsWithin, 
 use crate::Placement;
 use crate::aims::aim_of;
 use crate::entries::LiveEntries;
-use crate::pieces::Ranked;
 use crate::plan::Plan;
 use crate::planned_writes::PlannedWrite;
+use batch_pieces::Ranked;
 use move_planner::{Aim, Moves, plan_insert};
 use rule_store::{Mode, Store};
 use slot_pool::Arrangement;

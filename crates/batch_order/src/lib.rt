@@ -18,11 +18,11 @@
 //! common don't stand against it and cross others later. All that is promised holds of both, and the writes are those of
 //! the one that was chosen: no insertion takes a write more.
 //!
-//! **A commit is a list of changes** (`changes`): by falling priority, at each priority that the batch names, the rule of
-//! the set and the rule after the batch, where there is one. Each rule is cut into its pieces once (`pieces`): those of
-//! the new rule alone go in, those of both get the new result, those of the old rule alone go; `parts` has the ids of the
-//! latter two. `insertions` plans the first, each where `aims` says, and `plan` the writes of the others; `writes` has
-//! both, and what undoes them.
+//! **A commit is a list of changes** (`batch_pieces`): by falling priority, at each priority that the batch names, the rule
+//! of the set and the rule after the batch, where there is one. Each rule is cut into its pieces once: those of the new rule
+//! alone go in, those of both get the new result, those of the old rule alone go; `parts` has the ids of the latter two.
+//! `insertions` plans the first, each where `aims` says, and `plan` the writes of the others; `writes` has both, and what
+//! undoes them.
 //!
 //! **A plan is small.** A device write has a whole entry, and a commit may take millions of them. So a plan names the entry
 //! of each by its id, and `planned_writes` makes the device write when its turn comes. It is the write that was planned:
@@ -50,14 +50,12 @@ ghost use Rattle.std.specs.Prelude.{◌≡◌};
 ghost use Rattle.batch_order.specs.Managed as managed;
 
 mod aims;
-mod changes;
 mod entries;
 mod held;
 mod insertions;
 mod laws;
 mod manager;
 mod parts;
-mod pieces;
 mod plan;
 mod planned_writes;
 mod refusal_text;

@@ -9,13 +9,13 @@ ghost use Rattle.tcam_device.specs.Flight.{writes_in};
 ghost use Rattle.tcam_device.specs.Hitless.{ShowsOldOrNew};
 ghost use Rattle.rule_store.specs.Verdict.{entries_of, slots_verdict, verdict, Accepted};
 ghost use Rattle.rule_store.specs.Batch.{ChangesRules, batch_fault, set_after};
+ghost use Rattle.batch_pieces.specs.Changes.{coded_by, during_of};
 ghost use Rattle.batch_order.specs.Managed.{Managed, Judges, Answers, Holds, IsOn, Serves, fresh, live_now, writes_due};
 ghost use Rattle.batch_order.specs.Steps.{Aborts, IsAllMade, KeepsCurrent, ServesNow, Steps, actions_of, awaits_drain, next_of};
 ghost use Rattle.batch_order.specs.Turning.{IsHeldRight};
 ghost use Rattle.batch_order.specs.Passed.{GoesBackFrom, WayBackFrom};
 ghost use Rattle.commit_writes.specs.Bits.{bits_with};
 ghost use Rattle.commit_writes.specs.Serving.{HaveFreeBits};
-ghost use Rattle.batch_order.specs.Kept.{coded_by, during_of};
 ghost use Rattle.batch_order.specs.Placing.{words_of};
 ghost use Rattle.batch_order.specs.CarriedOut.{GoesForward, HasRoomBothWays, HasRoomLeft, IsServed, IsStuckBy, IsTried, StopsBy, actions_left, ahead, done_of, finished, writes_left};
 
@@ -408,8 +408,9 @@ impl Manager {
     ///
     /// `Stuck` comes where one write has failed `tries` times, and the device's count of failures rose by that, or stands
     /// at its last value. The writes before it were made, and it is the next: so `carry_out` may be called again. Until
-    /// the commit has finished no other batch is taken, and nothing else may be written. A device that stays stuck is
-    /// blanked, and gets a new manager.
+    /// the commit has finished no other batch is taken, and nothing else may be written. Where that write surely wasn't
+    /// made the commit may be turned round (`abort`). A device that takes no write back either is blanked, and gets a new
+    /// manager.
     ///
     /// `Waiting` comes exactly where the drain is next and words are in flight, with their number: what came before was
     /// made, and once they have been searched the call is made again. `Reverted` comes where the commit was turned round:

@@ -8,12 +8,11 @@ ghost use Rattle.rule_store.specs.Batch.{ChangesRules, batch_fault};
 ghost use Rattle.ternary_word.specs.Entry.{IsEncodable};
 ghost use Rattle.commit_writes.specs.Shape.{erased_pieces, inserted_pieces, rewritten_pieces, set_pieces};
 ghost use Rattle.commit_writes.specs.PlannedBatch.{IsIdOf, IsRewriteOf};
+ghost use Rattle.batch_pieces.specs.Changes.{coded_by, during_of};
 ghost use Rattle.batch_order.specs.Entries.{HasId, HaveIds};
-ghost use Rattle.batch_order.specs.Kept.{coded_by, during_of};
 
-use crate::changes::changes_of;
 use crate::entries::LiveEntries;
-use crate::pieces::{Ranked, pieces_of};
+use batch_pieces::{Ranked, batch_pieces};
 use commit_writes::Rewrite;
 use rule_store::{Batch, Store};
 use std::alloc::{AllocError, Global};
@@ -47,8 +46,7 @@ pub(crate) fn parts_of(
     ensures rewrites { IfOk result (λ parts. AllZip (IsRewriteOf live.now.live) (rewritten_pieces (coded_by bits.now) (during_of bits.now) rules.now.rules batch.now) parts.rewrites.items) }
     ensures erased { IfOk result (λ parts. AllZip (IsIdOf live.now.live) (erased_pieces (coded_by bits.now) (during_of bits.now) rules.now.rules batch.now) parts.erased.items) }
 {
-    let changes = changes_of(alloc, rules, batch)?;
-    let pieces = pieces_of(alloc, bits, &changes)?;
+    let pieces = batch_pieces(alloc, bits, rules, batch)?;
     let rewrites = rewrites(alloc, live, &pieces.rewritten)?;
     let erased = ids_of(alloc, live, &pieces.erased)?;
     Ok(Parts {

@@ -9,7 +9,8 @@ ghost use Rattle.commit_writes.specs.Actions.{have_bits};
 ghost use Rattle.commit_writes.specs.Bits.{new_bits, no_bits};
 ghost use Rattle.commit_writes.specs.Planned.{IdEntries};
 ghost use Rattle.translation_tables.specs.Needed.{ranges_in, ranges_needed};
-ghost use Rattle.batch_order.specs.Kept.{bits_of, coded_by, during_of, mode_of, tables_of, translated_by};
+ghost use Rattle.batch_pieces.specs.Changes.{coded_by, during_of};
+ghost use Rattle.batch_order.specs.Kept.{bits_of, mode_of, tables_of, translated_by};
 ghost use Rattle.batch_order.specs.Planning.{as_write, as_writes};
 
 use crate::planned_writes::PlannedWrite;

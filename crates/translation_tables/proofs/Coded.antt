@@ -1,5 +1,5 @@
 -- The distinct port ranges of some rules that are no single block, as one rule more is added, and those of them that have no bit.
-use Rattle.std.proofs.Common.{◌≡◌, ◌≢◌, ℕ, ◌+◌, Bool, true, false, not, ◌&&◌, ◌||◌, cond, Option, Some, None, is_none, List, [], ◌∷◌, ◌++◌, length, map, filter, take, slice_get, option_to_list, length-append, refl, ap, sym, ◌∙◌, subst, arith}
+use Rattle.std.proofs.Common.{◌≡◌, ◌≢◌, ℕ, ◌+◌, Bool, true, false, not, ◌&&◌, ◌||◌, cond, Option, Some, None, List, [], ◌∷◌, ◌++◌, length, map, filter, take, slice_get, option_to_list, length-append, refl, ap, sym, ◌∙◌, subst, arith}
 use Rattle.std.specs.Cmp.{both_ways}
 use Rattle.std.specs.List.{list_any, filter_map, cons_option}
 use Rattle.std.proofs.lemmas.Bool.{false_from_ne_true}
@@ -16,10 +16,9 @@ use Rattle.rule_store.specs.Batch.{additions}
 use Rattle.rule_store.specs.Verdict.{distinct_ranges, coded_ranges}
 use Rattle.rule_store.proofs.Steps.{filter-filter}
 use Rattle.rule_store.proofs.Sums.{take-read}
-use Rattle.range_bits.specs.LiveRanges.{LiveRanges, bit_of}
 use Rattle.range_bits.proofs.FieldMaps.{same_range-is, same_range-self}
 use Rattle.commit_writes.proofs.CodedRanges.{distinct_in, in_distinct}
-use Rattle.translation_tables.specs.Needed.{coded_range, ranges_without, without_bits}
+use Rattle.translation_tables.specs.Needed.{coded_range}
 
 same_range-sym : (a b : PortRange) → same_range a b ≡ same_range b a
 same_range-sym a b = both_ways _ _ (turned a b) (turned b a)
@@ -120,46 +119,46 @@ asked-later field command batch range other = go (coded_range field command) ref
     go (Some asked) is = ap (λ (t : Bool). t || list_any (same_range range) (asked_ranges field batch))
         (false_from_ne_true (same_range range asked) (λ same. other (is ∙ ap Some (sym (same_range-is range asked same)))))
 
--- how many ranges are to get bits, as one command more is looked at
-one_more : (live : LiveRanges) (field : Field) (batch : List Command) (place : ℕ) (command : Command) → slice_get batch place ≡ Some command
-    → ranges_without live field (take (place + 1) batch) ≡ ranges_without live field (take place batch)
-    ++ without_bits live (filter (λ range. not (list_any (same_range range) (asked_ranges field (take place batch)))) (option_to_list (coded_range field command)))
-one_more live field batch place command read =
-    ap (without_bits live)
+-- of the ranges that are asked for, how many are free to be given, as one command more is looked at
+one_more : (free : PortRange → Bool) (field : Field) (batch : List Command) (place : ℕ) (command : Command) → slice_get batch place ≡ Some command
+    → filter free (coded_ranges field (additions (take (place + 1) batch))) ≡ filter free (coded_ranges field (additions (take place batch)))
+    ++ filter free (filter (λ range. not (list_any (same_range range) (asked_ranges field (take place batch)))) (option_to_list (coded_range field command)))
+one_more free field batch place command read =
+    ap (filter free)
     (coded-asked field (take (place + 1) batch)
     ∙ ap (λ (l : List Command). distinct_ranges (asked_ranges field l)) (take-read batch place command read)
     ∙ ap distinct_ranges (filter_map-append (coded_range field) (take place batch) (command ∷ []))
     ∙ distinct-append (asked_ranges field (take place batch)) (asked_ranges field (command ∷ []))
     ∙ ap (λ (l : List PortRange). distinct_ranges (asked_ranges field (take place batch)) ++ filter (λ range. not (list_any (same_range range) (asked_ranges field (take place batch)))) l) (alone (coded_range field command))
     ∙ ap (λ (l : List PortRange). l ++ filter (λ range. not (list_any (same_range range) (asked_ranges field (take place batch)))) (option_to_list (coded_range field command))) (sym (coded-asked field (take place batch))))
-    ∙ filter-append (λ range. is_none (bit_of live range)) (coded_ranges field (additions (take place batch))) _
+    ∙ filter-append free (coded_ranges field (additions (take place batch))) _
   where
     alone : (found : Option PortRange) → distinct_ranges (cons_option found []) ≡ option_to_list found
     alone None = refl
     alone (Some range) = refl
 
-pub none_more : (live : LiveRanges) (field : Field) (batch : List Command) (place : ℕ) (command : Command) → slice_get batch place ≡ Some command → coded_range field command ≡ None
-    → length (ranges_without live field (take (place + 1) batch)) ≡ length (ranges_without live field (take place batch)) + 0
-none_more live field batch place command read none =
-    let whole = one_more live field batch place command read in
-    let rest = ap (λ (o : Option PortRange). without_bits live (filter (λ range. not (list_any (same_range range) (asked_ranges field (take place batch)))) (option_to_list o))) none in
-    let size = length-append (ranges_without live field (take place batch)) (without_bits live (filter (λ range. not (list_any (same_range range) (asked_ranges field (take place batch)))) (option_to_list (coded_range field command)))) in
+pub none_more : (free : PortRange → Bool) (field : Field) (batch : List Command) (place : ℕ) (command : Command) → slice_get batch place ≡ Some command → coded_range field command ≡ None
+    → length (filter free (coded_ranges field (additions (take (place + 1) batch)))) ≡ length (filter free (coded_ranges field (additions (take place batch)))) + 0
+none_more free field batch place command read none =
+    let whole = one_more free field batch place command read in
+    let rest = ap (λ (o : Option PortRange). filter free (filter (λ range. not (list_any (same_range range) (asked_ranges field (take place batch)))) (option_to_list o))) none in
+    let size = length-append (filter free (coded_ranges field (additions (take place batch)))) (filter free (filter (λ range. not (list_any (same_range range) (asked_ranges field (take place batch)))) (option_to_list (coded_range field command)))) in
     let counted = ap length whole in
     let empty = ap length rest in
     omega arith
 
-pub some_more : (live : LiveRanges) (field : Field) (batch : List Command) (place : ℕ) (command : Command) (range : PortRange) (first : Bool) → slice_get batch place ≡ Some command
+pub some_more : (free : PortRange → Bool) (field : Field) (batch : List Command) (place : ℕ) (command : Command) (range : PortRange) (first : Bool) → slice_get batch place ≡ Some command
     → coded_range field command ≡ Some range
-    → first ≡ (is_none (bit_of live range) && not (list_any (same_range range) (coded_ranges field (additions (take place batch)))))
-    → length (ranges_without live field (take (place + 1) batch)) ≡ length (ranges_without live field (take place batch)) + cond first 1 0
-some_more live field batch place command range first read some is =
-    let whole = one_more live field batch place command read in
-    let rest = ap (λ (o : Option PortRange). without_bits live (filter (λ range. not (list_any (same_range range) (asked_ranges field (take place batch)))) (option_to_list o))) some in
-    let size = length-append (ranges_without live field (take place batch)) (without_bits live (filter (λ range. not (list_any (same_range range) (asked_ranges field (take place batch)))) (option_to_list (coded_range field command)))) in
+    → first ≡ (free range && not (list_any (same_range range) (coded_ranges field (additions (take place batch)))))
+    → length (filter free (coded_ranges field (additions (take (place + 1) batch)))) ≡ length (filter free (coded_ranges field (additions (take place batch)))) + cond first 1 0
+some_more free field batch place command range first read some is =
+    let whole = one_more free field batch place command read in
+    let rest = ap (λ (o : Option PortRange). filter free (filter (λ range. not (list_any (same_range range) (asked_ranges field (take place batch)))) (option_to_list o))) some in
+    let size = length-append (filter free (coded_ranges field (additions (take place batch)))) (filter free (filter (λ range. not (list_any (same_range range) (asked_ranges field (take place batch)))) (option_to_list (coded_range field command)))) in
     let counted = ap length whole in
     let last = ap length rest in
-    let passes = is ∙ ap (λ (t : Bool). is_none (bit_of live range) && not t) (any-asked field (take place batch) range) in
-    let one = count (λ r. is_none (bit_of live r)) (list_any (same_range range) (asked_ranges field (take place batch))) ∙ ap (λ (t : Bool). cond {A = ℕ} t 1 0) (sym passes) in
+    let passes = is ∙ ap (λ (t : Bool). free range && not t) (any-asked field (take place batch) range) in
+    let one = count free (list_any (same_range range) (asked_ranges field (take place batch))) ∙ ap (λ (t : Bool). cond {A = ℕ} t 1 0) (sym passes) in
     omega arith
   where
     kept : (t : Bool) → length (cond t (range ∷ []) []) ≡ cond (t && true) 1 0

@@ -3,3 +3,5 @@ pub mod Kept
 pub mod NewRanges
 pub mod NoWords
 pub mod RulesBits
+pub mod Used
+pub mod SetRanges

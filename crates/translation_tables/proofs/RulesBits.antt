@@ -1,5 +1,5 @@
 -- Where exactly the ranges of some rules are live: what a batch needs bits for, and how many are in use, told by the rules alone.
-use Rattle.std.proofs.Common.{◌≡◌, ◌≢◌, ℕ, ◌≤◌, Some, None, is_some, not, IsTrue, List, [], ◌∷◌, length, map, filter, Contains, set, ◌↔◌, ap, ap₂, sym, ◌∙◌, subst, arith}
+use Rattle.std.proofs.Common.{◌≡◌, ◌≢◌, ℕ, ◌≤◌, Some, None, is_some, not, List, [], ◌∷◌, length, map, filter, Contains, set, ap, ap₂, sym, ◌∙◌, subst, arith}
 use Rattle.std.specs.Prelude.{AllPairs}
 use Rattle.std.specs.Cmp.{both_ways}
 use Rattle.std.specs.List.{list_any}
@@ -23,11 +23,7 @@ use Rattle.range_bits.proofs.Given.{some_value, bit_of-is, bit_of-at}
 use Rattle.commit_writes.specs.Bits.{FieldBits, bits_with}
 use Rattle.commit_writes.specs.Serving.{AreRangesOf}
 use Rattle.commit_writes.proofs.CodedRanges.{distinct_apart}
-use Rattle.translation_tables.specs.Needed.{ranges_without, with_needed}
-
--- some ranges have a bit, and no others
-abbrev pub AreLive : LiveRanges → List PortRange → Type 0
-AreLive live ranges = (range : PortRange) → IsTrue (is_some (bit_of live range)) ↔ Contains ranges range
+use Rattle.translation_tables.specs.Needed.{AreLive, ranges_without, with_needed}
 
 -- between commits those of the rules do
 pub are_live : (ranges : List PortRange) (live : LiveRanges) (table : List ℕ) → AreRangesOf ranges live table → AreLive live ranges

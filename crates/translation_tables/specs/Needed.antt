@@ -1,5 +1,5 @@
--- Which port ranges of a batch need bits that they don't have.
-use Rattle.std.specs.Prelude.{Option, Some, None, List, is_none, filter, if◌then◌else◌}
+-- Which port ranges are live, and which of a batch need bits that they don't have.
+use Rattle.std.specs.Prelude.{◌↔◌, Option, Some, None, IsTrue, List, Contains, is_none, is_some, filter, if◌then◌else◌}
 use Rattle.rule_model.specs.declared.Field.{Field}
 use Rattle.rule_model.specs.declared.Field.TheVariants.{Src, Dst}
 use Rattle.rule_model.specs.PortRange.{PortRange, is_block}
@@ -41,3 +41,7 @@ with_needed bits batch =
       src = with_ranges bits.src (ranges_needed Src bits batch);
       dst = with_ranges bits.dst (ranges_needed Dst bits batch);
     }
+
+-- some ranges have a bit, and no others
+abbrev pub AreLive : LiveRanges → List PortRange → Type 0
+AreLive live ranges = (range : PortRange) → IsTrue (is_some (bit_of live range)) ↔ Contains ranges range

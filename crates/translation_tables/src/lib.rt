@@ -10,14 +10,21 @@
 //! 3. and when it has finished, gives up the bits of ranges that no rule has any more (`released`). Their words stay as
 //!    they are: no entry tests a free bit.
 //!
+//! What a set and a batch need is told by their rules alone, too (`free_bits`, `added_ranges`), and
+//! whether live ranges are those of a set (`is_map_of`).
+//!
 //! Contracts see the live ranges as `commit_writes/specs/Bits` has them, and the tables as a state without slots. Memory
 //! is taken for the tables once, and for the plan of words.
 #![tactic(auto)]
 
+mod counts;
+mod maps;
 mod ranges;
 mod tables;
 #[cfg(test)]
 mod tests;
 
+pub use counts::{added_ranges, free_bits};
+pub use maps::is_map_of;
 pub use ranges::FieldBits;
 pub use tables::{TableWord, Tables};

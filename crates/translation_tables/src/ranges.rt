@@ -46,6 +46,14 @@ impl FieldBits {
         }
     }
 
+    /// The live ranges of both fields, by those of each.
+    pub fn of_maps(src: BitMap, dst: BitMap) -> FieldBits
+        ensures src { result.src ≡ src }
+        ensures dst { result.dst ≡ dst }
+    {
+        FieldBits { src, dst }
+    }
+
     /// How many bits of a field are free, at most 16.
     pub fn free(&self, field: Field) -> u32
         ensures count { result + live_count (ranges_in field self.now) ≡ field_bits }
@@ -122,7 +130,7 @@ impl FieldBits {
     }
 
     /// The live ranges of a field.
-    pub(crate) fn of(&self, field: Field) -> &BitMap
+    pub fn of(&self, field: Field) -> &BitMap
         ensures { result.now ≡ ranges_in field self.now }
     {
         match field {
@@ -133,7 +141,7 @@ impl FieldBits {
 }
 
 /// A rule's ports in a field.
-fn range_of(field: Field, rule: &Rule) -> Ports
+pub(crate) fn range_of(field: Field, rule: &Rule) -> Ports
     ensures { result ≡ model.range_of field rule.now }
 {
     match field {
@@ -143,7 +151,7 @@ fn range_of(field: Field, rule: &Rule) -> Ports
 }
 
 /// The range for which a command needs a bit of a field, if it does: it adds a rule whose range isn't one block.
-fn coded_range(field: Field, command: &Command) -> Option<Ports>
+pub(crate) fn coded_range(field: Field, command: &Command) -> Option<Ports>
     ensures { result ≡ needed.coded_range field command.now }
 {
     let Command::Add(rule) = command else {
@@ -166,7 +174,7 @@ fn is_first_without(live: &BitMap, field: Field, batch: &Batch, place: u32) -> b
 }
 
 /// Whether a command before a place adds a range.
-fn is_added_before(field: Field, batch: &Batch, place: u32, range: Ports) -> bool
+pub(crate) fn is_added_before(field: Field, batch: &Batch, place: u32, range: Ports) -> bool
     requires { place ≤ length batch.now }
     ensures { result ≡ list_any (same_range range) (coded_ranges field (additions (take place batch.now))) }
 {
@@ -208,7 +216,7 @@ fn kept_by(mut live: BitMap, field: Field, rules: &Store) -> BitMap
 }
 
 /// Whether a rule of a set has a range that isn't one block.
-fn has_range(field: Field, rules: &Store, range: Ports) -> bool
+pub(crate) fn has_range(field: Field, rules: &Store, range: Ports) -> bool
     ensures { result ≡ list_any (same_range range) (coded_ranges field rules.now.rules) }
 {
     if range.block() {

@@ -10,7 +10,7 @@ use Rattle.batch_order.specs.Placing.{aim_of, aims_from}
 use Rattle.batch_order.specs.Planning.{ArePlannedSince, IsPlannable}
 use Rattle.batch_order.proofs.Aimed.{aims_more}
 use Rattle.batch_order.proofs.Since.{planned_then}
-use Rattle.batch_order.proofs.Walked.{take_next}
+use Rattle.batch_pieces.proofs.Walked.{take_next}
 use Rattle.batch_order.proofs.insertions.plan_additions.Goals as goal
 
 -- some ids became live after others

@@ -12,18 +12,18 @@ use Rattle.translation_tables.proofs.ranges.is_first_without.Goals as goal
 pub returns-in_default : goal.returns-in_default
 returns-in_default c =
     let none : coded_range c.args.field c.at.result ≡ None = grind (arith, common_steps) in
-    none_more c.args.live.now c.args.field c.args.batch.now c.args.place c.at.result c.at.ensures none
+    none_more (λ range. is_none (bit_of c.args.live.now range)) c.args.field c.args.batch.now c.args.place c.at.result c.at.ensures none
 
 pub returns-then-is_none : goal.returns-then-is_none
 returns-then-is_none c =
     let free : is_none (bit_of c.args.live.now c.in-Some.range) ≡ true = ap is_none (sym c.bit_of.ensures.bit) ∙ ap not c.is_none.ensures ∙ ap (λ (t : Bool). not (not t)) c.if-is_none.true in
     let before = list_any (same_range c.in-Some.range) (coded_ranges c.args.field (additions (take c.args.place c.args.batch.now))) in
-    some_more c.args.live.now c.args.field c.args.batch.now c.args.place c.at.result c.in-Some.range (not c.is_added_before.result) c.at.ensures (sym c.in-Some.ensures)
+    some_more (λ range. is_none (bit_of c.args.live.now range)) c.args.field c.args.batch.now c.args.place c.at.result c.in-Some.range (not c.is_added_before.result) c.at.ensures (sym c.in-Some.ensures)
     (ap not c.is_added_before.ensures ∙ sym (ap (λ (t : Bool). t && not before) free))
 
 pub returns-else-is_none : goal.returns-else-is_none
 returns-else-is_none c =
     let live : is_none (bit_of c.args.live.now c.in-Some.range) ≡ false = ap is_none (sym c.bit_of.ensures.bit) ∙ ap not c.is_none.ensures ∙ ap (λ (t : Bool). not (not t)) c.if-is_none.false in
     let before = list_any (same_range c.in-Some.range) (coded_ranges c.args.field (additions (take c.args.place c.args.batch.now))) in
-    some_more c.args.live.now c.args.field c.args.batch.now c.args.place c.at.result c.in-Some.range c.is_none.result c.at.ensures (sym c.in-Some.ensures)
+    some_more (λ range. is_none (bit_of c.args.live.now range)) c.args.field c.args.batch.now c.args.place c.at.result c.in-Some.range c.is_none.result c.at.ensures (sym c.in-Some.ensures)
     (c.if-is_none.false ∙ sym (ap (λ (t : Bool). t && not before) live))

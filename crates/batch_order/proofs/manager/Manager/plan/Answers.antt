@@ -15,6 +15,7 @@ use Rattle.commit_writes.specs.Bits.{FieldBits, bits_with, new_bits}
 use Rattle.commit_writes.specs.Shape.{set_pieces, inserted_pieces, rewritten_pieces, erased_pieces}
 use Rattle.commit_writes.specs.PlannedBatch.{IsIdOf, IsRewriteOf, erased_slots}
 use Rattle.commit_writes.proofs.TableWrites.{bit_writes-tables, tables_in_use}
+use Rattle.batch_pieces.specs.Changes.{coded_by, during_of}
 use Rattle.batch_order.specs.declared.Placement.{Placement}
 use Rattle.batch_order.specs.declared.held.Held.{Held}
 use Rattle.batch_order.specs.declared.plan.Plan.{Plan}
@@ -22,7 +23,7 @@ use Rattle.batch_order.specs.declared.planned_writes.PlannedWrite.{PlannedWrite}
 use Rattle.batch_order.specs.declared.planned_writes.PlannedWrite.TheVariants.{Tabled}
 use Rattle.batch_order.specs.declared.translation.Translation.{Translation}
 use Rattle.batch_order.specs.Entries.{AddsIds, Entries, HaveIds}
-use Rattle.batch_order.specs.Kept.{IsManaged, bits_of, coded_by, during_of, held_of, mode_of, settled_state}
+use Rattle.batch_order.specs.Kept.{IsManaged, bits_of, held_of, mode_of, settled_state}
 use Rattle.batch_order.specs.Placing.{aims_of, words_of}
 use Rattle.batch_order.specs.Planning.{ArePlannedSince}
 use Rattle.batch_order.specs.Managed.{Managed, Holds}
