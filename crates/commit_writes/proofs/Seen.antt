@@ -97,12 +97,12 @@ writes_of_commit true made =
     ∙ ap (λ ws. take count made ++ ws) (writes_of_map (drop count made)) ∙ take-append-drop count made
 
 -- what holds after each of some writes holds after each of the first of them
-fewer : (state : State) (P : State → Type 0) (front back : List Write) → ((n : ℕ) → P (state_after state (take n (front ++ back))))
+pub fewer : (state : State) (P : State → Type 0) (front back : List Write) → ((n : ℕ) → P (state_after state (take n (front ++ back))))
     → (n : ℕ) → n ≤ length front → P (state_after state (take n front))
 fewer state P front back each n below = subst (λ ws. P (state_after state ws)) (take-append-le n front back below) (each n)
 
 -- and while they are undone
-both_ways : (state : State) (P : State → Type 0) (writes : List Write) → ((n : ℕ) → n ≤ length writes → P (state_after state (take n writes)))
+pub both_ways : (state : State) (P : State → Type 0) (writes : List Write) → ((n : ℕ) → n ≤ length writes → P (state_after state (take n writes)))
     → (n : ℕ) → P (state_after state (take n (writes ++ undo_writes state writes)))
 both_ways state P writes each n = elim (cases_lt (length writes) n) [
   | inl past ↦ behind (n - length writes) (let e : length writes + (n - length writes) ≡ n = omega arith in e)

@@ -23,7 +23,7 @@ abbrev IsToSlot : Write → Type 0
 IsToSlot write = IsFalse (is_table_write write)
 
 -- insertions have slot writes alone
-insertion_slots : (begun : State) (run : List Write) (state : State) (writes : List Write) → AreToSlots run
+pub insertion_slots : (begun : State) (run : List Write) (state : State) (writes : List Write) → AreToSlots run
     → AreToSlots (flat_map (λ (made : Insertion). made.writes) (insertions_from begun run state writes))
 insertion_slots begun run state [] all = tt
 insertion_slots begun run state (Slot at None ∷ writes) all =

@@ -12,14 +12,10 @@ use Rattle.rule_model.specs.declared.Field.TheVariants.{Src, Dst}
 use Rattle.range_bits.specs.LiveRanges.{LiveRanges, word_for}
 use Rattle.tcam_device.specs.declared.Write.{Write}
 use Rattle.tcam_device.specs.declared.Write.TheVariants.{Slot, Table}
-use Rattle.tcam_device.specs.State.{State, apply, state_after}
+use Rattle.tcam_device.specs.State.{State, apply, state_after, table_of}
 use Rattle.commit_writes.specs.Shape.{word_write, field_writes}
 
--- the table of a field, and the one of the other field
-abbrev pub table_of : Field → State → List ℕ
-table_of Src state = state.src
-table_of Dst state = state.dst
-
+-- the other field
 abbrev pub other_field : Field → Field
 other_field Src = Dst
 other_field Dst = Src

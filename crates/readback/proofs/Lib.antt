@@ -1,0 +1,34 @@
+pub mod Matches
+pub mod Facts
+pub mod Rewriting
+pub mod Erasing
+pub mod Twins
+pub mod Faults
+pub mod Inserting
+pub mod Finishing
+pub mod Tests
+pub mod Shows
+pub mod Pieces
+pub mod First
+pub mod Segments
+pub mod Answers
+pub mod Parted
+pub mod Rest
+pub mod Tables
+pub mod Begun
+pub mod SetBits
+pub mod Returns
+pub mod Stages
+mod Examples
+mod OneStage
+pub mod Complete
+pub mod Accepted
+pub mod Walks
+pub mod ReadSlots
+pub mod Pairs
+pub mod Counted
+pub mod Places
+pub mod SortedSlots
+pub mod Assembled
+pub mod Replayed
+pub mod StageFound

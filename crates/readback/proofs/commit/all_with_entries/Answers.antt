@@ -1,0 +1,8 @@
+use Rattle.std.proofs.Common.{sym}
+use Rattle.slot_order.proofs.Lists.{AllByRecursion-member}
+use Rattle.ternary_word.specs.Entry.{RankedPiece, IsEncodable}
+use Rattle.readback.proofs.commit.all_with_entries.Goals as goal
+
+pub with_entry-requires : goal.with_entry-requires
+with_entry-requires c =
+    AllByRecursion-member (λ (ranked : RankedPiece). IsEncodable ranked.piece) c.args.pieces.now c.ranked-item.result c.requires (c.loop-ranked.ranked-index, c.loop-ranked-test.true, sym c.ranked-item.is)

@@ -1,0 +1,19 @@
+-- What is answered of the stage that a device shows.
+use Rattle.std.specs.Prelude.{◌≡◌, ℕ, Result, IfOk, IfErr, List}
+use Rattle.rule_model.specs.declared.Rule.{Rule}
+use Rattle.rule_store.specs.declared.Mode.{Mode}
+use Rattle.rule_store.specs.declared.Command.{Command}
+use Rattle.tcam_device.specs.State.{State}
+use Rattle.commit_writes.specs.Bits.{FieldBits}
+use Rattle.readback.specs.declared.Stage.{Stage}
+use Rattle.readback.specs.declared.StageFault.{StageFault}
+use Rattle.readback.specs.declared.StageFault.TheVariants.{Memory}
+use Rattle.readback.specs.Stage.{IsStage, Finds}
+use Rattle.readback.specs.Fault.{AreSetBits, IsFaultOf}
+
+-- Ok comes only for a stage of the set's bits, and a fault only where it applies: so for such a stage none but want of memory
+pub record AnswersStage (slots : ℕ) (mode : Mode) (bits : FieldBits) (rules : List Rule) (batch : List Command) (state : State) (result : Result Stage StageFault) : Type 0 where
+  pub bits_are : IfOk result (λ found. AreSetBits mode rules bits)
+  pub found : IfOk result (λ found. Finds slots mode bits rules batch state found)
+  pub fault : IfErr result (λ fault. IsFaultOf slots mode bits rules batch state fault)
+  pub no_fault : IfErr result (λ fault. AreSetBits mode rules bits → IsStage slots mode bits rules batch state → fault ≡ Memory)

@@ -1,0 +1,11 @@
+pub mod Judged
+pub mod Tasks
+pub mod Stage
+pub mod Fault
+pub mod Going
+pub mod Laws
+pub mod Progress
+pub mod Places
+pub mod Sorted
+pub mod Words
+pub mod Found
