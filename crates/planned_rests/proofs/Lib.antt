@@ -1,0 +1,17 @@
+pub mod Same
+pub mod Begun
+pub mod Standing
+pub mod Rest
+pub mod Wider
+pub mod Started
+pub mod Restart
+pub mod Counts
+pub mod Ending
+pub mod AtRest
+pub mod ReadIds
+pub mod Led
+pub mod Serving
+pub mod Served
+pub mod Narrow
+pub mod Shown
+pub mod Stopped
