@@ -17,7 +17,7 @@ fn nested_routes(rt: HostRuntime) -> Result<(), Fail> {
                 Change::Route(0x0a01_0200, 24),
             ],
             most: 1,
-            writes: &[
+            steps: &[
                 (Told::Put(1), [Some(24), None, None]),
                 (Told::Put(3), [Some(24), Some(20), None]),
                 (Told::Put(5), [Some(24), Some(20), None]),
@@ -27,7 +27,7 @@ fn nested_routes(rt: HostRuntime) -> Result<(), Fail> {
         Commit {
             changes: &[Change::Route(0x0a01_0200, 28)],
             most: 1,
-            writes: &[(Told::Put(0), [Some(28), Some(20), Some(8)])],
+            steps: &[(Told::Put(0), [Some(28), Some(20), Some(8)])],
         },
     ];
     let entries = make_all(
@@ -50,17 +50,17 @@ fn lines_one_by_one(rt: HostRuntime) -> Result<(), Fail> {
         Commit {
             changes: &[Change::Line(100, 0x0a00_0000, 8)],
             most: 1,
-            writes: &[(Told::Put(4), [Some(100), None, None])],
+            steps: &[(Told::Put(4), [Some(100), None, None])],
         },
         Commit {
             changes: &[Change::Line(300, 0x0b00_0000, 8)],
             most: 1,
-            writes: &[(Told::Put(6), [Some(100), Some(300), None])],
+            steps: &[(Told::Put(6), [Some(100), Some(300), None])],
         },
         Commit {
             changes: &[Change::Line(200, 0, 0)],
             most: 1,
-            writes: &[(Told::Put(5), [Some(100), Some(200), Some(200)])],
+            steps: &[(Told::Put(5), [Some(100), Some(200), Some(200)])],
         },
     ];
     let entries = make_all(
@@ -96,7 +96,7 @@ fn lines_apart(rt: HostRuntime) -> Result<(), Fail> {
             Change::Line(17, 0x1100_0000, 8),
         ],
         most: 1,
-        writes: &[
+        steps: &[
             (Told::Put(0), first),
             (Told::Put(1), first),
             (Told::Put(2), first),

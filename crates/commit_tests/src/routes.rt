@@ -11,27 +11,27 @@ fn added(rt: HostRuntime) -> Result<(), Fail> {
         Commit {
             changes: &[],
             most: 0,
-            writes: &[],
+            steps: &[],
         },
         Commit {
             changes: &[Change::Route(0x0a00_0000, 8)],
             most: 1,
-            writes: &[(Told::Put(3), [Some(8), Some(8), Some(8)])],
+            steps: &[(Told::Put(3), [Some(8), Some(8), Some(8)])],
         },
         Commit {
             changes: &[Change::Route(0x0a01_0200, 24)],
             most: 1,
-            writes: &[(Told::Put(1), [Some(24), Some(8), Some(8)])],
+            steps: &[(Told::Put(1), [Some(24), Some(8), Some(8)])],
         },
         Commit {
             changes: &[Change::Route(0x0a01_0000, 16)],
             most: 1,
-            writes: &[(Told::Put(2), [Some(24), Some(16), Some(8)])],
+            steps: &[(Told::Put(2), [Some(24), Some(16), Some(8)])],
         },
         Commit {
             changes: &[Change::Route(0x0a01_0000, 20)],
             most: 2,
-            writes: &[
+            steps: &[
                 (Told::Put(0), [Some(24), Some(16), Some(8)]),
                 (Told::Put(1), [Some(24), Some(20), Some(8)]),
             ],
@@ -56,7 +56,7 @@ fn changed(rt: HostRuntime) -> Result<(), Fail> {
         Commit {
             changes: &[Change::RouteTo(0x0a00_0000, 8, 7)],
             most: 1,
-            writes: &[(Told::Put(3), [Some(7), Some(7), Some(7)])],
+            steps: &[(Told::Put(3), [Some(7), Some(7), Some(7)])],
         },
         Commit {
             changes: &[
@@ -64,7 +64,7 @@ fn changed(rt: HostRuntime) -> Result<(), Fail> {
                 Change::RouteTo(0x0a01_0000, 16, 9),
             ],
             most: 1,
-            writes: &[
+            steps: &[
                 (Told::Put(1), [Some(9), Some(9), Some(7)]),
                 (Told::Emptied(3), [Some(9), Some(9), None]),
             ],
@@ -76,7 +76,7 @@ fn changed(rt: HostRuntime) -> Result<(), Fail> {
                 Change::RouteTo(0x0a01_0000, 16, 10),
             ],
             most: 1,
-            writes: &[
+            steps: &[
                 (Told::Put(4), [Some(9), Some(9), Some(8)]),
                 (Told::Put(1), [Some(10), Some(10), Some(8)]),
             ],
@@ -88,7 +88,7 @@ fn changed(rt: HostRuntime) -> Result<(), Fail> {
                 Change::Route(0x0a01_0200, 24),
             ],
             most: 1,
-            writes: &[
+            steps: &[
                 (Told::Put(0), [Some(24), Some(10), Some(8)]),
                 (Told::Put(4), [Some(24), Some(10), Some(12)]),
                 (Told::Emptied(1), [Some(24), Some(12), Some(12)]),
@@ -123,7 +123,7 @@ fn port_ranges(rt: HostRuntime) -> Result<(), Fail> {
         Commit {
             changes: &[Change::Ports(10, ANY_PORT, (1024, 65_535))],
             most: 1,
-            writes: &[
+            steps: &[
                 (Told::Put(3), first),
                 (Told::Put(2), second),
                 (Told::Put(4), second),
@@ -138,7 +138,7 @@ fn port_ranges(rt: HostRuntime) -> Result<(), Fail> {
                 Change::PortsTo(10, ANY_PORT, (2048, 65_535), 7),
             ],
             most: 0,
-            writes: &[
+            steps: &[
                 (Told::Put(2), rewritten),
                 (Told::Put(4), rewritten),
                 (Told::Put(1), rewritten),

@@ -1,6 +1,6 @@
-//! A manager beside the device that it drives, for tests of whole commits: what the manager's calls ask for always holds
-//! here, so a test makes them in any order and has nothing to show of them. Beside it are batches as rows of changes, and
-//! what a step wrote in a word.
+//! A manager beside the device that it drives, for tests of whole commits: what the manager's calls ask for always
+//! holds here, so a test makes them in any order and has nothing to show of them. Beside it are batches as rows of
+//! changes, and what a step did in a word.
 #![tactic(auto)]
 
 mod changes;
@@ -11,6 +11,4 @@ mod seen;
 pub use changes::{ANY_PORT, Change, ChangeFault, batch, command};
 pub use driven::{Driven, SetUpFault};
 pub use packets::{packet_of_ports, packet_to, routed_packets};
-pub use seen::{
-    NOTHING, Results, Told, numbers_of, results, results_by_rules, what_it_wrote, write,
-};
+pub use seen::{NOTHING, Results, Told, numbers_of, results, results_by_rules, what_it_did};

@@ -1,10 +1,10 @@
-//! What a step wrote, in a word, and what packets get behind it.
+//! What a step did, in a word, and what packets get behind it.
 use crate::Driven;
 use batch_order::{Done, Field, Ready, Step};
 use rule_model::Key;
-use tcam_device::{Device, DeviceFault, Write};
+use tcam_device::{Device, Write};
 
-/// What one write did.
+/// What one step did.
 #[derive(Clone, Copy, Debug, PartialEq, Eq)]
 pub enum Told {
     /// It gave a port of a table a word.
@@ -13,6 +13,8 @@ pub enum Told {
     Put(u32),
     /// It emptied a slot.
     Emptied(u32),
+    /// It drained the device, which is no write.
+    Drained,
 }
 
 /// The results of three packets.
@@ -21,21 +23,14 @@ pub type Results = [Option<u32>; 3];
 /// No packet hits.
 pub const NOTHING: Results = [None, None, None];
 
-/// What a step wrote: None where it made no write.
-pub fn what_it_wrote(step: &Step) -> Option<Told> {
+/// What a step did: None where it neither wrote nor drained.
+pub fn what_it_did(step: &Step) -> Option<Told> {
     match step {
         Step::Wrote(Write::Table(field, port, word)) => Some(Told::Word(*field, *port, *word)),
         Step::Wrote(Write::Slot(slot, Some(_))) => Some(Told::Put(*slot)),
         Step::Wrote(Write::Slot(slot, None)) => Some(Told::Emptied(*slot)),
+        Step::Drained => Some(Told::Drained),
         _ => None,
-    }
-}
-
-/// Makes one step, and one more where that was a drain.
-pub fn write<D: Device>(driven: &mut Driven<D>) -> Result<Step, DeviceFault> {
-    match driven.step()? {
-        Step::Drained => driven.step(),
-        other => Ok(other),
     }
 }
 

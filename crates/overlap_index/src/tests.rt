@@ -83,7 +83,9 @@ fn pieces6(alloc: Global) -> Result<Vec<LivePiece>, Fail> {
     for id in 0..29u32 {
         let len = 32 + id * 37 % 97;
         let past = 128 - len;
-        let bits = u128::from(id % 5) * 0x3333_3333 + (u128::from(id % 3) * 0x5555_5555 << 64);
+        let bits = u128::from(id % 5) * 0x3333_3333
+            + (u128::from(id % 4) * 0x1111_1111 << 32)
+            + (u128::from(id % 3) * 0x5555_5555 << 64);
         let addr = (0x2001_0db8u128 << 96) + bits;
         let block = Prefix::v6(addr >> past << past, len as u8)
             .ok()
