@@ -30,7 +30,8 @@ use Rattle.readback.specs.declared.Stage.{Stage}
 use Rattle.readback.specs.declared.StageFault.{StageFault}
 use Rattle.readback.specs.declared.StageFault.TheVariants.{BitsDiffer, Word, Foreign, Crossed, Twin, Gap, Memory}
 use Rattle.readback.specs.Fault.{AreSetBits, AreSetRanges, HasWrongWord, IsFaultOf}
-use Rattle.readback.specs.Found.{AnswersStage}
+use Rattle.readback.specs.declared.staging.Shown.{Shown}
+use Rattle.readback.specs.Found.{AnswersStage, IsShown, stage_in}
 use Rattle.readback.specs.Laws.{CanCommit}
 use Rattle.readback.specs.Sorted.{AreSorted, IsSlotFault}
 use Rattle.readback.specs.Stage.{AreTranslated, Finds}
@@ -124,6 +125,9 @@ module _ (mode : Mode) (bits : FieldBits) (rules : List Rule) (batch : List Comm
 
   pub erased_encodable : AllByRecursion (λ (x : RankedPiece). IsEncodable x.piece) (erased_pieces mode (bits_with mode rules batch bits) rules batch)
   erased_encodable = all_members (λ (x : RankedPiece). IsEncodable x.piece) p.erased (λ x member. encodable x (old_known p x (facts.goes x member)))
+
+  pub known_encodable : AllByRecursion (λ (x : RankedPiece). IsEncodable x.piece) (known_pieces (commit_pieces mode bits rules batch))
+  known_encodable = all_members (λ (x : RankedPiece). IsEncodable x.piece) (known_pieces p) encodable
 
   -- what was sorted is a stage, with its numbers
   pub found_by : (slots : ℕ) (found : Stage) → ((x : RankedPiece) → Contains p.inserted x → IsStanding state x → AreRight (bits_with mode rules batch bits) state)
@@ -234,3 +238,31 @@ module _ (mode : Mode) (bits : FieldBits) (rules : List Rule) (batch : List Comm
         (subst (λ slots_held. AreSorted slots slots_held (commit_pieces mode bits rules batch) found) held_is (subst (λ p. AreSorted slots held p found) commit_same is))) sorted)
         (IfErr-weaker result (λ fault. (state : State) → state.slots ≡ held → IsSlotFault slots commit state fault) (λ fault. IsSlotFault slots (commit_pieces mode bits rules batch) state fault)
         (λ why is. subst (λ p. IsSlotFault slots p state why) commit_same (is state (sym held_is))) fault)
+
+    -- also where the pieces come with the stage
+    pub shown_tell : (slots : ℕ) (result : Result Shown StageFault) → ((x : RankedPiece) → Contains commit.inserted x → stands_in held x ≡ true → IfSome live (λ during. AreRight during (replay device_slots writes)))
+        → IfOk result (λ shown. AreSorted slots held commit shown.stage) → IfErr result (λ fault. (state : State) → state.slots ≡ held → IsSlotFault slots commit state fault)
+        → AnswersStage slots mode bits rules batch (replay device_slots writes) (stage_in result)
+    shown_tell slots (Ok shown) new sorted fault = slots_tell slots (Ok shown.stage) new sorted tt
+    shown_tell slots (Err why) new sorted fault = slots_tell slots (Err why) new tt fault
+
+    -- which are those of the commit
+    pub shown_are : (result : Result Shown StageFault) → IfOk result (λ shown. IsShown commit held shown)
+        → IfOk result (λ shown. IsShown (commit_pieces mode bits rules batch) (replay device_slots writes).slots shown)
+    shown_are (Ok shown) is = subst (λ slots. IsShown (commit_pieces mode bits rules batch) slots shown) held_is (subst (λ p. IsShown p held shown) commit_same is)
+    shown_are (Err why) is = tt
+
+  -- and each of these has an entry
+  pub all_encodable : (result : Result Shown StageFault) → IfOk result (λ shown. AllByRecursion (λ (x : RankedPiece). IsEncodable x.piece) (known_pieces (commit_pieces mode bits rules batch)))
+  all_encodable (Ok shown) = known_encodable mode bits rules batch device_slots state read.can is_state read.right
+  all_encodable (Err why) = tt
+
+  -- and the commit can be made
+  pub can_be_made : (result : Result Shown StageFault) → IfOk result (λ shown. CanCommit mode bits rules batch)
+  can_be_made (Ok shown) = read.can
+  can_be_made (Err why) = tt
+
+  -- over a device of tables of words of 16 bits
+  pub is_a_state : (result : Result Shown StageFault) → IfOk result (λ shown. IsState device_slots (replay device_slots writes))
+  is_a_state (Ok shown) = is_state
+  is_a_state (Err why) = tt

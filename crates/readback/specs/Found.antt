@@ -1,5 +1,5 @@
 -- What is answered of the stage that a device shows.
-use Rattle.std.specs.Prelude.{◌≡◌, ℕ, Result, IfOk, IfErr, List}
+use Rattle.std.specs.Prelude.{◌≡◌, ℕ, Result, Ok, Err, IfOk, IfErr, Option, List}
 use Rattle.rule_model.specs.declared.Rule.{Rule}
 use Rattle.rule_store.specs.declared.Mode.{Mode}
 use Rattle.rule_store.specs.declared.Command.{Command}
@@ -8,7 +8,11 @@ use Rattle.commit_writes.specs.Bits.{FieldBits}
 use Rattle.readback.specs.declared.Stage.{Stage}
 use Rattle.readback.specs.declared.StageFault.{StageFault}
 use Rattle.readback.specs.declared.StageFault.TheVariants.{Memory}
+use Rattle.readback.specs.declared.staging.Shown.{Shown}
+use Rattle.readback.specs.Places.{AreIn}
 use Rattle.readback.specs.Stage.{IsStage, Finds}
+use Rattle.readback.specs.Tasks.{CommitPieces, known_pieces}
+use Rattle.ternary_word.specs.declared.Entry.{Entry}
 use Rattle.readback.specs.Fault.{AreSetBits, IsFaultOf}
 
 -- Ok comes only for a stage of the set's bits, and a fault only where it applies: so for such a stage none but want of memory
@@ -17,3 +21,15 @@ pub record AnswersStage (slots : ℕ) (mode : Mode) (bits : FieldBits) (rules : 
   pub found : IfOk result (λ found. Finds slots mode bits rules batch state found)
   pub fault : IfErr result (λ fault. IsFaultOf slots mode bits rules batch state fault)
   pub no_fault : IfErr result (λ fault. AreSetBits mode rules bits → IsStage slots mode bits rules batch state → fault ≡ Memory)
+
+-- the stage alone
+abbrev pub stage_in : Result Shown StageFault → Result Stage StageFault
+stage_in (Ok shown) = Ok shown.stage
+stage_in (Err fault) = Err fault
+
+-- beside the stage stand the pieces of the commit, and which of them is in each slot
+pub record IsShown (pieces : CommitPieces) (held : List (Option Entry)) (shown : Shown) : Type 0 where
+  pub places : AreIn held (known_pieces pieces) shown.places.items
+  pub inserted : shown.inserted.items ≡ pieces.inserted
+  pub rewritten : shown.rewritten.items ≡ pieces.rewritten
+  pub erased : shown.erased.items ≡ pieces.erased

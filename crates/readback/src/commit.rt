@@ -21,7 +21,7 @@ use translation_tables::FieldBits;
 
 /// A piece with its entry. Contracts see it as the piece.
 #[derive(Drop)]
-pub(crate) struct Coded {
+pub struct Coded {
     pub(crate) ranked: Ranked,
     pub(crate) entry: Entry,
 }
@@ -38,6 +38,13 @@ impl Model for Coded {
 }
 
 impl Coded {
+    /// The piece.
+    pub fn ranked(&self) -> Ranked
+        ensures { result ≡ self.now }
+    {
+        self.ranked
+    }
+
     /// The priority of the piece's rule.
     pub(crate) fn rank(&self) -> Rank
         ensures { result ≡ self.now.rank }

@@ -3,7 +3,9 @@
 ghost use Rattle.std.specs.Prelude.{◌≡◌, ◌<◌, ◌^◌, IfOk, IfErr, length};
 ghost use Rattle.tcam_device.specs.State.{State};
 ghost use Rattle.readback.specs.declared.StageFault.TheVariants as faults;
+ghost use Rattle.readback.specs.Places.{AreIn};
 ghost use Rattle.readback.specs.Sorted.{AreSorted, IsSlotFault};
+ghost use Rattle.readback.specs.Tasks.{known_pieces};
 
 use crate::commit::Commit;
 use crate::crossing::crossed;
@@ -11,32 +13,28 @@ use crate::doubled::twin_of;
 use crate::foreign::foreign_slot;
 use crate::missing::missing;
 use crate::progress::{Progress, count_tasks};
-use crate::reading::pieces_in;
 use crate::{Stage, StageFault};
-use std::alloc::{AllocError, Global};
+use batch_pieces::Ranked;
 use ternary_word::Entry;
 
-/// How far a commit came by what the slots hold, of which so many are in use. What is wrong is looked for in this
+/// How far a commit came by what the slots hold, of which so many are in use, and which piece each holds. What is wrong is looked for in this
 /// order: an entry of no piece, one behind a lower one that it overlaps, one that stands once too often, a piece that
 /// is missing, and a task that is done out of its turn.
 pub(crate) fn find_in(
-    alloc: Global,
     slots: u32,
     held: &[Option<Entry>],
+    places: &[Option<Ranked>],
     commit: &Commit,
 ) -> Result<Stage, StageFault>
-    requires { length held.now < 2 ^ 32 }
+    requires few { length held.now < 2 ^ 32 }
+    requires places { AreIn held.now (known_pieces commit.now) places.now }
     ensures found { IfOk result (λ found. AreSorted slots held.now commit.now found) }
     ensures fault { IfErr result (λ fault. (state : State) → state.slots ≡ held.now → IsSlotFault slots commit.now state fault) }
 {
-    let places = match pieces_in(alloc, held, commit) {
-        Ok(places) => places,
-        Err(AllocError) => return Err(StageFault::Memory),
-    };
-    if let Some(slot) = foreign_slot(slots, held, &places) {
+    if let Some(slot) = foreign_slot(slots, held, places) {
         return Err(StageFault::Foreign { slot });
     }
-    if let Some(slot) = crossed(&places) {
+    if let Some(slot) = crossed(places) {
         return Err(StageFault::Crossed { slot });
     }
     let twin = match twin_of(held) {

@@ -14,7 +14,7 @@
 //! is told by the device (`find_stage`): the stage that it shows, or what is wrong with it. Slots and tables are read
 //! back, and then each clause of a stage is a walk over lists: which piece each slot holds (`reading`), and whether it
 //! may (`foreign`), the order (`crossing`), twins (`doubled`), pieces that stay (`missing`), and the tasks
-//! (`progress`).
+//! (`progress`). Whoever is to go on with the commit gets the pieces too (`show_commit`).
 #![tactic(auto)]
 
 mod bits;
@@ -32,6 +32,7 @@ mod staging;
 mod standing;
 mod words;
 
+pub use commit::Coded;
 pub use judging::verdict;
 pub use laws::{
     last_stages_answer_new, one_piece_stands_twice, only_stages_have_no_fault, rests_pass_stages,
@@ -43,7 +44,7 @@ pub use rule_model::Field;
 use rule_model::Rank;
 pub use rule_store::Mode;
 use rule_store::{BatchFault, Store};
-pub use staging::find_stage;
+pub use staging::{Shown, find_stage, show_commit};
 use thiserror::Error;
 
 /// Why a batch isn't taken, judged by the rules alone: neither a held plan nor want of memory is a reason here.

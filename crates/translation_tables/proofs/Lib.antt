@@ -5,3 +5,4 @@ pub mod NoWords
 pub mod RulesBits
 pub mod Used
 pub mod SetRanges
+pub mod ReadBack

@@ -1,8 +1,8 @@
 //! The words of both translation tables.
 
-ghost use Rattle.std.specs.Prelude.{◌≡◌, true, ◌+◌, ◌≤◌, ◌^◌, ◌*◌, ◌++◌, IfOk, OnOk, length};
+ghost use Rattle.std.specs.Prelude.{◌≡◌, true, [], ℕ, ◌+◌, ◌<◌, ◌≤◌, ◌^◌, ◌*◌, ◌++◌, IfOk, OnOk, length, slice_index};
 ghost use Rattle.tcam_device.specs.Insertion.{is_table_write};
-ghost use Rattle.tcam_device.specs.State.{apply, blank};
+ghost use Rattle.tcam_device.specs.State.{apply, blank, replay, table_of};
 ghost use Rattle.commit_writes.specs.Shape as shape;
 ghost use Rattle.commit_writes.specs.Shape.{bit_writes, field_writes};
 ghost use Rattle.commit_writes.specs.Undo.{restoring};
@@ -12,7 +12,7 @@ use range_bits::BitMap;
 use rule_model::Field;
 use std::alloc::{AllocError, Global};
 use std::marker::Model;
-use tcam_device::Write;
+use tcam_device::{ReadBack, Write};
 
 /// How many words a translation table has, one a port.
 const PORTS: usize = 65_536;
@@ -74,6 +74,15 @@ impl Tables {
         Ok(Tables { src, dst })
     }
 
+    /// The tables as they stand in a device. It fails only for want of memory, of 256 KiB.
+    pub fn read_back<D: ReadBack>(alloc: Global, device: &D) -> Result<Tables, AllocError>
+        ensures { IfOk result (λ tables. tables ≡ record (replay (D.slot_count device.now) (D.journal device.now)) { slots = [] }) }
+    {
+        let src = read_table(alloc, Field::Src, device)?;
+        let dst = read_table(alloc, Field::Dst, device)?;
+        Ok(Tables { src, dst })
+    }
+
     /// Puts behind some words each that differs once new bits are set exactly at their ranges' ports: the source table's,
     /// then the destination table's, ports rising, at most one for each port. Nothing is pushed where no bit is new. It
     /// fails only for want of memory, and then some of them may be pushed.
@@ -132,6 +141,18 @@ impl Tables {
         let dst = Vec::from_slice(alloc, &self.dst)?;
         Ok(Tables { src, dst })
     }
+}
+
+/// The words of a field's table as they stand in a device.
+fn read_table<D: ReadBack>(alloc: Global, field: Field, device: &D) -> Result<Vec<u16>, AllocError>
+    ensures words { IfOk result (λ words. words.items ≡ table_of field (replay (D.slot_count device.now) (D.journal device.now))) }
+    ensures short { IfOk result (λ words. (port : ℕ) → slice_index words.items port < 2 ^ 16) }
+{
+    let mut words = Vec::with_capacity(alloc, PORTS)?;
+    for port in 0..65_536u32 {
+        words.push(device.read_word(field, port as u16))?;
+    }
+    Ok(words)
 }
 
 /// The words of one table that differ.
