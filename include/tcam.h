@@ -75,7 +75,8 @@ enum tcam_error {
     TCAM_NULL = 19,         /* a pointer is null */
     TCAM_DRAIN_DUE = 20,    /* a drain is due, and no write */
     TCAM_WRITE_DUE = 21,    /* a write is due, and no drain */
-    TCAM_BACK = 22          /* the commit is turned round already */
+    TCAM_BACK = 22,         /* the commit is turned round already */
+    TCAM_RESTARTED = 23     /* a restart goes on with the commit: it can't be taken back */
 };
 
 /* How port ranges are cut: into an entry for each pair of blocks of their covers, up to 900 a rule, or into one
@@ -306,8 +307,9 @@ static inline enum tcam_error tcam_drained(struct tcam_manager *manager) {
  * else. A driver that can do neither frees the manager, blanks the memory, and makes a new one. An undo write that
  * fails is due still, as any write is.
  *
- * TCAM_NOTHING_DUE comes exactly where no commit is under way, and left isn't written; TCAM_BACK exactly where the
- * commit is turned round already, with how many undo writes are left; then nothing changes. */
+ * TCAM_NOTHING_DUE comes exactly where no commit is under way, and TCAM_RESTARTED exactly where a restart goes on with
+ * the one that is: left isn't written then. TCAM_BACK comes exactly where the commit is turned round already, with how
+ * many undo writes are left. With each of these nothing changes. */
 static inline enum tcam_error tcam_abort(struct tcam_manager *manager, uint64_t *left) {
     return manager && left ? (enum tcam_error)tcam_c_abort(manager, left) : TCAM_NULL;
 }
@@ -346,6 +348,7 @@ static inline const char *tcam_error_text(enum tcam_error error) {
     case TCAM_DRAIN_DUE: return "a drain is due";
     case TCAM_WRITE_DUE: return "a write is due";
     case TCAM_BACK: return "the commit is turned round already";
+    case TCAM_RESTARTED: return "a restart goes on with the commit";
     }
     return "no such answer";
 }

@@ -198,8 +198,8 @@ static void under_way(struct tcam_manager *manager) {
 
 /* Each code has a text of its own. */
 static void texts(void) {
-    const char *none = tcam_error_text((enum tcam_error)(TCAM_BACK + 1));
-    for (int error = TCAM_OK; error <= TCAM_BACK; error++) {
+    const char *none = tcam_error_text((enum tcam_error)(TCAM_RESTARTED + 1));
+    for (int error = TCAM_OK; error <= TCAM_RESTARTED; error++) {
         const char *text = tcam_error_text((enum tcam_error)error);
         CHECK(strlen(text) > 3 && strcmp(text, none) != 0);
         for (int other = TCAM_OK; other < error; other++)

@@ -1,5 +1,5 @@
 -- A commit that is turned round.
-use Rattle.std.proofs.Common.{◌≡◌, ℕ, ◌≤◌, List, length, take, drop, Option, Some, None, Ok, Err, Result, refl, sym, ap, ap₂, subst, ◌-◌, ◌∙◌, arith, length-drop}
+use Rattle.std.proofs.Common.{◌≡◌, ℕ, ◌≤◌, Bool, true, false, List, length, take, drop, Option, Some, None, Ok, Err, Result, refl, sym, ap, ap₂, subst, ◌-◌, ◌∙◌, arith, length-drop}
 use Rattle.std.specs.Prelude.{IfSome, IsSome}
 use Rattle.std.proofs.lemmas.List.{length-take}
 use Rattle.slot_pool.specs.Arrangement.{Slots}
@@ -19,13 +19,13 @@ use Rattle.batch_order.specs.Entries.{Entries}
 use Rattle.batch_order.specs.Kept.{IsManaged, held_of, held_writes, left_of, most_made, settled_state, turned_at}
 use Rattle.batch_order.specs.Managed.{HeldCommit, Managed, live_now, writes_due}
 use Rattle.batch_order.specs.Passed.{WayBackFrom}
-use Rattle.batch_order.specs.Steps.{Aborts, TurnsBack}
+use Rattle.batch_order.specs.Steps.{Aborts, TurnsBack, TurnsPrepared}
 use Rattle.batch_order.specs.CarriedOut.{HasRoomBothWays, HasRoomLeft}
 use Rattle.batch_order.specs.Passed.{HasWayBack}
-use Rattle.batch_order.specs.Managed.{room_both_ways}
+use Rattle.batch_order.specs.Managed.{room_both_ways, room_needed}
 use Rattle.batch_order.proofs.Carried.{held_size, view_of}
 use Rattle.batch_order.proofs.Drains.{writes_left_are}
-use Rattle.batch_order.proofs.Stepped.{both_on, both_back, needed_back}
+use Rattle.batch_order.proofs.Stepped.{both_on, both_back, needed_back, needed_on}
 
 -- what a call of abort leaves, whatever it answers
 pub record KeepsOn (old new : Managed) : Type 0 where
@@ -64,9 +64,9 @@ module _ (translation : Option Translation) (rules : StoredRules) (kept : Entrie
           ∙ sym (ap length (writes_left_are held.awaits (drop (most_made held) writes)))
       go (Some undone) is = sym count
 
-  -- it can be carried back
-  pub managed_turned : IsManaged translation rules kept slots (Some (turned_at held))
-  managed_turned =
+  -- one that was prepared can be carried back
+  pub managed_turned : held.prepared ≡ true → IsManaged translation rules kept slots (Some (turned_at held))
+  managed_turned prepared =
       let carried = managed.carried in
       record {
         right = managed.right;
@@ -74,23 +74,25 @@ module _ (translation : Option Translation) (rules : StoredRules) (kept : Entrie
         tables = managed.tables;
         translated = managed.translated;
         carried = record {
-          before = carried.before;
+          size = carried.size;
+          entries = carried.entries;
           coded = carried.coded;
           during = carried.during;
-          old = carried.old;
+          way_back = carried.way_back;
+          back = λ some. prepared;
           after = carried.after;
           leads = carried.leads;
           tables = carried.tables;
           translated = carried.translated;
-          segment = carried.segment;
-          words = carried.words;
+          answers = carried.answers;
+          serves_before = carried.serves_before;
+          serves_behind = carried.serves_behind;
+          words_first = carried.words_first;
+          plain = carried.plain;
           early = carried.early;
           late = carried.late;
           undrained = carried.undrained;
           drains = λ forward none not. absurd (let clash : Some held.made ≡ None = forward in cc);
-          undo = carried.undo;
-          added = carried.added;
-          before_is = carried.before_is;
           made = carried.made;
           in_use = carried.in_use;
           right = carried.right;
@@ -130,17 +132,30 @@ module _ (translation : Option Translation) (rules : StoredRules) (kept : Entrie
       let one : HeldCommit = held_of translation slots rules.rules kept.entries held in
       subst (λ (t : Option ℕ). TurnsBack old one t (Err (abort_fault.Back held.made)) old) (sym turned) (ap (λ (n : ℕ). Err (abort_fault.Back n)) (sym count), refl)
 
-  -- what turning it round leaves, by what the call did
-  pub turned_managed : (new : Held) (P : Held → Type 0) → (held.turned ≡ None → new ≡ turned_at held) → ((undone : ℕ) → held.turned ≡ Some undone → new ≡ held) → (held.turned ≡ None → P (turned_at held)) → ((undone : ℕ) → held.turned ≡ Some undone → P held) → P new
-  turned_managed new P turns stays one other = go held.turned refl
-    where
-      go : (t : Option ℕ) → held.turned ≡ t → P new
-      go None is = subst P (sym (turns is)) (one is)
-      go (Some undone) is = subst P (sym (stays undone is)) (other undone is)
+  -- what a call that turns it round does
+  pub record IsTurnedBy (result : Result ℕ AbortFault) (new : Held) : Type 0 where
+    pub restarted : held.prepared ≡ false → (result ≡ Err abort_fault.Restarted) × (new ≡ held)
+    pub turns : held.prepared ≡ true → held.turned ≡ None → (result ≡ Ok held.made) × (new ≡ turned_at held)
+    pub stays : held.prepared ≡ true → IsSome held.turned → (result ≡ Err (abort_fault.Back held.made)) × (new ≡ held)
 
-  pub aborts_by : (result : Result ℕ AbortFault) (new : Held) → (held.turned ≡ None → (result ≡ Ok held.made) × (new ≡ turned_at held)) → (IsSome held.turned → (result ≡ Err (abort_fault.Back held.made)) × (new ≡ held))
-      → Aborts (view_of placement translation rules kept slots (Some held)) (view_of placement translation rules kept slots (Some held)).held result (view_of placement translation rules kept slots (Some new))
-  aborts_by result new turns stays = go held.turned refl
+  -- it leaves what can be carried out, or back
+  pub managed_by : (result : Result ℕ AbortFault) (new : Held) → IsTurnedBy result new → IsManaged translation rules kept slots (Some new)
+  managed_by result new did = by held.prepared refl
+    where
+      is_so : Held → Type 0
+      is_so h = IsManaged translation rules kept slots (Some h)
+
+      go : held.prepared ≡ true → (t : Option ℕ) → held.turned ≡ t → IsManaged translation rules kept slots (Some new)
+      go prepared None is = subst is_so (sym (did.turns prepared is).1) (managed_turned prepared)
+      go prepared (Some undone) is = subst is_so (sym (did.stays prepared (subst IsSome (sym is) refl)).1) managed
+
+      by : (b : Bool) → held.prepared ≡ b → IsManaged translation rules kept slots (Some new)
+      by true is = go is held.turned refl
+      by false is = subst is_so (sym (did.restarted is).1) managed
+
+  aborts_back : (result : Result ℕ AbortFault) (new : Held) → (held.turned ≡ None → (result ≡ Ok held.made) × (new ≡ turned_at held)) → (IsSome held.turned → (result ≡ Err (abort_fault.Back held.made)) × (new ≡ held))
+      → TurnsBack (view_of placement translation rules kept slots (Some held)) (held_of translation slots rules.rules kept.entries held) held.turned result (view_of placement translation rules kept slots (Some new))
+  aborts_back result new turns stays = go held.turned refl
     where
       old : Managed
       old = view_of placement translation rules kept slots (Some held)
@@ -153,6 +168,29 @@ module _ (translation : Option Translation) (rules : StoredRules) (kept : Entrie
           let was = stays (subst IsSome (sym is) refl) in
           subst (λ (r : Result ℕ AbortFault). TurnsBack old (held_of translation slots rules.rules kept.entries held) held.turned r (view_of placement translation rules kept slots (Some new))) (sym was.0)
           (subst (λ (h : Held). TurnsBack old (held_of translation slots rules.rules kept.entries held) held.turned (Err (abort_fault.Back held.made)) (view_of placement translation rules kept slots (Some h))) (sym was.1) (stays_turned undone is))
+
+  pub aborts_by : (result : Result ℕ AbortFault) (new : Held) → IsTurnedBy result new
+      → Aborts (view_of placement translation rules kept slots (Some held)) (view_of placement translation rules kept slots (Some held)).held result (view_of placement translation rules kept slots (Some new))
+  aborts_by result new did = go held.prepared refl
+    where
+      old : Managed
+      old = view_of placement translation rules kept slots (Some held)
+
+      go : (b : Bool) → held.prepared ≡ b → TurnsPrepared old (held_of translation slots rules.rules kept.entries held) held.prepared result (view_of placement translation rules kept slots (Some new))
+      go true is =
+          subst (λ b. TurnsPrepared old (held_of translation slots rules.rules kept.entries held) b result (view_of placement translation rules kept slots (Some new))) (sym is)
+          (aborts_back result new (did.turns is) (did.stays is))
+      go false is =
+          subst (λ b. TurnsPrepared old (held_of translation slots rules.rules kept.entries held) b result (view_of placement translation rules kept slots (Some new))) (sym is)
+          ((did.restarted is).0, ap (λ (h : Held). view_of placement translation rules kept slots (Some h)) (did.restarted is).1)
+
+-- the room for both ways is enough for one
+enough_left : (one : HeldCommit) → room_needed one ≤ room_both_ways one
+enough_left one = go one.turned refl
+  where
+    go : (t : Option ℕ) → one.turned ≡ t → room_needed one ≤ room_both_ways one
+    go None is = let both = both_on one is in let needed = needed_on one is in omega arith
+    go (Some undone) is = let both = both_back one undone is in let needed = needed_back one undone is in omega arith
 
 pub keeps_on : (old new : Managed) (result : Result ℕ AbortFault) → Aborts old old.held result new → KeepsOn old new
 keeps_on old new result did = go old.held refl did
@@ -184,4 +222,8 @@ keeps_on old new result did = go old.held refl did
 
     go : (h : Option HeldCommit) → old.held ≡ h → Aborts old h result new → KeepsOn old new
     go None under did = same None under did.1 (λ spare room. tt)
-    go (Some one) under did = turns one one.turned under refl did
+    go (Some one) under did = by one.prepared did
+      where
+        by : (b : Bool) → TurnsPrepared old one b result new → KeepsOn old new
+        by true did = turns one one.turned under refl did
+        by false did = same (Some one) under did.1 (λ spare room. let all = room in let enough = enough_left one in omega arith)

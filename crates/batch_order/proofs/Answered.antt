@@ -1,5 +1,5 @@
 -- What a manager's device answers, between commits and while one is under way.
-use Rattle.std.proofs.Common.{◌≡◌, ℕ, ◌-◌, ◌≤◌, Option, List, [], length, take, flat_map, None, Some, append-nil, refl, sym, ap, subst}
+use Rattle.std.proofs.Common.{◌≡◌, ℕ, ◌-◌, ◌≤◌, Option, List, [], length, take, flat_map, None, Some, append-nil, refl, sym, ap, subst, arith}
 use Rattle.std.specs.List.{AllByRecursion, AllZip}
 use Rattle.std.specs.Prelude.{reverse}
 use Rattle.std.proofs.lemmas.List.{length-map}
@@ -25,6 +25,7 @@ use Rattle.batch_order.specs.declared.held.Held.{Held}
 use Rattle.batch_order.specs.declared.translation.Translation.{Translation}
 use Rattle.batch_order.specs.Entries.{Entries}
 use Rattle.batch_order.specs.Kept.{IsManaged, bits_of, held_writes, mode_of, settled_state, state_of, tables_of}
+use Rattle.batch_order.proofs.Carried.{held_size}
 use Rattle.batch_order.proofs.Taken.{are_arranged}
 use Rattle.batch_order.proofs.Translated.{bits_same, serving_of, settled_is}
 
@@ -86,4 +87,4 @@ held_answers translation rules kept slots held managed device_slots wide =
     let used : AllByRecursion (IsInUse (length begun.slots)) (take held.made (held_writes kept.entries held)) =
     all_take (IsInUse (length begun.slots)) held.made (held_writes kept.entries held) (subst (λ (n : ℕ). AllByRecursion (IsInUse n) (held_writes kept.entries held)) (sym size) managed.carried.in_use) in
     subst (λ (state : State). ShowsOldOrNew state rules.rules (set_after rules.rules held.batch)) (state_after-on_device device_slots begun (take held.made (held_writes kept.entries held)) used)
-    ((managed.carried.segment device_slots wide).hitless.on_the_way.during held.made)
+    (managed.carried.answers device_slots wide held.made (let size : length (held_writes kept.entries held) ≡ length held.writes.items = held_size kept.entries held in let all = managed.carried.made in omega arith))

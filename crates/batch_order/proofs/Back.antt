@@ -26,7 +26,7 @@ use Rattle.commit_writes.proofs.Undone.{restored}
 use Rattle.batch_order.specs.declared.held.Held.{Held}
 use Rattle.batch_order.specs.declared.translation.Translation.{Translation}
 use Rattle.batch_order.specs.Entries.{Entries}
-use Rattle.batch_order.specs.Kept.{IsManaged, bits_after, bits_of, current_of, held_of, held_writes, mode_of, most_made, one_less, settled_state, state_of}
+use Rattle.batch_order.specs.Kept.{IsManaged, IsPrepared, bits_after, bits_of, current_of, held_of, held_writes, mode_of, most_made, one_less, settled_state, state_of}
 use Rattle.batch_order.specs.Planning.{as_write, as_writes}
 use Rattle.batch_order.specs.Steps.{Steps, StepsBack, StepsEither, current_back, due_write, next_of}
 use Rattle.batch_order.proofs.Carried.{held_size, view_of}
@@ -49,6 +49,13 @@ module _ (translation : Option Translation) (rules : StoredRules) (kept : Entrie
   abbrev begun : State
   begun = settled_state translation kept.entries slots
 
+  is_back : IsSome held.turned
+  is_back = subst IsSome (sym turned) refl
+
+  -- it was prepared
+  pub way : IsPrepared translation rules kept slots held.ids.items (held_writes kept.entries held) (as_writes kept.entries held.rewrites.items held.undo.items)
+  way = managed.carried.way_back (managed.carried.back is_back)
+
   -- with one write less made it can be carried out still
   pub managed_back : 1 ≤ held.made → IsManaged translation rules kept slots (Some (one_less held))
   managed_back some =
@@ -59,23 +66,25 @@ module _ (translation : Option Translation) (rules : StoredRules) (kept : Entrie
         tables = managed.tables;
         translated = managed.translated;
         carried = record {
-          before = carried.before;
+          size = carried.size;
+          entries = carried.entries;
           coded = carried.coded;
           during = carried.during;
-          old = carried.old;
+          way_back = carried.way_back;
+          back = carried.back;
           after = carried.after;
           leads = carried.leads;
           tables = carried.tables;
           translated = carried.translated;
-          segment = carried.segment;
-          words = carried.words;
+          answers = carried.answers;
+          serves_before = λ some. carried.serves_before (inl (carried.back is_back));
+          serves_behind = carried.serves_behind;
+          words_first = carried.words_first;
+          plain = carried.plain;
           early = λ still. (let below = carried.early still in omega arith);
           late = late (nat_lt (held.made - 1) held.counts.words) refl;
           undrained = undrained (nat_lt (held.made - 1) held.counts.words) refl;
           drains = λ forward none not. absurd (let clash : Some undone ≡ None = sym turned ∙ forward in cc);
-          undo = carried.undo;
-          added = carried.added;
-          before_is = carried.before_is;
           made = (let all = carried.made in omega arith);
           in_use = carried.in_use;
           right = carried.right;
@@ -157,7 +166,7 @@ module _ (translation : Option Translation) (rules : StoredRules) (kept : Entrie
           let undo : Write = restoring (state_after begun (take k writes)) last.0 in
           let less : held.made - 1 ≡ k = omega arith in
           let at : slice_get (as_writes kept.entries held.rewrites.items held.undo.items) k ≡ Some undo =
-          ap (λ ws. slice_get ws k) managed.carried.undo ∙ restoring_read begun writes k last.0 last.1.read in
+          ap (λ ws. slice_get ws k) way.undo_is ∙ restoring_read begun writes k last.0 last.1.read in
           let same : Some undo ≡ Some write = sym at ∙ ap (slice_get (as_writes kept.entries held.rewrites.items held.undo.items)) (sym less) ∙ read in
           let one : undo ≡ write = cc in
           record {
@@ -173,7 +182,7 @@ module _ (translation : Option Translation) (rules : StoredRules) (kept : Entrie
   -- each write has one
   pub undo_size : length held.undo.items ≡ length held.writes.items
   undo_size =
-      sym (length-map held.undo.items (as_write kept.entries held.rewrites.items)) ∙ ap length managed.carried.undo ∙ length-restorings begun writes ∙ held_size kept.entries held
+      sym (length-map held.undo.items (as_write kept.entries held.rewrites.items)) ∙ ap length way.undo_is ∙ length-restorings begun writes ∙ held_size kept.entries held
 
   -- so the last one of what was made is there
   pub undo_there : (held.made ≡ 0 → ⊥) → (size : ℕ) → size ≡ length held.undo.items → false ≡ nat_lt (held.made - 1) size → ⊥
@@ -209,6 +218,7 @@ module _ (translation : Option Translation) (rules : StoredRules) (kept : Entrie
     bits = bits_of translation;
     state = s;
     held = Some (record {
+      prepared = held.prepared;
       actions = with_drain held.awaits (drop most (held_writes kept.entries held));
       undo = undo;
       turned = held.turned;

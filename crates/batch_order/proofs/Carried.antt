@@ -117,7 +117,7 @@ module _ (translation translation' : Option Translation) (rules rules' : StoredR
   finish_steps placement words over =
       let none : drop held.made (held_writes kept.entries held) ≡ [] = (all_made held.awaits (drop held.made (held_writes kept.entries held)) over).1 in
       let carried = managed.carried in
-      let size : length held.arrangement ≡ length slots = carried.after.settled.size ∙ sym carried.old.settled.size in
+      let size : length held.arrangement ≡ length slots = carried.after.settled.size ∙ sym carried.size in
       let state : settled_state translation' kept'.entries held.arrangement ≡ state_of translation kept.entries slots (Some held) =
       ap₂ (λ (t : Option Translation) (e : List (Option Entry)). with_slots (tables_of t) e) turned
       (contents_kept kept'.live (rewritten_entries kept.entries held.rewrites.items) kept'.entries held.arrangement finished.entries

@@ -1,7 +1,7 @@
 -- Whether a batch fits the free bits and the free slots, as the manager counts them.
 use Rattle.std.proofs.Common.{◌≡◌, ℕ, ◌+◌, ◌-◌, ◌<◌, ◌≤◌, Bool, true, false, Option, Some, None, Err, List, length, refl, sym, ap, subst, ◌∙◌, arith}
 use Rattle.std.proofs.lemmas.Bool.{lt-ltb, le-ltb, ltb-false}
-use Rattle.std.specs.Prelude.{nat_lt, option_map}
+use Rattle.std.specs.Prelude.{IfSome, nat_lt, option_map}
 use Rattle.rule_model.specs.declared.Rule.{Rule}
 use Rattle.rule_model.specs.declared.Field.{Field}
 use Rattle.rule_model.specs.declared.Field.TheVariants.{Src, Dst}
@@ -24,7 +24,7 @@ use Rattle.batch_order.specs.declared.translation.Translation.{Translation}
 use Rattle.batch_order.specs.declared.Refusal.{Refusal}
 use Rattle.batch_order.specs.declared.Refusal.TheVariants as refusal
 use Rattle.batch_order.specs.Entries.{Entries}
-use Rattle.batch_order.specs.Kept.{IsManaged, bits_of, held_of, mode_of}
+use Rattle.batch_order.specs.Kept.{IsManaged, bits_of, held_of, mode_of, needed_by}
 use Rattle.batch_order.specs.Managed.{Answers}
 use Rattle.batch_order.proofs.Numbered.{arranged_few, arranged_number}
 
@@ -165,10 +165,13 @@ pub entries_few : (translation : Option Translation) (rules : StoredRules) (kept
     → entries_of (mode_of translation) rules.rules ≤ 4096
 entries_few translation rules kept slots None managed = arranged_few (mode_of translation) (bits_of translation) rules.rules kept slots managed.is_set managed.carried
 entries_few translation rules kept slots (Some held) managed =
-    arranged_few (mode_of translation) (bits_of translation) rules.rules (record kept { live = managed.carried.before }) slots managed.is_set managed.carried.old
+    let some : entries_of (mode_of translation) rules.rules ≤ length slots = managed.carried.entries in
+    let size : length slots ≡ kept.slots = managed.carried.size in
+    let few : kept.slots ≤ 4096 = managed.carried.after.settled.few in
+    omega arith
 
 -- with no commit under way the slots that aren't free are as many as the entries of the set
-idle_count : (translation : Option Translation) (rules : StoredRules) (kept : Entries) (slots : Slots) → IsManaged translation rules kept slots None
+pub idle_count : (translation : Option Translation) (rules : StoredRules) (kept : Entries) (slots : Slots) → IsManaged translation rules kept slots None
     → free_slots slots + entries_of (mode_of translation) rules.rules ≡ length slots
 idle_count translation rules kept slots managed =
     let number : length kept.live ≡ entries_of (mode_of translation) rules.rules = arranged_number (mode_of translation) (bits_of translation) rules.rules kept slots managed.is_set managed.carried in
@@ -208,3 +211,18 @@ pub bits_needed : (kept : Translation) (rules : StoredRules) (entries : Entries)
     → with_needed kept.bits batch ≡ bits_with Bits rules.rules batch kept.bits
 bits_needed kept rules entries slots held batch managed =
     with_needed-new kept.bits rules.rules batch (are_live (coded_ranges Src rules.rules) kept.bits.src kept.tables.src managed.translated.0) (are_live (coded_ranges Dst rules.rules) kept.bits.dst kept.tables.dst managed.translated.1)
+
+-- whatever a manager keeps, a batch that fits the set's free bits fits those of its live ranges,
+pub fits_both : (translation : Option Translation) (rules : StoredRules) (entries : Entries) (slots : Slots) (held : Option Held) (batch : List Command) → IsManaged translation rules entries slots held
+    → HaveFreeBits (mode_of translation) rules.rules batch → IfSome translation (λ kept. Fits Src kept.bits batch) × IfSome translation (λ kept. Fits Dst kept.bits batch)
+fits_both None rules entries slots held batch managed free = (tt, tt)
+fits_both (Some kept) rules entries slots held batch managed free = (
+  field_fits Src rules.rules batch kept.bits kept.tables.src managed.translated.0 free.0,
+  field_fits Dst rules.rules batch kept.bits kept.tables.dst managed.translated.1 free.1,
+)
+
+-- and its live ranges meanwhile are those of the commit
+pub ranges_needed_are : (translation : Option Translation) (rules : StoredRules) (entries : Entries) (slots : Slots) (held : Option Held) (batch : List Command) → IsManaged translation rules entries slots held
+    → needed_by translation batch ≡ bits_with (mode_of translation) rules.rules batch (bits_of translation)
+ranges_needed_are None rules entries slots held batch managed = refl
+ranges_needed_are (Some kept) rules entries slots held batch managed = bits_needed kept rules entries slots held batch managed

@@ -91,12 +91,12 @@ pub no_words : (translation : Option Translation) (rules : List Rule) (batch : L
 no_words None rules batch state none = bit_writes-none state
 no_words (Some kept) rules batch state none = absurd (none kept refl)
 
-cover_words : (translation : Option Translation) (rules : List Rule) (batch : List Command) (state : State) → mode_of translation ≡ Cover
+pub cover_words : (translation : Option Translation) (rules : List Rule) (batch : List Command) (state : State) → mode_of translation ≡ Cover
     → words_of (mode_of translation) (bits_of translation) rules batch state ≡ []
 cover_words translation rules batch state cover = no_words translation rules batch state (λ kept is. let bits : Cover ≡ Bits = sym cover ∙ ap mode_of is in cc)
 
 -- as many ids as new entries, and each is that of its piece
-rewritten_ids : (live : List LivePiece) (pieces : List RankedPiece) (rewrites : List Rewrite) → AllZip (IsRewriteOf live) pieces rewrites → AllZip (IsIdOf live) pieces (map (λ (rewrite : Rewrite). rewrite.id) rewrites)
+pub rewritten_ids : (live : List LivePiece) (pieces : List RankedPiece) (rewrites : List Rewrite) → AllZip (IsRewriteOf live) pieces rewrites → AllZip (IsIdOf live) pieces (map (λ (rewrite : Rewrite). rewrite.id) rewrites)
 rewritten_ids live [] [] are = tt
 rewritten_ids live [] (rewrite ∷ rewrites) are = absurd are
 rewritten_ids live (ranked ∷ pieces) [] are = absurd are
@@ -175,8 +175,8 @@ module _ (placement : Placement) (translation : Option Translation) (rules : Sto
       ∙ (batch_state mode during behind rules.rules batch old.live slots new.entries plan.planned rewrites erased plan.commit
       ∙ ap (λ (s : Slots). with_slots behind (contents (rewritten_entries new.entries rewrites) (erased_slots s erased))) (sym plan.middle_is)))
 
-  plain : mode_of translation ≡ Cover → AreToSlots writes
-  plain cover =
+  pub plain_writes : mode_of translation ≡ Cover → AreToSlots writes
+  plain_writes cover =
       subst AreToSlots (sym (plan.writes_are ∙ ap (λ (w : List Write). w ++ made) (cover_words translation rules.rules batch before cover)))
       (batch_slots new.entries slots plan.planned rewrites erased)
 
@@ -186,7 +186,7 @@ module _ (placement : Placement) (translation : Option Translation) (rules : Sto
     turned = translated_by translation coded set writes
 
     tables_then : LeavesTables (state_after (settled_state translation new.entries slots) writes) (tables_of turned)
-    tables_then = tables_kept translation coded set writes new.entries slots same plain
+    tables_then = tables_kept translation coded set writes new.entries slots same plain_writes
 
     from_behind : LeavesTables behind (tables_of turned)
     from_behind = record { src = tables_then.src ∙ ap (λ (s : State). s.src) leads_on; dst = tables_then.dst ∙ ap (λ (s : State). s.dst) leads_on }

@@ -13,13 +13,9 @@ use Rattle.tcam_device.specs.declared.Action.TheVariants.{Written, Drained}
 use Rattle.tcam_device.specs.State.{State, apply, state_after}
 use Rattle.tcam_device.specs.Insertion.{is_table_write, table_writes}
 use Rattle.commit_writes.specs.Actions.{have_bits, with_drain}
-use Rattle.commit_writes.specs.Bits.{bits_with, new_bits}
+use Rattle.commit_writes.specs.Bits.{new_bits}
 use Rattle.commit_writes.specs.Undo.{restoring, undo_writes}
 use Rattle.commit_writes.proofs.Actions.{undo-append}
-use Rattle.commit_writes.proofs.ServedTables.{fresh_writes}
-use Rattle.commit_writes.proofs.SlotsBehind.{IsCutAtSlots, cut_at_slots}
-use Rattle.commit_writes.proofs.TableWrites.{AreToTables, bit_writes-tables}
-use Rattle.tcam_device.specs.State.{on_device}
 use Rattle.batch_pieces.specs.Changes.{during_of}
 use Rattle.batch_order.specs.declared.Placement.{Placement}
 use Rattle.batch_order.specs.declared.Step.{Step}
@@ -27,7 +23,7 @@ use Rattle.batch_order.specs.declared.Step.TheVariants as step
 use Rattle.batch_order.specs.declared.held.Held.{Held}
 use Rattle.batch_order.specs.declared.translation.Translation.{Translation}
 use Rattle.batch_order.specs.Entries.{Entries}
-use Rattle.batch_order.specs.Kept.{IsManaged, bits_of, bits_after, current_of, drains_at, held_of, held_writes, mode_of, most_made, settled_state, state_of}
+use Rattle.batch_order.specs.Kept.{AreWordsFirst, IsManaged, bits_of, bits_after, current_of, drains_at, held_of, held_writes, mode_of, most_made, settled_state, state_of}
 use Rattle.batch_order.specs.Managed.{HeldCommit, Managed, actions_due}
 use Rattle.batch_order.specs.Steps.{IsAllMade, Steps, StepsEither, StepsOn, awaits_drain, due_write, is_drain_next, next_of}
 use Rattle.batch_order.proofs.Carried.{view_of, drop-read, get-drop, held_size}
@@ -106,34 +102,25 @@ module _ (translation : Option Translation) (rules : StoredRules) (kept : Entrie
   abbrev begun : State
   begun = settled_state translation kept.entries slots
 
-  abbrev on : State
-  on = on_device (length slots) begun
-
-  abbrev tables : List Write
-  tables = fresh_writes (mode_of translation) (bits_of translation) rules.rules held.batch on
-
-  cut : IsCutAtSlots tables writes
-  cut = cut_at_slots (mode_of translation) (bits_of translation) rules.rules held.batch on writes (managed.carried.segment (length slots) (omega arith)).shape
-
-  words_first : AreToTables tables
-  words_first = bit_writes-tables on (new_bits (bits_of translation) (bits_with (mode_of translation) rules.rules held.batch (bits_of translation)))
+  cut : AreWordsFirst held.counts.words writes
+  cut = managed.carried.words_first
 
   -- words are left first
   pub left_first : (n : ℕ) → AreTablesFirst (drop n (held_writes kept.entries held))
-  left_first n = subst (λ ws. AreTablesFirst (drop n ws)) (sym cut.parts) (tables_first tables cut.rest words_first cut.slots n)
+  left_first n = subst (λ ws. AreTablesFirst (drop n ws)) (sym cut.parts) (tables_first cut.tables cut.behind cut.to_tables cut.to_slots n)
 
   -- and so many of them
   pub left_words : (n : ℕ) → n ≤ held.counts.words → table_writes (drop n (held_writes kept.entries held)) ≡ held.counts.words - n
   left_words n below =
-      let number : held.counts.words ≡ length tables = managed.carried.words ∙ cut.count in
-      ap (λ ws. table_writes (drop n ws)) cut.parts ∙ drop_tables tables cut.rest words_first cut.slots n (omega arith) ∙ ap (λ k. k - n) (sym number)
+      let number : held.counts.words ≡ length cut.tables = cut.count in
+      ap (λ ws. table_writes (drop n ws)) cut.parts ∙ drop_tables cut.tables cut.behind cut.to_tables cut.to_slots n (omega arith) ∙ ap (λ k. k - n) (sym number)
 
   -- which of them are words
   pub word_at : (k : ℕ) (write : Write) → slice_get (held_writes kept.entries held) k ≡ Some write
       → ((is_table_write write ≡ true) × (k < held.counts.words)) ⊎ ((is_table_write write ≡ false) × (held.counts.words ≤ k))
   word_at k write read =
-      let number : held.counts.words ≡ length tables = managed.carried.words ∙ cut.count in
-      elim (kind_at tables cut.rest words_first cut.slots k write (subst (λ ws. slice_get ws k ≡ Some write) cut.parts read)) [
+      let number : held.counts.words ≡ length cut.tables = cut.count in
+      elim (kind_at cut.tables cut.behind cut.to_tables cut.to_slots k write (subst (λ ws. slice_get ws k ≡ Some write) cut.parts read)) [
         | inl is ↦ inl (is.0, omega arith)
         | inr is ↦ inr (is.0, omega arith)
       ]
@@ -177,23 +164,25 @@ module _ (translation : Option Translation) (rules : StoredRules) (kept : Entrie
           tables = managed.tables;
           translated = managed.translated;
           carried = record {
-            before = carried.before;
+            size = carried.size;
+            entries = carried.entries;
             coded = carried.coded;
             during = carried.during;
-            old = carried.old;
+            way_back = carried.way_back;
+            back = carried.back;
             after = carried.after;
             leads = carried.leads;
             tables = carried.tables;
             translated = carried.translated;
-            segment = carried.segment;
-            words = carried.words;
+            answers = carried.answers;
+            serves_before = carried.serves_before;
+            serves_behind = carried.serves_behind;
+            words_first = carried.words_first;
+            plain = carried.plain;
             early = early;
             late = λ is. (let above = carried.late is in omega arith);
             undrained = λ not. undrained held.awaits refl not;
             drains = carried.drains;
-            undo = carried.undo;
-            added = carried.added;
-            before_is = carried.before_is;
             made = (let within = made_inside in omega arith);
             in_use = carried.in_use;
             right = carried.right;
@@ -253,6 +242,7 @@ module _ (translation : Option Translation) (rules : StoredRules) (kept : Entrie
           bits = bits_of translation;
           state = s;
           held = Some (record {
+            prepared = held.prepared;
             actions = with_drain held.awaits left;
             undo = u;
             turned = held.turned;
@@ -281,23 +271,25 @@ module _ (translation : Option Translation) (rules : StoredRules) (kept : Entrie
           tables = managed.tables;
           translated = managed.translated;
           carried = record {
-            before = carried.before;
+            size = carried.size;
+            entries = carried.entries;
             coded = carried.coded;
             during = carried.during;
-            old = carried.old;
+            way_back = carried.way_back;
+            back = carried.back;
             after = carried.after;
             leads = carried.leads;
             tables = carried.tables;
             translated = carried.translated;
-            segment = carried.segment;
-            words = carried.words;
+            answers = carried.answers;
+            serves_before = λ some. carried.serves_before (elim some [ inl is ↦ inl is | inr not ↦ absurd (let clash : true ≡ false = not in cc) ]);
+            serves_behind = carried.serves_behind;
+            words_first = carried.words_first;
+            plain = carried.plain;
             early = λ still. absurd (let clash : false ≡ true = still in cc);
             late = λ is. late;
             undrained = λ not. absurd (let clash : true ≡ false = not in cc);
             drains = λ forward none not. absurd (let clash : true ≡ false = not in cc);
-            undo = carried.undo;
-            added = carried.added;
-            before_is = carried.before_is;
             made = carried.made;
             in_use = carried.in_use;
             right = carried.right;
@@ -336,6 +328,7 @@ module _ (translation : Option Translation) (rules : StoredRules) (kept : Entrie
           bits = bits_of translation;
           state = state_of translation kept.entries slots (Some held);
           held = Some (record {
+            prepared = held.prepared;
             actions = map Written left;
             undo = undo_writes begun (take held.made writes);
             turned = held.turned;

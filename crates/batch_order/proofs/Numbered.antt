@@ -33,7 +33,7 @@ use Rattle.batch_order.specs.Entries.{Entries as Kept}
 use Rattle.batch_order.specs.Kept.{IsArranged}
 
 -- lists of numbers, each once, with the same members are of one length
-same_length : (xs ys : List ℕ) → IsDistinct nat_eq xs → IsDistinct nat_eq ys → ((n : ℕ) → Contains xs n → Contains ys n) → ((n : ℕ) → Contains ys n → Contains xs n) → length xs ≡ length ys
+pub same_length : (xs ys : List ℕ) → IsDistinct nat_eq xs → IsDistinct nat_eq ys → ((n : ℕ) → Contains xs n → Contains ys n) → ((n : ℕ) → Contains ys n → Contains xs n) → length xs ≡ length ys
 same_length xs ys once_x once_y to from = length-from_same_keys nat_eq_equiv xs ys once_x once_y same
   where
     same : (n : ℕ) → is_member nat_eq xs n ≡ is_member nat_eq ys n

@@ -16,14 +16,12 @@ use Rattle.ternary_word.specs.Entry.{RankedPiece}
 use Rattle.range_bits.proofs.Given.{kept_ranges-parts}
 use Rattle.tcam_device.specs.declared.Write.{Write}
 use Rattle.tcam_device.specs.State.{State, IsInUse, state_after, on_device}
-use Rattle.tcam_device.specs.Insertion.{table_writes}
 use Rattle.tcam_device.specs.Order.{IsOrdered}
 use Rattle.tcam_device.proofs.Wider.{all_take, state_after-on_device}
 use Rattle.commit_writes.specs.Bits.{FieldBits, bits_left, bits_with, new_bits}
 use Rattle.commit_writes.specs.Actions.{have_bits}
-use Rattle.commit_writes.specs.Commit.{IsSegment}
 use Rattle.commit_writes.specs.InFlight.{ArePartOf, ServesLive, TestsLive}
-use Rattle.commit_writes.specs.Segments.{IsAtRest, MayBegin}
+use Rattle.commit_writes.specs.Segments.{IsAtRest}
 use Rattle.commit_writes.specs.Serving.{AreServing}
 use Rattle.commit_writes.specs.Shape.{set_pieces}
 use Rattle.commit_writes.specs.Planned.{IsServedBy, held_entry}
@@ -31,7 +29,6 @@ use Rattle.commit_writes.proofs.AtRest.{rests_on_wider_devices}
 use Rattle.commit_writes.proofs.Current.{current_part}
 use Rattle.commit_writes.proofs.LiveBits.{chosen_live, tests_live}
 use Rattle.commit_writes.proofs.LiveRanges.{AreTranslated, translated, live_meanwhile, same_ranges}
-use Rattle.commit_writes.proofs.ServedLive.{bits_begun, early, late}
 use Rattle.commit_writes.proofs.ServedTables.{IsBitsStart}
 use Rattle.commit_writes.proofs.SetPieces.{set_served}
 use Rattle.batch_pieces.specs.Changes.{during_of}
@@ -43,7 +40,7 @@ use Rattle.batch_order.specs.Kept.{IsManaged, bits_of, current_of, held_of, held
 use Rattle.batch_order.specs.Steps.{ServesNow}
 use Rattle.batch_order.specs.Turning.{IsCurrentRight, IsHeldRight}
 use Rattle.batch_order.proofs.Answered.{idle_writes}
-use Rattle.batch_order.proofs.Carried.{view_of}
+use Rattle.batch_order.proofs.Carried.{held_size, view_of}
 use Rattle.batch_order.proofs.Drains.{has_drain_is}
 use Rattle.batch_order.proofs.Translated.{bits_same, serving_of, settled_is}
 
@@ -115,34 +112,20 @@ module _ (translation : Option Translation) (rules : StoredRules) (kept : Entrie
   abbrev during : FieldBits
   during = bits_with mode rules.rules held.batch bits
 
-  -- and a commit under way began so
-  pub begin : MayBegin (mode_of translation) (bits_of translation) rules.rules held.batch (settled_state translation kept.entries slots)
-  begin = record {
-    at_rest = rests translation rules (record kept { live = managed.carried.before }) slots record {
-      right = managed.right;
-      is_set = managed.is_set;
-      tables = managed.tables;
-      translated = managed.translated;
-      carried = managed.carried.old;
-    };
-    changes = managed.carried.changes;
-    sound = managed.carried.sound;
-    few = managed.carried.few;
-  }
-
+  -- its bits began so
   start : IsBitsStart mode bits rules.rules held.batch begun
-  start = bits_begun mode bits rules.rules held.batch begun begin
-
-  begin_on : (device_slots : ℕ) → MayBegin mode bits rules.rules held.batch (on_device device_slots begun)
-  begin_on device_slots = record {
-    at_rest = rests_on_wider_devices mode bits rules.rules begun device_slots begin.at_rest;
-    changes = begin.changes;
-    sound = begin.sound;
-    few = begin.few;
+  start = record {
+    is_state = settled_is translation kept.entries slots managed.tables;
+    changes = managed.carried.changes;
+    are = bits_same mode bits rules.rules (tables_of translation) begun record { src = refl; dst = refl } managed.translated;
+    few = managed.carried.few;
   }
 
   during_is : during_of held.bits ≡ during
   during_is = managed.carried.during
+
+  inside : held.made ≤ length writes
+  inside = let size : length writes ≡ length held.writes.items = held_size kept.entries held in let all = managed.carried.made in omega arith
 
   -- what its words in flight are current for lies between
   pub held_right : IsCurrentRight (bits_of translation) (held_of translation slots rules.rules kept.entries held)
@@ -179,30 +162,23 @@ module _ (translation : Option Translation) (rules : StoredRules) (kept : Entrie
           state_after-on_device device_slots begun (take held.made writes)
           (all_take (IsInUse (length begun.slots)) held.made writes (subst (λ (n : ℕ). AllByRecursion (IsInUse n) writes) (sym size) managed.carried.in_use))
 
-      segment : IsSegment mode bits rules.rules held.batch begun_on writes
-      segment = managed.carried.segment device_slots wide
-
-      served_late : table_writes writes ≤ held.made → ServesLive during (state_after begun_on (take held.made writes))
-      served_late above = late mode bits rules.rules held.batch begun_on writes (begin_on device_slots) segment held.made above
+      serves_late : held.counts.words ≤ held.made → ServesLive (during_of held.bits) (state_after begun_on (take held.made writes))
+      serves_late above = managed.carried.serves_behind device_slots wide held.made above inside
 
       go : (b : Bool) → held.drained ≡ b → ServesLive (elim b [ true ↦ during_of held.bits | false ↦ bits_of translation ]) (on_device device_slots (state_of translation kept.entries slots (Some held)))
-      go true is =
-          let words = managed.carried.words in
-          let above = managed.carried.late is in
-          subst (ServesLive (during_of held.bits)) same (subst (λ b. ServesLive b (state_after begun_on (take held.made writes))) (sym during_is) (served_late (omega arith)))
-      go false is = subst (ServesLive bits) same (elim (managed.carried.undrained is) [
-        | inl below ↦
-            let words = managed.carried.words in
-            early mode bits rules.rules held.batch begun_on writes (begin_on device_slots) segment held.made (omega arith)
-        | inr none ↦ all_along (subst (λ b. have_bits (new_bits bits b) ≡ false) during_is none)
-      ])
+      go true is = subst (ServesLive (during_of held.bits)) same (serves_late (managed.carried.late is))
+      go false is = subst (ServesLive bits) same (elim (managed.carried.undrained is) [ inl below ↦ serves_early below | inr none ↦ all_along none ])
         where
-          all_along : have_bits (new_bits bits during) ≡ false → ServesLive bits (state_after begun_on (take held.made writes))
-          all_along none_new = elim (cases_lt (table_writes writes) held.made) [
+          serves_early : held.made ≤ held.counts.words → ServesLive bits (state_after begun_on (take held.made writes))
+          serves_early below = managed.carried.serves_before (inr is) device_slots wide held.made below
+
+          all_along : have_bits (new_bits bits (during_of held.bits)) ≡ false → ServesLive bits (state_after begun_on (take held.made writes))
+          all_along none = elim (cases_lt held.counts.words held.made) [
             | inl past ↦
-                serves_same bits during (state_after begun_on (take held.made writes)) (live_meanwhile mode bits rules.rules held.batch begun start) (same_ranges mode bits rules.rules held.batch begun start none_new)
-                (served_late (omega arith))
-            | inr less ↦ early mode bits rules.rules held.batch begun_on writes (begin_on device_slots) segment held.made less
+                serves_same bits (during_of held.bits) (state_after begun_on (take held.made writes)) (subst (ArePartOf bits) (sym during_is) (live_meanwhile mode bits rules.rules held.batch begun start))
+                (subst (λ b. ArePartOf b bits) (sym during_is) (same_ranges mode bits rules.rules held.batch begun start (subst (λ b. have_bits (new_bits bits b) ≡ false) during_is none)))
+                (serves_late (omega arith))
+            | inr less ↦ serves_early less
           ]
 
 -- so a manager's device serves the ranges that words are current for now

@@ -11,8 +11,9 @@ use Rattle.batch_order.specs.declared.Step.TheVariants as step
 use Rattle.batch_order.specs.declared.held.Held.{Held}
 use Rattle.batch_order.specs.declared.translation.Translation.{Translation}
 use Rattle.batch_order.specs.Entries.{Entries, KeepEntries}
-use Rattle.batch_order.specs.Kept.{IsManaged, bits_of, held_of, held_writes, mode_of, settled_state}
+use Rattle.batch_order.specs.Kept.{IsManaged, IsPrepared, bits_of, held_of, held_writes, mode_of, settled_state}
 use Rattle.batch_order.specs.Managed.{HeldCommit, Managed, actions_due}
+use Rattle.batch_order.specs.Planning.{as_writes}
 use Rattle.batch_order.specs.Steps.{IsAllMade, Steps, StepsBack, StepsEither}
 use Rattle.batch_order.proofs.Back.{last_one}
 use Rattle.batch_order.proofs.Carried.{view_of}
@@ -24,22 +25,23 @@ pub record IsReverted (kept kept' : Entries) (held : Held) : Type 0 where
   pub entries : KeepEntries kept'.live kept.entries kept'.entries
   pub slots : kept'.slots ≡ kept.slots
 
-module _ (translation : Option Translation) (rules : StoredRules) (kept kept' : Entries) (slots : Slots) (held : Held) (managed : IsManaged translation rules kept slots (Some held)) (reverted : IsReverted kept kept' held) where
+module _ (translation : Option Translation) (rules : StoredRules) (kept kept' : Entries) (slots : Slots) (held : Held) (managed : IsManaged translation rules kept slots (Some held))
+    (way : IsPrepared translation rules kept slots held.ids.items (held_writes kept.entries held) (as_writes kept.entries held.rewrites.items held.undo.items)) (reverted : IsReverted kept kept' held) where
   first : Entries
-  first = record kept { live = managed.carried.before }
+  first = record kept { live = way.before }
 
-  idle : IsManaged translation rules (record kept { live = managed.carried.before }) slots None
-  idle = record { right = managed.right; is_set = managed.is_set; tables = managed.tables; translated = managed.translated; carried = managed.carried.old }
+  idle : IsManaged translation rules (record kept { live = way.before }) slots None
+  idle = record { right = managed.right; is_set = managed.is_set; tables = managed.tables; translated = managed.translated; carried = way.old }
 
-  same_live : kept'.live ≡ managed.carried.before
-  same_live = reverted.live ∙ sym managed.carried.before_is
+  same_live : kept'.live ≡ way.before
+  same_live = reverted.live ∙ sym way.before_is
 
-  keeps : KeepEntries managed.carried.before kept.entries kept'.entries
+  keeps : KeepEntries way.before kept.entries kept'.entries
   keeps = subst (λ l. KeepEntries l kept.entries kept'.entries) same_live reverted.entries
 
   -- no commit is under way
   pub managed_reverted : IsManaged translation rules kept' slots None
-  managed_reverted = managed_same translation rules rules (record kept { live = managed.carried.before }) kept' slots idle refl same_live reverted.slots keeps
+  managed_reverted = managed_same translation rules rules (record kept { live = way.before }) kept' slots idle refl same_live reverted.slots keeps
 
   module _ (undone : ℕ) (turned : held.turned ≡ Some undone) (placement : Placement) where
     due_is : actions_due (held_of translation slots rules.rules kept.entries held) ≡ map Written (undo_writes (settled_state translation kept.entries slots) (take held.made (held_writes kept.entries held)))
@@ -67,7 +69,7 @@ module _ (translation : Option Translation) (rules : StoredRules) (kept kept' : 
         ap (λ n. undo_writes (settled_state translation kept.entries slots) (take n (held_writes kept.entries held))) none in
         let did : StepsBack old one undone [] (step.Reverted undone) (view_of placement translation rules kept' slots None) = (
           refl,
-          view_same placement translation rules rules (record kept { live = managed.carried.before }) kept' slots idle refl keeps
+          view_same placement translation rules rules (record kept { live = way.before }) kept' slots idle refl keeps
               ∙ ap (λ n. idle_view (state_after (settled_state translation kept.entries slots) (take n (held_writes kept.entries held)))) (sym none),
         ) in
         subst (λ (t : Option ℕ). StepsEither old one words t (step.Reverted undone) (view_of placement translation rules kept' slots None)) (sym turned)

@@ -93,7 +93,7 @@ made_state old words (Some held) made new write steps next = go (stepped old wor
     go (Revert undone turned rest did is) = let clash : None ≡ Some write = sym (next_back held undone turned ∙ ap (λ ws. slice_get ws 0) rest) ∙ next in absurd (cc)
 
 -- what a commit needs, forward and back
-needed_on : (held : HeldCommit) → held.turned ≡ None → room_needed held ≡ length held.actions
+pub needed_on : (held : HeldCommit) → held.turned ≡ None → room_needed held ≡ length held.actions
 needed_on held turned = ap (λ (t : Option ℕ). elim t [ None ↦ length held.actions | Some undone ↦ length held.undo ]) turned
 
 pub needed_back : (held : HeldCommit) (undone : ℕ) → held.turned ≡ Some undone → room_needed held ≡ length held.undo

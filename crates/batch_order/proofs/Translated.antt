@@ -58,7 +58,7 @@ no_slots (Some kept) None rules writes is = is.size
 no_slots (Some kept) (Some bits) rules writes is = slots-after kept.tables writes ∙ is.size
 
 -- tables of a state are tables of one with other slots
-same_tables : (slots count : ℕ) (before after : State) → IsState count before → LeavesTables before after → length after.slots ≡ slots → IsState slots after
+pub same_tables : (slots count : ℕ) (before after : State) → IsState count before → LeavesTables before after → length after.slots ≡ slots → IsState slots after
 same_tables slots count before after is left size = record {
   size = size;
   src_size = ap length left.src ∙ is.src_size;

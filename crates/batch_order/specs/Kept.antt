@@ -1,5 +1,5 @@
 -- What holds of a manager between its calls.
-use Rattle.std.specs.Prelude.{◌≡◌, ℕ, ◌≤◌, ◌-◌, ◌⊎◌, Bool, true, false, ◌&&◌, IsTrue, Option, Some, None, List, length, take, drop, nat_eq, nat_lt}
+use Rattle.std.specs.Prelude.{◌≡◌, ℕ, ◌≤◌, ◌-◌, ◌⊎◌, ◌++◌, Bool, true, false, ◌&&◌, IsTrue, IsFalse, IsSome, Option, Some, None, List, length, take, drop, nat_eq, nat_lt}
 use Rattle.std.specs.List.{AllByRecursion, IsDistinct}
 use Rattle.slot_pool.specs.Arrangement.{Slots}
 use Rattle.rule_model.specs.declared.Rule.{Rule}
@@ -7,24 +7,28 @@ use Rattle.rule_model.specs.Rule.{HasConditions}
 use Rattle.rule_model.specs.RuleSet.{IsRuleSet}
 use Rattle.ternary_word.specs.declared.Entry.{Entry}
 use Rattle.rule_store.specs.declared.Mode.{Mode}
+use Rattle.rule_store.specs.declared.Command.{Command}
 use Rattle.rule_store.specs.declared.Mode.TheVariants.{Cover, Bits}
 use Rattle.rule_store.specs.Batch.{ChangesRules, IsSound, set_after}
 use Rattle.rule_store.specs.Store.{StoredRules}
+use Rattle.rule_store.specs.Verdict.{entries_of}
 use Rattle.overlap_index.specs.declared.LivePiece.{LivePiece}
 use Rattle.overlap_index.specs.Live.{is_live}
 use Rattle.tcam_device.specs.State.{State, IsState, IsInUse, blank, state_after, on_device}
 use Rattle.tcam_device.specs.declared.Write.{Write}
-use Rattle.tcam_device.specs.Insertion.{table_writes}
+use Rattle.tcam_device.specs.Hitless.{ShowsOldOrNew}
+use Rattle.tcam_device.specs.Insertion.{is_table_write}
 use Rattle.commit_writes.specs.declared.Done.{Done}
 use Rattle.commit_writes.specs.declared.Rewrite.{Rewrite}
 use Rattle.commit_writes.specs.Actions.{have_bits, with_drain}
 use Rattle.commit_writes.specs.Bits.{FieldBits, no_bits, bits_with, bits_left, new_bits}
-use Rattle.commit_writes.specs.Commit.{IsSegment}
+use Rattle.commit_writes.specs.InFlight.{ServesLive}
 use Rattle.commit_writes.specs.Serving.{AreBitsOf, HaveFreeBits}
 use Rattle.commit_writes.specs.Undo.{undo_writes}
 use Rattle.commit_writes.specs.Shape.{set_pieces}
 use Rattle.commit_writes.specs.Planned.{AreEntriesOf, contents, with_slots}
 use Rattle.commit_writes.specs.PlannedBatch.{rewritten_entries, erased_live}
+use Rattle.translation_tables.specs.Needed.{with_needed}
 use Rattle.batch_pieces.specs.Changes.{coded_by, during_of}
 use Rattle.batch_order.specs.declared.held.Held.{Held}
 use Rattle.batch_order.specs.declared.translation.Translation.{Translation}
@@ -46,6 +50,11 @@ bits_of (Some kept) = kept.bits
 abbrev pub tables_of : Option Translation → State
 tables_of None = blank 0
 tables_of (Some kept) = kept.tables
+
+-- the live ranges with those that a batch needs bits for
+abbrev pub needed_by : Option Translation → List Command → FieldBits
+needed_by None batch = no_bits
+needed_by (Some kept) batch = with_needed kept.bits batch
 
 -- what is kept once the writes of a commit are made and its rules are the set's
 abbrev pub translated_by : Option Translation → Option FieldBits → List Rule → List Write → Option Translation
@@ -87,6 +96,7 @@ most_made held = elim held.turned [ None ↦ held.made | Some undone ↦ undone 
 abbrev pub held_of : Option Translation → Slots → List Rule → List (Option Entry) → Held → HeldCommit
 held_of translation slots rules entries held =
     record {
+      prepared = held.prepared;
       actions = with_drain held.awaits (drop (most_made held) (held_writes entries held));
       undo = undo_writes (settled_state translation entries slots) (take held.made (held_writes entries held));
       turned = held.turned;
@@ -125,34 +135,59 @@ abbrev pub changed_by : Entries → List Rewrite → List ℕ → Entries
 changed_by kept rewrites erased =
     record kept { live = erased_live kept.live erased; entries = rewritten_entries kept.entries rewrites }
 
--- A commit under way can be carried out: the set's entries stand in order before its writes, and the new set's after them.
--- Meanwhile the ids of both sets are live, with the old entries where a piece gets a result, and so are the bits of both.
-pub record IsHeld (translation : Option Translation) (rules : StoredRules) (kept : Entries) (slots : Slots) (held : Held) : Type 0 where
-  -- the ids that are live without the commit
+-- What the way back of a commit needs: the set's entries stand in order before its writes, and each of these can be undone.
+pub record IsPrepared (translation : Option Translation) (rules : StoredRules) (kept : Entries) (slots : Slots) (ids : List ℕ) (writes undo : List Write) : Type 0 where
+  -- the ids that are live without the commit: the new ones are those that became live last
   pub before : List LivePiece
+  pub added : AreLast kept.live ids
+  pub before_is : before ≡ take (length kept.live - length ids) kept.live
+  pub old : IsArranged (mode_of translation) (bits_of translation) rules.rules (record kept { live = before }) slots
+  pub undo_is : undo ≡ restorings (settled_state translation kept.entries slots) writes
+
+-- so many of some writes are words of the tables, and these come first
+pub record AreWordsFirst (words : ℕ) (writes : List Write) : Type 0 where
+  pub tables : List Write
+  pub behind : List Write
+  pub parts : writes ≡ tables ++ behind
+  pub to_tables : AllByRecursion (λ write. IsTrue (is_table_write write)) tables
+  pub to_slots : AllByRecursion (λ write. IsFalse (is_table_write write)) behind
+  pub count : words ≡ length tables
+
+-- A commit under way can be carried out: its writes lead to the new set's entries in order, and after each of them each key
+-- has the old or the new answer. Meanwhile the ids of both sets are live, with the old entries where a piece gets a result,
+-- and so are the bits of both. One that `prepare` planned has its way back.
+pub record IsHeld (translation : Option Translation) (rules : StoredRules) (kept : Entries) (slots : Slots) (held : Held) : Type 0 where
+  pub size : length slots ≡ kept.slots
+  pub entries : entries_of (mode_of translation) rules.rules ≤ length slots
   pub coded : coded_by held.bits ≡ mode_of translation
   pub during : during_of held.bits ≡ bits_with (mode_of translation) rules.rules held.batch (bits_of translation)
-  pub old : IsArranged (mode_of translation) (bits_of translation) rules.rules (record kept { live = before }) slots
+  pub way_back : held.prepared ≡ true
+      → IsPrepared translation rules kept slots held.ids.items (held_writes kept.entries held) (as_writes kept.entries held.rewrites.items held.undo.items)
+  pub back : IsSome held.turned → held.prepared ≡ true
   pub after : IsArranged (mode_of translation) (bits_after rules.rules held) (set_after rules.rules held.batch) (changed_by kept held.rewrites.items held.erased.items) held.arrangement
   pub leads : state_after (settled_state translation kept.entries slots) (held_writes kept.entries held)
       ≡ settled_state (translation_after translation rules.rules kept.entries held) (rewritten_entries kept.entries held.rewrites.items) held.arrangement
   pub tables : IsState 0 (tables_of (translation_after translation rules.rules kept.entries held))
   pub translated : AreBitsOf (mode_of translation) (bits_after rules.rules held) (set_after rules.rules held.batch) (tables_of (translation_after translation rules.rules kept.entries held))
-  -- they are the writes of the batch on a device with so many slots or more, so on the way each key has the old or the new answer
-  pub segment : (device_slots : ℕ) → length slots ≤ device_slots
-      → IsSegment (mode_of translation) (bits_of translation) rules.rules held.batch (on_device device_slots (settled_state translation kept.entries slots)) (held_writes kept.entries held)
+  -- on a device with so many slots or more each key has the old or the new answer on the way
+  pub answers : (device_slots : ℕ) → length slots ≤ device_slots → (n : ℕ) → n ≤ length (held_writes kept.entries held)
+      → ShowsOldOrNew (state_after (on_device device_slots (settled_state translation kept.entries slots)) (take n (held_writes kept.entries held))) rules.rules (set_after rules.rules held.batch)
+  -- up to the last word of the tables it serves the ranges before the commit, unless a drain came before the plan, and from
+  -- then on those that are live meanwhile
+  pub serves_before : (held.prepared ≡ true) ⊎ (held.drained ≡ false) → (device_slots : ℕ) → length slots ≤ device_slots → (n : ℕ) → n ≤ held.counts.words
+      → ServesLive (bits_of translation) (state_after (on_device device_slots (settled_state translation kept.entries slots)) (take n (held_writes kept.entries held)))
+  pub serves_behind : (device_slots : ℕ) → length slots ≤ device_slots → (n : ℕ) → held.counts.words ≤ n → n ≤ length (held_writes kept.entries held)
+      → ServesLive (during_of held.bits) (state_after (on_device device_slots (settled_state translation kept.entries slots)) (take n (held_writes kept.entries held)))
   -- the drain, where a new bit asks for it, stands behind the words of the tables
-  pub words : held.counts.words ≡ table_writes (held_writes kept.entries held)
+  pub words_first : AreWordsFirst held.counts.words (held_writes kept.entries held)
+  -- by covers there are none
+  pub plain : mode_of translation ≡ Cover → held.counts.words ≡ 0
   pub early : held.awaits ≡ true → held.made ≤ held.counts.words
   pub late : held.drained ≡ true → held.counts.words ≤ held.made
   pub undrained : held.drained ≡ false → (held.made ≤ held.counts.words) ⊎ (have_bits (new_bits (bits_of translation) (during_of held.bits)) ≡ false)
   pub drains : held.turned ≡ None → held.awaits ≡ false → held.drained ≡ false → have_bits (new_bits (bits_of translation) (during_of held.bits)) ≡ false
   pub made : held.made ≤ length held.writes.items
   pub in_use : AllByRecursion (IsInUse (length slots)) (held_writes kept.entries held)
-  -- each can be undone, and the new ids are those that became live last
-  pub undo : as_writes kept.entries held.rewrites.items held.undo.items ≡ restorings (settled_state translation kept.entries slots) (held_writes kept.entries held)
-  pub added : AreLast kept.live held.ids.items
-  pub before_is : before ≡ take (length kept.live - length held.ids.items) kept.live
   -- the batch can be applied to the set, without memory
   pub right : AllByRecursion HasConditions (set_after rules.rules held.batch)
   pub sound : IsSound rules.rules held.batch

@@ -9,3 +9,7 @@ pub mod CarriedOut
 pub mod Restoring
 pub mod Kept
 pub mod Undoing
+pub mod Restarted
+pub mod Restarting
+pub mod Resting
+pub mod Stopped

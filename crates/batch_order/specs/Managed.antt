@@ -1,9 +1,10 @@
 -- What a manager keeps, and how it judges a batch.
-use Rattle.std.specs.Prelude.{◌≡◌, ℕ, ◌+◌, ◌≤◌, ◌^◌, ◌⊎◌, Result, Err, IsOk, Option, Some, None, List, [], length, map}
+use Rattle.std.specs.Prelude.{◌≡◌, ℕ, ◌+◌, ◌≤◌, ◌^◌, ◌⊎◌, Bool, true, Result, Err, IsOk, Option, Some, None, List, [], length, map, take}
 use Rattle.std.specs.List.{AllByRecursion}
 use Rattle.rule_model.specs.declared.Rule.{Rule}
 use Rattle.rule_model.specs.declared.IpVersion.{IpVersion}
 use Rattle.rule_store.specs.declared.Mode.{Mode}
+use Rattle.rule_store.specs.declared.Mode.TheVariants.{Cover}
 use Rattle.rule_store.specs.declared.Command.{Command}
 use Rattle.rule_store.specs.declared.BatchFault.{BatchFault}
 use Rattle.rule_store.specs.declared.BatchFault.TheVariants.{Twice, Taken, Absent}
@@ -12,7 +13,7 @@ use Rattle.rule_store.specs.Verdict.{Verdict, Accepted, Unsound, OutOfBits, OutO
 use Rattle.tcam_device.specs.declared.Write.{Write}
 use Rattle.tcam_device.specs.declared.Action.{Action}
 use Rattle.tcam_device.specs.declared.Action.TheVariants.{Written}
-use Rattle.tcam_device.specs.State.{State, IsInUse, Shows, blank, replay, on_device}
+use Rattle.tcam_device.specs.State.{State, IsInUse, Shows, blank, blank_table, replay, on_device, state_after}
 use Rattle.tcam_device.specs.Flight.{writes_in}
 use Rattle.tcam_device.specs.Hitless.{ShowsOldOrNew}
 use Rattle.tcam_device.specs.Insertion.{insertions, IsUncrossed}
@@ -21,6 +22,8 @@ use Rattle.commit_writes.specs.Bits.{FieldBits, no_bits, bits_with, bits_left}
 use Rattle.commit_writes.specs.Commit.{IsSegment, AreCounts}
 use Rattle.commit_writes.specs.Actions.{commit_actions}
 use Rattle.commit_writes.specs.Routes.{IsRoute, prefix_lengths}
+use Rattle.readback.specs.Fault.{AreSetBits}
+use Rattle.readback.specs.Stage.{IsStage}
 use Rattle.batch_order.specs.declared.Placement.{Placement}
 use Rattle.batch_order.specs.declared.Refusal.{Refusal}
 use Rattle.batch_order.specs.declared.Refusal.TheVariants as refusal
@@ -29,6 +32,8 @@ use Rattle.batch_order.specs.Placing.{IsPlacedBy}
 
 -- A commit under way.
 pub record HeldCommit : Type 0 where
+  -- whether it was planned from the set's arrangement, and not by a restart
+  pub prepared : Bool
   -- the writes still to make, and the drain where it is still to come
   pub actions : List Action
   -- the undo writes of those that were made, the next one first
@@ -125,6 +130,7 @@ OnlyChangesRoutes version batch = AllByRecursion (IsRoute version) (additions ba
 abbrev pub commit_of : Managed → List Command → List Write → Done → HeldCommit
 commit_of old batch made counts =
     record {
+      prepared = true;
       actions = commit_actions old.mode old.bits old.rules batch made;
       undo = [];
       turned = None;
@@ -134,6 +140,18 @@ commit_of old batch made counts =
       bits = bits_left (set_after old.rules batch) (bits_with old.mode old.rules batch old.bits);
       current = old.bits;
     }
+
+-- No word of a table has a bit, as on a device whose manager has given none.
+pub record HasBlankTables (state : State) : Type 0 where
+  pub src : state.src ≡ blank_table
+  pub dst : state.dst ≡ blank_table
+
+-- Each state that some writes of a commit pass is a stage, which shows how far it came. The bits are those of the set, and
+-- by covers no word of a table has a bit.
+pub record CanRestart (slots : ℕ) (mode : Mode) (bits : FieldBits) (rules : List Rule) (batch : List Command) (state : State) (made : List Write) : Type 0 where
+  pub set_bits : AreSetBits mode rules bits
+  pub stages : (n : ℕ) → IsStage slots mode bits rules batch (state_after state (take n made))
+  pub plain : mode ≡ Cover → (n : ℕ) → HasBlankTables (state_after state (take n made))
 
 -- A batch is taken: its actions are held, and their writes are its segment on a device with so many slots or more.
 pub record Holds (old : Managed) (batch : List Command) (ready : Ready) (new : Managed) : Type 0 where
@@ -146,6 +164,9 @@ pub record Holds (old : Managed) (batch : List Command) (ready : Ready) (new : M
   -- hitless after every write, of the commit's shape, and within the bounds on insertions
   pub segment : (device_slots : ℕ) → old.slots ≤ device_slots
       → IsSegment old.mode old.bits old.rules batch (on_device device_slots old.state) made
+  -- from each state that they pass another manager can go on
+  pub restarts : (device_slots : ℕ) → old.slots ≤ device_slots
+      → CanRestart old.slots old.mode old.bits old.rules batch (on_device device_slots old.state) made
   -- its insertions are those of the placement, each with its aim
   pub placed : IsPlacedBy old.placement old.mode old.bits old.rules batch old.state made
   pub numbers : (device_slots : ℕ) → old.slots ≤ device_slots → AreCounts (on_device device_slots old.state) made counts

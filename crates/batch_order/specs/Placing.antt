@@ -1,5 +1,5 @@
--- Where the insertions of a commit aim, and that a commit's insertions are so placed.
-use Rattle.std.specs.Prelude.{◌≡◌, ℕ, ◌+◌, ◌*◌, ◌/◌, List, [], ◌∷◌, ◌++◌, length, map}
+-- Where the insertions of a commit aim, and that the insertions of a commit, or of what a restart found left of it, are so placed.
+use Rattle.std.specs.Prelude.{◌≡◌, ℕ, ◌+◌, ◌*◌, ◌/◌, Option, List, [], ◌∷◌, ◌++◌, drop, length, map}
 use Rattle.slot_pool.specs.Arrangement.{Slots}
 use Rattle.rule_model.specs.declared.Rule.{Rule}
 use Rattle.rule_store.specs.declared.Mode.{Mode}
@@ -17,6 +17,9 @@ use Rattle.commit_writes.specs.Bits.{FieldBits, bits_with, new_bits}
 use Rattle.commit_writes.specs.Shape.{bit_writes, inserted_pieces}
 use Rattle.commit_writes.specs.Planned.{IdEntries, Planned, contents}
 use Rattle.commit_writes.specs.PlannedBatch.{IsPlannedBatch, batch_writes}
+use Rattle.readback.specs.Tasks.{Task}
+use Rattle.planned_rests.specs.PlannedRest.{restart_writes}
+use Rattle.planned_rests.specs.Restart.{IsPlannedRestart}
 use Rattle.batch_order.specs.declared.Placement.{Placement}
 use Rattle.batch_order.specs.declared.Placement.TheVariants.{Middle, Rank}
 
@@ -65,3 +68,21 @@ pub record IsPlacedBy (placement : Placement) (mode : Mode) (bits : FieldBits) (
   pub commit : IsPlannedBatch mode (bits_with mode rules batch bits) (state_after state (words_of mode bits rules batch state)) rules batch live arrangement entries planned rewrites erased
   pub aims : map (λ insertion. insertion.aim) planned ≡ aims_of placement mode (length arrangement) rules (inserted_pieces mode (bits_with mode rules batch bits) rules batch)
   pub writes_are : made ≡ words_of mode bits rules batch state ++ batch_writes entries arrangement planned rewrites erased
+
+-- the aims of those that are left of them where so many tasks are done: insertions come first
+abbrev pub aims_left : Placement → Mode → FieldBits → ℕ → List Rule → List Command → List Task → List Aim
+aims_left placement mode bits slots rules batch done =
+    drop (length done) (aims_of placement mode slots rules (inserted_pieces mode (bits_with mode rules batch bits) rules batch))
+
+-- The writes of a restart are those of a planned one whose insertions have the aims that the commit's have by the placement: the
+-- old set's entries and all that the commit inserts share the slots, whatever stands already.
+pub record IsRestPlacedBy (placement : Placement) (device_slots : ℕ) (mode : Mode) (bits : FieldBits) (rules : List Rule) (batch : List Command) (state : State) (done left : List Task) (twin : Option ℕ) (made : List Write) : Type 0 where
+  pub live : List LivePiece
+  pub arrangement : Slots
+  pub entries : IdEntries
+  pub planned : List Planned
+  pub rewrites : List Rewrite
+  pub erased : List ℕ
+  pub restart : IsPlannedRestart device_slots mode bits rules batch state done left twin live arrangement entries planned rewrites erased
+  pub aims : map (λ insertion. insertion.aim) planned ≡ aims_left placement mode bits (length arrangement) rules batch done
+  pub writes_are : made ≡ restart_writes mode bits rules batch state twin entries arrangement planned rewrites erased

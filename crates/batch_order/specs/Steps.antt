@@ -73,16 +73,21 @@ abbrev pub Steps : Managed → ℕ → Option HeldCommit → Step → Managed �
 Steps old words None made new = (made ≡ step.Idle) × (new ≡ old)
 Steps old words (Some held) made new = StepsEither old held words held.turned made new
 
--- a commit under way is turned round, unless it is already
+-- a commit under way is turned round, unless it is already;
 abbrev pub TurnsBack : Managed → HeldCommit → Option ℕ → Result ℕ AbortFault → Managed → Type 0
 TurnsBack old held None result new =
     (result ≡ Ok (length held.undo)) × (new ≡ record old { held = Some (record held { turned = Some (length held.undo) }) })
 TurnsBack old held (Some undone) result new = (result ≡ Err (abort_fault.Back (length held.undo))) × (new ≡ old)
 
+-- only one that was prepared is,
+abbrev pub TurnsPrepared : Managed → HeldCommit → Bool → Result ℕ AbortFault → Managed → Type 0
+TurnsPrepared old held true result new = TurnsBack old held held.turned result new
+TurnsPrepared old held false result new = (result ≡ Err abort_fault.Restarted) × (new ≡ old)
+
 -- What taking a commit back does: idle where none is under way.
 abbrev pub Aborts : Managed → Option HeldCommit → Result ℕ AbortFault → Managed → Type 0
 Aborts old None result new = (result ≡ Err abort_fault.Idle) × (new ≡ old)
-Aborts old (Some held) result new = TurnsBack old held held.turned result new
+Aborts old (Some held) result new = TurnsPrepared old held held.prepared result new
 
 -- A device that holds what the manager's writes left serves the ranges that words in flight are current for.
 abbrev pub ServesNow : Managed → Type 0

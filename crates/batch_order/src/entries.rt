@@ -62,6 +62,13 @@ impl LiveEntries {
         &self.index
     }
 
+    /// The live ids are below the number of slots, each once.
+    pub(crate) fn are_apart(&self)
+        ensures { AreApart self.now.slots self.now.live }
+    {
+        let _spare = self.spare.len();
+    }
+
     /// The entry of an id, or None where it isn't live.
     pub(crate) fn at(&self, id: u32) -> Option<Entry>
         ensures { result ≡ slice_index_or self.now.entries id None }

@@ -1,6 +1,6 @@
 //! The commit under way.
 
-ghost use Rattle.std.specs.Prelude.{◌≡◌, ◌≤◌, None, Ok, Err, IsSome, length};
+ghost use Rattle.std.specs.Prelude.{◌≡◌, ◌≤◌, true, false, None, Ok, Err, IsSome, length};
 ghost use Rattle.batch_order.specs.Kept.{drains_at, left_of, one_less, turned_at};
 
 use crate::planned_writes::PlannedWrite;
@@ -15,8 +15,10 @@ use translation_tables::FieldBits;
 /// rising priority, and where the entries stand then.
 #[derive(Drop)]
 pub(crate) struct Held {
+    /// Whether `prepare` planned it. What stood before a commit that a restart goes on with isn't known.
+    pub(crate) prepared: bool,
     pub(crate) writes: Vec<PlannedWrite>,
-    /// What restores each of the writes, in their order.
+    /// What restores each of the writes, in their order, where it is prepared.
     pub(crate) undo: Vec<PlannedWrite>,
     /// How many of the writes stand: it falls once the plan is turned round.
     pub(crate) made: usize,
@@ -56,11 +58,15 @@ impl Held {
         }
     }
 
-    /// Turns the plan round, unless it is already, and answers how many undo writes there are.
+    /// Turns the plan round, unless it is already or isn't prepared, and answers how many undo writes there are.
     pub(crate) fn turn(&mut self) -> Result<u64, AbortFault>
-        ensures turns { self.old.turned ≡ None → (result ≡ Ok self.old.made) × (self.new ≡ turned_at self.old) }
-        ensures stays { IsSome self.old.turned → (result ≡ Err (AbortFault.Back self.old.made)) × (self.new ≡ self.old) }
+        ensures restarted { self.old.prepared ≡ false → (result ≡ Err AbortFault.Restarted) × (self.new ≡ self.old) }
+        ensures turns { self.old.prepared ≡ true → self.old.turned ≡ None → (result ≡ Ok self.old.made) × (self.new ≡ turned_at self.old) }
+        ensures stays { self.old.prepared ≡ true → IsSome self.old.turned → (result ≡ Err (AbortFault.Back self.old.made)) × (self.new ≡ self.old) }
     {
+        if !self.prepared {
+            return Err(AbortFault::Restarted);
+        }
         match self.turned {
             None => {
                 self.turned = Some(self.made);

@@ -6,7 +6,7 @@ ghost use Rattle.rule_store.specs.Verdict.{entries_of};
 ghost use Rattle.ternary_word.specs.Entry.{IsEncodable};
 ghost use Rattle.overlap_index.specs.Live.{is_live};
 ghost use Rattle.batch_order.specs.Entries.{AddsIds, AreLast, KeepEntries};
-ghost use Rattle.batch_order.specs.Placing.{aims_of};
+ghost use Rattle.batch_order.specs.Placing.{aims_from, aims_of};
 ghost use Rattle.batch_order.specs.Planning.{IsPlannable, IsLastLive, IsWithin, IsInserted, ArePlannedSince};
 
 use crate::Placement;
@@ -45,11 +45,58 @@ pub(crate) fn plan_additions(
     ensures kept { KeepEntries live.old.live live.old.entries live.new.entries }
     ensures slots { live.new.slots ≡ live.old.slots }
 {
+    plan_more(
+        alloc,
+        placement,
+        mode,
+        rules,
+        0,
+        pieces,
+        live,
+        arrangement,
+        plan,
+    )
+}
+
+/// Plans an insertion for each piece that a commit still puts into a set, behind so many that it has put there, as
+/// `plan_additions` does.
+pub(crate) fn plan_more(
+    alloc: Global,
+    placement: Placement,
+    mode: Mode,
+    rules: &Store,
+    made: u32,
+    pieces: &[Ranked],
+    live: &mut LiveEntries,
+    arrangement: &mut Arrangement,
+    plan: &mut Plan,
+) -> Result<Vec<u32>, AllocError>
+    requires standing { length live.old.live ≡ entries_of mode rules.now.rules + made }
+    requires room { length live.old.live + length pieces.now ≤ live.old.slots }
+    requires encodable { AllByRecursion (λ ranked. IsEncodable ranked.piece) pieces.now }
+    requires plannable { IsPlannable live.old arrangement.old plan.old.writes.items }
+    ensures plannable { OnOk result (IsPlannable live.new arrangement.new plan.new.writes.items) }
+    ensures planned { OnOk result (ArePlannedSince live.old live.new arrangement.old arrangement.new plan.old plan.new pieces.now
+        (aims_from placement mode (length arrangement.old) rules.now.rules (length live.old.live + length pieces.now) made pieces.now)) }
+    ensures adds { IfOk result (λ ids. AddsIds live.old live.new ids.items) }
+    ensures number { IfOk result (λ ids. length ids.items ≡ length pieces.now) }
+    ensures refused { OnErr result (live.new.live ≡ live.old.live) }
+    ensures kept { KeepEntries live.old.live live.old.entries live.new.entries }
+    ensures slots { live.new.slots ≡ live.old.slots }
+{
     let slots = arrangement.slots();
     let all = slots - arrangement.free_count() + pieces.len() as u32;
     let mut ids = Vec::with_capacity(alloc, pieces.len())?;
     for ranked in pieces {
-        let aim = aim_of(placement, mode, slots, rules, all, ids.len() as u32, ranked);
+        let aim = aim_of(
+            placement,
+            mode,
+            slots,
+            rules,
+            all,
+            made + ids.len() as u32,
+            ranked,
+        );
         match plan_piece(alloc, ranked, aim, live, arrangement, plan) {
             Ok(id) => ids.push_reserved(id),
             Err(fault) => {

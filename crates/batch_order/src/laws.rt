@@ -1,5 +1,6 @@
 //! What holds of the way back that a commit under way keeps.
 
+ghost use Rattle.batch_order.specs.Resting.{PlansRest};
 ghost use Rattle.batch_order.specs.Passed.{GoesBackThroughStates};
 ghost use Rattle.batch_order.specs.Turning.{RevertsToTheOldState, StepsKeepTheWayBack};
 
@@ -16,4 +17,9 @@ pub fn reverts_to_the_old_state()
 /// Going back passes no state that the commit didn't pass before.
 pub fn goes_back_through_states()
     ensures { GoesBackThroughStates }
+{}
+
+/// All that is planned for what is left of a stage is a planned restart, and the plan's writes are those of it.
+pub fn plans_of_rests_are_restarts()
+    ensures { PlansRest }
 {}

@@ -40,7 +40,12 @@
 //!
 //! **Taking back.** A commit may be turned round at any moment (`Manager::abort`): what its writes replaced is put back, the
 //! last one first, so it goes back through the states that it passed. What restores each write is planned beside it, as a
-//! planned write again (`undoing`): what a slot holds was put there by one, or stood there before.
+//! planned write again (`undoing`): what a slot holds was put there by one, or stood there before. One that a restart goes
+//! on with can't be taken back, since what stood before it isn't known.
+//!
+//! **Going on after a stop.** A device outlives its manager. `restarting` makes another one from the old rules, their live
+//! ranges, the batch in hand and what the device shows (`readback`): the pieces that stand get ids again, and what is left
+//! of the commit is planned over them as `prepare` plans.
 //!
 //! **Memory.** `prepare` takes all of it, the device's too; `step`, `abort` and `carry_out` take none. So want of memory
 //! can't come between two writes of a commit, and a batch that is refused changes nothing.
@@ -59,6 +64,7 @@ mod parts;
 mod plan;
 mod planned_writes;
 mod refusal_text;
+mod restarting;
 mod rule_name;
 mod steps;
 mod translation;
@@ -66,9 +72,13 @@ mod undoing;
 mod writes;
 
 pub use commit_writes::Done;
-pub use laws::{goes_back_through_states, reverts_to_the_old_state, steps_keep_the_way_back};
+pub use laws::{
+    goes_back_through_states, plans_of_rests_are_restarts, reverts_to_the_old_state,
+    steps_keep_the_way_back,
+};
 pub use manager::Manager;
 pub use refusal_text::RefusalText;
+pub use restarting::RestartFault;
 pub use rule_model::Field;
 use rule_model::Rank;
 pub use rule_name::RuleName;
@@ -157,6 +167,9 @@ pub enum AbortFault {
     /// No plan is held.
     #[error("no plan is held")]
     Idle,
+    /// A restart made the plan that is held: what stood before the commit isn't known.
+    #[error("a commit that a restart goes on with can't be taken back")]
+    Restarted,
     /// The plan is turned round already, with this many undo writes to make.
     #[error("the plan is turned round with {left} writes to make")]
     Back { left: u64 },

@@ -24,7 +24,9 @@ use crate::held::Held;
 use crate::parts::parts_of;
 use crate::plan::{Plan, erase_all, ready};
 use crate::planned_writes::PlannedWrite;
-use crate::translation::{Translation, blank_translation, check_field, encoding, gives_bits};
+use crate::translation::{
+    Translation, blank_translation, check_field, encoding, gives_bits, plan_words,
+};
 use crate::writes::plan_writes;
 use crate::{AbortFault, Done, Field, Placement, Ready, Refusal, Step, Unfinished, refusal_of};
 use rule_store::{Batch, Command, Mode, Store};
@@ -51,7 +53,8 @@ pub struct Manager {
     pub(crate) translation: Option<Translation>,
     pub(crate) rules: Store,
     pub(crate) live: LiveEntries,
-    /// Where the entries of the set stand, before the writes of a commit under way.
+    /// Where the entries of the set stand, before the writes of a commit under way; where a restart goes on with one,
+    /// those that the device showed.
     pub(crate) arrangement: Arrangement,
     pub(crate) held: Option<Held>,
 }
@@ -270,6 +273,7 @@ impl Manager {
         let counts = plan.counts();
         let awaits = gives_bits(&self.translation, &bits);
         self.held = Some(Held {
+            prepared: true,
             writes: plan.writes,
             undo: planned.undo,
             made: 0,
@@ -301,22 +305,14 @@ impl Manager {
         ensures most { plan.new.most ≡ plan.old.most }
         ensures span { plan.new.span ≡ plan.old.span }
     {
-        let Some(translation) = &self.translation else {
-            return Ok(None);
-        };
-        let bits = translation.bits.with_new(batch);
-        let new = bits.new_since(&translation.bits);
-        let mut words = Vec::new(self.alloc);
-        translation.tables.plan_words(&new, &mut words)?;
-        plan.push_words(&words)?;
-        Ok(Some(bits))
+        plan_words(self.alloc, &self.translation, batch, plan)
     }
 
-    /// Makes the next write of the commit under way, over the device that `prepare` reserved, with room for what is left.
-    /// Where the commit gives new bits, a drain is next once the words of the tables are written: while words are in
-    /// flight the answer is `Waiting` with their number, and nothing changes; with none in flight it drains. With nothing
-    /// left the rules become the new set, and the answer is `Finished`. With no commit under way the answer is `Idle`, and
-    /// nothing changes. It takes no memory.
+    /// Makes the next write of the commit under way, over the device that `prepare` or `restart` reserved, with room for
+    /// what is left. Where the commit gives new bits, a drain is next once the words of the tables are written: while
+    /// words are in flight the answer is `Waiting` with their number, and nothing changes; with none in flight it drains.
+    /// With nothing left the rules become the new set, and the answer is `Finished`. With no commit under way the answer
+    /// is `Idle`, and nothing changes. It takes no memory.
     ///
     /// The words in flight stay as they are, and unless it drains those that were current are so still: each answers as
     /// its key's word by the tables would.
@@ -383,8 +379,8 @@ impl Manager {
     /// hardware may have made that write all the same, make it first (`step` until it is answered Ok): no undo write goes
     /// to its slot. Over a device whose failed write did nothing, as `Writable` has it, `abort` may come at once.
     ///
-    /// `Idle` comes exactly where no plan is held, and `Back` exactly where the plan is turned round already, with the
-    /// undo writes that are left. Nothing changes then.
+    /// `Idle` comes exactly where no plan is held, `Restarted` exactly where a restart made the one that is held, and else
+    /// `Back` exactly where the plan is turned round already, with the undo writes that are left. Nothing changes then.
     pub fn abort(&mut self) -> Result<u64, AbortFault>
         ensures aborts { Aborts self.old self.old.held result self.new }
         ensures way_back { (begun : State) → WayBackFrom begun self.old → WayBackFrom begun self.new }
@@ -401,9 +397,9 @@ impl Manager {
         }
     }
 
-    /// Makes all writes that are left of the commit under way, in their order, over the device that `prepare` reserved,
-    /// each tried up to `tries` times, at least once: 1 tries none again. With the last of them the rules become the
-    /// new set, and the answer has the numbers of the commit. With no commit under way they are all 0, and nothing
+    /// Makes all writes that are left of the commit under way, in their order, over the device that `prepare` or `restart`
+    /// reserved, each tried up to `tries` times, at least once: 1 tries none again. With the last of them the rules become
+    /// the new set, and the answer has the numbers of the commit. With no commit under way they are all 0, and nothing
     /// changes. It takes no memory.
     ///
     /// `Stuck` comes where one write has failed `tries` times, and the device's count of failures rose by that, or stands
@@ -416,8 +412,8 @@ impl Manager {
     /// made, and once they have been searched the call is made again. `Reverted` comes where the commit was turned round:
     /// its undo writes were made, and the rules are the old ones.
     ///
-    /// Wherever it stops, what was done to the device and what is left are together what was left before, and the commit
-    /// that is still under way can be taken back through the states that it passed.
+    /// Wherever it stops, what was done to the device and what is left are together what was left before, and a commit
+    /// that `prepare` planned and that is still under way can be taken back through the states that it passed.
     ///
     /// Each key is answered, by the device's journal, as the old rules or the new ones do before the first write and after
     /// each, also where the write that failed was made all the same; and once the commit has finished as the new ones do.

@@ -57,7 +57,7 @@ pub(crate) fn parts_of(
 }
 
 /// The ids of some pieces, each with its new entry, in their order.
-fn rewrites(
+pub(crate) fn rewrites(
     alloc: Global,
     live: &LiveEntries,
     pieces: &[Ranked],
@@ -86,7 +86,11 @@ fn rewrite_of(live: &LiveEntries, ranked: &Ranked) -> Rewrite
 }
 
 /// The ids of some pieces, in their order.
-fn ids_of(alloc: Global, live: &LiveEntries, pieces: &[Ranked]) -> Result<Vec<u32>, AllocError>
+pub(crate) fn ids_of(
+    alloc: Global,
+    live: &LiveEntries,
+    pieces: &[Ranked],
+) -> Result<Vec<u32>, AllocError>
     requires live { HaveIds live.now.live pieces.now }
     ensures { IfOk result (λ ids. AllZip (IsIdOf live.now.live) pieces.now ids.items) }
 {

@@ -197,6 +197,7 @@ impl Manager {
             None => Step::Idle,
             Some(held) => {
                 let Held {
+                    prepared: _,
                     writes,
                     undo: _,
                     made: _,

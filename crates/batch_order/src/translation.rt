@@ -1,6 +1,6 @@
 //! What a manager keeps of the translation of port ranges: by covers nothing.
 
-ghost use Rattle.std.specs.Prelude.{◌≡◌, ◌+◌, ◌-◌, ◌<◌, ◌≤◌, IfOk, IfErr, OnOk, List, length};
+ghost use Rattle.std.specs.Prelude.{◌≡◌, ◌+◌, ◌-◌, ◌*◌, ◌^◌, ◌<◌, ◌≤◌, [], IfOk, IfErr, IfSome, OnOk, List, length, map};
 ghost use Rattle.rule_store.specs.Verdict.{field_bits};
 ghost use Rattle.range_bits.specs.FieldMap.{live_count};
 ghost use Rattle.tcam_device.specs.State.{IsState, apply, blank, state_after};
@@ -8,11 +8,13 @@ ghost use Rattle.commit_writes.specs.declared.Rewrite.{Rewrite};
 ghost use Rattle.commit_writes.specs.Actions.{have_bits};
 ghost use Rattle.commit_writes.specs.Bits.{new_bits, no_bits};
 ghost use Rattle.commit_writes.specs.Planned.{IdEntries};
+ghost use Rattle.commit_writes.specs.Shape.{bit_writes};
 ghost use Rattle.translation_tables.specs.Needed.{ranges_in, ranges_needed};
 ghost use Rattle.batch_pieces.specs.Changes.{coded_by, during_of};
-ghost use Rattle.batch_order.specs.Kept.{bits_of, mode_of, tables_of, translated_by};
+ghost use Rattle.batch_order.specs.Kept.{bits_of, mode_of, needed_by, tables_of, translated_by};
 ghost use Rattle.batch_order.specs.Planning.{as_write, as_writes};
 
+use crate::plan::Plan;
 use crate::planned_writes::PlannedWrite;
 use crate::{Field, Refusal};
 use rule_store::{Batch, Mode, Store};
@@ -77,6 +79,38 @@ pub(crate) fn check_field(bits: &FieldBits, field: Field, batch: &Batch) -> Resu
         return Err(Refusal::Bits { field, need, free });
     }
     Ok(())
+}
+
+/// Gives a batch's new port ranges their bits, for which as many are free, and plans the words of the tables that differ
+/// by them. Answers the live ranges while the commit is made, none by covers.
+pub(crate) fn plan_words(
+    alloc: Global,
+    translation: &Option<Translation>,
+    batch: &Batch,
+    plan: &mut Plan,
+) -> Result<Option<FieldBits>, AllocError>
+    requires src { IfSome translation.now (λ kept. live_count (ranges_in Field.Src kept.bits) + length (ranges_needed Field.Src kept.bits batch.now) ≤ field_bits) }
+    requires dst { IfSome translation.now (λ kept. live_count (ranges_in Field.Dst kept.bits) + length (ranges_needed Field.Dst kept.bits batch.now) ≤ field_bits) }
+    requires empty { plan.old.writes.items ≡ [] }
+    requires none { plan.old.words ≡ 0 }
+    ensures coded { IfOk result (λ bits. coded_by bits ≡ mode_of translation.now) }
+    ensures during { IfOk result (λ bits. during_of bits ≡ needed_by translation.now batch.now) }
+    ensures writes { OnOk result (plan.new.writes.items
+        ≡ map PlannedWrite.Tabled (bit_writes (tables_of translation.now) (new_bits (bits_of translation.now) (needed_by translation.now batch.now)))) }
+    ensures words { OnOk result (plan.new.words ≡ length plan.new.writes.items) }
+    ensures few { OnOk result (length plan.new.writes.items ≤ 2 * 2 ^ 16) }
+    ensures most { plan.new.most ≡ plan.old.most }
+    ensures span { plan.new.span ≡ plan.old.span }
+{
+    let Some(kept) = translation else {
+        return Ok(None);
+    };
+    let bits = kept.bits.with_new(batch);
+    let mut words = Vec::new(alloc);
+    kept.tables
+        .plan_words(&bits.new_since(&kept.bits), &mut words)?;
+    plan.push_words(&words)?;
+    Ok(Some(bits))
 }
 
 /// The writes of a commit are made, and its rules are the set's: the tables are those after the writes, and bits that no

@@ -6,8 +6,7 @@
 //! words that differ and the erase of the twin, on a device with as many slots as are in use or more.
 //!
 //! The laws (`laws`) say that ids that are read back so are in order, that the writes go on to the new set, hitless
-//! after each of them and within the bounds, and where they lead (`specs/Ending`). No call plans such a restart: the laws
-//! are what one has to rest on.
+//! after each of them and within the bounds, and where they lead (`specs/Ending`): a manager's restart rests on them.
 #![tactic(auto)]
 
 mod laws;

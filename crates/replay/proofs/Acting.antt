@@ -20,8 +20,9 @@ use Rattle.batch_order.specs.Steps.{Steps, StepsEither, awaits_drain, current_ba
 use Rattle.replay.specs.Running.{IsSame, MakesSome, TurnsAt, goes_back, left_in, left_of, rest_of, trial_left, turned_where, turns_in}
 
 -- a commit by its parts
-abbrev pub held_of : List Action → List Write → Option ℕ → Done → List Rule → FieldBits → FieldBits → FieldBits → HeldCommit
-held_of actions undo turned counts rules during bits current = record {
+abbrev pub held_of : Bool → List Action → List Write → Option ℕ → Done → List Rule → FieldBits → FieldBits → FieldBits → HeldCommit
+held_of prepared actions undo turned counts rules during bits current = record {
+  prepared = prepared;
   actions = actions;
   undo = undo;
   turned = turned;
@@ -79,15 +80,15 @@ pub data GoesOn (rest : Option ℕ) (now : Managed) (held : HeldCommit) (words :
   PassesDrain : ActsOnce rest now held Drained new → words ≡ 0 → did ≡ step.Drained → GoesOn rest now held words did new
   Waits : (left : List Action) → left_of rest now.state held ≡ Drained ∷ left → awaits_drain (Some held) ≡ true → 0 < words → did ≡ step.Waiting words → new ≡ now → GoesOn rest now held words did new
 
-module _ (now : Managed) (counts : Done) (rules : List Rule) (during bits current : FieldBits) (did : Step) (new : Managed) where
+module _ (now : Managed) (prepared : Bool) (counts : Done) (rules : List Rule) (during bits current : FieldBits) (did : Step) (new : Managed) where
   abbrev of : List Action → List Write → Option ℕ → HeldCommit
-  of actions undo turned = held_of actions undo turned counts rules during bits current
+  of actions undo turned = held_of prepared actions undo turned counts rules during bits current
 
   abbrev on-write : Write → List Action → List Write → HeldCommit
   on-write write actions undo = of actions (restoring now.state write ∷ undo) None
 
   abbrev on-drain : List Action → List Write → HeldCommit
-  on-drain actions undo = held_of actions undo None counts rules during bits during
+  on-drain actions undo = held_of prepared actions undo None counts rules during bits during
 
   write-trial : (more : ℕ) (write : Write) (actions : List Action) (undo : List Write) → new ≡ record now { state = apply now.state write; held = Some (on-write write actions undo) }
       → ActsOnce (Some (suc more)) now (of (Written write ∷ actions) undo None) (Written write) new
@@ -108,7 +109,7 @@ module _ (now : Managed) (counts : Done) (rules : List Rule) (during bits curren
             one = on-write write actions undo;
             new_is = is;
             left_is = trial-goes more (apply now.state write) actions (restoring now.state write ∷ undo) back;
-            same = record { counts = refl; rules = refl; bits = refl; back = sym (lt-suc more (length (writes_in actions))) };
+            same = record { prepared = refl; counts = refl; rules = refl; bits = refl; back = sym (lt-suc more (length (writes_in actions))) };
           }
       go false on = record {
         left = actions;
@@ -118,7 +119,7 @@ module _ (now : Managed) (counts : Done) (rules : List Rule) (during bits curren
         one = on-write write actions undo;
         new_is = is;
         left_is = trial-stays more (apply now.state write) actions (restoring now.state write ∷ undo) on;
-        same = record { counts = refl; rules = refl; bits = refl; back = sym (lt-suc more (length (writes_in actions))) };
+        same = record { prepared = refl; counts = refl; rules = refl; bits = refl; back = sym (lt-suc more (length (writes_in actions))) };
       }
 
   -- a trial before its drain
@@ -146,7 +147,7 @@ module _ (now : Managed) (counts : Done) (rules : List Rule) (during bits curren
         one = on-drain actions undo;
         new_is = is;
         left_is = left.2;
-        same = record { counts = refl; rules = refl; bits = refl; back = refl };
+        same = record { prepared = refl; counts = refl; rules = refl; bits = refl; back = refl };
       }
 
   goes-parts : (words : ℕ) (rest : Option ℕ) (actions : List Action) (undo : List Write) (turned : Option ℕ) → Straight turned rest actions → StepsEither now (of actions undo turned) words turned did new
@@ -162,7 +163,7 @@ module _ (now : Managed) (counts : Done) (rules : List Rule) (during bits curren
         one = record (of actions undo (Some undone)) { current = current_back now.bits current (is_table_write write) };
         new_is = on.1;
         left_is = refl;
-        same = record { counts = refl; rules = refl; bits = refl; back = refl };
+        same = record { prepared = refl; counts = refl; rules = refl; bits = refl; back = refl };
       })
       on.0
   goes-parts words None [] undo None straight on = Finishes refl refl on.0 on.1
@@ -177,7 +178,7 @@ module _ (now : Managed) (counts : Done) (rules : List Rule) (during bits curren
         one = on-write write actions undo;
         new_is = on.1;
         left_is = refl;
-        same = record { counts = refl; rules = refl; bits = refl; back = refl };
+        same = record { prepared = refl; counts = refl; rules = refl; bits = refl; back = refl };
       })
       on.0
   goes-parts words (Some (suc more)) (Written write ∷ actions) undo None straight on = MakesWrite write (write-trial more write actions undo on.1) on.0
@@ -193,7 +194,7 @@ module _ (now : Managed) (counts : Done) (rules : List Rule) (during bits curren
         one = on-drain actions undo;
         new_is = on.1;
         left_is = refl;
-        same = record { counts = refl; rules = refl; bits = refl; back = refl };
+        same = record { prepared = refl; counts = refl; rules = refl; bits = refl; back = refl };
       })
       refl on.0
   goes-parts zero (Some more) (Drained ∷ actions) undo None straight on = PassesDrain (drain-trial more actions undo straight on.1) refl on.0
@@ -205,7 +206,7 @@ module _ (now : Managed) (counts : Done) (rules : List Rule) (during bits curren
 pub goes-on : (rest : Option ℕ) (now : Managed) (held : HeldCommit) (words : ℕ) (did : Step) (new : Managed) → now.held ≡ Some held → Straight held.turned rest held.actions → Steps now words now.held did new
     → GoesOn rest now held words did new
 goes-on rest now held words did new is straight steps =
-    goes-parts now held.counts held.rules held.during held.bits held.current did new words rest held.actions held.undo held.turned straight (subst (λ one. Steps now words one did new) is steps)
+    goes-parts now held.prepared held.counts held.rules held.during held.bits held.current did new words rest held.actions held.undo held.turned straight (subst (λ one. Steps now words one did new) is steps)
 
 -- ---- a trial is turned round where it is time
 
@@ -222,7 +223,7 @@ is-straight rest now held new is same straight = record {
   one = held;
   new_is = same ∙ ap (λ one. record now { held = one }) is;
   left_is = refl;
-  same = record { counts = refl; rules = refl; bits = refl; back = refl };
+  same = record { prepared = refl; counts = refl; rules = refl; bits = refl; back = refl };
   straight = straight;
 }
 
@@ -230,9 +231,9 @@ none-straight : (turned : Option ℕ) (actions : List Action) → Straight turne
 none-straight (Some undone) actions = tt
 none-straight None actions = tt
 
-module _ (now : Managed) (counts : Done) (rules : List Rule) (during bits current : FieldBits) (new : Managed) (limit told : ℕ) where
+module _ (now : Managed) (prepared : Bool) (counts : Done) (rules : List Rule) (during bits current : FieldBits) (new : Managed) (limit told : ℕ) where
   abbrev by : List Action → List Write → Option ℕ → HeldCommit
-  by actions undo turned = held_of actions undo turned counts rules during bits current
+  by actions undo turned = held_of prepared actions undo turned counts rules during bits current
 
   turned-now : (actions : List Action) (undo : List Write) (due : Bool) → now.held ≡ Some (by actions undo None) → (nat_le limit told && nat_lt 0 (length (writes_in actions))) ≡ due
       → new ≡ turned_where now (by actions undo None) None due → IsTurned (Some (limit - told)) now (by actions undo None) new
@@ -244,7 +245,7 @@ module _ (now : Managed) (counts : Done) (rules : List Rule) (during bits curren
         one = by actions undo (Some (length undo));
         new_is = at;
         left_is = sym (trial-goes 0 now.state actions undo late.1);
-        same = record { counts = refl; rules = refl; bits = refl; back = sym late.1 };
+        same = record { prepared = refl; counts = refl; rules = refl; bits = refl; back = sym late.1 };
         straight = tt;
       })
     where
@@ -267,7 +268,7 @@ module _ (now : Managed) (counts : Done) (rules : List Rule) (during bits curren
 pub turns-at : (most : Option ℕ) (told : ℕ) (now : Managed) (held : HeldCommit) (new : Managed) → now.held ≡ Some held → TurnsAt most told now now.held new → IsTurned (rest_of most told) now held new
 turns-at None told now held new is turns = is-straight None now held new is turns (none-straight held.turned held.actions)
 turns-at (Some limit) told now held new is turns =
-    turned-parts now held.counts held.rules held.during held.bits held.current new limit told held.actions held.undo held.turned is (subst (λ one. TurnsAt (Some limit) told now one new) is turns)
+    turned-parts now held.prepared held.counts held.rules held.during held.bits held.current new limit told held.actions held.undo held.turned is (subst (λ one. TurnsAt (Some limit) told now one new) is turns)
 
 -- ---- some of the actions are made
 
@@ -280,6 +281,7 @@ some-slots most told begun now some = ap (λ (manager : Managed). manager.slots)
 -- what it is is the same through a third
 pub same-then : (first second third : Option ℕ) (a b c : HeldCommit) → IsSame first second a b → IsSame second third b c → IsSame first third a c
 same-then first second third a b c ab bc = record {
+  prepared = bc.prepared ∙ ab.prepared;
   counts = bc.counts ∙ ab.counts;
   rules = bc.rules ∙ ab.rules;
   bits = bc.bits ∙ ab.bits;

@@ -22,11 +22,11 @@ use Rattle.replay.specs.declared.watch.Count.{Count}
 use Rattle.replay.specs.declared.steps.Ended.{Ended}
 use Rattle.replay.specs.declared.steps.Ended.TheVariants as ended
 use Rattle.replay.specs.Effects.{waiting_after}
-use Rattle.replay.specs.Running.{Running, Watching, EndsBy, HasCome, IsRun, IsSame, IsHalfway, MakesAll, MakesSome, ShowsRules, ended_line, goes_back, left_of, rest_of, setting_of, routes_of, trial_left, verdict_of, watching}
+use Rattle.replay.specs.Running.{Running, Watching, EndsBy, HasCome, IsRun, IsSame, IsHalfway, MakesAll, MakesSome, MayTurn, ShowsRules, ended_line, goes_back, left_of, rest_of, setting_of, routes_of, trial_left, verdict_of, watching}
 use Rattle.replay.specs.Text.{aborted_line, accepted_line}
 use Rattle.replay.proofs.Acting.{some-held}
 use Rattle.replay.proofs.Effects.{waiting-append}
-use Rattle.replay.proofs.Making.{makes-then}
+use Rattle.replay.proofs.Making.{makes-then, may-be}
 use Rattle.replay.proofs.Returning.{IsBack, IsWithin, both-in_use, ends-both, goes-back, number-both, stays-forward}
 use Rattle.replay.proofs.Runs.{run_after, run_returned, made-run, after-run, returned-run}
 
@@ -76,7 +76,7 @@ halfway-none run ready holds accepted shows told waiting =
         one = held;
         now_is = ap (λ one. record run.manager { held = one }) held_is;
         left_is = refl;
-        same = record { counts = refl; rules = refl; bits = refl; back = refl };
+        same = record { prepared = refl; counts = refl; rules = refl; bits = refl; back = refl };
       };
       told = told;
       waiting = waiting;
@@ -98,6 +98,11 @@ module _ (run : Running) (half : IsHalfway run) where
   held-same =
       let both : Some half.some.held ≡ Some held_begun = sym half.some.held_is ∙ ap (λ (manager : Managed). manager.held) begun-holds.new_is in
       cc
+
+  -- it can be taken back
+  pub may-half : MayTurn run.most run.manager.held
+  may-half =
+      may-be run.most run.manager.held half.some.one (some-held run.most 0 half.begun run.manager half.some) (half.some.same.prepared ∙ ap (λ (one : HeldCommit). one.prepared) held-same)
 
   -- all actions, there and back where it is taken back: those that were made and those that are left
   abbrev pub whole_actions : List Action

@@ -18,7 +18,7 @@ use Rattle.batch_order.specs.Steps.{Steps, actions_of, awaits_drain, next_of}
 use Rattle.replay.specs.declared.watch.Count.{Count}
 use Rattle.replay.specs.Effects.{waiting_after}
 use Rattle.replay.specs.InFlight.{AreOf, flight_after}
-use Rattle.replay.specs.Running.{Watching, HasCome, IsSame, MakesSome, TurnsAt, left_of, rest_of}
+use Rattle.replay.specs.Running.{Watching, HasCome, IsSame, MakesSome, MayTurn, TurnsAt, left_of, rest_of}
 use Rattle.replay.proofs.Acting.{ActsOnce, GoesOn, IsTurned, Straight, drained-first, due-first, goes-on, never-idle, rest-more, same-then, some-held, turns-at, waiting-first, wrote-first}
 use Rattle.replay.proofs.Effects.{grown-more, waiting-append}
 use Rattle.replay.proofs.InFlight.{are-after, few-after}
@@ -110,6 +110,16 @@ pub some_held : (held : Option HeldCommit) → IsSome held → (one : HeldCommit
 some_held (Some one) some = (one, refl)
 some_held None some = absurd (cc)
 
+-- a commit that can be taken back can be still
+pub may-be : (most : Option ℕ) (now : Option HeldCommit) (one : HeldCommit) → now ≡ Some one → one.prepared ≡ true → MayTurn most now
+may-be None now one is prepared = tt
+may-be (Some limit) now one is prepared = subst (λ held. IfSome held (λ (x : HeldCommit). x.prepared ≡ true)) (sym is) prepared
+
+may-still : (most : Option ℕ) (before now : Option HeldCommit) (held one : HeldCommit) → before ≡ Some held → now ≡ Some one → one.prepared ≡ held.prepared → MayTurn most before → MayTurn most now
+may-still None before now held one was is same may = tt
+may-still (Some limit) before now held one was is same may =
+    may-be (Some limit) now one is (same ∙ subst (λ some. IfSome some (λ (x : HeldCommit). x.prepared ≡ true)) was may)
+
 -- none is made yet
 abbrev pub making-none : (most : Option ℕ) (begun : Managed) (watch : Watching) (count : Count) (events : List Action) (flight : Flight) (spare : ℕ) → IsSome begun.held
     → HasRoomBothWays begun.held spare → AreOf watch.probes count.waiting flight → count.waiting ≤ watch.depth → IsMaking most begun begun watch count count events events flight spare
@@ -125,7 +135,7 @@ making-none most begun watch count events flight spare some room words few =
         one = held;
         now_is = ap (λ one. record begun { held = one }) is;
         left_is = ap (λ n. left_of (rest_of most n) begun.state held) (sym same);
-        same = subst (λ n. IsSame (rest_of most count.told) (rest_of most n) held held) same (record { counts = refl; rules = refl; bits = refl; back = refl });
+        same = subst (λ n. IsSame (rest_of most count.told) (rest_of most n) held held) same (record { prepared = refl; counts = refl; rules = refl; bits = refl; back = refl });
       };
       come = record { told = same; waiting = refl };
       events = sym (append-nil events);
@@ -172,6 +182,10 @@ module _ (most : Option ℕ) (begun now new : Managed) (watch : Watching) (count
 
     pub turned-straight : Straight making-turned.some.one.turned rest_now making-turned.some.one.actions
     turned-straight = turned.straight
+
+  pub may-now : MayTurn most begun.held → MayTurn most now.held
+  may-now may =
+      may-still most begun.held now.held making.some.held making.some.one making.some.held_is (some-held most count.told begun now making.some) making.some.same.prepared may
 
   pub left-now : left_number (rest_of most count_now.told) now.state now.held ≡ length making.some.left
   left-now =

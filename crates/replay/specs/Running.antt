@@ -1,5 +1,5 @@
 -- What a run keeps, and where it stands by that.
-use Rattle.std.specs.Prelude.{◌≡◌, ◌≢◌, ℕ, ◌+◌, ◌-◌, ◌*◌, nat_lt, nat_le, ◌&&◌, map, option_map, ◌^◌, ◌≤◌, ◌++◌, ◌∷◌, Bool, true, false, Option, None, Some, IsSome, Result, Ok, Err, List, [], length, codes}
+use Rattle.std.specs.Prelude.{◌≡◌, ◌≢◌, ℕ, ◌+◌, ◌-◌, ◌*◌, nat_lt, nat_le, ◌&&◌, map, option_map, ◌^◌, ◌≤◌, ◌++◌, ◌∷◌, Bool, true, false, Option, None, Some, IsSome, IfSome, Result, Ok, Err, List, [], length, codes}
 use Rattle.std.specs.Io.KnownBytes.{Appends}
 use Rattle.std.specs.List.{AllByRecursion}
 use Rattle.rule_model.specs.declared.Key.{Key}
@@ -159,6 +159,11 @@ turned_where old held (Some undone) due = old
 turned_where old held None false = old
 turned_where old held None true = record old { held = Some (record held { turned = Some (length held.undo) }) }
 
+-- a trial is of a commit that can be taken back
+abbrev pub MayTurn : Option ℕ → Option HeldCommit → Type 0
+MayTurn None held = Unit {0}
+MayTurn (Some limit) held = IfSome held (λ one. one.prepared ≡ true)
+
 -- a trial that has made as many writes as it may, and has more to make, is turned round
 abbrev pub TurnsAt : Option ℕ → ℕ → Managed → Option HeldCommit → Managed → Type 0
 TurnsAt None told old held new = new ≡ old
@@ -168,6 +173,7 @@ TurnsAt (Some limit) told old (Some held) new =
 
 -- the commit is the same, and is taken back where it was to be
 pub record IsSame (rest rest_now : Option ℕ) (held now : HeldCommit) : Type 0 where
+  pub prepared : now.prepared ≡ held.prepared
   pub counts : now.counts ≡ held.counts
   pub rules : now.rules ≡ held.rules
   pub bits : now.bits ≡ held.bits

@@ -14,7 +14,7 @@ ghost use Rattle.replay.specs.Text.{drain_line, trace_line};
 ghost use Rattle.replay.specs.Effects.{traced};
 ghost use Rattle.replay.specs.InFlight.{AreOf, IsSeen, flight_after, found_after};
 ghost use Rattle.replay.specs.Outside.{Leaves, WritesLines};
-ghost use Rattle.replay.specs.Running.{Makes, TurnsAt, left_of, rest_of};
+ghost use Rattle.replay.specs.Running.{Makes, MayTurn, TurnsAt, left_of, rest_of};
 
 use crate::watch::{Count, Watch};
 use crate::{RunFault, TRIES};
@@ -47,6 +47,7 @@ pub(crate) fn make_writes<K: Sink, D: Device>(
     requires in_flight { AreOf watch.now.probes count.old.waiting (D.flight device.old) }
     requires waiting { count.old.waiting ≤ watch.now.depth }
     requires held { IsSome manager.old.held }
+    requires may_turn { MayTurn most manager.old.held }
     requires room { HasRoomBothWays manager.old.held (D.spare device.old) }
     requires few { IfSome manager.old.held (λ held. count.old.told + length (writes_in (left_of (rest_of most count.old.told) manager.old.state held)) ≤ 2 ^ 40) }
     ensures makes { (which : Bool) → Makes (IsSeen (D.slot_count device.old) (D.events device.old) (D.flight device.old) manager.old)
@@ -92,6 +93,7 @@ pub(crate) fn make_writes<K: Sink, D: Device>(
 
 // Turns a trial round that has made as many writes as it may, and has more to make.
 fn turn_round(manager: &mut Manager, most: Option<u32>, told: u64)
+    requires { MayTurn most manager.old.held }
     ensures turns { TurnsAt most told manager.old manager.old.held manager.new }
     ensures state { manager.new.state ≡ manager.old.state }
     ensures current { live_now manager.new ≡ live_now manager.old }

@@ -1,5 +1,5 @@
 -- What the calls of the library do to what stands behind a handle.
-use Rattle.std.specs.Prelude.{◌≡◌, ℕ, ◌<◌, ◌≤◌, ◌++◌, ◌∷◌, [], ◌↔◌, ◌⊎◌, Result, Ok, Err, Option, Some, None, OnOk, OnErr, IfOk, length}
+use Rattle.std.specs.Prelude.{◌≡◌, ℕ, ◌<◌, ◌≤◌, ◌++◌, ◌∷◌, [], ◌↔◌, ◌⊎◌, Bool, true, false, Result, Ok, Err, Option, Some, None, OnOk, OnErr, IfOk, length}
 use Rattle.rule_model.specs.AddressBlock.{ipv4_address}
 use Rattle.rule_model.specs.Rank.{list_rank}
 use Rattle.rule_model.specs.declared.Key.{Key}
@@ -141,20 +141,25 @@ abbrev pub TellsDrain : Driven → Driven → ℕ → Type 0
 TellsDrain before after code = DrainsDue (due_of before.manager.held) before after code × IsServing after
 
 -- A commit under way is turned round, with so many undo writes to make. One that is turned round already stays as it is, with
--- those that are left; and with none under way there is nothing to turn.
+-- those that are left; and so does one that a restart goes on with. With none under way there is nothing to turn.
 abbrev pub TurnsByWay : Option ℕ → HeldCommit → Driven → Result ℕ AbortFault → Driven → Type 0
 TurnsByWay None held before answer after = (answer ≡ Ok (length held.undo)) × TurnsRound held before after
 TurnsByWay (Some undone) held before answer after = (answer ≡ Err (abort_fault.Back (length held.undo))) × (after ≡ before)
 
+abbrev pub TurnsPrepared : Bool → HeldCommit → Driven → Result ℕ AbortFault → Driven → Type 0
+TurnsPrepared true held before answer after = TurnsByWay held.turned held before answer after
+TurnsPrepared false held before answer after = (answer ≡ Err abort_fault.Restarted) × (after ≡ before)
+
 abbrev pub TurnsBy : Driven → Option HeldCommit → Result ℕ AbortFault → Driven → Type 0
 TurnsBy before None answer after = (answer ≡ Err abort_fault.Idle) × (after ≡ before)
-TurnsBy before (Some held) answer after = TurnsByWay held.turned held before answer after
+TurnsBy before (Some held) answer after = TurnsPrepared held.prepared held before answer after
 
--- and how many there are is told, but where none is under way
+-- and how many there are is told, but where none is under way or it can't be taken back
 abbrev pub IsTurnTold : ℕ → ℕ → Result ℕ AbortFault → ℕ → Type 0
 IsTurnTold left left' (Ok undone) code = (code ≡ 0) × (left' ≡ undone)
 IsTurnTold left left' (Err (abort_fault.Back undone)) code = (code ≡ 22) × (left' ≡ undone)
 IsTurnTold left left' (Err abort_fault.Idle) code = (code ≡ 18) × (left' ≡ left)
+IsTurnTold left left' (Err abort_fault.Restarted) code = (code ≡ 23) × (left' ≡ left)
 
 abbrev pub Turns : ℕ → ℕ → Driven → Driven → ℕ → Type 0
 Turns left left' before after code =

@@ -50,6 +50,8 @@ pub const DRAIN_DUE: u32 = 20;
 pub const WRITE_DUE: u32 = 21;
 /// The commit that is under way is turned round already.
 pub const BACK: u32 = 22;
+/// A restart goes on with the commit that is under way, so it can't be taken back.
+pub const RESTARTED: u32 = 23;
 
 /// The code of a push.
 pub(crate) fn code_of_push(pushed: Result<(), PushFault>) -> u32

@@ -7,7 +7,7 @@ ghost use Rattle.tcam_c.specs.Codes.{AddsRoute, AddsRule, DelsRoute, SetsRoute};
 use crate::changes::{adds_route, adds_rule, dels_route, sets_route};
 use crate::codes::{
     BACK, DRAIN_DUE, MADE_ALREADY, MEMORY, NO_MANAGER, NO_MODE, NO_PLACEMENT, NOTHING_DUE, OK,
-    SLOTS_RANGE, WRITE_DUE, code_of_push, code_of_refusal, mode_of, placement_of,
+    RESTARTED, SLOTS_RANGE, WRITE_DUE, code_of_push, code_of_refusal, mode_of, placement_of,
 };
 use crate::handle::TcamManager;
 use crate::plain::{
@@ -308,6 +308,7 @@ pub extern "C" fn tcam_c_abort(manager: &mut TcamManager, left: &mut u64, alloc:
             OK
         }
         Err(AbortFault::Idle) => NOTHING_DUE,
+        Err(AbortFault::Restarted) => RESTARTED,
         Err(AbortFault::Back { left: rest }) => {
             *left = rest;
             BACK

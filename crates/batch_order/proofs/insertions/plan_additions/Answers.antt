@@ -1,54 +1,15 @@
-use Rattle.std.proofs.Common.{rules, ◌≡◌, ◌≤◌, ◌+◌, ◌-◌, ◌++◌, [], ◌∷◌, length, take, subst, sym, ap, ◌∙◌, arith, List, ℕ, ap₂, append_assoc}
-use Rattle.std.specs.Prelude.{vec_capacity}
-use Rattle.std.proofs.lemmas.Grind.{common_steps}
-use Rattle.std.proofs.lemmas.List.{map-append, length-take-le}
-use Rattle.ternary_word.specs.Entry.{RankedPiece}
-use Rattle.overlap_index.specs.declared.LivePiece.{LivePiece}
-use Rattle.batch_order.specs.Entries.{Entries, AddsIds}
-use Rattle.move_planner.specs.declared.Aim.{Aim}
-use Rattle.batch_order.specs.Placing.{aim_of, aims_from}
-use Rattle.batch_order.specs.Planning.{ArePlannedSince, IsPlannable}
-use Rattle.batch_order.proofs.Aimed.{aims_more}
-use Rattle.batch_order.proofs.Since.{planned_then}
-use Rattle.batch_pieces.proofs.Walked.{take_next}
+use Rattle.std.proofs.Common.{◌+◌, ℕ, length, subst, ap, arith}
+use Rattle.std.proofs.lemmas.Result.{on_ok_weaker}
+use Rattle.batch_order.specs.Placing.{aims_from}
+use Rattle.batch_order.specs.Planning.{ArePlannedSince}
 use Rattle.batch_order.proofs.insertions.plan_additions.Goals as goal
 
--- some ids became live after others
-adds_then : (old mid new : Entries) (first second : List ℕ) → AddsIds old mid first → AddsIds mid new second → AddsIds old new (first ++ second)
-adds_then old mid new first second one two = record {
-  made = one.made ++ two.made;
-  live = two.live ∙ (ap (λ (l : List LivePiece). l ++ two.made) one.live ∙ append_assoc old.live one.made two.made);
-  ids_are = map-append (λ (x : LivePiece). x.id) one.made two.made ∙ ap₂ (λ (a b : List ℕ). a ++ b) one.ids_are two.ids_are;
-  slots = two.slots ∙ one.slots;
-}
+pub plan_more-requires-clause-standing : goal.plan_more-requires-clause-standing
+plan_more-requires-clause-standing c = let all = c.requires.standing in omega arith
 
-pub loop-ranked-preserved : goal.loop-ranked-preserved
-loop-ranked-preserved c =
-    let was = c.loop-ranked.invariant in
-    let pieces = c.args.pieces.now in
-    let some = take c.loop-ranked.ranked-index pieces in
-    let one = c.ranked-item.result in
-    let more : take (c.loop-ranked.ranked-index + 1) pieces ≡ some ++ one ∷ [] = take_next pieces c.loop-ranked.ranked-index one (omega arith) (sym c.ranked-item.is) in
-    let set = c.args.rules.now.rules in
-    let slots = c.slots-slots.result in
-    let all = slots - c.free_count.result + length pieces in
-    let size : c.len.result ≡ length c.loop-ranked.ids.items = first_of (search rules, grind (arith, common_steps)) in
-    let place : c.len.result ≡ 0 + length some = (let made : length some ≡ c.loop-ranked.ranked-index = length-take-le c.loop-ranked.ranked-index pieces (omega arith) in let number = was.2 in omega arith) in
-    let aims : aims_from c.args.placement c.args.mode slots set all 0 some ++ c.aim_of-aim.result ∷ [] ≡ aims_from c.args.placement c.args.mode slots set all 0 (take (c.loop-ranked.ranked-index + 1) pieces) =
-    ap (λ (aim : Aim). aims_from c.args.placement c.args.mode slots set all 0 some ++ aim ∷ []) (c.aim_of-aim.ensures ∙ ap (λ (n : ℕ). aim_of c.args.placement c.args.mode slots set all n one) place)
-    ∙ (sym (aims_more c.args.placement c.args.mode slots set all 0 some one) ∙ ap (aims_from c.args.placement c.args.mode slots set all 0) (sym more)) in
-    let planned = planned_then c.args.live.now c.loop-ranked.live c.plan_piece.new.live c.args.arrangement.now c.loop-ranked.arrangement c.plan_piece.new.arrangement
-    c.args.plan.now c.loop-ranked.plan c.plan_piece.new.plan some (one ∷ []) (aims_from c.args.placement c.args.mode slots set all 0 some) (c.aim_of-aim.result ∷ []) was.4 c.in-Ok.ensures.planned in
-    let plannable : IsPlannable c.plan_piece.new.live c.plan_piece.new.arrangement c.plan_piece.new.plan.writes.items = c.in-Ok.ensures.plannable in
-    let items : c.push_reserved.new.self.items ≡ c.loop-ranked.ids.items ++ c.in-Ok.id ∷ [] = search rules in
-    let adds : AddsIds c.args.live.now c.plan_piece.new.live c.push_reserved.new.self.items =
-    subst (AddsIds c.args.live.now c.plan_piece.new.live) (sym items) (adds_then c.args.live.now c.loop-ranked.live c.plan_piece.new.live c.loop-ranked.ids.items (c.in-Ok.id ∷ []) was.1 c.in-Ok.ensures.adds) in
-    let number : length c.push_reserved.new.self.items ≡ c.loop-ranked.ranked-index + 1 = first_of (search rules, grind (arith, common_steps)) in
-    let room : length pieces ≤ vec_capacity c.push_reserved.new.self = first_of (search rules, grind (arith, common_steps)) in (
-      plannable,
-      adds,
-      number,
-      room,
-      subst (λ (pieces : List RankedPiece). ArePlannedSince c.args.live.now c.plan_piece.new.live c.args.arrangement.now c.plan_piece.new.arrangement c.args.plan.now c.plan_piece.new.plan pieces (aims_from c.args.placement c.args.mode slots set all 0 (take (c.loop-ranked.ranked-index + 1) c.args.pieces.now))) (sym more)
-          (subst (ArePlannedSince c.args.live.now c.plan_piece.new.live c.args.arrangement.now c.plan_piece.new.arrangement c.args.plan.now c.plan_piece.new.plan (some ++ one ∷ [])) aims planned),
-    )
+pub returns-clause-planned : goal.returns-clause-planned
+returns-clause-planned c =
+    on_ok_weaker c.plan_more.result (λ planned.
+    subst (λ (all : ℕ). ArePlannedSince c.args.live.now c.plan_more.new.live c.args.arrangement.now c.plan_more.new.arrangement c.args.plan.now c.plan_more.new.plan c.args.pieces.now
+    (aims_from c.args.placement c.args.mode (length c.args.arrangement.now) c.args.rules.now.rules all 0 c.args.pieces.now))
+    (ap (λ (n : ℕ). n + length c.args.pieces.now) c.requires.standing) planned) c.plan_more.ensures.planned

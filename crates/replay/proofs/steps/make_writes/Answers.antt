@@ -15,7 +15,7 @@ use Rattle.replay.specs.Outside.{CutsLines}
 use Rattle.replay.specs.Text.{trace_line}
 use Rattle.replay.proofs.Acting.{some-slots}
 use Rattle.replay.proofs.Leaving.{uncounted, leaves-line, leaves-writes, leaves-then}
-use Rattle.replay.proofs.Making.{come-drained, drained-acts, drained-none, few-written, fewer-drained, fewer-passed, fewer-written, goes-idle, left-now, making-drained, making-none, making-passed, making-turned, making-written, passed-acts, turned-straight, waits-left, wrote-acts}
+use Rattle.replay.proofs.Making.{come-drained, drained-acts, drained-none, few-written, fewer-drained, fewer-passed, fewer-written, goes-idle, left-now, making-drained, making-none, making-passed, making-turned, making-written, may-now, passed-acts, turned-straight, waits-left, wrote-acts}
 use Rattle.replay.proofs.Reported.{cuts-before, cuts-drain, cuts-write, tells-drain, tells-write}
 use Rattle.replay.proofs.Seeing.{as-searched, as-written, empty-flight, lines-empty, seen-empty, seen-ended, seen-turned, seen-written}
 use Rattle.replay.proofs.Stopping.{making-cut, making-finished, making-reverted, making-stops, making-stops_behind}
@@ -28,6 +28,10 @@ making-init g c = record {
   seen = λ seen. seen;
   leaves = leaves-line _ _ _ _ _ _ _ _ _ ⊥ ⊥ (λ some. some) refl refl refl (uncounted ⊥ _ _ (λ e. e) refl) (λ e. e);
 }
+
+-- it may be turned round
+pub turn_round-requires : goal.turn_round-requires
+turn_round-requires g c = may-now _ _ _ c.making.manager _ _ _ _ _ _ _ c.making.invariant.making c.requires.may_turn
 
 -- the next step may be made
 pub step_tried-requires-clause-slots : goal.step_tried-requires-clause-slots

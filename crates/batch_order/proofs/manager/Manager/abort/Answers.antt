@@ -1,10 +1,10 @@
-use Rattle.std.proofs.Common.{◌≡◌, Option, Some, Err, IsSome, subst, sym, refl}
+use Rattle.std.proofs.Common.{◌≡◌, Option, Some, Err, subst, sym, refl}
 use Rattle.batch_order.specs.declared.held.Held.{Held}
 use Rattle.batch_order.specs.declared.AbortFault.TheVariants as abort_fault
 use Rattle.batch_order.specs.Kept.{IsManaged}
 use Rattle.batch_order.specs.Managed.{Managed}
 use Rattle.batch_order.specs.Steps.{Aborts}
-use Rattle.batch_order.proofs.Aborted.{KeepsOn, aborts_by, keeps_on, managed_turned, turned_managed}
+use Rattle.batch_order.proofs.Aborted.{KeepsOn, aborts_by, keeps_on, managed_by}
 use Rattle.batch_order.proofs.Carried.{view_of}
 use Rattle.batch_order.proofs.Passed.{goes_back}
 use Rattle.batch_order.proofs.manager.Manager.abort.Goals as goal
@@ -17,8 +17,8 @@ invariant_of-self c = elim c.match-self.branch [
       let i = c.self.inside in
       let held = w.in-Some.held in
       let managed = subst (IsManaged i.translation i.rules i.live i.arrangement) w.in-Some.is c.self.invariant in
-      rw w.self-inside-is (turned_managed i.translation i.rules i.live i.arrangement held managed i.placement w.turn.new.self (λ (h : Held). IsManaged i.translation i.rules i.live i.arrangement (Some h))
-      (λ is. (w.turn.ensures.turns is).1) (λ undone is. (w.turn.ensures.stays (subst IsSome (sym is) refl)).1) (λ is. managed_turned i.translation i.rules i.live i.arrangement held managed i.placement) (λ undone is. managed))
+      rw w.self-inside-is (managed_by i.translation i.rules i.live i.arrangement held managed i.placement w.turn.result w.turn.new.self
+      record { restarted = w.turn.ensures.restarted; turns = w.turn.ensures.turns; stays = w.turn.ensures.stays })
 ]
 
 pub returns-clause-aborts : goal.returns-clause-aborts
@@ -36,7 +36,8 @@ returns-clause-aborts c = elim c.match-self.branch [
       let new = view_of i.placement i.translation i.rules i.live i.arrangement (Some w.turn.new.self) in
       rw (w.self-inside-is, w.result-is) (subst (λ (old : Managed). Aborts old old.held w.turn.result new) view
       (subst (λ (h : Option Held). Aborts (view_of i.placement i.translation i.rules i.live i.arrangement h) (view_of i.placement i.translation i.rules i.live i.arrangement h).held w.turn.result new) (sym w.in-Some.is)
-      (aborts_by i.translation i.rules i.live i.arrangement held managed i.placement w.turn.result w.turn.new.self w.turn.ensures.turns w.turn.ensures.stays)))
+      (aborts_by i.translation i.rules i.live i.arrangement held managed i.placement w.turn.result w.turn.new.self
+      record { restarted = w.turn.ensures.restarted; turns = w.turn.ensures.turns; stays = w.turn.ensures.stays })))
 ]
 
 -- what the answer says of the rest

@@ -1,4 +1,4 @@
-use Rattle.std.proofs.Common.{◌≡◌, ℕ, ◌≤◌, ◌+◌, ◌*◌, ◌^◌, ◌∙◌, false, List, length, map, Option, Some, None, Ok, Err, OnErr, Result, refl, sym, ap, subst, arith}
+use Rattle.std.proofs.Common.{◌≡◌, ℕ, ◌≤◌, ◌+◌, ◌*◌, ◌^◌, ◌∙◌, false, true, List, length, map, Option, Some, None, Ok, Err, OnErr, Result, refl, sym, ap, subst, arith}
 use Rattle.std.specs.List.{AllByRecursion, AllZip}
 use Rattle.std.proofs.lemmas.List.{length-map}
 use Rattle.slot_pool.specs.Arrangement.{Slots}
@@ -190,6 +190,7 @@ planned_from old new slots copy middle plan plan' placement mode rules set piece
 -- the commit that is held in the end, and that it is the plan of the batch
 abbrev held_now : (g : Over) (c : goal.After-drop-parts-2 g) → Held
 held_now g c = record {
+  prepared = true;
   writes = c.plan_writes.new.plan.writes;
   undo = c.in_ok-planned.planned.undo;
   made = 0;
@@ -242,6 +243,7 @@ plan_now g c =
             span = c.counts-counts.ensures.span ∙ c.in_ok-planned.ensures.planned.span;
           };
       same = c.reserve.ensures.rules;
+      prepared = refl;
       made = refl;
       awaits = c.gives_bits-awaits.ensures;
       undrained = refl;

@@ -5,16 +5,19 @@ use Rattle.batch_order.specs.declared.Step.TheVariants as step
 use Rattle.batch_order.specs.Kept.{IsManaged}
 use Rattle.batch_order.specs.Managed.{Managed}
 use Rattle.batch_order.specs.Steps.{IsAllMade, Steps, is_turned}
-use Rattle.batch_order.proofs.Back.{turned_of}
+use Rattle.batch_order.proofs.Back.{turned_of, way}
 use Rattle.batch_order.proofs.Carried.{view_of}
 use Rattle.batch_order.proofs.Reverted.{IsReverted, managed_reverted, revert_steps}
 use Rattle.batch_order.proofs.manager.Manager.revert.Goals as goal
 
 pub forget_all-requires : goal.forget_all-requires
 forget_all-requires c =
+    let i = c.self.inside in
     let was : c.self.inside.held ≡ Some c.in-Some.held = cc in
     let before = subst (IsManaged c.self.inside.translation c.self.inside.rules c.self.inside.live c.self.inside.arrangement) was c.self.invariant in
-    before.carried.added
+    let back : is_turned (view_of i.placement i.translation i.rules i.live i.arrangement i.held).held ≡ true = rw (← c.self.view_is) at c.requires.turned in
+    let turned = turned_of c.in-Some.held.turned (subst (λ (h : Option Held). is_turned (view_of i.placement i.translation i.rules i.live i.arrangement h).held ≡ true) was back) in
+    (way i.translation i.rules i.live i.arrangement c.in-Some.held before turned.0 turned.1).added
 
 pub invariant_of-self-in-Some : goal.invariant_of-self-in-Some
 invariant_of-self-in-Some c =
@@ -23,7 +26,9 @@ invariant_of-self-in-Some c =
     let was : i.held ≡ Some held = cc in
     let before = subst (IsManaged i.translation i.rules i.live i.arrangement) was c.self.invariant in
     let reverted : IsReverted i.live c.forget_all.new.live held = record { live = c.forget_all.ensures.live; entries = c.forget_all.ensures.kept; slots = c.forget_all.ensures.slots } in
-    rw c.take.ensures.after (managed_reverted i.translation i.rules i.live c.forget_all.new.live i.arrangement held before reverted)
+    let back : is_turned (view_of i.placement i.translation i.rules i.live i.arrangement i.held).held ≡ true = rw (← c.self.view_is) at c.requires.turned in
+    let turned = turned_of held.turned (subst (λ (h : Option Held). is_turned (view_of i.placement i.translation i.rules i.live i.arrangement h).held ≡ true) was back) in
+    rw c.take.ensures.after (managed_reverted i.translation i.rules i.live c.forget_all.new.live i.arrangement held before (way i.translation i.rules i.live i.arrangement held before turned.0 turned.1) reverted)
 
 pub returns-in-Some : goal.returns-in-Some
 returns-in-Some c words =
@@ -41,5 +46,5 @@ returns-in-Some c words =
     let new = view_of i.placement i.translation i.rules c.forget_all.new.live i.arrangement None in
     let steps : Steps (view_of i.placement i.translation i.rules i.live i.arrangement i.held) words (view_of i.placement i.translation i.rules i.live i.arrangement i.held).held (step.Reverted turned.0) new =
     subst (λ (h : Option Held). Steps (view_of i.placement i.translation i.rules i.live i.arrangement h) words (view_of i.placement i.translation i.rules i.live i.arrangement h).held (step.Reverted turned.0) new) (sym was)
-    (revert_steps i.translation i.rules i.live c.forget_all.new.live i.arrangement held before reverted turned.0 turned.1 i.placement made words) in
+    (revert_steps i.translation i.rules i.live c.forget_all.new.live i.arrangement held before (way i.translation i.rules i.live i.arrangement held before turned.0 turned.1) reverted turned.0 turned.1 i.placement made words) in
     rw (c.take.ensures.after, number) (subst (λ (old : Managed). Steps old words old.held (step.Reverted turned.0) new) view steps)

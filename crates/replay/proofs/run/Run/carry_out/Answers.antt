@@ -7,7 +7,7 @@ use Rattle.replay.specs.Outside.{CutsLines}
 use Rattle.replay.specs.InFlight.{AreOf}
 use Rattle.replay.specs.Running.{Running, setting_of}
 use Rattle.replay.proofs.Acting.{some-held}
-use Rattle.replay.proofs.Halfway.{few-left, few-made, idle-now, made-run_held, after-writes_run, setting-counted}
+use Rattle.replay.proofs.Halfway.{few-left, few-made, idle-now, made-run_held, may-half, after-writes_run, setting-counted}
 use Rattle.replay.proofs.Exits.{as-last, cut-held, cut-setting, cut-some, is-seen, resumes-cut, resumes-all, resumes-last, resumes-searching}
 use Rattle.replay.proofs.Leftover.{are-of-left, few-waiting, words-cut_run}
 use Rattle.replay.proofs.run.Run.carry_out.Goals as goal
@@ -25,6 +25,10 @@ make_writes-requires-clause-waiting g c =
 pub make_writes-requires-clause-few : goal.make_writes-requires-clause-few
 make_writes-requires-clause-few g c =
     few-left _ (c.self.invariant.halfway (subst (λ (run : Running). IsSome run.manager.held) (sym c.self.view_is) c.requires.held))
+
+pub make_writes-requires-clause-may_turn : goal.make_writes-requires-clause-may_turn
+make_writes-requires-clause-may_turn g c =
+    may-half _ (c.self.invariant.halfway (subst (λ (run : Running). IsSome run.manager.held) (sym c.self.view_is) c.requires.held))
 
 pub invariant_of-self : goal.invariant_of-self
 invariant_of-self g c =
