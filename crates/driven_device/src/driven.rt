@@ -1,12 +1,18 @@
 //! A manager and its device.
-ghost use Rattle.std.specs.Prelude.{◌≤◌};
+ghost use Rattle.std.specs.Prelude.{◌≡◌, ◌≤◌, IfErr, IsTrue};
+ghost use Rattle.tcam_device.specs.State.{blank_table, replay, table_of};
+ghost use Rattle.batch_order.specs.Managed.{HasBlankTables};
 
-use batch_order::{AbortFault, Done, Manager, Mode, Placement, Ready, Refusal, Step, Unfinished};
+use batch_order::{
+    AbortFault, Done, Field, Manager, Mode, Placement, Ready, Refusal, RestartFault, Step,
+    Unfinished,
+};
+use readback::Parts;
 use rule_model::{Key, Rank};
 use rule_store::Batch;
 use std::alloc::{AllocError, Global};
 use std::marker::Model;
-use tcam_device::{Device, DeviceFault, MOST_IN_FLIGHT};
+use tcam_device::{Device, DeviceFault, MOST_IN_FLIGHT, ReadBack};
 use thiserror::Error;
 
 /// Why a device isn't driven.
@@ -19,9 +25,28 @@ pub enum SetUpFault {
     Memory,
 }
 
+/// Why a device isn't driven on by another manager.
+#[derive(Clone, Copy, Debug, PartialEq, Eq, Error)]
+pub enum RestartedFault {
+    /// A manager has 1 to 4,096 slots, and its device has them.
+    #[error("{0} slots aren't driven on")]
+    Slots(u32),
+    /// By covers the tables are blank.
+    #[error("a table has words")]
+    Tables,
+    #[error("no restart: {0}")]
+    Restart(RestartFault),
+}
+
 impl From<AllocError> for SetUpFault {
     fn from(_: AllocError) -> SetUpFault {
         SetUpFault::Memory
+    }
+}
+
+impl From<(RestartedFault, Parts)> for RestartedFault {
+    fn from(refused: (RestartedFault, Parts)) -> RestartedFault {
+        refused.0
     }
 }
 
@@ -58,6 +83,77 @@ impl<D: Device + Drop> Driven<D> {
         let manager = Manager::new(alloc, slots, mode, placement)?;
         Ok(Driven { manager, device })
     }
+}
+
+impl<D: ReadBack + Drop> Driven<D> {
+    /// What the manager leaves of itself: the rules of its set and their live port ranges, of the old set while a commit
+    /// is under way. The device is given up.
+    pub fn into_parts(self) -> Parts {
+        self.manager.into_parts()
+    }
+
+    /// Goes on with a batch's commit that was stopped, over the device as it was left: by what the old set's manager left
+    /// of itself, and with the slots in use and the encoding that it had. The manager holds what is left of the commit.
+    ///
+    /// It fails with `Slots` where a manager can't have so many slots or the device hasn't them, then with `Tables` where
+    /// by covers a table isn't blank, and else as `Manager::restart` does. The parts come back as they were, and the device
+    /// is given up.
+    pub fn restart(
+        alloc: Global,
+        slots: u32,
+        mode: Mode,
+        placement: Placement,
+        parts: Parts,
+        batch: &Batch,
+        mut device: D,
+    ) -> Result<Driven<D>, (RestartedFault, Parts)>
+        ensures { IfErr result (λ refused. refused.1 ≡ parts) }
+    {
+        if slots < 1 || slots > 4096 || slots > device.slots() {
+            return Err((RestartedFault::Slots(slots), parts));
+        }
+        if mode == Mode::Cover && !has_blank_tables(&device) {
+            return Err((RestartedFault::Tables, parts));
+        }
+        match Manager::restart(alloc, slots, mode, placement, parts, batch, &mut device) {
+            Ok(manager) => Ok(Driven { manager, device }),
+            Err((fault, back)) => Err((RestartedFault::Restart(fault), back)),
+        }
+    }
+
+    /// Drops the manager, and goes on with the commit of a batch by what it leaves of itself, over its device, as `restart`
+    /// does. Where this fails parts and device are given up.
+    pub fn restarted(
+        self,
+        alloc: Global,
+        slots: u32,
+        mode: Mode,
+        placement: Placement,
+        batch: &Batch,
+    ) -> Result<Driven<D>, RestartedFault> {
+        let parts = self.manager.into_parts();
+        let device = self.device;
+        Ok(Driven::restart(alloc, slots, mode, placement, parts, batch, device)?)
+    }
+}
+
+/// Whether each word of both tables is 0.
+fn has_blank_tables<D: ReadBack>(device: &D) -> bool
+    ensures { IsTrue result → HasBlankTables (replay (D.slot_count device.now) (D.journal device.now)) }
+{
+    is_blank(device, Field::Src) && is_blank(device, Field::Dst)
+}
+
+/// Whether each word of a field's table is 0.
+fn is_blank<D: ReadBack>(device: &D, field: Field) -> bool
+    ensures { IsTrue result → table_of field (replay (D.slot_count device.now) (D.journal device.now)) ≡ blank_table }
+{
+    for port in 0..65_536u32 {
+        if device.read_word(field, port as u16) != 0 {
+            return false;
+        }
+    }
+    true
 }
 
 impl<D: Device> Driven<D> {

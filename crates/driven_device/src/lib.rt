@@ -9,6 +9,6 @@ mod packets;
 mod seen;
 
 pub use changes::{ANY_PORT, Change, ChangeFault, batch, command};
-pub use driven::{Driven, SetUpFault};
+pub use driven::{Driven, RestartedFault, SetUpFault};
 pub use packets::{packet_of_ports, packet_to, routed_packets};
 pub use seen::{NOTHING, Results, Told, numbers_of, results, results_by_rules, what_it_did};
