@@ -30,6 +30,7 @@ use Rattle.commit_writes.proofs.TableWrites.{bit_writes-tables}
 use Rattle.readback.specs.Laws.{HasUnused}
 use Rattle.readback.specs.Stage.{IsStage}
 use Rattle.readback.proofs.Stages.{segments_pass}
+use Rattle.planned_rests.proofs.Stopped.{unplaced}
 use Rattle.batch_order.specs.declared.translation.Translation.{Translation}
 use Rattle.batch_order.specs.Entries.{Entries}
 use Rattle.batch_order.specs.Kept.{AreWordsFirst, IsManaged, bits_of, mode_of, settled_state, tables_of}
@@ -115,6 +116,7 @@ module _ (translation : Option Translation) (rules : StoredRules) (kept : Entrie
   restarts_all in_use plain device_slots wide = record {
     set_bits = set_bits_of mode bits rules.rules (tables_of translation) begins.managed.translated;
     stages = stages_all in_use device_slots wide;
+    unplaced = λ n below. unplaced mode bits rules.rules batch (on_device device_slots begun) writes (begin device_slots) (begins.segment device_slots wide) n below;
     plain = λ cover n.
         (let left = tables_left (on_device device_slots begun) (take n writes) (all_take (λ write. IsFalse (is_table_write write)) n writes (plain cover)) in
         let none = cover_tables translation cover in

@@ -1,5 +1,5 @@
 -- A manager that holds what is left of a commit, planned from what its device shows: it can be carried out.
-use Rattle.std.proofs.Common.{◌≡◌, ℕ, ◌-◌, ◌≤◌, Bool, true, false, not, Option, None, Some, List, [], ◌++◌, length, take, if◌then◌else◌, inl, inr, refl, sym, ◌∙◌, ap, subst, arith}
+use Rattle.std.proofs.Common.{◌≡◌, ℕ, ◌-◌, ◌≤◌, Bool, true, false, not, Option, Some, List, [], ◌++◌, length, take, if◌then◌else◌, inl, inr, refl, sym, ◌∙◌, ap, subst, arith}
 use Rattle.std.specs.Prelude.{◌&&◌}
 use Rattle.std.specs.List.{AllByRecursion, list_any}
 use Rattle.std.proofs.lemmas.Bool.{cases_Bool}
@@ -55,7 +55,7 @@ use Rattle.batch_order.specs.declared.translation.Translation.{Translation}
 use Rattle.batch_order.specs.Entries.{Entries}
 use Rattle.batch_order.specs.Kept.{IsArranged, IsHeld, IsManaged, bits_of, changed_by, held_writes, mode_of, settled_state, tables_of, translation_after}
 use Rattle.batch_order.specs.Restarted.{has_drained, in_use}
-use Rattle.batch_order.specs.Stopped.{IsAsFound, IsPlannedOn, IsStopped, counts_of}
+use Rattle.batch_order.specs.Stopped.{IsAsFound, IsPlannedOn, IsStopped, held_from}
 use Rattle.batch_order.proofs.Entered.{contents_kept}
 use Rattle.batch_order.proofs.Judged.{accepted_room}
 use Rattle.batch_order.proofs.Leading.{cover_words}
@@ -74,20 +74,8 @@ pub record IsResumed (placement : Placement) (translation : Option Translation) 
 
 -- what is held then: it isn't prepared, and none of its writes is made
 abbrev pub held_by : Option Translation → StoredRules → List Command → State → Slots → Rest → Held → Held
-held_by translation rules batch state slots' rest held = record held {
-  prepared = false;
-  counts = counts_of rest.plan;
-  writes = rest.plan.writes;
-  made = 0;
-  turned = None;
-  awaits = needs_drain (mode_of translation) (bits_of translation) rules.rules batch state;
-  drained = has_drained (mode_of translation) (bits_of translation) rules.rules batch state;
-  bits = rest.bits;
-  batch = batch;
-  rewrites = rest.left.rewrites;
-  erased = rest.left.erased;
-  arrangement = slots';
-}
+held_by translation rules batch state slots' rest held =
+    held_from rest (needs_drain (mode_of translation) (bits_of translation) rules.rules batch state) (has_drained (mode_of translation) (bits_of translation) rules.rules batch state) batch slots' held.undo
 
 -- with a drain neither to come nor made no bit is given
 neither : (new stands : Bool) → (new && not stands) ≡ false → (new && stands) ≡ false → new ≡ false

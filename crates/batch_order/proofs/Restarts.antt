@@ -14,7 +14,6 @@ use Rattle.rule_store.specs.Verdict.{Accepted, verdict}
 use Rattle.ternary_word.specs.Entry.{RankedPiece, IsEncodable}
 use Rattle.overlap_index.specs.Live.{AreApart}
 use Rattle.tcam_device.specs.State.{State, IsState}
-use Rattle.commit_writes.specs.declared.Done.{Done}
 use Rattle.commit_writes.specs.Actions.{have_bits}
 use Rattle.commit_writes.specs.Bits.{FieldBits, bits_with, new_bits}
 use Rattle.batch_pieces.specs.Changes.{during_of}
@@ -34,7 +33,7 @@ use Rattle.batch_order.specs.Managed.{room_both_ways, room_needed}
 use Rattle.batch_order.specs.Restarted.{Resumes, bits_in}
 use Rattle.batch_order.specs.Managed.{HasBlankTables}
 use Rattle.batch_order.specs.Restarting.{AreEncodable, AreStanding, IsWithTwin, managed_by, without_twin}
-use Rattle.batch_order.specs.Stopped.{IsAsFound, IsPlannedOn, IsReadAgain, IsStopped, counts_of}
+use Rattle.batch_order.specs.Stopped.{IsAsFound, IsPlannedOn, IsReadAgain, IsStopped, held_from}
 use Rattle.batch_order.proofs.GoesOn.{IsResumed, held_by, managed_on}
 use Rattle.batch_order.proofs.Judged.{accepted_room}
 use Rattle.batch_order.proofs.Needed.{rules_entries}
@@ -42,12 +41,19 @@ use Rattle.batch_order.proofs.NoneDue.{stands_then, stands_when}
 use Rattle.batch_order.proofs.ReadAgain.{as_found, read_again}
 use Rattle.batch_order.proofs.Resumed.{bits_read, resumes, room_forward, room_on, tables_read}
 
+-- What a rebuilt manager keeps is a manager's, goes on with the commit, and has room for it.
+pub record IsMade (slots : ℕ) (mode : Mode) (placement : Placement) (parts : Parts) (batch : List Command) (device_slots : ℕ) (state : State) (spare : ℕ) (translation : Option Translation) (rules : StoredRules) (new : Entries) (found : Slots) (held : Held) : Type 0 where
+  pub managed : IsManaged translation rules new found (Some held)
+  pub resumes : Resumes slots mode placement parts batch device_slots state (managed_by placement translation rules new found (Some held))
+  pub reserved : room_needed (held_of translation found rules.rules new.entries held) ≤ spare
+  pub both_ways : room_both_ways (held_of translation found rules.rules new.entries held) ≤ spare
+
 -- what a device shows that was stopped
-pub stopped_by : (slots : ℕ) (mode : Mode) (bits : FieldBits) (rules : List Rule) (batch : List Command) (device_slots : ℕ) (state : State) (shown : Shown)
+pub stopped_by : {slots : ℕ} {mode : Mode} {bits : FieldBits} {rules : List Rule} {batch : List Command} {device_slots : ℕ} {state : State} {shown : Shown}
     → 1 ≤ slots → slots ≤ 4096 → slots ≤ device_slots → IsState device_slots state → CanCommit mode bits rules batch → verdict slots mode rules batch ≡ Accepted → Finds slots mode bits rules batch state shown.stage
     → IsShown (commit_pieces mode bits rules batch) state.slots shown → AllByRecursion (λ ranked. IsEncodable ranked.piece) (known_pieces (commit_pieces mode bits rules batch))
     → IsStopped slots mode bits rules batch state shown
-stopped_by slots mode bits rules batch device_slots state shown least most wide is can accepted found are_shown encodable = record {
+stopped_by {slots} {mode} {bits} {rules} {batch} {device_slots} {state} {shown} least most wide is can accepted found are_shown encodable = record {
   least = least;
   most = most;
   wide = subst (λ (n : ℕ). slots ≤ n) (sym is.size) wide;
@@ -59,7 +65,7 @@ stopped_by slots mode bits rules batch device_slots state shown least most wide 
   encodable = encodable;
 }
 
-module _ (slots : ℕ) (mode : Mode) (bits : FieldBits) (rules : List Rule) (batch : List Command) (state : State) (shown : Shown) (stopped : IsStopped slots mode bits rules batch state shown) where
+module _ {slots : ℕ} {mode : Mode} {bits : FieldBits} {rules : List Rule} {batch : List Command} {state : State} {shown : Shown} (stopped : IsStopped slots mode bits rules batch state shown) where
   -- as many places are told as the device has slots, and each piece there has an entry
   pub places_many : slots ≤ length shown.places.items
   places_many = subst (λ (n : ℕ). slots ≤ n) (sym stopped.is_shown.places.size) stopped.wide
@@ -114,22 +120,22 @@ module _ (slots : ℕ) (mode : Mode) (bits : FieldBits) (rules : List Rule) (bat
       go false y false some put found = refl
 
 module _ (translation : Option Translation) (rules : StoredRules) (batch : List Command) (state : State) (slots' : Slots) (rest : Rest) (held : Held) where
-  abbrev one : Held
-  one = held_by translation rules batch state slots' rest held
+  -- what is held, by other names of the same
+  held_same : (awaits drained : Bool) (other : List Command) → awaits ≡ (held_by translation rules batch state slots' rest held).awaits → drained ≡ (held_by translation rules batch state slots' rest held).drained
+      → other ≡ batch → held ≡ held_from rest awaits drained other slots' held.undo → held_by translation rules batch state slots' rest held ≡ held
+  held_same awaits drained other awaits_is drained_is batch_is held_is =
+      sym (held_is ∙ (ap (λ (b : List Command). held_from rest awaits drained b slots' held.undo) batch_is
+      ∙ ap₂ (λ (a d : Bool). held_from rest a d batch slots' held.undo) awaits_is drained_is))
 
-  -- what is held, by other names of the same numbers
-  pub held_same : (counts : Done) (awaits drained : Bool) (other : List Command) → counts ≡ counts_of rest.plan → awaits ≡ (held_by translation rules batch state slots' rest held).awaits
-      → drained ≡ (held_by translation rules batch state slots' rest held).drained → other ≡ batch
-      → held_by translation rules batch state slots' rest held ≡ record (held_by translation rules batch state slots' rest held) { counts = counts; awaits = awaits; drained = drained; batch = other }
-  held_same counts awaits drained other counts_is awaits_is drained_is batch_is =
-      sym (ap₂ (λ (c : Done) (b : List Command). let h : Held = record one { counts = c; awaits = awaits; drained = drained; batch = b } in h) counts_is batch_is
-      ∙ ap₂ (λ (a d : Bool). let h : Held = record one { awaits = a; drained = d } in h) awaits_is drained_is)
-
-module _ (slots : ℕ) (mode : Mode) (parts : Parts) (batch : List Command) (device_slots : ℕ) (state : State) (shown : Shown) (is : IsState device_slots state)
+module _ {slots : ℕ} {mode : Mode} (parts : Parts) {batch : List Command} {device_slots : ℕ} {state : State} {shown : Shown} (is : IsState device_slots state)
     (stopped : IsStopped slots mode (bits_in parts) parts.rules.rules batch state shown)
     (translation : Option Translation) (mode_is : mode_of translation ≡ mode) (bits_are : mode ≡ Bits → bits_of translation ≡ bits_in parts)
     (tables_are : mode ≡ Bits → tables_of translation ≡ record state { slots = [] }) (plain : mode ≡ Cover → HasBlankTables state)
-    (old : Entries) (arranged : Slots) (standing : AreStanding slots (without_twin shown.stage.twin shown.places.items) old arranged) (size : old.slots ≡ slots) (apart : AreApart old.slots old.live) where
+    {old : Entries} {arranged : Slots} {places : List (Option RankedPiece)} (places_are : places ≡ shown.places.items)
+    (stand : AreStanding slots (without_twin shown.stage.twin places) old arranged) (size : old.slots ≡ slots) (apart : AreApart old.slots old.live) where
+  standing : AreStanding slots (without_twin shown.stage.twin shown.places.items) old arranged
+  standing = subst (λ (p : List (Option RankedPiece)). AreStanding slots (without_twin shown.stage.twin p) old arranged) places_are stand
+
   same_bits : bits_of translation ≡ bits_in parts
   same_bits = bits_read mode (bits_in parts) parts.rules.rules batch translation mode_is bits_are stopped.can
 
@@ -145,14 +151,16 @@ module _ (slots : ℕ) (mode : Mode) (parts : Parts) (batch : List Command) (dev
   pub read_now : IsReadAgain mode (bits_of translation) parts.rules.rules batch state shown old arranged
   read_now = read_again slots mode (bits_of translation) parts.rules.rules batch state shown old arranged stopped_so standing size apart
 
-  pub tables_now : tables_of translation ≡ record state { slots = [] }
+  tables_now : tables_of translation ≡ record state { slots = [] }
   tables_now = tables_read mode state translation mode_is tables_are plain
 
-  module _ (placement : Placement) (found : Slots) (twin : IsWithTwin shown.stage.twin shown.places.items old.live arranged found) (new : Entries) (slots' : Slots) (rest : Rest)
+  module _ (placement : Placement) (found : Slots) {others : List (Option RankedPiece)} (others_are : others ≡ shown.places.items)
+      (twin : IsWithTwin shown.stage.twin others old.live arranged found) {new : Entries} {slots' : Slots} {rest : Rest}
       (planned : IsPlannedOn placement device_slots mode (bits_of translation) parts.rules.rules batch state shown old new arranged slots' rest)
       (rules : StoredRules) (same : rules.rules ≡ parts.rules.rules) (room : length batch ≤ rules.spare) where
     found_now : IsAsFound state old found
-    found_now = as_found slots mode (bits_of translation) parts.rules.rules batch state shown old arranged found stopped_so standing size apart twin
+    found_now = as_found slots mode (bits_of translation) parts.rules.rules batch state shown old arranged found stopped_so standing size apart
+        (subst (λ (p : List (Option RankedPiece)). IsWithTwin shown.stage.twin p old.live arranged found) others_are twin)
 
     resumed_now : IsResumed placement translation rules batch state shown old new arranged slots' found rest
     resumed_now = record {
@@ -168,32 +176,33 @@ module _ (slots : ℕ) (mode : Mode) (parts : Parts) (batch : List Command) (dev
     }
 
     -- whether a drain is to come or came, as it is told
-    pub given_is : (given begun : Bool) → given ≡ have_bits (new_bits (bits_of translation) (during_of rest.bits)) → begun ≡ (nat_lt 0 shown.stage.done && nat_lt 0 (length shown.inserted.items)) → (held : Held)
+    given_is : (given begun : Bool) → given ≡ have_bits (new_bits (bits_of translation) (during_of rest.bits)) → begun ≡ (nat_lt 0 shown.stage.done && nat_lt 0 (length shown.inserted.items)) → (held : Held)
         → ((given && not begun) ≡ (held_by translation rules batch state slots' rest held).awaits) × ((given && begun) ≡ (held_by translation rules batch state slots' rest held).drained)
     given_is given begun given_so begun_so held =
         let now = resumed_now in
         let g : given ≡ have_bits (new_bits (bits_of translation) (bits_with (mode_of translation) rules.rules batch (bits_of translation))) =
         given_so ∙ ap (λ (b : FieldBits). have_bits (new_bits (bits_of translation) b)) now.planned.during in
         let s : begun ≡ list_any (stands_in state.slots) (commit_pieces (mode_of translation) (bits_of translation) rules.rules batch).inserted =
-        begun_so ∙ begun_is (length arranged) (mode_of translation) (bits_of translation) rules.rules batch state shown now.stopped in
+        begun_so ∙ begun_is now.stopped in
         (ap₂ (λ (a b : Bool). a && not b) g s, ap₂ (λ (a b : Bool). a && b) g s)
 
-    module _ (held one : Held) (held_is : held_by translation rules batch state slots' rest one ≡ held) where
-      pub managed_now : IsManaged translation rules new found (Some held)
-      managed_now = subst (λ (h : Held). IsManaged translation rules new found (Some h)) held_is (managed_on placement translation rules batch state shown old new arranged slots' found rest one resumed_now)
-
-      pub resumes_now : Resumes slots mode placement parts batch device_slots state (managed_by placement translation rules new found (Some held))
-      resumes_now =
-          subst (λ (h : Held). Resumes slots mode placement parts batch device_slots state (managed_by placement translation rules new found (Some h))) held_is
-          (subst (λ (n : ℕ). Resumes slots mode placement parts batch n state (managed_by placement translation rules new found (Some (held_by translation rules batch state slots' rest one)))) is.size
-          (subst (λ (m : Mode). Resumes slots m placement parts batch (length state.slots) state (managed_by placement translation rules new found (Some (held_by translation rules batch state slots' rest one)))) mode_is
-          (subst (λ (n : ℕ). Resumes n (mode_of translation) placement parts batch (length state.slots) state (managed_by placement translation rules new found (Some (held_by translation rules batch state slots' rest one)))) number
-          (resumes placement translation rules batch state shown old new arranged slots' found rest one resumed_now parts (sym same) (sym same_bits)))))
-
-      pub both_ways_now : (spare : ℕ) → 2 * length rest.plan.writes.items + 1 ≤ spare → room_both_ways (held_of translation found rules.rules new.entries held) ≤ spare
-      both_ways_now spare enough = subst (λ (h : Held). room_both_ways (held_of translation found rules.rules new.entries h) ≤ spare) held_is
-          (room_on translation rules batch state found new slots' rest one spare enough)
-
-      pub reserved_now : (spare : ℕ) → 2 * length rest.plan.writes.items + 1 ≤ spare → room_needed (held_of translation found rules.rules new.entries held) ≤ spare
-      reserved_now spare enough = subst (λ (h : Held). room_needed (held_of translation found rules.rules new.entries h) ≤ spare) held_is
-          (room_forward translation rules batch state found new slots' rest one spare enough)
+    -- so what is held is the plan that goes on, and there is room for it
+    pub made_now : (given begun awaits drained : Bool) → given ≡ have_bits (new_bits (bits_of translation) (during_of rest.bits)) → begun ≡ (nat_lt 0 shown.stage.done && nat_lt 0 (length shown.inserted.items))
+        → awaits ≡ (given && not begun) → drained ≡ (given && begun) → (other : List Command) → other ≡ batch → (held : Held) → held ≡ held_from rest awaits drained other slots' held.undo
+        → (spare : ℕ) → 2 * length rest.plan.writes.items + 1 ≤ spare → IsMade slots mode placement parts batch device_slots state spare translation rules new found held
+    made_now given begun awaits drained given_so begun_so awaits_so drained_so other other_is held held_is spare enough =
+        let drain = given_is given begun given_so begun_so held in
+        let same = held_same translation rules batch state slots' rest held awaits drained other (awaits_so ∙ drain.0) (drained_so ∙ drain.1) other_is held_is in
+        record {
+          managed = subst (λ (h : Held). IsManaged translation rules new found (Some h)) same (managed_on placement translation rules batch state shown old new arranged slots' found rest held resumed_now);
+          resumes = subst (λ (h : Held). Resumes slots mode placement parts batch device_slots state (managed_by placement translation rules new found (Some h))) same (resumes_now held);
+          reserved = subst (λ (h : Held). room_needed (held_of translation found rules.rules new.entries h) ≤ spare) same (room_forward translation rules batch state found new slots' rest held spare enough);
+          both_ways = subst (λ (h : Held). room_both_ways (held_of translation found rules.rules new.entries h) ≤ spare) same (room_on translation rules batch state found new slots' rest held spare enough);
+        }
+      where
+        resumes_now : (one : Held) → Resumes slots mode placement parts batch device_slots state (managed_by placement translation rules new found (Some (held_by translation rules batch state slots' rest one)))
+        resumes_now one =
+            subst (λ (n : ℕ). Resumes slots mode placement parts batch n state (managed_by placement translation rules new found (Some (held_by translation rules batch state slots' rest one)))) is.size
+            (subst (λ (m : Mode). Resumes slots m placement parts batch (length state.slots) state (managed_by placement translation rules new found (Some (held_by translation rules batch state slots' rest one)))) mode_is
+            (subst (λ (n : ℕ). Resumes n (mode_of translation) placement parts batch (length state.slots) state (managed_by placement translation rules new found (Some (held_by translation rules batch state slots' rest one)))) number
+            (resumes placement translation rules batch state shown old new arranged slots' found rest one resumed_now parts (sym same) (sym same_bits))))

@@ -61,13 +61,6 @@ tables_read mode state None is read blank =
     let none = blank (sym is) in ap₂ (λ src dst. let tables : State = record { slots = []; src = src; dst = dst } in tables) (sym none.src) (sym none.dst)
 tables_read mode state (Some kept) is read blank = read (sym is)
 
--- numbers by their parts
-pub counts_by : (counts : Done) (writes words most span : ℕ) → counts.writes ≡ writes → counts.words ≡ words → counts.most ≡ most → counts.span ≡ span
-    → counts ≡ record { writes = writes; words = words; most = most; span = span }
-counts_by counts writes words most span writes_is words_is most_is span_is =
-    ap₂ (λ a b. let d : Done = record { writes = a; words = b; most = counts.most; span = counts.span } in d) writes_is words_is
-    ∙ ap₂ (λ a b. let d : Done = record { writes = writes; words = words; most = a; span = b } in d) most_is span_is
-
 module _ (placement : Placement) (translation : Option Translation) (rules : StoredRules) (batch : List Command) (state : State) (shown : Shown) (old new : Entries) (slots slots' found : Slots) (rest : Rest) (some : Held)
     (on : IsResumed placement translation rules batch state shown old new slots slots' found rest) where
   abbrev mode : Mode

@@ -1,6 +1,6 @@
 -- What a manager keeps, and how it judges a batch.
-use Rattle.std.specs.Prelude.{◌≡◌, ℕ, ◌+◌, ◌≤◌, ◌^◌, ◌⊎◌, Bool, true, Result, Err, IsOk, Option, Some, None, List, [], length, map, take}
-use Rattle.std.specs.List.{AllByRecursion}
+use Rattle.std.specs.Prelude.{◌≡◌, ℕ, ◌+◌, ◌≤◌, ◌^◌, ◌⊎◌, Bool, true, false, Result, Err, IsOk, Option, Some, None, List, [], length, map, take}
+use Rattle.std.specs.List.{AllByRecursion, list_any}
 use Rattle.rule_model.specs.declared.Rule.{Rule}
 use Rattle.rule_model.specs.declared.IpVersion.{IpVersion}
 use Rattle.rule_store.specs.declared.Mode.{Mode}
@@ -16,14 +16,16 @@ use Rattle.tcam_device.specs.declared.Action.TheVariants.{Written}
 use Rattle.tcam_device.specs.State.{State, IsInUse, Shows, blank, blank_table, replay, on_device, state_after}
 use Rattle.tcam_device.specs.Flight.{writes_in}
 use Rattle.tcam_device.specs.Hitless.{ShowsOldOrNew}
-use Rattle.tcam_device.specs.Insertion.{insertions, IsUncrossed}
+use Rattle.tcam_device.specs.Insertion.{insertions, table_writes, IsUncrossed}
 use Rattle.commit_writes.specs.declared.Done.{Done}
 use Rattle.commit_writes.specs.Bits.{FieldBits, no_bits, bits_with, bits_left}
 use Rattle.commit_writes.specs.Commit.{IsSegment, AreCounts}
 use Rattle.commit_writes.specs.Actions.{commit_actions}
 use Rattle.commit_writes.specs.Routes.{IsRoute, prefix_lengths}
+use Rattle.commit_writes.specs.Shape.{inserted_pieces}
 use Rattle.readback.specs.Fault.{AreSetBits}
 use Rattle.readback.specs.Stage.{IsStage}
+use Rattle.readback.specs.Tasks.{stands_in}
 use Rattle.batch_order.specs.declared.Placement.{Placement}
 use Rattle.batch_order.specs.declared.Refusal.{Refusal}
 use Rattle.batch_order.specs.declared.Refusal.TheVariants as refusal
@@ -147,10 +149,12 @@ pub record HasBlankTables (state : State) : Type 0 where
   pub dst : state.dst ≡ blank_table
 
 -- Each state that some writes of a commit pass is a stage, which shows how far it came. The bits are those of the set, and
--- by covers no word of a table has a bit.
+-- by covers no word of a table has a bit. What the commit inserts doesn't stand before its first write to a slot.
 pub record CanRestart (slots : ℕ) (mode : Mode) (bits : FieldBits) (rules : List Rule) (batch : List Command) (state : State) (made : List Write) : Type 0 where
   pub set_bits : AreSetBits mode rules bits
   pub stages : (n : ℕ) → IsStage slots mode bits rules batch (state_after state (take n made))
+  pub unplaced : (n : ℕ) → n ≤ table_writes made
+      → list_any (stands_in (state_after state (take n made)).slots) (inserted_pieces mode (bits_with mode rules batch bits) rules batch) ≡ false
   pub plain : mode ≡ Cover → (n : ℕ) → HasBlankTables (state_after state (take n made))
 
 -- A batch is taken: its actions are held, and their writes are its segment on a device with so many slots or more.

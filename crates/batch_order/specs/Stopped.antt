@@ -1,5 +1,6 @@
 -- A device that was stopped in a commit: what it shows, the ids that its pieces get again, and what is planned from there.
-use Rattle.std.specs.Prelude.{◌≡◌, ℕ, ◌-◌, ◌+◌, ◌≤◌, ◌<◌, ◌⊎◌, IsTrue, IfSome, Some, List, length, drop, take, nat_eq}
+use Rattle.std.specs.Prelude.{◌≡◌, ℕ, ◌-◌, ◌+◌, ◌≤◌, ◌<◌, ◌⊎◌, Bool, false, IsTrue, IfSome, None, Some, List, Vec, length, drop, take, nat_eq}
+use Rattle.std.specs.Global.{Global}
 use Rattle.std.specs.List.{AllByRecursion, IsDistinct}
 use Rattle.slot_order.specs.Order.{slot}
 use Rattle.slot_pool.specs.Arrangement.{Slots}
@@ -24,7 +25,9 @@ use Rattle.readback.specs.Stage.{Finds, IsCommitAt}
 use Rattle.readback.specs.Tasks.{Task, commit_pieces, known_pieces}
 use Rattle.planned_rests.specs.Standing.{AreReadIds}
 use Rattle.batch_order.specs.declared.Placement.{Placement}
+use Rattle.batch_order.specs.declared.held.Held.{Held}
 use Rattle.batch_order.specs.declared.plan.Plan.{Plan}
+use Rattle.batch_order.specs.declared.planned_writes.PlannedWrite.{PlannedWrite}
 use Rattle.batch_order.specs.declared.restarting.resuming.Rest.{Rest}
 use Rattle.batch_order.specs.Entries.{AddsIds, Entries, HaveIds, KeepEntries}
 use Rattle.batch_order.specs.Kept.{changed_by}
@@ -65,6 +68,25 @@ pub record IsAsFound (state : State) (kept : Entries) (slots : Slots) : Type 0 w
 -- the numbers of a plan
 abbrev pub counts_of : Plan → Done
 counts_of plan = record { writes = length plan.writes.items; words = plan.words; most = plan.most; span = plan.span }
+
+-- What is held of a plan before its first write, with its drain, its batch, and where the entries stand in the end: it isn't prepared.
+abbrev pub held_from : Rest → Bool → Bool → List Command → Slots → Vec PlannedWrite Global → Held
+held_from rest awaits drained batch slots undo = record {
+  prepared = false;
+  writes = rest.plan.writes;
+  undo = undo;
+  made = 0;
+  turned = None;
+  awaits = awaits;
+  drained = drained;
+  counts = counts_of rest.plan;
+  bits = rest.bits;
+  batch = batch;
+  rewrites = rest.left.rewrites;
+  erased = rest.left.erased;
+  ids = rest.ids;
+  arrangement = slots;
+}
 
 -- All that is left is planned, from the tasks that are done on, each insertion with its aim: the new ids are live, and the slots are arranged as they will stand.
 pub record IsPlannedOn (placement : Placement) (device_slots : ℕ) (mode : Mode) (bits : FieldBits) (rules : List Rule) (batch : List Command) (state : State) (shown : Shown) (old new : Entries) (slots slots' : Slots) (rest : Rest) : Type 0 where

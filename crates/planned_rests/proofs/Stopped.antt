@@ -12,12 +12,14 @@ use Rattle.ternary_word.specs.declared.Entry.{Entry}
 use Rattle.ternary_word.specs.Entry.{RankedPiece, entry_for, same_match}
 use Rattle.tcam_device.specs.declared.Write.{Write}
 use Rattle.tcam_device.specs.Flight.{Event, Pipeline, actions_in, writes_in}
+use Rattle.tcam_device.specs.Insertion.{table_writes}
 use Rattle.tcam_device.specs.State.{State, state_after, on_device}
 use Rattle.commit_writes.specs.Actions.{have_bits}
 use Rattle.commit_writes.specs.Bits.{FieldBits, bits_with, new_bits}
+use Rattle.commit_writes.specs.Commit.{IsSegment}
 use Rattle.commit_writes.specs.InFlight.{ArePartOf, AreCurrent, after_events}
 use Rattle.commit_writes.specs.PlannedBatch.{batch_writes}
-use Rattle.commit_writes.specs.Segments.{live_behind}
+use Rattle.commit_writes.specs.Segments.{MayBegin, live_behind}
 use Rattle.commit_writes.proofs.Actions.{commits_serve, same_part}
 use Rattle.commit_writes.proofs.Current.{are_current_part}
 use Rattle.commit_writes.proofs.KeptBits.{pieces_same}
@@ -57,6 +59,33 @@ same_found mode bits rules batch state pieces made rest start parts n few =
 current_then : (bits last some : FieldBits) (line : Pipeline) (events : List Event) → AreCurrent last (after_events line events).flight → ArePartOf some last → AreCurrent some (after_events line events).flight
 current_then bits last some line events current part = are_current_part some last (after_events line events).flight part current
 
+-- what a commit inserts doesn't stand before its first write to a slot
+module _ (mode : Mode) (bits : FieldBits) (rules : List Rule) (batch : List Command) (state : State) (made : List Write) (begin : MayBegin mode bits rules batch state) (segment : IsSegment mode bits rules batch state made) where
+  abbrev pieces : CommitPieces
+  pieces = commit_pieces mode bits rules batch
+
+  begun : IsBitsStart mode bits rules batch state
+  begun = bits_begun mode bits rules batch state begin
+
+  facts : ArePieces pieces
+  facts = pieces_are mode bits rules batch (change_begun mode bits rules batch state begin) (state_after state (fresh_writes mode bits rules batch state)) (tables_serve mode bits rules batch state begun)
+
+  -- where it begins no piece stands that it inserts
+  none : (x : RankedPiece) → Contains pieces.inserted x → IsStanding state x → ⊥
+  none x put (at, s) =
+      let w = begin.at_rest.ordered.known at s.0 s.1 in
+      let old = subst (λ some. Contains some w.0) (sym (pieces_same mode bits rules batch state begun)) w.1 in
+      let same = facts.apart x w.0 (inserted_known pieces x put) (old_known pieces w.0 old) (subst (λ e. same_match (entry_for x) e ≡ true) (sym w.2) s.2) in
+      facts.new_apart w.0 x old put (sym same.0, sym same.1)
+
+  cut : IsCutAtSlots (fresh_writes mode bits rules batch state) made
+  cut = cut_at_slots mode bits rules batch state made segment.shape
+
+  pub unplaced : (n : ℕ) → n ≤ table_writes made → list_any (stands_in (state_after state (take n made)).slots) pieces.inserted ≡ false
+  unplaced n below =
+      let count = cut.count in
+      same_found mode bits rules batch state pieces.inserted made cut.rest begun cut.parts n (omega arith) ∙ none_found state pieces.inserted none
+
 pub commits_stopped : StoppedCommitsAreCurrent
 commits_stopped mode bits rules batch line made events begin segment front current may =
     subst (λ (now : State). AreCurrent (stopped_ranges mode bits rules batch now) (after_events line events).flight) (sym (state_after-events line events))
@@ -72,25 +101,10 @@ commits_stopped mode bits rules batch line made events begin segment front curre
     start : IsBitsStart mode bits rules batch line.state
     start = bits_begun mode bits rules batch line.state begin
 
-    facts : ArePieces p
-    facts = pieces_are mode bits rules batch (change_begun mode bits rules batch line.state begin) (state_after line.state (fresh_writes mode bits rules batch line.state)) (tables_serve mode bits rules batch line.state start)
-
-    -- where a commit begins no piece stands that it inserts
-    none : (x : RankedPiece) → Contains p.inserted x → IsStanding line.state x → ⊥
-    none x put (at, s) =
-        let w = begin.at_rest.ordered.known at s.0 s.1 in
-        let old = subst (λ some. Contains some w.0) (sym (pieces_same mode bits rules batch line.state start)) w.1 in
-        let same = facts.apart x w.0 (inserted_known p x put) (old_known p w.0 old) (subst (λ e. same_match (entry_for x) e ≡ true) (sym w.2) s.2) in
-        facts.new_apart w.0 x old put (sym same.0, sym same.1)
-
-    cut : IsCutAtSlots (fresh_writes mode bits rules batch line.state) made
-    cut = cut_at_slots mode bits rules batch line.state made segment.shape
-
     lives : ArePartOf (stopped_ranges mode bits rules batch (state_after line.state (writes_in (actions_in events)))) (live_behind bits during (actions_in events))
     lives = front_lives bits bits during (have_bits (new_bits bits during)) line.state made (λ (now : State). list_any (stands_in now.slots) p.inserted) (same_part bits) (live_meanwhile mode bits rules batch line.state start)
         (same_ranges mode bits rules batch line.state start)
-        (λ due n below. let count = cut.count in
-        same_found mode bits rules batch line.state p.inserted made cut.rest start cut.parts n (omega arith) ∙ none_found line.state p.inserted none)
+        (λ due n below. unplaced mode bits rules batch line.state made begin segment n below)
         (actions_in events) front.0 front.1
 
 -- a drain is due where none of the inserted pieces stands

@@ -67,8 +67,8 @@ impl Manager {
     ///
     /// `Refused` is tried first, and comes exactly where the rules alone refuse the batch. Then come `BitsDiffer`, where
     /// the live ranges aren't those of the rules, and where the device shows no stage of the commit what is wrong with
-    /// it, in the order of `readback::find_stage`. `Memory` comes last. With each the parts come back as they were. The
-    /// device stays as it is in each case.
+    /// it, in the order of `readback::find_stage`. `Memory` may come before any of these but `Refused`. With each the parts
+    /// come back as they were. The device stays as it is in each case.
     pub fn restart<D: ReadBack>(
         alloc: Global,
         slots: u32,

@@ -15,7 +15,7 @@ ghost use Rattle.batch_order.specs.Kept.{IsManaged, bits_of, mode_of, tables_of}
 ghost use Rattle.batch_order.specs.Restarted.{Resumes, bits_in};
 ghost use Rattle.batch_order.specs.Managed.{HasBlankTables};
 ghost use Rattle.batch_order.specs.Restarting.{managed_by};
-ghost use Rattle.batch_order.specs.Stopped.{IsPlannedOn, IsReadAgain, IsStopped};
+ghost use Rattle.batch_order.specs.Stopped.{IsPlannedOn, IsReadAgain, IsStopped, held_from};
 
 use crate::Placement;
 use crate::entries::LiveEntries;
@@ -94,32 +94,10 @@ pub(crate) fn resume<D: ReadBack>(
         device,
     )?;
     let copy = batch.try_copy(alloc)?;
-    let Rest {
-        plan,
-        bits,
-        left,
-        ids,
-    } = rest;
-    let new = gives_bits(&translation, &bits);
-    let (awaits, drained) = drain_of(new, has_begun(shown));
-    let counts = plan.counts();
+    let new = gives_bits(&translation, &rest.bits);
+    let drain = drain_of(new, has_begun(shown));
     parts.rules.reserve(batch.len())?;
-    let held = Held {
-        prepared: false,
-        counts,
-        writes: plan.writes,
-        undo: Vec::new(alloc),
-        made: 0,
-        turned: None,
-        awaits,
-        drained,
-        bits,
-        batch: copy,
-        rewrites: left.rewrites,
-        erased: left.erased,
-        ids,
-        arrangement: standing.arrangement,
-    };
+    let held = hold(alloc, rest, drain, copy, standing.arrangement);
     Ok(Resumed {
         translation,
         live: standing.live,
@@ -141,6 +119,43 @@ fn drain_of(new: bool, begun: bool) -> (bool, bool)
     ensures drained { result.1 ≡ (new && begun) }
 {
     if begun { (false, new) } else { (new, false) }
+}
+
+/// A plan as it is held before its first write, with its drain, its batch, and where the entries stand in the end.
+fn hold(
+    alloc: Global,
+    rest: Rest,
+    drain: (bool, bool),
+    batch: Batch,
+    arrangement: Arrangement,
+) -> Held
+    ensures held { result ≡ held_from rest drain.0 drain.1 batch arrangement result.undo }
+    ensures undo { result.undo.items ≡ [] }
+{
+    let Rest {
+        plan,
+        bits,
+        left,
+        ids,
+    } = rest;
+    let counts = plan.counts();
+    let (awaits, drained) = drain;
+    Held {
+        prepared: false,
+        counts,
+        writes: plan.writes,
+        undo: Vec::new(alloc),
+        made: 0,
+        turned: None,
+        awaits,
+        drained,
+        bits,
+        batch,
+        rewrites: left.rewrites,
+        erased: left.erased,
+        ids,
+        arrangement,
+    }
 }
 
 /// The plan of what is left, the live ranges meanwhile, what the plan changes, and the ids of its new entries.
