@@ -8,6 +8,7 @@
 //!     frame HEX
 //!     commit
 //!     trial COUNT
+//!     crash COUNT
 //!
 //! Addresses, prefixes and frames are those of one version of IP, which the caller names. `read_acl` is equal to the
 //! grammar both ways: it answers a command only where the line is one, and a fault only where the line has that fault.
@@ -214,7 +215,7 @@ mod tests {
 
     #[test]
     fn other_commands(rt: HostRuntime) {
-        let table: [(&[u8], Option<AclCommand>); 9] = [
+        let table: [(&[u8], Option<AclCommand>); 10] = [
             (b"acl set 100 deny", Some(AclCommand::Set(100, 0))),
             (b"acl set 100 permit", Some(AclCommand::Set(100, 1))),
             (b"acl del 7", Some(AclCommand::Del(7))),
@@ -234,6 +235,10 @@ mod tests {
             (
                 b"trial 7",
                 Some(AclCommand::Common(CommonCommand::Trial(7))),
+            ),
+            (
+                b"crash 7",
+                Some(AclCommand::Common(CommonCommand::Crash(7))),
             ),
             (b" # acl del 7", None),
         ];
@@ -277,7 +282,7 @@ mod tests {
 
     #[test]
     fn other_faults(rt: HostRuntime) {
-        let table: [(&[u8], WordFault); 12] = [
+        let table: [(&[u8], WordFault); 16] = [
             (b"acl", WordFault::UnknownCommand),
             (b"acl Add", WordFault::UnknownCommand),
             (b"route add 10.0.0.0/8 7", WordFault::UnknownCommand),
@@ -290,6 +295,10 @@ mod tests {
             (b"trial 1 2", WordFault::WordCount),
             (b"trial -1", WordFault::BadCount),
             (b"trial 4294967296", WordFault::BadCount),
+            (b"crash", WordFault::WordCount),
+            (b"crash 1 2", WordFault::WordCount),
+            (b"crash -1", WordFault::BadCount),
+            (b"crash 4294967296", WordFault::BadCount),
         ];
         for (text, fault) in table {
             assert!(rt; text.len() <= LINE_BYTES);

@@ -41,7 +41,7 @@ pub(crate) fn check(
     Ok(())
 }
 
-const EIGHT: &str = "tcam route --slots 8";
+pub(crate) const EIGHT: &str = "tcam route --slots 8";
 
 const FIRST: &str = "route add 10.0.0.0/8 7\ncommit\npacket 0.0.0.0 10.1.2.3 0 0 0\n";
 
@@ -144,12 +144,12 @@ fn helps(rt: HostRuntime) -> Result<(), Fail> {
     let made = "tcam gen: carries out changes of an access list that it makes from a number, and\n";
     tells_help(&rt, "tcam --help", program, 2522)?;
     tells_help(&rt, "tcam -h acl", program, 2522)?;
-    tells_help(&rt, "tcam route --slots 8 -h", routes, 1633)?;
-    tells_help(&rt, "tcam acl --help", lists, 1988)?;
+    tells_help(&rt, "tcam route --slots 8 -h", routes, 1709)?;
+    tells_help(&rt, "tcam acl --help", lists, 2064)?;
     let routes6 = "tcam route6: carries out a script of IPv6 routes, and writes a report.\n";
     let lists6 = "tcam acl6: carries out a script of an IPv6 access list, and writes a report.\n";
-    tells_help(&rt, "tcam route6 -h", routes6, 1646)?;
-    tells_help(&rt, "tcam acl6 --slots 8 --help", lists6, 2007)?;
+    tells_help(&rt, "tcam route6 -h", routes6, 1722)?;
+    tells_help(&rt, "tcam acl6 --slots 8 --help", lists6, 2083)?;
     tells_help(&rt, "tcam gen -h", made, 893)
 }
 

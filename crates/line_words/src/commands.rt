@@ -2,7 +2,7 @@
 
 ghost use Rattle.std.specs.Prelude.{◌≡◌};
 ghost use Rattle.line_words.specs.Notations.{notation_for};
-ghost use Rattle.line_words.specs.Commands.{commit_of, common_command, frame_of, trial_of};
+ghost use Rattle.line_words.specs.Commands.{commit_of, common_command, frame_of, limit_of};
 
 use crate::WordFault;
 use crate::kinds::{count_of, frame_key, key_of};
@@ -20,6 +20,8 @@ pub enum CommonCommand {
     Commit,
     /// Carries out the pending batch, and takes it back where that takes more than so many writes.
     Trial(u32),
+    /// Carries out the pending batch, and has another manager go on where that takes more than so many writes.
+    Crash(u32),
 }
 
 /// The command of a line that begins with this word, from the words behind it, in the notation of a version of IP.
@@ -38,7 +40,8 @@ pub fn common_command(
         b"packet" => key_of(rest, version).map(CommonCommand::Packet),
         b"frame" => frame_of(rest, version).map(CommonCommand::Packet),
         b"commit" => commit_of(rest),
-        b"trial" => trial_of(rest).map(CommonCommand::Trial),
+        b"trial" => limit_of(rest).map(CommonCommand::Trial),
+        b"crash" => limit_of(rest).map(CommonCommand::Crash),
         _ => Err(WordFault::UnknownCommand),
     }
 }
@@ -51,13 +54,13 @@ fn commit_of(words: Words<'_>) -> Result<CommonCommand, WordFault>
     Ok(CommonCommand::Commit)
 }
 
-/// The most writes of a trial, the one word.
-fn trial_of(mut words: Words<'_>) -> Result<u32, WordFault>
-    ensures { result ≡ trial_of words.entry }
+/// The number of writes behind which a trial turns round or a manager crashes, the one word.
+fn limit_of(mut words: Words<'_>) -> Result<u32, WordFault>
+    ensures { result ≡ limit_of words.entry }
 {
-    let most = words.required()?;
+    let limit = words.required()?;
     words.end()?;
-    count_of(most)
+    count_of(limit)
 }
 
 /// The key of the frame that is the one word.

@@ -32,7 +32,7 @@ pub fn sequence_of(word: &[u8]) -> Result<u32, WordFault>
     }
 }
 
-/// The most writes of a trial: a number of 32 bits, or BadCount.
+/// A number of writes: of 32 bits, or BadCount.
 pub fn count_of(word: &[u8]) -> Result<u32, WordFault>
     ensures { result ≡ count_of word.now }
 {

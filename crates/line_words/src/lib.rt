@@ -11,6 +11,7 @@
 //!     frame HEX                  common to both: one word, the bytes of a packet
 //!     commit                     common to both: no word
 //!     trial COUNT                common to both: one word, a number of writes
+//!     crash COUNT                common to both: the same one word
 //!
 //! Each kind of word has one function (`numbers`, `addresses`, `kinds`), and each fault of a word one
 //! variant of `WordFault`. Addresses, prefixes and frames are those of the version of IP that the caller

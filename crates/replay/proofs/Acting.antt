@@ -1,6 +1,6 @@
 -- The actions of a commit under way, one after the other, on the way there and on the way back.
-use Rattle.std.proofs.Common.{◌≡◌, ℕ, zero, suc, ◌+◌, ◌-◌, ◌<◌, ◌≤◌, ◌⊎◌, inl, inr, Bool, true, false, List, [], ◌∷◌, ◌++◌, length, map, take, slice_get, Option, Some, None, refl, sym, ap, ◌∙◌, subst, append_assoc, arith}
-use Rattle.std.specs.Prelude.{IsTrue, nat_lt, nat_le, ◌&&◌, option_map}
+use Rattle.std.proofs.Common.{◌≡◌, ℕ, zero, suc, ◌+◌, ◌-◌, ◌<◌, ◌≤◌, ◌⊎◌, inl, inr, Bool, true, false, List, [], ◌∷◌, ◌++◌, length, map, slice_get, Option, Some, None, refl, sym, ap, ◌∙◌, subst, append_assoc, arith}
+use Rattle.std.specs.Prelude.{nat_lt, nat_le, ◌&&◌}
 use Rattle.std.proofs.lemmas.Bool.{lt-ltb, le-ltb, ltb-true, ltb-false, leb-true, leb-false}
 use Rattle.tcam_device.specs.declared.Write.{Write}
 use Rattle.tcam_device.specs.declared.Action.{Action}
@@ -17,7 +17,7 @@ use Rattle.batch_order.specs.declared.Step.TheVariants as step
 use Rattle.batch_order.specs.Managed.{HeldCommit, Managed}
 use Rattle.tcam_device.specs.Insertion.{is_table_write}
 use Rattle.batch_order.specs.Steps.{Steps, StepsEither, awaits_drain, current_back, due_write, next_of}
-use Rattle.replay.specs.Running.{IsSame, MakesSome, TurnsAt, goes_back, left_in, left_of, rest_of, trial_left, turned_where, turns_in}
+use Rattle.replay.specs.Running.{IsSame, MakesSome, TurnsAt, goes_back, left_in, left_of, rest_of, trial_left, turned_where}
 
 -- a commit by its parts
 abbrev pub held_of : Bool → List Action → List Write → Option ℕ → Done → List Rule → FieldBits → FieldBits → FieldBits → HeldCommit
@@ -109,7 +109,7 @@ module _ (now : Managed) (prepared : Bool) (counts : Done) (rules : List Rule) (
             one = on-write write actions undo;
             new_is = is;
             left_is = trial-goes more (apply now.state write) actions (restoring now.state write ∷ undo) back;
-            same = record { prepared = refl; counts = refl; rules = refl; bits = refl; back = sym (lt-suc more (length (writes_in actions))) };
+            same = record { prepared = refl; counts = refl; rules = refl; during = refl; bits = refl; back = sym (lt-suc more (length (writes_in actions))) };
           }
       go false on = record {
         left = actions;
@@ -119,7 +119,7 @@ module _ (now : Managed) (prepared : Bool) (counts : Done) (rules : List Rule) (
         one = on-write write actions undo;
         new_is = is;
         left_is = trial-stays more (apply now.state write) actions (restoring now.state write ∷ undo) on;
-        same = record { prepared = refl; counts = refl; rules = refl; bits = refl; back = sym (lt-suc more (length (writes_in actions))) };
+        same = record { prepared = refl; counts = refl; rules = refl; during = refl; bits = refl; back = sym (lt-suc more (length (writes_in actions))) };
       }
 
   -- a trial before its drain
@@ -147,7 +147,7 @@ module _ (now : Managed) (prepared : Bool) (counts : Done) (rules : List Rule) (
         one = on-drain actions undo;
         new_is = is;
         left_is = left.2;
-        same = record { prepared = refl; counts = refl; rules = refl; bits = refl; back = refl };
+        same = record { prepared = refl; counts = refl; rules = refl; during = refl; bits = refl; back = refl };
       }
 
   goes-parts : (words : ℕ) (rest : Option ℕ) (actions : List Action) (undo : List Write) (turned : Option ℕ) → Straight turned rest actions → StepsEither now (of actions undo turned) words turned did new
@@ -163,7 +163,7 @@ module _ (now : Managed) (prepared : Bool) (counts : Done) (rules : List Rule) (
         one = record (of actions undo (Some undone)) { current = current_back now.bits current (is_table_write write) };
         new_is = on.1;
         left_is = refl;
-        same = record { prepared = refl; counts = refl; rules = refl; bits = refl; back = refl };
+        same = record { prepared = refl; counts = refl; rules = refl; during = refl; bits = refl; back = refl };
       })
       on.0
   goes-parts words None [] undo None straight on = Finishes refl refl on.0 on.1
@@ -178,7 +178,7 @@ module _ (now : Managed) (prepared : Bool) (counts : Done) (rules : List Rule) (
         one = on-write write actions undo;
         new_is = on.1;
         left_is = refl;
-        same = record { prepared = refl; counts = refl; rules = refl; bits = refl; back = refl };
+        same = record { prepared = refl; counts = refl; rules = refl; during = refl; bits = refl; back = refl };
       })
       on.0
   goes-parts words (Some (suc more)) (Written write ∷ actions) undo None straight on = MakesWrite write (write-trial more write actions undo on.1) on.0
@@ -194,7 +194,7 @@ module _ (now : Managed) (prepared : Bool) (counts : Done) (rules : List Rule) (
         one = on-drain actions undo;
         new_is = on.1;
         left_is = refl;
-        same = record { prepared = refl; counts = refl; rules = refl; bits = refl; back = refl };
+        same = record { prepared = refl; counts = refl; rules = refl; during = refl; bits = refl; back = refl };
       })
       refl on.0
   goes-parts zero (Some more) (Drained ∷ actions) undo None straight on = PassesDrain (drain-trial more actions undo straight on.1) refl on.0
@@ -223,7 +223,7 @@ is-straight rest now held new is same straight = record {
   one = held;
   new_is = same ∙ ap (λ one. record now { held = one }) is;
   left_is = refl;
-  same = record { prepared = refl; counts = refl; rules = refl; bits = refl; back = refl };
+  same = record { prepared = refl; counts = refl; rules = refl; during = refl; bits = refl; back = refl };
   straight = straight;
 }
 
@@ -245,7 +245,7 @@ module _ (now : Managed) (prepared : Bool) (counts : Done) (rules : List Rule) (
         one = by actions undo (Some (length undo));
         new_is = at;
         left_is = sym (trial-goes 0 now.state actions undo late.1);
-        same = record { prepared = refl; counts = refl; rules = refl; bits = refl; back = sym late.1 };
+        same = record { prepared = refl; counts = refl; rules = refl; during = refl; bits = refl; back = sym late.1 };
         straight = tt;
       })
     where
@@ -284,6 +284,7 @@ same-then first second third a b c ab bc = record {
   prepared = bc.prepared ∙ ab.prepared;
   counts = bc.counts ∙ ab.counts;
   rules = bc.rules ∙ ab.rules;
+  during = bc.during ∙ ab.during;
   bits = bc.bits ∙ ab.bits;
   back = bc.back ∙ ab.back;
 }

@@ -1,7 +1,6 @@
 -- A drain that is next is made where no word is in flight.
 use Rattle.std.proofs.Common.{◌≡◌, ℕ, zero, suc, true, false, List, [], ◌∷◌, Option, Some, None, IsSome}
 use Rattle.std.specs.Prelude.{IsTrue, slice_get}
-use Rattle.tcam_device.specs.declared.Write.{Write}
 use Rattle.tcam_device.specs.declared.Action.{Action}
 use Rattle.tcam_device.specs.declared.Action.TheVariants.{Written, Drained}
 use Rattle.batch_order.specs.declared.Step.{Step}

@@ -12,7 +12,7 @@ use Rattle.rule_store.specs.Verdict.{Unsound, OutOfBits, OutOfSlots}
 use Rattle.replay.specs.declared.Family.TheVariants.{Route, Acl, Route6, Acl6}
 use Rattle.replay.specs.declared.Act.TheVariants.{Commit}
 use Rattle.replay.specs.Script.{Reading, Whole, FaultAt, script_of}
-use Rattle.replay.specs.Text.{packet_line, probe_line, trace_line, lane_text, number_text, tag_text, accepted_line, refused_line, fault_line, end_line, usage_line}
+use Rattle.replay.specs.Text.{packet_line, probe_line, trace_line, lane_text, number_text, tag_text, accepted_line, refused_line, fault_line, restarted_line, end_line, usage_line}
 
 packet : packet_line Route (Some (ipv4_route_rank (ipv4_block 0x0a000000 8), 7)) ≡ codes "packet 10.0.0.0/8 7" ++ 10 ∷ []
 unfolding digits
@@ -94,6 +94,10 @@ erased = refl
 table : trace_line Acl 3 (Table Dst 80 5) ≡ codes "w 3 table dst 80 5" ++ 10 ∷ []
 unfolding digits
 table = refl
+
+restarted : restarted_line 4 1 3 ≡ codes "commit 4 restarted after 1 writes 3" ++ 10 ∷ []
+unfolding digits
+restarted = refl
 
 end : end_line 4 4 6 0 ≡ codes "end rules 4 entries 4 writes 6 pending 0" ++ 10 ∷ []
 unfolding digits

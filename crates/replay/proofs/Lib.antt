@@ -7,12 +7,16 @@ pub mod Returning
 pub mod Drains
 pub mod Runs
 pub mod Halfway
+pub mod Course
 pub mod Acts
 pub mod Making
 pub mod Written
+pub mod Crashed
 pub mod Reported
 pub mod Seeing
 pub mod Stopping
+pub mod Upto
+pub mod Wrapped
 pub mod Leftover
 pub mod Tries
 pub mod Leaving
@@ -22,6 +26,15 @@ pub mod InFlight
 pub mod Telling
 pub mod Handing
 pub mod Resuming
+pub mod Rest
+pub mod Onward
+pub mod RestOnward
+pub mod RestOf
+pub mod ToCrash
+pub mod Coming
+pub mod Anew
+pub mod Over
+pub mod InStep
 pub mod Exits
 mod Examples
 mod Depths

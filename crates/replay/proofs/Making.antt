@@ -1,5 +1,5 @@
 -- The actions of a commit under way, one after the other.
-use Rattle.std.proofs.Common.{◌≡◌, ℕ, ◌+◌, ◌^◌, ◌<◌, ◌≤◌, true, false, min, List, [], ◌∷◌, ◌++◌, Option, Some, None, IsSome, IfSome, length, refl, sym, ap, ◌∙◌, subst, append_assoc, length-append, arith}
+use Rattle.std.proofs.Common.{◌≡◌, ℕ, ◌+◌, ◌^◌, ◌<◌, ◌≤◌, true, min, List, [], ◌∷◌, ◌++◌, Option, Some, None, IsSome, IfSome, length, refl, sym, ap, ◌∙◌, subst, append_assoc, length-append, arith}
 use Rattle.std.specs.Prelude.{IsTrue}
 use Rattle.std.proofs.lemmas.List.{append-nil}
 use Rattle.tcam_device.specs.declared.Write.{Write}
@@ -9,9 +9,8 @@ use Rattle.tcam_device.specs.Flight.{Flight, writes_in}
 use Rattle.tcam_device.specs.State.{State, state_after}
 use Rattle.tcam_device.proofs.Spans.{state_after-append}
 use Rattle.commit_writes.proofs.Actions.{writes_in-append}
-use Rattle.commit_writes.specs.declared.Done.{Done}
 use Rattle.batch_order.specs.declared.Step.{Step}
-use Rattle.batch_order.specs.declared.Step.TheVariants.{Wrote, Drained, Finished, Waiting, Idle}
+use Rattle.batch_order.specs.declared.Step.TheVariants.{Wrote, Drained, Waiting, Idle}
 use Rattle.batch_order.specs.CarriedOut.{HasRoomBothWays, HasRoomLeft}
 use Rattle.batch_order.specs.Managed.{Managed, HeldCommit}
 use Rattle.batch_order.specs.Steps.{Steps, actions_of, awaits_drain, next_of}
@@ -135,7 +134,7 @@ making-none most begun watch count events flight spare some room words few =
         one = held;
         now_is = ap (λ one. record begun { held = one }) is;
         left_is = ap (λ n. left_of (rest_of most n) begun.state held) (sym same);
-        same = subst (λ n. IsSame (rest_of most count.told) (rest_of most n) held held) same (record { prepared = refl; counts = refl; rules = refl; bits = refl; back = refl });
+        same = subst (λ n. IsSame (rest_of most count.told) (rest_of most n) held held) same (record { prepared = refl; counts = refl; rules = refl; during = refl; bits = refl; back = refl });
       };
       come = record { told = same; waiting = refl };
       events = sym (append-nil events);

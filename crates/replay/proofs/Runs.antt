@@ -1,5 +1,5 @@
 -- What a run is between two calls, and after an accepted commit.
-use Rattle.std.proofs.Common.{Bool, true, false, ◌≡◌, ℕ, ◌+◌, ◌-◌, ◌*◌, ◌^◌, ◌<◌, ◌≤◌, length, List, [], ◌∷◌, ◌++◌, Option, None, IsSome, replicate, take, Result, Ok, Err, OnOk, OnErr, refl, sym, ap, ◌∙◌, subst, arith}
+use Rattle.std.proofs.Common.{Bool, true, false, inl, inr, ◌≡◌, ℕ, ◌+◌, ◌-◌, ◌*◌, ◌^◌, ◌<◌, ◌≤◌, length, List, [], ◌∷◌, ◌++◌, Option, None, IsSome, replicate, take, Result, Ok, Err, OnOk, OnErr, refl, sym, ap, ◌∙◌, subst, arith}
 use Rattle.std.proofs.Math.Seq.{take-append_seam}
 use Rattle.std.specs.List.{AllByRecursion}
 use Rattle.rule_model.specs.declared.IpVersion.{IpVersion}
@@ -23,16 +23,20 @@ use Rattle.replay.specs.declared.Family.TheVariants.{Route, Acl, Route6, Acl6}
 use Rattle.replay.specs.Effects.{Setting, Effect, Prints}
 use Rattle.replay.specs.Run.{Progress, Commits, Returns, OfFamily, actions_back, actions_for, carried, slots_in_use, after_segment}
 use Rattle.replay.specs.Text.{aborted_line, accepted_line}
-use Rattle.replay.specs.Running.{Running, IsHalfway, IsRun, setting_of, progress_of, begun, routes_of, IsChangeOf, ShowsRules}
+use Rattle.replay.specs.Crashing.{lost}
+use Rattle.replay.specs.declared.fate.Fate.TheVariants.{Finishes}
+use Rattle.replay.specs.Running.{Running, IsHalfway, IsOnward, IsRun, IsUnderWay, setting_of, progress_of, begun, routes_of, IsChangeOf, ShowsRules}
 use Rattle.replay.proofs.RouteSets.{routes_after, changes_more}
 use Rattle.tcam_device.proofs.Wider.{slots-after, state_after-on_device, Shows-padded, blank_shows}
 use Rattle.std.proofs.lemmas.List.{length-replicate}
 
 -- a run before its first act
-pub begun-run : (slots : ℕ) (mode : Mode) (placement : Placement) (family : Family) (trace : Bool) (depth : ℕ) → IsRun (begun slots mode placement family trace depth)
-begun-run slots mode placement family trace depth = record {
+pub begun-run : (slots : ℕ) (mode : Mode) (placement : Placement) (family : Family) (trace : Bool) (depth : ℕ) → 1 ≤ slots → slots ≤ 4096 → IsRun (begun slots mode placement family trace depth)
+begun-run slots mode placement family trace depth least most = record {
   changes = λ version route. tt;
   routes = λ version route. tt;
+  some_slots = least;
+  most_slots = most;
   size = length-replicate slots None;
   few = omega arith;
   shows = λ idle device_slots within. Shows-padded (device_slots - length (blank slots).slots) (blank slots) [] (blank_shows slots);
@@ -40,8 +44,22 @@ begun-run slots mode placement family trace depth = record {
   idle = λ none. (refl, refl, refl);
 }
 
+-- and one whose commit crashed where there was no memory to go on
+pub lost-run : (run : Running) → IsRun run → IsRun (lost run)
+lost-run run is = record {
+  changes = is.changes;
+  routes = λ version route. tt;
+  some_slots = is.some_slots;
+  most_slots = is.most_slots;
+  size = length-replicate run.manager.slots None;
+  few = is.few;
+  shows = λ idle device_slots within. Shows-padded (device_slots - length (blank run.manager.slots).slots) (blank run.manager.slots) [] (blank_shows run.manager.slots);
+  halfway = λ some. absurd (let none : false ≡ true = some in cc);
+  idle = λ none. (refl, refl, refl);
+}
+
 -- where no commit is under way none is unfinished
-pub never-halfway : (run new : Running) → run.manager.held ≡ None → IsSome run.manager.held → IsHalfway new
+pub never-halfway : (run new : Running) → run.manager.held ≡ None → IsSome run.manager.held → IsUnderWay new
 never-halfway run new idle some = absurd (let none : false ≡ true = subst (λ (held : Option HeldCommit). IsSome held) idle some in cc)
 
 -- a change joined the pending batch, or it stayed as it was
@@ -50,6 +68,8 @@ pub pushed-run : {E : Type 0} (result : Result (Unit {0}) E) (run : Running) (ch
 pushed-run (Ok done) run change pending is none change_is pushed same = subst (λ batch. IsRun (record run { pending = batch })) (sym pushed) (record {
   changes = changes_more run.family run.pending change is.changes change_is;
   routes = is.routes;
+  some_slots = is.some_slots;
+  most_slots = is.most_slots;
   size = is.size;
   few = is.few;
   shows = is.shows;
@@ -63,6 +83,8 @@ pub probed-run : (run : Running) (probes : List Key) → IsRun run → run.manag
 probed-run run probes is none = record {
   changes = is.changes;
   routes = is.routes;
+  some_slots = is.some_slots;
+  most_slots = is.most_slots;
   size = is.size;
   few = is.few;
   shows = is.shows;
@@ -70,15 +92,50 @@ probed-run run probes is none = record {
   idle = is.idle;
 }
 
--- whether the sink failed makes no difference
+abbrev same-halfway : (run : Running) (broken : Bool) → IsHalfway run → IsHalfway (record run { broken = broken })
+same-halfway run broken half = record {
+  begun = half.begun;
+  first = half.first;
+  holds = half.holds;
+  accepted = half.accepted;
+  shows = half.shows;
+  some = half.some;
+  told = half.told;
+  waiting = half.waiting;
+  before = half.before;
+  within = half.within;
+}
+
+abbrev same-onward : (slots : ℕ) (run : Running) (broken : Bool) → IsOnward slots run → IsOnward slots (record run { broken = broken })
+same-onward slots run broken onward = record {
+  after = onward.after;
+  fate_is = onward.fate_is;
+  begun = onward.begun;
+  holds = onward.holds;
+  accepted = onward.accepted;
+  shows = onward.shows;
+  size = onward.size;
+  more = onward.more;
+  parts = onward.parts;
+  parts_are = onward.parts_are;
+  restarted = onward.restarted;
+  resumes = onward.resumes;
+  some = onward.some;
+  told = onward.told;
+  waiting = onward.waiting;
+}
+
+-- whether a call may follow makes no difference
 pub marked-run : (run : Running) (broken : Bool) → IsRun run → IsRun (record run { broken = broken })
 marked-run run broken is = record {
   changes = is.changes;
   routes = is.routes;
+  some_slots = is.some_slots;
+  most_slots = is.most_slots;
   size = is.size;
   few = is.few;
   shows = is.shows;
-  halfway = λ some. (let half = is.halfway some in record { begun = half.begun; holds = half.holds; accepted = half.accepted; shows = half.shows; some = half.some; told = half.told; waiting = half.waiting });
+  halfway = λ some. elim (is.halfway some) [ inl half ↦ inl (same-halfway run broken half) | inr (slots, within, onward) ↦ inr (slots, within, same-onward slots run broken onward) ];
   idle = is.idle;
 }
 
@@ -97,7 +154,7 @@ run_after run made counts =
       writes = run.writes + counts.writes;
       told = 0;
       waiting = 0;
-      most = None;
+      fate = Finishes;
     }
 
 -- the run after a trial that was taken back by these writes, there and back
@@ -110,7 +167,7 @@ run_returned run both =
       writes = run.writes + length both;
       told = 0;
       waiting = 0;
-      most = None;
+      fate = Finishes;
     }
 
 -- the slots in use of a device are those of the manager
@@ -119,7 +176,7 @@ in-use setting slots state size =
     let others : List (Option Entry) = replicate (slots - length state.slots) None in
     ap (λ (first : List (Option Entry)). record state { slots = first }) (ap (λ (count : ℕ). take count (state.slots ++ others)) (sym size) ∙ take-append_seam state.slots others)
 
-wider : (made : List Insertion) → IsUncrossed 33 made → IsUncrossed 67 made
+pub wider : (made : List Insertion) → IsUncrossed 33 made → IsUncrossed 67 made
 wider [] all = tt
 wider (one ∷ made) all = let few = all.0.1 in ((all.0.0, omega arith), wider made all.1)
 
@@ -135,6 +192,8 @@ module _ (run : Running) (ready : Ready) (is : IsRun run) (holds : Holds (record
   made-run pending commits writes changes few = record {
     changes = changes;
     routes = λ version route. routes_after version run.manager.rules run.pending (is.routes version route) (is.changes version route);
+    some_slots = is.some_slots;
+    most_slots = is.most_slots;
     size = slots-after run.manager.state holds.made ∙ is.size;
     few = few;
     shows = λ idle slots within.
@@ -150,6 +209,8 @@ module _ (run : Running) (ready : Ready) (is : IsRun run) (holds : Holds (record
   returned-run pending commits writes both changes few ends shows = record {
     changes = changes;
     routes = is.routes;
+    some_slots = is.some_slots;
+    most_slots = is.most_slots;
     size = slots-after run.manager.state both ∙ is.size;
     few = few;
     shows = λ idle slots within. subst (λ state. Shows (on_device slots state) run.manager.rules) (sym ends) (shows refl slots within);

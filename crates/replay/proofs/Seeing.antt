@@ -1,10 +1,10 @@
 -- Where the device is the manager's and the words in flight are current, searches tell what look-ups would.
-use Rattle.std.proofs.Common.{◌≡◌, ℕ, ◌+◌, ◌≤◌, ◌==◌, true, false, List, [], ◌∷◌, ◌++◌, length, refl, sym, ap, ◌∙◌, subst, arith}
+use Rattle.std.proofs.Common.{◌≡◌, ℕ, ◌≤◌, ◌==◌, true, false, List, [], ◌∷◌, ◌++◌, length, refl, sym, ap, ◌∙◌, subst, arith}
 use Rattle.std.specs.List.{AllByRecursion}
 use Rattle.rule_model.specs.Key.{IsKey}
 use Rattle.tcam_device.specs.declared.Write.{Write}
 use Rattle.tcam_device.specs.declared.Action.{Action}
-use Rattle.tcam_device.specs.declared.Action.TheVariants.{Written, Drained}
+use Rattle.tcam_device.specs.declared.Action.TheVariants.{Written}
 use Rattle.tcam_device.specs.Flight.{Flight, writes_in}
 use Rattle.tcam_device.specs.State.{State, apply, blank, replay, on_device}
 use Rattle.tcam_device.proofs.Spans.{state_after-append}

@@ -1,17 +1,15 @@
 -- Where the actions of a commit under way end: with the last one, or before a write or at a line that fails.
-use Rattle.std.proofs.Common.{◌≡◌, ℕ, ◌+◌, List, [], ◌∷◌, ◌++◌, Option, Some, None, IsSome, length, refl, sym, ap, ◌∙◌, subst, append_assoc}
+use Rattle.std.proofs.Common.{◌≡◌, ℕ, ◌+◌, List, [], ◌∷◌, ◌++◌, Option, None, IsSome, length, sym, ap, ◌∙◌, subst, append_assoc}
 use Rattle.std.proofs.lemmas.List.{append-nil}
 use Rattle.rule_model.specs.declared.Rule.{Rule}
-use Rattle.tcam_device.specs.declared.Write.{Write}
 use Rattle.tcam_device.specs.declared.Action.{Action}
-use Rattle.tcam_device.specs.declared.Action.TheVariants as action
 use Rattle.tcam_device.specs.Flight.{Flight, writes_in}
 use Rattle.tcam_device.specs.State.{state_after}
 use Rattle.commit_writes.specs.Bits.{FieldBits}
 use Rattle.commit_writes.specs.declared.Done.{Done}
 use Rattle.batch_order.specs.declared.Step.{Step}
 use Rattle.batch_order.specs.declared.Step.TheVariants.{Finished, Reverted}
-use Rattle.batch_order.specs.Managed.{HeldCommit, Managed}
+use Rattle.batch_order.specs.Managed.{Managed}
 use Rattle.batch_order.specs.Steps.{Steps, actions_of, next_of}
 use Rattle.replay.specs.declared.watch.Count.{Count}
 use Rattle.replay.specs.declared.steps.Ended.TheVariants as ended
@@ -19,7 +17,7 @@ use Rattle.replay.specs.Carried.{CutsEffects}
 use Rattle.replay.specs.Running.{Watching, HasCome, MakesAll, MakesSome, StopsAtLine, StopsAtWrite, Tells, effects_on, left_of, rest_of}
 use Rattle.replay.proofs.Acting.{ActsOnce, GoesOn, Straight, finished-first, reverted-first}
 use Rattle.replay.proofs.Effects.{grown-more}
-use Rattle.replay.proofs.Making.{IsMaking, come-then, due-left, goes, more-left, some-more}
+use Rattle.replay.proofs.Making.{IsMaking, come-then, due-left, goes, some-more}
 
 module _ (Seen : Type 0) (most : Option ℕ) (begun now new : Managed) (watch : Watching) (slots : ℕ) (count count_now count_new : Count) (events_begun events_now events_new : List Action) (flight : Flight) (spare : ℕ)
     (making : IsMaking most begun now watch count count_now events_begun events_now flight spare) (taken_begun taken : Option (List ℕ))
@@ -90,7 +88,7 @@ module _ (Seen : Type 0) (most : Option ℕ) (begun now new : Managed) (watch : 
           }
 
     -- a write is left, and isn't made
-    pub making-cut : new ≡ now → events_new ≡ events_now → IsSome (next_of now.held) → StopsAtWrite Seen most begun new watch slots count count_now events_begun events_new taken_begun taken
+    abbrev pub making-cut : new ≡ now → events_new ≡ events_now → IsSome (next_of now.held) → StopsAtWrite Seen most begun new watch slots count count_now events_begun events_new taken_begun taken
     making-cut same events next =
         let due = due-left most begun now new watch count count_now count_new events_begun events_now events_new flight flight spare spare making straight next in record {
           some = stands same;
@@ -104,7 +102,7 @@ module _ (Seen : Type 0) (most : Option ℕ) (begun now new : Managed) (watch : 
         }
 
   -- a line is cut before the next action
-  pub making-stops : (taken_new : Option (List ℕ)) → new ≡ now → events_new ≡ events_now
+  abbrev pub making-stops : (taken_new : Option (List ℕ)) → new ≡ now → events_new ≡ events_now
       → (Seen → CutsEffects (effects_on begun watch slots count events_begun (making.some.made ++ making.some.left)) events_begun events_new taken_begun taken_new)
       → StopsAtLine Seen most begun new watch slots count count_now events_begun events_new taken_begun taken_new
   making-stops taken_new same events cuts = record {
@@ -115,7 +113,7 @@ module _ (Seen : Type 0) (most : Option ℕ) (begun now new : Managed) (watch : 
   }
 
   -- or behind one
-  pub making-stops_behind : (taken_new : Option (List ℕ)) (one : Action) (acts : ActsOnce rest_now now making.some.one one new) → events_new ≡ events_now ++ one ∷ [] → HasCome watch count_now count_new (one ∷ [])
+  abbrev pub making-stops_behind : (taken_new : Option (List ℕ)) (one : Action) (acts : ActsOnce rest_now now making.some.one one new) → events_new ≡ events_now ++ one ∷ [] → HasCome watch count_now count_new (one ∷ [])
       → (Seen → CutsEffects (effects_on begun watch slots count events_begun (making.some.made ++ one ∷ acts.left)) events_begun events_new taken_begun taken_new)
       → StopsAtLine Seen most begun new watch slots count count_new events_begun events_new taken_begun taken_new
   making-stops_behind taken_new one acts events come cuts =

@@ -5,13 +5,14 @@ use Rattle.tcam_device.specs.declared.Action.{Action}
 use Rattle.tcam_device.specs.declared.Action.TheVariants.{Written}
 use Rattle.tcam_device.specs.Flight.{writes_in}
 use Rattle.tcam_device.specs.State.{state_after}
-use Rattle.commit_writes.specs.Actions.{have_bits, up_to_writes}
+use Rattle.commit_writes.specs.Actions.{have_bits, up_to_writes, with_drain}
 use Rattle.commit_writes.specs.Undo.{undo_writes}
 use Rattle.commit_writes.proofs.Actions.{writes_in-append, writes_of_map}
 use Rattle.commit_writes.specs.Bits.{bits_with, new_bits}
 use Rattle.commit_writes.proofs.Seen.{writes_of_commit}
-use Rattle.replay.specs.Effects.{Setting, Effect, Prints, events_in, written, effects_of, flushed, waiting_after}
-use Rattle.replay.specs.Run.{Progress, actions_back, actions_for, carried}
+use Rattle.replay.specs.Effects.{Setting, Prints, events_in, written, effects_of, flushed, waiting_after}
+use Rattle.readback.specs.Going.{needs_drain}
+use Rattle.replay.specs.Run.{Progress, actions_back, actions_before, actions_for, actions_over, carried, crash_state}
 use Rattle.replay.proofs.Returning.{writes-up_to}
 use Rattle.replay.proofs.Effects.{events-actions, events-append, events-flushed}
 
@@ -45,3 +46,17 @@ written-return setting old most made line =
     ∙ writes_in-append front (map Written (undo_writes old.state (writes_in front)))
     ∙ ap (λ writes. writes_in front ++ writes) (writes_of_map (undo_writes old.state (writes_in front)))
     ∙ ap (λ writes. writes ++ undo_writes old.state writes) first
+
+-- and one that crashed those up to the crash, and then those of the plan that goes on
+pub written-crash : (setting : Setting) (old : Progress) (after : ℕ) (made rest : List Write) (line : List ℕ)
+    → written (carried setting old (actions_over setting old after made rest) ++ Prints line ∷ []) ≡ take after made ++ rest
+written-crash setting old after made rest line =
+    let actions = actions_for setting old made in
+    let front = actions_before setting old after made in
+    let drains = needs_drain setting.mode old.bits old.rules old.batch (crash_state old after made) in
+    let first : writes_in front ≡ take after made =
+    writes-up_to after actions ∙ ap (take after) (writes_of_commit (have_bits (new_bits old.bits (bits_with setting.mode old.rules old.batch old.bits))) made) in
+    ap writes_in (events-carried setting old (actions_over setting old after made rest) line)
+    ∙ writes_in-append front (with_drain drains rest)
+    ∙ ap (λ writes. writes_in front ++ writes) (writes_of_commit drains rest)
+    ∙ ap (λ writes. writes ++ rest) first

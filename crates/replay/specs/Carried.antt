@@ -40,10 +40,11 @@ pub record CutsAtWrite (setting : Setting) (old : Progress) (act : Act) (events_
   pub cut : IsCutStep setting old act front (Acts (Written write))
   pub does : Does front [] events_old events_new taken_old taken_new
 
--- it wants memory, and has done nothing
+-- it wants memory, behind these effects
 pub record Wants (setting : Setting) (old : Progress) (act : Act) (events_old events_new : List Action) (taken_old taken_new : Option (List ℕ)) : Type 0 where
-  pub needs : TakesMemory setting old act
-  pub does : Does [] [] events_old events_new taken_old taken_new
+  pub effects : List Effect
+  pub needs : TakesMemory setting old act effects
+  pub does : Does effects [] events_old events_new taken_old taken_new
 
 -- effects came about up to a line that the sink didn't take whole
 pub record CutsEffects (effects : List Effect) (events_old events_new : List Action) (taken_old taken_new : Option (List ℕ)) : Type 0 where

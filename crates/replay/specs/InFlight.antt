@@ -2,15 +2,14 @@
 use Rattle.std.specs.Prelude.{◌≡◌, ℕ, zero, suc, ◌+◌, ◌==◌, true, false, List, [], ◌∷◌, ◌++◌, length, take, drop, map}
 use Rattle.rule_model.specs.declared.Key.{Key}
 use Rattle.ternary_word.specs.declared.Word.{Word}
-use Rattle.tcam_device.specs.declared.Write.{Write}
 use Rattle.tcam_device.specs.declared.Action.{Action}
 use Rattle.tcam_device.specs.State.{State, replay, search_word, on_device}
 use Rattle.tcam_device.specs.Flight.{Flight, word_answer, writes_in}
 use Rattle.commit_writes.specs.InFlight.{AreCurrent}
 use Rattle.batch_order.specs.Managed.{Managed, live_now}
 use Rattle.replay.specs.declared.Family.{Family}
-use Rattle.replay.specs.Effects.{Effect, Prints, traced}
-use Rattle.replay.specs.Text.{probe_line, trace_line}
+use Rattle.replay.specs.Effects.{Effect, Prints}
+use Rattle.replay.specs.Text.{probe_line}
 
 -- the probes so many times, one after the other
 abbrev pub repeated : List Key → ℕ → List Key

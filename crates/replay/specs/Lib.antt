@@ -6,4 +6,9 @@ pub mod Script
 pub mod Outside
 pub mod Carried
 pub mod InFlight
+pub mod Fates
 pub mod Running
+pub mod Unfinished
+pub mod Pausing
+pub mod Crash
+pub mod Crashing

@@ -1,5 +1,5 @@
 -- Runs: what the acts of a script do to the device and to the report, one after the other.
-use Rattle.std.specs.Prelude.{◌≡◌, ℕ, ◌+◌, ◌*◌, ◌<◌, ◌≤◌, ◌⊎◌, Bool, true, false, List, [], ◌∷◌, ◌++◌, length, take}
+use Rattle.std.specs.Prelude.{◌≡◌, ℕ, ◌+◌, ◌*◌, ◌<◌, ◌≤◌, ◌⊎◌, Bool, true, false, Option, List, [], ◌∷◌, ◌++◌, length, take}
 use Rattle.std.specs.List.{AllByRecursion}
 use Rattle.rule_model.specs.declared.Key.{Key}
 use Rattle.rule_model.specs.declared.Rule.{Rule}
@@ -11,18 +11,21 @@ use Rattle.tcam_device.specs.declared.Write.{Write}
 use Rattle.tcam_device.specs.declared.Action.{Action}
 use Rattle.tcam_device.specs.State.{State, blank, IsInUse, state_after}
 use Rattle.tcam_device.specs.Flight.{writes_in}
-use Rattle.tcam_device.specs.Insertion.{insertions, IsUncrossed}
+use Rattle.tcam_device.specs.Insertion.{Insertion, insertions, IsUncrossed}
 use Rattle.commit_writes.specs.declared.Done.{Done}
-use Rattle.commit_writes.specs.Actions.{back_from, commit_actions, up_to_writes}
+use Rattle.commit_writes.specs.Actions.{back_from, commit_actions, up_to_writes, with_drain}
 use Rattle.commit_writes.specs.Bits.{FieldBits, no_bits, bits_with, bits_left}
 use Rattle.commit_writes.specs.Commit.{AreCounts, IsSegment}
-use Rattle.batch_order.specs.Placing.{IsPlacedBy}
+use Rattle.readback.specs.Tasks.{Task}
+use Rattle.readback.specs.Stage.{IsCommitAt, IsTwinSlot}
+use Rattle.readback.specs.Going.{GoesOn, needs_drain, rest_insertions}
+use Rattle.batch_order.specs.Placing.{IsPlacedBy, IsRestPlacedBy}
 use Rattle.replay.specs.declared.Family.{Family}
 use Rattle.replay.specs.declared.Family.TheVariants.{Route, Acl, Route6, Acl6}
 use Rattle.replay.specs.declared.Act.{Act}
-use Rattle.replay.specs.declared.Act.TheVariants.{Command, Probe, Packet, Commit, Trial}
-use Rattle.replay.specs.Effects.{Setting, Effect, Acts, Prints, effects_of, flushed, waiting_after}
-use Rattle.replay.specs.Text.{packet_line, aborted_line, accepted_line, refused_line, end_line}
+use Rattle.replay.specs.declared.Act.TheVariants.{Command, Probe, Packet, Commit, Trial, Crash}
+use Rattle.replay.specs.Effects.{Setting, Effect, Prints, effects_of, flushed, waiting_after}
+use Rattle.replay.specs.Text.{packet_line, aborted_line, accepted_line, restarted_line, refused_line, end_line}
 
 -- where a run stands: set, pending batch, probes, live ranges, device, commits, writes, and whether a commit was
 -- refused
@@ -128,6 +131,61 @@ abbrev pub Tries : ℕ → Setting → Progress → List Effect → Progress →
 Tries most setting old effects new =
     ((commits : Commits setting old effects new) × (length commits.made ≤ most)) ⊎ Returns setting old most effects new
 
+-- Of routes no insertion that is still to come crosses others, and none takes more writes than a prefix may have lengths.
+abbrev pub RestOfFamily : Family → List Insertion → Type 0
+RestOfFamily Route made = IsUncrossed 33 made
+RestOfFamily Acl made = Unit {0}
+RestOfFamily Route6 made = IsUncrossed 129 made
+RestOfFamily Acl6 made = Unit {0}
+
+-- These writes are planned for a commit, and they are more than those that it makes before it crashes.
+pub record CrashesIn (setting : Setting) (old : Progress) (after : ℕ) (made : List Write) : Type 0 where
+  pub segment : IsSegment setting.mode old.bits old.rules old.batch old.state made
+  pub placed : IsPlacedBy setting.placement setting.mode old.bits old.rules old.batch (slots_in_use setting old.state) made
+  pub of_family : OfFamily setting.family old.state made
+  pub in_use : AllByRecursion (IsInUse setting.slots) made
+  pub counts : Done
+  pub numbers : AreCounts old.state made counts
+  pub more : after < length made
+
+-- its actions up to the crash: a drain that is due then isn't made
+abbrev pub actions_before : Setting → Progress → ℕ → List Write → List Action
+actions_before setting old after made = up_to_writes after (actions_for setting old made)
+
+-- what the device holds at the crash
+abbrev pub crash_state : Progress → ℕ → List Write → State
+crash_state old after made = state_after old.state (take after made)
+
+-- all of its actions: those up to the crash, and those of a plan that goes on, with its drain where one is due
+abbrev pub actions_over : Setting → Progress → ℕ → List Write → List Write → List Action
+actions_over setting old after made rest =
+    let drains = needs_drain setting.mode old.bits old.rules old.batch (crash_state old after made) in
+    actions_before setting old after made ++ with_drain drains rest
+
+-- One that crashes has more writes than it makes before that. Then the manager is dropped, and another one goes on from
+-- the stage that the device shows, over the crash with the same numbers and words in flight. The line tells how many
+-- writes came before the crash, and how many there were.
+pub record Restarts (setting : Setting) (old : Progress) (after : ℕ) (effects : List Effect) (new : Progress) : Type 0 where
+  pub made : List Write
+  pub crash : CrashesIn setting old after made
+  pub done : List Task
+  pub left : List Task
+  pub stage : IsCommitAt setting.slots setting.mode old.bits old.rules old.batch (crash_state old after made) done left
+  pub twin : Option ℕ
+  pub is_twin : IsTwinSlot (crash_state old after made).slots twin
+  pub rest : List Write
+  pub goes_on : GoesOn setting.slots setting.mode old.bits old.rules old.batch (crash_state old after made) left twin rest
+  pub placed : (device_slots : ℕ) × IsRestPlacedBy setting.placement device_slots setting.mode old.bits old.rules old.batch (slots_in_use setting (crash_state old after made)) done left twin rest
+  pub of_family : RestOfFamily setting.family (rest_insertions goes_on.shape)
+  pub in_use : AllByRecursion (IsInUse setting.slots) rest
+  pub effects_are : effects ≡ carried setting old (actions_over setting old after made rest) ++ Prints (restarted_line (old.commits + 1) after (after + length rest)) ∷ []
+  pub new_is : new ≡ after_segment setting old (take after made ++ rest)
+
+-- what a commit does that crashes behind so many writes: with no more than these it finishes
+abbrev pub Crashes : ℕ → Setting → Progress → List Effect → Progress → Type 0
+Crashes after setting old effects new =
+    ((commits : Commits setting old effects new) × (length commits.made ≤ after)) ⊎ Restarts setting old after effects new
+
 -- A refused one writes nothing, and says why.
 abbrev pub Refuses : Setting → Progress → Verdict → List Effect → Progress → Type 0
 Refuses setting old reason effects new =
@@ -150,20 +208,53 @@ HasEffects setting old Commit effects new =
     Judged Commits setting old (verdict setting.slots setting.mode old.rules old.batch) effects new
 HasEffects setting old (Trial most) effects new =
     Judged (Tries most) setting old (verdict setting.slots setting.mode old.rules old.batch) effects new
+HasEffects setting old (Crash after) effects new =
+    Judged (Crashes after) setting old (verdict setting.slots setting.mode old.rules old.batch) effects new
 
--- An act that is cut before an effect that is due: these are its effects before that.
-pub record IsCutStep (setting : Setting) (before : Progress) (act : Act) (effects : List Effect) (due : Effect) : Type 0 where
+-- An act is cut before an effect that is due, in all that it does: these are its effects before that.
+pub record IsCutInStep (setting : Setting) (before : Progress) (act : Act) (effects : List Effect) (due : Effect) : Type 0 where
   pub back : List Effect
   pub after : Progress
   pub step : HasEffects setting before act (effects ++ due ∷ back) after
 
--- an act that takes memory: a change, or a commit that is accepted
-abbrev pub TakesMemory : Setting → Progress → Act → Type 0
-TakesMemory setting before (Command change) = Unit {0}
-TakesMemory setting before (Probe key) = ⊥
-TakesMemory setting before (Packet key) = ⊥
-TakesMemory setting before Commit = verdict setting.slots setting.mode before.rules before.batch ≡ Accepted
-TakesMemory setting before (Trial most) = verdict setting.slots setting.mode before.rules before.batch ≡ Accepted
+-- Or it crashes, and is cut in what it does up to then: what goes on isn't planned yet.
+pub record IsCutBeforeCrash (setting : Setting) (before : Progress) (act : Act) (effects : List Effect) (due : Effect) : Type 0 where
+  pub after : ℕ
+  pub act_is : act ≡ Crash after
+  pub accepted : verdict setting.slots setting.mode before.rules before.batch ≡ Accepted
+  pub made : List Write
+  pub crash : CrashesIn setting before after made
+  pub back : List Effect
+  pub parts : effects_of setting before.probes 0 0 before.state (actions_before setting before after made) ≡ effects ++ due ∷ back
+
+-- An act that is cut, either way.
+abbrev pub IsCutStep : Setting → Progress → Act → List Effect → Effect → Type 0
+IsCutStep setting before act effects due =
+    IsCutInStep setting before act effects due ⊎ IsCutBeforeCrash setting before act effects due
+
+-- A commit that crashed found no memory to go on: its writes up to the crash were made and told, and the words that are
+-- in flight then are never searched.
+pub record StopsAtCrash (setting : Setting) (before : Progress) (after : ℕ) (effects : List Effect) : Type 0 where
+  pub made : List Write
+  pub crash : CrashesIn setting before after made
+  pub effects_are : effects ≡ effects_of setting before.probes 0 0 before.state (actions_before setting before after made)
+
+-- an accepted commit takes memory before it does anything
+abbrev pub TakesAtOnce : Setting → Progress → List Effect → Type 0
+TakesAtOnce setting before effects =
+    (verdict setting.slots setting.mode before.rules before.batch ≡ Accepted) × (effects ≡ [])
+
+-- An act takes memory when it has had these effects: a change, or a commit that is accepted, before any, and one that
+-- crashes once more then.
+abbrev pub TakesMemory : Setting → Progress → Act → List Effect → Type 0
+TakesMemory setting before (Command change) effects = effects ≡ []
+TakesMemory setting before (Probe key) effects = ⊥
+TakesMemory setting before (Packet key) effects = ⊥
+TakesMemory setting before Commit effects = TakesAtOnce setting before effects
+TakesMemory setting before (Trial most) effects = TakesAtOnce setting before effects
+TakesMemory setting before (Crash after) effects =
+    (verdict setting.slots setting.mode before.rules before.batch ≡ Accepted)
+    × ((effects ≡ []) ⊎ StopsAtCrash setting before after effects)
 
 -- the acts one after the other
 abbrev pub Run : Setting → Progress → List Act → List Effect → Progress → Type 0

@@ -1,5 +1,5 @@
 -- What a run keeps, and where it stands by that.
-use Rattle.std.specs.Prelude.{◌≡◌, ◌≢◌, ℕ, ◌+◌, ◌-◌, ◌*◌, nat_lt, nat_le, ◌&&◌, map, option_map, ◌^◌, ◌≤◌, ◌++◌, ◌∷◌, Bool, true, false, Option, None, Some, IsSome, IfSome, Result, Ok, Err, List, [], length, codes}
+use Rattle.std.specs.Prelude.{◌≡◌, ◌≢◌, ◌⊎◌, ℕ, ◌+◌, ◌-◌, ◌*◌, nat_lt, nat_le, ◌&&◌, map, option_map, ◌^◌, ◌<◌, ◌≤◌, ◌++◌, ◌∷◌, Bool, true, false, Option, None, Some, IsSome, IfSome, Result, Ok, Err, List, [], length, take, codes}
 use Rattle.std.specs.Io.KnownBytes.{Appends}
 use Rattle.std.specs.List.{AllByRecursion}
 use Rattle.rule_model.specs.declared.Key.{Key}
@@ -13,28 +13,33 @@ use Rattle.tcam_device.specs.declared.Action.{Action}
 use Rattle.tcam_device.specs.declared.Action.TheVariants.{Written}
 use Rattle.tcam_device.specs.State.{State, Shows, replay, state_after, on_device}
 use Rattle.tcam_device.specs.Flight.{Flight, writes_in}
+use Rattle.commit_writes.specs.declared.Done.{Done}
 use Rattle.commit_writes.specs.Routes.{IsRoute}
-use Rattle.commit_writes.specs.Actions.{up_to_writes}
+use Rattle.commit_writes.specs.Actions.{commit_actions, up_to_writes}
 use Rattle.commit_writes.specs.Undo.{undo_writes}
-use Rattle.commit_writes.specs.InFlight.{AreCurrent}
 use Rattle.batch_order.specs.declared.Placement.{Placement}
 use Rattle.batch_order.specs.declared.Ready.{Ready}
-use Rattle.batch_order.specs.Managed.{Managed, HeldCommit, Holds, OnlyChangesRoutes, fresh, live_now, writes_due}
+use Rattle.batch_order.specs.Managed.{Managed, HeldCommit, Holds, OnlyChangesRoutes, fresh, writes_due}
 use Rattle.batch_order.specs.Steps.{next_of}
+use Rattle.readback.specs.declared.Parts.{Parts}
+use Rattle.batch_order.specs.Restarted.{ArePartsOf, Resumes}
 use Rattle.replay.specs.declared.Act.{Act}
-use Rattle.replay.specs.declared.Act.TheVariants.{Command, Probe, Packet, Commit, Trial}
+use Rattle.replay.specs.declared.Act.TheVariants.{Command, Probe, Packet, Commit, Trial, Crash}
 use Rattle.replay.specs.declared.watch.Count.{Count}
+use Rattle.replay.specs.declared.fate.Fate.{Fate}
+use Rattle.replay.specs.declared.fate.Fate.TheVariants.{Finishes, Returns, Crashes, Restarted}
 use Rattle.replay.specs.declared.steps.Ended.{Ended}
 use Rattle.replay.specs.declared.steps.Ended.TheVariants as ended
 use Rattle.replay.specs.declared.Family.{Family}
 use Rattle.replay.specs.declared.Family.TheVariants.{Route, Acl, Route6, Acl6}
-use Rattle.replay.specs.Effects.{Setting, Effect, Acts, Prints, effects_of, printed, waiting_after}
+use Rattle.replay.specs.Effects.{Setting, Effect, effects_of, printed, waiting_after}
 use Rattle.replay.specs.InFlight.{AreOf}
-use Rattle.replay.specs.Text.{aborted_line, accepted_line}
-use Rattle.replay.specs.Run.{Progress, HasEffects, IsCutStep}
+use Rattle.replay.specs.Text.{aborted_line, accepted_line, restarted_line}
+use Rattle.replay.specs.Run.{Progress}
+use Rattle.replay.specs.Fates.{IsBefore, IsFirst, IsWithinCrash, crash_of, most_of}
 use Rattle.replay.specs.declared.RunFault.{RunFault}
 use Rattle.replay.specs.declared.RunFault.TheVariants.{BatchFull, ProbesFull, Sink, Device, Memory, Held}
-use Rattle.replay.specs.Carried.{IsAt, Does, Carries, CutsAtLine, CutsAtWrite, CutsEffects, Wants}
+use Rattle.replay.specs.Carried.{IsAt, Carries, CutsAtLine, CutsAtWrite, CutsEffects, Wants}
 
 -- what is told of each write: how rules are named, whether a trace is wanted, after how many further writes a probe's
 -- word is searched, and the keys that are probed
@@ -45,8 +50,8 @@ pub record Watching : Type 0 where
   pub probes : List Key
 
 -- The manager, what is told of each write, the pending batch, and what the report counts; how many writes of an
--- unfinished commit were made, each of them told, of how many of these the probes' words are in flight, and after how
--- many it is taken back, if it is a trial; and whether the sink failed.
+-- unfinished commit were made, each of them told, of how many of these the probes' words are in flight, and what becomes
+-- of it; and whether no call may follow.
 pub record Running : Type 0 where
   pub manager : Managed
   pub family : Family
@@ -59,7 +64,7 @@ pub record Running : Type 0 where
   pub refused : Bool
   pub told : ℕ
   pub waiting : ℕ
-  pub most : Option ℕ
+  pub fate : Fate
   pub broken : Bool
 
 -- what a run tells of each write
@@ -107,7 +112,7 @@ begun slots mode placement family trace depth =
       refused = false;
       told = 0;
       waiting = 0;
-      most = None;
+      fate = Finishes;
       broken = false;
     }
 
@@ -176,6 +181,7 @@ pub record IsSame (rest rest_now : Option ℕ) (held now : HeldCommit) : Type 0 
   pub prepared : now.prepared ≡ held.prepared
   pub counts : now.counts ≡ held.counts
   pub rules : now.rules ≡ held.rules
+  pub during : now.during ≡ held.during
   pub bits : now.bits ≡ held.bits
   pub back : goes_back rest_now now ≡ goes_back rest held
 
@@ -191,15 +197,47 @@ pub record MakesSome (most : Option ℕ) (told : ℕ) (begun now : Managed) : Ty
   pub left_is : left_of (rest_of most (told + length (writes_in made))) now.state one ≡ left
   pub same : IsSame (rest_of most told) (rest_of most (told + length (writes_in made))) held one
 
--- A commit is unfinished: it was accepted, some of its writes were made, and the rest of them is held.
+-- A commit is unfinished: it was accepted, some of its writes were made, and the rest of them is held. Where it crashes
+-- it has not come further.
 pub record IsHalfway (run : Running) : Type 0 where
+  pub begun : Managed
+  pub first : IsFirst run.fate
+  pub holds : HoldsPending (record run { manager = begun })
+  pub accepted : verdict_of (record run { manager = begun }) ≡ Accepted
+  pub shows : ShowsRules (record begun { held = None })
+  pub some : MakesSome (most_of run.fate) 0 begun run.manager
+  pub told : run.told ≡ length (writes_in some.made)
+  pub waiting : run.waiting ≡ waiting_after run.depth 0 some.made
+  pub before : IsBefore (crash_of run.fate) 0 some.made some.left
+  pub within : IsWithinCrash (crash_of run.fate) run.told
+
+-- the actions of a commit up to its crash
+abbrev pub first_actions : Running → Managed → List Write → ℕ → List Action
+first_actions run begun made after = up_to_writes after (commit_actions begun.mode begun.bits begun.rules run.pending made)
+
+-- One crashed and is unfinished, over a device of so many slots: it was accepted and had more writes than were made before,
+-- another manager held the rest by what the device showed, and some of it was made.
+pub record IsOnward (device_slots : ℕ) (run : Running) : Type 0 where
+  pub after : ℕ
+  pub fate_is : run.fate ≡ Restarted after
   pub begun : Managed
   pub holds : HoldsPending (record run { manager = begun })
   pub accepted : verdict_of (record run { manager = begun }) ≡ Accepted
   pub shows : ShowsRules (record begun { held = None })
-  pub some : MakesSome run.most 0 begun run.manager
-  pub told : run.told ≡ length (writes_in some.made)
-  pub waiting : run.waiting ≡ waiting_after run.depth 0 some.made
+  pub size : length begun.state.slots ≡ begun.slots
+  pub more : after < length holds.1.made
+  pub parts : Parts
+  pub parts_are : ArePartsOf begun parts
+  pub restarted : Managed
+  pub resumes : Resumes begun.slots begun.mode begun.placement parts run.pending device_slots
+      (state_after (on_device device_slots begun.state) (take after holds.1.made)) restarted
+  pub some : MakesSome None after restarted run.manager
+  pub told : run.told ≡ after + length (writes_in some.made)
+  pub waiting : run.waiting ≡ waiting_after run.depth 0 (first_actions run begun holds.1.made after ++ some.made)
+
+-- a commit is unfinished by its first manager, or by the one that goes on
+abbrev pub IsUnderWay : Running → Type 0
+IsUnderWay run = IsHalfway run ⊎ ((device_slots : ℕ) × (run.manager.slots ≤ device_slots) × IsOnward device_slots run)
 
 -- the family of routes of a version of IP
 abbrev pub routes_of : IpVersion → Family
@@ -211,11 +249,13 @@ routes_of V6 = Route6
 pub record IsRun (run : Running) : Type 0 where
   pub changes : (version : IpVersion) → run.family ≡ routes_of version → OnlyChangesRoutes version run.pending
   pub routes : (version : IpVersion) → run.family ≡ routes_of version → AllByRecursion (IsRoute version) run.manager.rules
+  pub some_slots : 1 ≤ run.manager.slots
+  pub most_slots : run.manager.slots ≤ 4096
   pub size : length run.manager.state.slots ≡ run.manager.slots
   pub few : run.writes ≤ run.commits * (2 ^ 40 - 1)
   pub shows : ShowsRules run.manager
-  pub halfway : IsSome run.manager.held → IsHalfway run
-  pub idle : run.manager.held ≡ None → (run.told ≡ 0) × (run.waiting ≡ 0) × (run.most ≡ None)
+  pub halfway : IsSome run.manager.held → IsUnderWay run
+  pub idle : run.manager.held ≡ None → (run.told ≡ 0) × (run.waiting ≡ 0) × (run.fate ≡ Finishes)
 
 -- a change in a script of the family: a route that is added is one of its version, and an access list takes any rule
 abbrev pub IsChangeOf : Family → Change → Type 0
@@ -231,11 +271,7 @@ IsActOf family (Probe key) = Unit {0}
 IsActOf family (Packet key) = Unit {0}
 IsActOf family Commit = Unit {0}
 IsActOf family (Trial most) = Unit {0}
-
--- the act of a commit: a trial where it is taken back after so many writes
-abbrev pub commit_act : Option ℕ → Act
-commit_act None = Commit
-commit_act (Some most) = Trial most
+IsActOf family (Crash after) = Unit {0}
 
 -- nothing is done, not of the run, of the device, or of the sink
 pub record IsUntouched (old new : Running) (events_old events_new : List Action) (taken_old taken_new : Option (List ℕ)) : Type 0 where
@@ -244,7 +280,8 @@ pub record IsUntouched (old new : Running) (events_old events_new : List Action)
   pub report : taken_new ≡ taken_old
 
 -- What an act comes to, by the answer. Where the device is where the run stands, the act is carried out, or cut at the
--- line or at the write that failed. For want of memory or of room nothing is done.
+-- line or at the write that failed. For want of memory or of room nothing is done, but where a commit crashed: it has
+-- made its writes up to then, its manager is lost, and no call may follow.
 abbrev pub ComesTo : ℕ → Running → Act → Running → Result (Unit {0}) RunFault → List Action → List Action → Option (List ℕ) → Option (List ℕ) → Type 0
 ComesTo device_slots old act new (Ok done) events_old events_new taken_old taken_new =
     IsAt device_slots events_old (progress_of device_slots old)
@@ -256,8 +293,14 @@ ComesTo device_slots old act new (Err Device) events_old events_new taken_old ta
     IsAt device_slots events_old (progress_of device_slots old)
     → CutsAtWrite (setting_of old) (progress_of device_slots old) act events_old events_new taken_old taken_new
 ComesTo device_slots old act new (Err Memory) events_old events_new taken_old taken_new =
-    Wants (setting_of old) (progress_of device_slots old) act events_old events_new taken_old taken_new
-    × IsUntouched old new events_old events_new taken_old taken_new
+    elim new.broken [
+      | false ↦
+          Wants (setting_of old) (progress_of device_slots old) act events_old events_new taken_old taken_new
+          × IsUntouched old new events_old events_new taken_old taken_new
+      | true ↦
+          IsAt device_slots events_old (progress_of device_slots old)
+          → Wants (setting_of old) (progress_of device_slots old) act events_old events_new taken_old taken_new
+    ]
 ComesTo device_slots old act new (Err BatchFull) events_old events_new taken_old taken_new =
     IsUntouched old new events_old events_new taken_old taken_new
 ComesTo device_slots old act new (Err ProbesFull) events_old events_new taken_old taken_new =
@@ -269,12 +312,12 @@ ComesTo device_slots old act new (Err (Held left)) events_old events_new taken_o
 abbrev pub AreLeft : Running → Flight → Type 0
 AreLeft run flight = elim run.manager.held [ None ↦ flight ≡ [] | Some held ↦ AreOf run.probes run.waiting flight ]
 
--- What a call leaves in flight, by its answer. Behind a line that the sink didn't take nothing is said.
+-- What a call leaves in flight, by its answer. Where no call may follow nothing is said.
 abbrev pub LeavesWords : Running → Result (Unit {0}) RunFault → Flight → Flight → Type 0
 LeavesWords new (Ok done) flight_old flight_new = flight_new ≡ []
 LeavesWords new (Err Sink) flight_old flight_new = Unit {0}
 LeavesWords new (Err Device) flight_old flight_new = AreLeft new flight_new
-LeavesWords new (Err Memory) flight_old flight_new = flight_new ≡ flight_old
+LeavesWords new (Err Memory) flight_old flight_new = new.broken ≡ false → flight_new ≡ flight_old
 LeavesWords new (Err BatchFull) flight_old flight_new = flight_new ≡ flight_old
 LeavesWords new (Err ProbesFull) flight_old flight_new = flight_new ≡ flight_old
 LeavesWords new (Err (Held left)) flight_old flight_new = flight_new ≡ flight_old
@@ -284,7 +327,7 @@ abbrev pub AnswersHeld : Option HeldCommit → Result (Unit {0}) RunFault → Ty
 AnswersHeld (Some held) result = result ≡ Err (Held (length (writes_due held)))
 AnswersHeld None result = (left : ℕ) → result ≢ Err (Held left)
 
--- the sink failed, and no call may follow
+-- the sink failed
 abbrev pub breaks : Result (Unit {0}) RunFault → Bool
 breaks (Ok done) = false
 breaks (Err Sink) = true
@@ -339,10 +382,17 @@ EndsBy back begun held actions (ended.Finished done) now =
 EndsBy back begun held actions ended.Reverted now =
     (back ≡ true) × (now ≡ record begun { state = state_after begun.state (writes_in actions); held = None })
 
--- its line, by its number and its writes
-abbrev pub ended_line : ℕ → Ended → ℕ → List ℕ
-ended_line commit (ended.Finished done) writes = accepted_line commit done
-ended_line commit ended.Reverted writes = aborted_line commit writes
+-- the line of one that finished
+abbrev pub finished_line : ℕ → Fate → Done → ℕ → List ℕ
+finished_line commit Finishes done writes = accepted_line commit done
+finished_line commit (Returns most) done writes = accepted_line commit done
+finished_line commit (Crashes after) done writes = accepted_line commit done
+finished_line commit (Restarted after) done writes = restarted_line commit after writes
+
+-- its line, by its number, by what became of it, and by its writes
+abbrev pub ended_line : ℕ → Fate → Ended → ℕ → List ℕ
+ended_line commit fate (ended.Finished done) writes = finished_line commit fate done writes
+ended_line commit fate ended.Reverted writes = aborted_line commit writes
 
 -- All of them are made, and told where the device and the words in flight were as they should be when they began
 -- (`Seen`).
@@ -386,50 +436,3 @@ Makes Seen most begun now watch device_slots count count_now (Err BatchFull) eve
 Makes Seen most begun now watch device_slots count count_now (Err ProbesFull) events_begun events_now taken_begun taken_now = ⊥
 Makes Seen most begun now watch device_slots count count_now (Err Memory) events_begun events_now taken_begun taken_now = ⊥
 Makes Seen most begun now watch device_slots count count_now (Err (Held left)) events_begun events_now taken_begun taken_now = ⊥
-
--- A commit that began where `before` says is unfinished: these are its effects so far, each of its writes told, and the
--- rest of its writes is held.
-pub record IsUnfinished (device_slots : ℕ) (before : Progress) (front : List Effect) (run : Running) : Type 0 where
-  pub halfway : IsHalfway run
-  pub before_is : before ≡ progress_of device_slots (record run { manager = halfway.begun })
-  pub front_is : front ≡ effects_of (setting_of run) run.probes 0 0 before.state halfway.some.made
-
--- Some effects more of it came about, each write told, and it is cut at the write that is next. The device is where the
--- run stands then, and the words in flight are current.
-pub record StaysUnfinished (device_slots : ℕ) (before : Progress) (act : Act) (front : List Effect) (new : Running) (events_old events_new : List Action) (flight : Flight) (taken_old taken_new : Option (List ℕ)) : Type 0 where
-  pub more : List Effect
-  pub due : Write
-  pub unfinished : IsUnfinished device_slots before (front ++ more) new
-  pub next : next_of new.manager.held ≡ Some due
-  pub cut : IsCutStep (setting_of new) before act (front ++ more) (Acts (Written due))
-  pub does : Does more [] events_old events_new taken_old taken_new
-  pub stands : IsAt device_slots events_new (progress_of device_slots new)
-  pub current : AreCurrent (live_now new.manager) flight
-
--- The rest of them came about, and it is finished. The device is where the run stands then.
-pub record Finishes (device_slots : ℕ) (before : Progress) (act : Act) (front : List Effect) (new : Running) (events_old events_new : List Action) (taken_old taken_new : Option (List ℕ)) : Type 0 where
-  pub rest : List Effect
-  pub step : HasEffects (setting_of new) before act (front ++ rest) (progress_of device_slots new)
-  pub does : Does rest [] events_old events_new taken_old taken_new
-  pub stands : IsAt device_slots events_new (progress_of device_slots new)
-
--- Some effects more of it came about, up to a line that the sink didn't take whole.
-pub record BreaksOff (device_slots : ℕ) (before : Progress) (act : Act) (front : List Effect) (new : Running) (events_old events_new : List Action) (taken_old taken_new : Option (List ℕ)) : Type 0 where
-  pub more : List Effect
-  pub partial : List ℕ
-  pub rest : List ℕ
-  pub cut : IsCutStep (setting_of new) before act (front ++ more) (Prints (partial ++ rest))
-  pub does : Does more partial events_old events_new taken_old taken_new
-
--- what going on with it comes to: it is finished, or cut at the write or at the line that failed
-abbrev pub ResumesTo : ℕ → Progress → Act → List Effect → Running → Result (Unit {0}) RunFault → List Action → List Action → Flight → Option (List ℕ) → Option (List ℕ) → Type 0
-ResumesTo device_slots before act front new (Ok done) events_old events_new flight taken_old taken_new =
-    Finishes device_slots before act front new events_old events_new taken_old taken_new
-ResumesTo device_slots before act front new (Err Device) events_old events_new flight taken_old taken_new =
-    StaysUnfinished device_slots before act front new events_old events_new flight taken_old taken_new
-ResumesTo device_slots before act front new (Err Sink) events_old events_new flight taken_old taken_new =
-    BreaksOff device_slots before act front new events_old events_new taken_old taken_new
-ResumesTo device_slots before act front new (Err BatchFull) events_old events_new flight taken_old taken_new = ⊥
-ResumesTo device_slots before act front new (Err ProbesFull) events_old events_new flight taken_old taken_new = ⊥
-ResumesTo device_slots before act front new (Err Memory) events_old events_new flight taken_old taken_new = ⊥
-ResumesTo device_slots before act front new (Err (Held left)) events_old events_new flight taken_old taken_new = ⊥

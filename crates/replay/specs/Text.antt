@@ -134,6 +134,12 @@ abbrev pub aborted_line : ℕ → ℕ → List ℕ
 aborted_line commit writes =
     line_text (codes "commit" ∷ decimal commit ∷ codes "aborted" ∷ codes "writes" ∷ decimal writes ∷ [])
 
+-- a commit that another manager went on with, by its number, the writes before the crash, and all of its writes
+abbrev pub restarted_line : ℕ → ℕ → ℕ → List ℕ
+restarted_line commit after writes =
+    line_text
+    (codes "commit" ∷ decimal commit ∷ codes "restarted" ∷ codes "after" ∷ decimal after ∷ codes "writes" ∷ decimal writes ∷ [])
+
 -- a batch's fault, as words
 abbrev pub fault_words : Family → BatchFault → List (List ℕ)
 fault_words family (Twice priority) = codes "twice" ∷ rule_name family priority ∷ []

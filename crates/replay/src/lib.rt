@@ -9,13 +9,13 @@
 //! What an act does is a list of effects, device writes, drains and report lines in one order, said of rule lists,
 //! journal and report alone (`specs/Run`). A body that prints first and writes later has other effects, and so has one
 //! that answers a probe from the set and not from the device as it stands. `apply` has exactly the effects of its act,
-//! or those before the line or the write that failed, and no memory is taken between two writes of a commit. A write
-//! that fails is tried again at once, [`TRIES`] times in all.
+//! or those before the line or the write that failed, and no memory is taken between two writes of a commit but where it
+//! crashes. A write that fails is tried again at once, [`TRIES`] times in all.
 //!
 //! # How it stands
-//! `run` has the acts, `steps` the commit's loop, `watch` what is told after a write, `report` the lines, and
-//! `report_line` how they are made of words, in fixed room. Each line goes to the sink, with its line feed, before the
-//! next effect.
+//! `run` has the acts, `carrying` a commit from its first write to its line, `fate` what becomes of it, `steps` its loop,
+//! `watch` what is told after a write, `report` the lines, and `report_line` how they are made of words, in fixed room.
+//! Each line goes to the sink, with its line feed, before the next effect. `laws` has what packets see over a crash.
 //!
 //! # What it cost
 //! A line is written as soon as it is known, so a trace takes a call of the sink for each line. A failed line of a
@@ -25,15 +25,22 @@
 //! Where a write failed at all of its tries the rest of its commit is held, and [`Run::resume`] goes on with it: the
 //! writes and lines of both calls are those of the commit, each once. Until then no act is taken.
 //!
+//! # A manager that crashes
+//! `Act::Crash` drops the manager within a commit, and another one goes on by what the device shows: what can be lost is
+//! the plan, and a device that is read back tells as much of it as is needed (`carrying`).
+//!
 //! # What isn't promised
 //! That a run can go on after a failed line: a part of it may stand in the report, so no call may follow a fault of the
-//! sink. That no write is tried a fifth time where its act has made others before it: a device has one count for all of
-//! its failures.
+//! sink; nor where a commit that crashed found no memory, since its manager is gone ([`Run::is_broken`]). That no write is
+//! tried a fifth time where its act has made others before it: a device has one count for all of its failures.
 #![tactic(auto)]
 
 ghost use Rattle.std.specs.Prelude.{◌≡◌};
 ghost use Rattle.replay.specs.Text.{version_of};
 
+mod carrying;
+mod fate;
+mod laws;
 mod report;
 mod report_line;
 mod run;
@@ -41,6 +48,7 @@ mod steps;
 mod watch;
 
 pub use batch_order::{Mode, Placement};
+pub use laws::crashed_parts_are_old_or_new;
 pub use report::{write_fault, write_text};
 use rule_model::{IpVersion, Key};
 use rule_store::Command;
@@ -92,6 +100,8 @@ pub enum Act {
     Commit,
     /// The pending batch is committed, and taken back right after so many writes where it has more.
     Trial(u32),
+    /// The pending batch is committed, and where it has more than so many writes another manager goes on behind these.
+    Crash(u32),
 }
 
 /// Why an act isn't carried out to its end.

@@ -3,7 +3,7 @@
 //! accepted.
 ghost use Rattle.std.specs.Prelude.{◌≡◌, ◌≢◌, ◌<◌, ◌≤◌, [], ◌∷◌, ◌++◌, length};
 ghost use Rattle.rule_store.specs.Verdict.{Accepted};
-ghost use Rattle.replay.specs.Text.{packet_line, probe_line, trace_line, drain_line, aborted_line, accepted_line, refused_line, fault_line, end_line};
+ghost use Rattle.replay.specs.Text.{packet_line, probe_line, trace_line, drain_line, aborted_line, accepted_line, restarted_line, refused_line, fault_line, end_line};
 ghost use Rattle.replay.specs.Told.{verdict_told};
 ghost use Rattle.replay.specs.Outside.{WritesLine};
 
@@ -50,6 +50,20 @@ fn aborted(commit: u32, writes: u64) -> ReportLine
     ReportLine::new("commit")
         .number(u64::from(commit))
         .word("aborted")
+        .word("writes")
+        .number(writes)
+}
+
+// The line of a commit that another manager went on with.
+fn restarted(commit: u32, after: u32, writes: u64) -> ReportLine
+    ensures text { result ++ 10 ∷ [] ≡ restarted_line commit after writes }
+    ensures len { length result < LINE_ROOM }
+{
+    ReportLine::new("commit")
+        .number(u64::from(commit))
+        .word("restarted")
+        .word("after")
+        .number(u64::from(after))
         .word("writes")
         .number(writes)
 }
@@ -154,6 +168,19 @@ pub fn write_aborted<K: Sink>(sink: &mut K, commit: u32, writes: u64) -> Result<
     ensures { WritesLine K.taken K.accepted K.faults sink.old sink.new (aborted_line commit writes) result }
 {
     aborted(commit, writes).write(sink)
+}
+
+/// Writes the line of a commit that another manager went on with, by its number, from 1, the writes before that, and all
+/// of its writes. Takes no memory. Where the sink fails, a part of the line was taken, perhaps none or all of it.
+pub fn write_restarted<K: Sink>(
+    sink: &mut K,
+    commit: u32,
+    after: u32,
+    writes: u64,
+) -> Result<(), Failed>
+    ensures { WritesLine K.taken K.accepted K.faults sink.old sink.new (restarted_line commit after writes) result }
+{
+    restarted(commit, after, writes).write(sink)
 }
 
 /// Writes the line of a refused commit, by its number, from 1, and the reason. The refusal is one of the batch:

@@ -1,6 +1,6 @@
 //! A run of acts over one device.
 
-ghost use Rattle.std.specs.Prelude.{Bool, true, false, ◌≡◌, ◌≢◌, ◌⊎◌, ◌+◌, ◌<◌, ◌≤◌, ◌^◌, ◌++◌, ◌∷◌, [], ℕ, List, Ok, Err, None, IsSome, IfOk, IfErr, OnOk, OnErr, length};
+ghost use Rattle.std.specs.Prelude.{Bool, true, false, ◌≡◌, ◌≢◌, ◌⊎◌, ◌+◌, ◌<◌, ◌≤◌, ◌^◌, ◌++◌, ◌∷◌, ◌||◌, [], ℕ, List, Ok, Err, None, IsSome, IfOk, IfErr, OnOk, OnErr, length};
 ghost use Rattle.script_lines.specs.Given.{counted};
 ghost use Rattle.call_history.specs.Cause.{HasCause};
 ghost use Rattle.rule_store.specs.Verdict.{Accepted};
@@ -14,12 +14,13 @@ ghost use Rattle.replay.specs.Run.{Progress, ending};
 ghost use Rattle.replay.specs.Script.{limit_fault};
 ghost use Rattle.replay.specs.Outside.{Leaves, WritesLine};
 ghost use Rattle.replay.specs.Carried.{IsAt};
-ghost use Rattle.replay.specs.Running.{AnswersHeld, AreLeft, ComesTo, IsUnfinished, IsUntouched, LeavesWords, ResumesTo, StaysUnfinished, breaks, begun, commit_act, ended_line, limit_text, progress_of, setting_of, IsActOf, IsChangeOf};
+ghost use Rattle.replay.specs.Crashing.{loses};
+ghost use Rattle.replay.specs.Fates.{Breaks, IsCrash, IsFirst, IsToCrash, Loses, commit_act};
+ghost use Rattle.replay.specs.Running.{AnswersHeld, AreLeft, ComesTo, IsUntouched, LeavesWords, breaks, begun, limit_text, progress_of, setting_of, IsActOf, IsChangeOf};
+ghost use Rattle.replay.specs.Unfinished.{IsUnfinished, ResumesTo, StaysInStep, StaysUnfinished};
 
-use crate::report::{
-    Totals, write_aborted, write_accepted, write_end, write_packet, write_refused,
-};
-use crate::steps::{Ended, make_writes};
+use crate::fate::Fate;
+use crate::report::{Totals, write_end, write_packet, write_refused};
 use crate::watch::{Count, NOTHING, Watch};
 use crate::{Act, Family, RunFault};
 use batch_order::{Manager, Mode, Placement, Refusal};
@@ -28,23 +29,24 @@ use rule_store::{Batch, Command, PushFault};
 use script_lines::{Failed, Sink};
 use std::alloc::{AllocError, Global};
 use std::marker::Model;
-use tcam_device::Device;
+use tcam_device::{Device, ReadBack};
 
 /// A run of acts: its manager, what is told of each write, the pending batch, and what the report counts.
 #[derive(Drop)]
 pub struct Run {
-    manager: Manager,
-    watch: Watch,
-    pending: Batch,
-    commits: u32,
-    writes: u64,
+    pub(crate) alloc: Global,
+    pub(crate) manager: Manager,
+    pub(crate) watch: Watch,
+    pub(crate) pending: Batch,
+    pub(crate) commits: u32,
+    pub(crate) writes: u64,
     refused: bool,
     /// How far the unfinished commit has come, 0 and 0 where none is unfinished.
-    count: Count,
-    /// After how many writes the unfinished commit is taken back where it has more, if it is a trial.
-    most: Option<u32>,
-    /// Whether the sink failed.
-    broken: bool,
+    pub(crate) count: Count,
+    /// What becomes of the unfinished commit.
+    pub(crate) fate: Fate,
+    /// Whether no call may follow: the sink failed, or there was no memory to go on with a commit that crashed.
+    pub(crate) broken: bool,
 }
 
 impl Model for Run {
@@ -52,9 +54,9 @@ impl Model for Run {
 
     ghost Value = { Running };
 
-    ghost view = { λ r. record { manager = r.manager; family = r.watch.family; trace = r.watch.trace; depth = r.watch.depth; probes = r.watch.probes; pending = r.pending; commits = r.commits; writes = r.writes; refused = r.refused; told = r.count.told; waiting = r.count.waiting; most = r.most; broken = r.broken } };
+    ghost view = { λ r. record { manager = r.manager; family = r.watch.family; trace = r.watch.trace; depth = r.watch.depth; probes = r.watch.probes; pending = r.pending; commits = r.commits; writes = r.writes; refused = r.refused; told = r.count.told; waiting = r.count.waiting; fate = r.fate; broken = r.broken } };
 
-    ghost invariant = { λ r. IsRun (record { manager = r.manager; family = r.watch.family; trace = r.watch.trace; depth = r.watch.depth; probes = r.watch.probes; pending = r.pending; commits = r.commits; writes = r.writes; refused = r.refused; told = r.count.told; waiting = r.count.waiting; most = r.most; broken = r.broken }) };
+    ghost invariant = { λ r. IsRun (record { manager = r.manager; family = r.watch.family; trace = r.watch.trace; depth = r.watch.depth; probes = r.watch.probes; pending = r.pending; commits = r.commits; writes = r.writes; refused = r.refused; told = r.count.told; waiting = r.count.waiting; fate = r.fate; broken = r.broken }) };
 }
 
 impl Run {
@@ -77,6 +79,7 @@ impl Run {
         ensures { IfOk result (λ run. run ≡ begun slots mode placement family trace depth) }
     {
         Ok(Run {
+            alloc,
             manager: Manager::new(alloc, slots, mode, placement)?,
             watch: Watch::new(alloc, family, trace, depth)?,
             pending: Batch::new(alloc),
@@ -84,7 +87,7 @@ impl Run {
             writes: 0,
             refused: false,
             count: NOTHING,
-            most: None,
+            fate: Fate::Finishes,
             broken: false,
         })
     }
@@ -94,6 +97,14 @@ impl Run {
         ensures { result ≡ self.now.family }
     {
         self.watch.family()
+    }
+
+    /// Whether no call may follow: the sink failed, or there was no memory to go on with a commit that crashed. Behind
+    /// `Memory` it tells whether the run is as before.
+    pub fn is_broken(&self) -> bool
+        ensures { result ≡ self.now.broken }
+    {
+        self.broken
     }
 
     /// Carries out an act of a script of the run's family, over a device with at least as many slots as the run uses.
@@ -115,21 +126,27 @@ impl Run {
     ///
     /// `Held` comes exactly where a commit is unfinished after `Device`, before any other answer, with the writes that
     /// are left; nothing has changed. `Memory` comes at a change, or at a commit that would be accepted. Nothing was
-    /// done then, and the run is as before. `Sink` comes exactly where the sink's count of failures rose: all that
-    /// comes before the line was done, and a part of the line was taken, perhaps none or all of it. No call may follow
-    /// it. `Device` comes where one write failed four times, and the device's count of failures rose by that: the
-    /// writes of the commit before the failed one were made and told, and its line wasn't written. The rest of it is
-    /// held, and `resume` goes on with it. A write that fails less often is made, once, and nothing tells of its
-    /// failures.
+    /// done then, and the run is as before, unless it came at a crash, as below. `Sink` comes exactly where the sink's
+    /// count of failures rose: all that comes before the line was done, and a part of the line was taken, perhaps none
+    /// or all of it. No call may follow it. `Device` comes where one write failed four times, and the device's count of
+    /// failures rose by that: the writes of the commit before the failed one were made and told, and its line wasn't
+    /// written. The rest of it is held, and `resume` goes on with it. A write that fails less often is made, once, and
+    /// nothing tells of its failures.
     ///
     /// A trial is a commit that is taken back right after so many writes, where it has more: each of them is undone,
     /// the last first, by a write that has its line as any other, and the set, the live ranges and the device are as
     /// before.
     ///
+    /// A crash is a commit whose manager is dropped right after so many writes, where it has more. Another one is made
+    /// of the set, of the batch and of what the device shows, and makes the writes that are left: they are counted on
+    /// from those before, and the commit's line tells how many these were. Over the crash, too, each packet gets the
+    /// old answer or the new one. `Memory` may come at the crash as well. The writes before it were made and told then,
+    /// and no call may follow.
+    ///
     /// While no commit is unfinished no word is in flight. The words of the probes are in flight within a commit alone,
     /// and all of them are searched before its drain and before its line. Each line tells what an undivided look-up of
     /// its probe's key would find at the moment of the search. A drain is no write; with a trace it has its line.
-    pub fn apply<K: Sink, D: Device>(
+    pub fn apply<K: Sink, D: ReadBack>(
         &mut self,
         act: &Act,
         sink: &mut K,
@@ -139,6 +156,7 @@ impl Run {
         requires none_in_flight { self.old.manager.held ≡ None → D.flight device.old ≡ [] }
         requires act { IsActOf self.old.family act.now }
         requires whole { self.old.broken ≡ false }
+        requires stands { IsCrash act.now → IsAt (D.slot_count device.old) (D.events device.old) (progress_of (D.slot_count device.old) self.old) }
         requires commits { self.old.commits < 2 ^ 24 }
         ensures acts { (which : Bool) → ComesTo (D.slot_count device.old) self.old act.now self.new result
             (D.events device.old) (D.events device.new) (counted which (K.taken sink.old) (K.accepted sink.old)) (counted which (K.taken sink.new) (K.accepted sink.new)) }
@@ -148,11 +166,12 @@ impl Run {
         ensures unfinished { (which : Bool) → result ≡ Err RunFault.Device → IsAt (D.slot_count device.old) (D.events device.old) (progress_of (D.slot_count device.old) self.old)
             → StaysUnfinished (D.slot_count device.old) (progress_of (D.slot_count device.old) self.old) act.now [] self.new
             (D.events device.old) (D.events device.new) (D.flight device.new) (counted which (K.taken sink.old) (K.accepted sink.old)) (counted which (K.taken sink.new) (K.accepted sink.new)) }
-        ensures broken { self.new.broken ≡ breaks result }
+        ensures broken { Breaks act.now result self.new.broken }
         ensures room { HasRoomBothWays self.old.manager.held (D.spare device.old) → HasRoomBothWays self.new.manager.held (D.spare device.new) }
         ensures setting { setting_of self.new ≡ setting_of self.old }
         ensures commits { self.new.commits ≤ self.old.commits + 1 }
         ensures in_flight { LeavesWords self.new result (D.flight device.old) (D.flight device.new) }
+        ensures in_step { StaysInStep (D.slot_count device.old) self.old self.new (D.events device.old) (D.events device.new) (D.flight device.old) (D.flight device.new) }
         ensures leaves { Leaves K.taken K.faults sink.old sink.new D.slot_count D.journal D.faults device.old device.new (result ≡ Err RunFault.Sink) (result ≡ Err RunFault.Device) }
     {
         if let Some(left) = self.manager.left() {
@@ -169,9 +188,10 @@ impl Run {
     /// words in flight that were left: those of the probes, for the last writes that were told.
     ///
     /// `Device` comes as in `apply`, and then `resume` may be called again: the caller says how often, and how long it
-    /// waits between. `Sink` comes as there, too, and no call may follow it. Nothing else comes, since all memory for
-    /// the commit was taken before its first write.
-    pub fn resume<K: Sink, D: Device>(
+    /// waits between. `Sink` comes as there, too, and no call may follow it. A commit that is still to crash goes on to
+    /// its crash and over it, and `Memory` may come there, as in `apply`. Nothing else comes, since all other memory
+    /// for the commit was taken before its first write.
+    pub fn resume<K: Sink, D: ReadBack>(
         &mut self,
         sink: &mut K,
         device: &mut D,
@@ -180,21 +200,23 @@ impl Run {
         requires in_flight { AreLeft self.old (D.flight device.old) }
         requires whole { self.old.broken ≡ false }
         requires room { HasRoomBothWays self.old.manager.held (D.spare device.old) }
+        requires stands { IsToCrash self.old.fate → IsAt (D.slot_count device.old) (D.events device.old) (progress_of (D.slot_count device.old) self.old) }
         requires commits { self.old.commits < 2 ^ 24 }
         ensures resumes { (which : Bool) → (before : Progress) → (front : List Effect) → IsUnfinished (D.slot_count device.old) before front self.old
             → IsAt (D.slot_count device.old) (D.events device.old) (progress_of (D.slot_count device.old) self.old)
             → AreCurrent (live_now self.old.manager) (D.flight device.old)
-            → ResumesTo (D.slot_count device.old) before (commit_act self.old.most) front self.new result
+            → ResumesTo (D.slot_count device.old) before (commit_act self.old.fate) front self.new result
             (D.events device.old) (D.events device.new) (D.flight device.new) (counted which (K.taken sink.old) (K.accepted sink.old)) (counted which (K.taken sink.new) (K.accepted sink.new)) }
         ensures nothing { (which : Bool) → self.old.manager.held ≡ None → (result ≡ Ok tt) × IsUntouched self.old self.new
             (D.events device.old) (D.events device.new) (counted which (K.taken sink.old) (K.accepted sink.old)) (counted which (K.taken sink.new) (K.accepted sink.new)) }
-        ensures kind { IfErr result (λ fault. (fault ≡ RunFault.Sink) ⊎ (fault ≡ RunFault.Device)) }
+        ensures kind { IfErr result (λ fault. (fault ≡ RunFault.Sink) ⊎ ((fault ≡ RunFault.Device) ⊎ ((fault ≡ RunFault.Memory) × IsToCrash self.old.fate))) }
         ensures idle { OnOk result (self.new.manager.held ≡ None) }
-        ensures broken { self.new.broken ≡ breaks result }
+        ensures broken { self.new.broken ≡ (loses result || breaks result) }
         ensures room { HasRoomBothWays self.new.manager.held (D.spare device.new) }
         ensures setting { setting_of self.new ≡ setting_of self.old }
         ensures commits { self.new.commits ≤ self.old.commits + 1 }
         ensures in_flight { LeavesWords self.new result (D.flight device.old) (D.flight device.new) }
+        ensures in_step { StaysInStep (D.slot_count device.old) self.old self.new (D.events device.old) (D.events device.new) (D.flight device.old) (D.flight device.new) }
         ensures leaves { Leaves K.taken K.faults sink.old sink.new D.slot_count D.journal D.faults device.old device.new (result ≡ Err RunFault.Sink) (result ≡ Err RunFault.Device) }
     {
         if self.manager.left().is_none() {
@@ -207,13 +229,14 @@ impl Run {
 
     // Remembers whether the sink failed.
     fn mark(&mut self, outcome: &Result<(), RunFault>)
-        ensures { self.new ≡ record self.old { broken = breaks outcome.now } }
+        ensures { self.new ≡ record self.old { broken = self.old.broken || breaks outcome.now } }
     {
-        self.broken = matches!(outcome, Err(RunFault::Sink));
+        let failed = matches!(outcome, Err(RunFault::Sink));
+        self.broken = self.broken || failed;
     }
 
     // Carries out an act while no commit is unfinished.
-    fn perform<K: Sink, D: Device>(
+    fn perform<K: Sink, D: ReadBack>(
         &mut self,
         act: &Act,
         sink: &mut K,
@@ -223,6 +246,8 @@ impl Run {
         requires none_in_flight { D.flight device.old ≡ [] }
         requires act { IsActOf self.old.family act.now }
         requires idle { self.old.manager.held ≡ None }
+        requires whole { self.old.broken ≡ false }
+        requires stands { IsCrash act.now → IsAt (D.slot_count device.old) (D.events device.old) (progress_of (D.slot_count device.old) self.old) }
         requires commits { self.old.commits < 2 ^ 24 }
         ensures acts { (which : Bool) → ComesTo (D.slot_count device.old) self.old act.now self.new result
             (D.events device.old) (D.events device.new) (counted which (K.taken sink.old) (K.accepted sink.old)) (counted which (K.taken sink.new) (K.accepted sink.new)) }
@@ -232,19 +257,21 @@ impl Run {
         ensures unfinished { (which : Bool) → result ≡ Err RunFault.Device → IsAt (D.slot_count device.old) (D.events device.old) (progress_of (D.slot_count device.old) self.old)
             → StaysUnfinished (D.slot_count device.old) (progress_of (D.slot_count device.old) self.old) act.now [] self.new
             (D.events device.old) (D.events device.new) (D.flight device.new) (counted which (K.taken sink.old) (K.accepted sink.old)) (counted which (K.taken sink.new) (K.accepted sink.new)) }
-        ensures broken { self.new.broken ≡ self.old.broken }
+        ensures broken { Loses act.now result self.new.broken }
         ensures room { HasRoomBothWays self.new.manager.held (D.spare device.new) }
         ensures setting { setting_of self.new ≡ setting_of self.old }
         ensures commits { self.new.commits ≤ self.old.commits + 1 }
         ensures in_flight { LeavesWords self.new result (D.flight device.old) (D.flight device.new) }
+        ensures in_step { result ≢ Err RunFault.Sink → StaysInStep (D.slot_count device.old) self.old self.new (D.events device.old) (D.events device.new) (D.flight device.old) (D.flight device.new) }
         ensures leaves { Leaves K.taken K.faults sink.old sink.new D.slot_count D.journal D.faults device.old device.new (result ≡ Err RunFault.Sink) (result ≡ Err RunFault.Device) }
     {
         match *act {
             Act::Command(command) => self.push(command),
             Act::Probe(key) => self.probe(key),
             Act::Packet(key) => self.packet(&key, sink, device),
-            Act::Commit => self.commit(None, sink, device),
-            Act::Trial(most) => self.commit(Some(most), sink, device),
+            Act::Commit => self.commit(Fate::Finishes, sink, device),
+            Act::Trial(most) => self.commit(Fate::Returns(most), sink, device),
+            Act::Crash(after) => self.commit(Fate::Crashes(after), sink, device),
         }
     }
 
@@ -301,51 +328,44 @@ impl Run {
         }
     }
 
-    // Commits the pending batch, which is empty afterwards unless memory was wanting. A trial is taken back right after
-    // so many writes, where it has more.
-    fn commit<K: Sink, D: Device>(
+    // Commits the pending batch, which is empty afterwards unless memory was wanting, and has this become of it.
+    fn commit<K: Sink, D: ReadBack>(
         &mut self,
-        most: Option<u32>,
+        fate: Fate,
         sink: &mut K,
         device: &mut D,
     ) -> Result<(), RunFault>
         requires slots { self.old.manager.slots ≤ D.slot_count device.old }
         requires none_in_flight { D.flight device.old ≡ [] }
         requires idle { self.old.manager.held ≡ None }
+        requires first { IsFirst fate }
+        requires whole { self.old.broken ≡ false }
+        requires stands { IsToCrash fate → IsAt (D.slot_count device.old) (D.events device.old) (progress_of (D.slot_count device.old) self.old) }
         requires commits { self.old.commits < 2 ^ 24 }
-        ensures acts { (which : Bool) → ComesTo (D.slot_count device.old) self.old (commit_act most) self.new result
+        ensures acts { (which : Bool) → ComesTo (D.slot_count device.old) self.old (commit_act fate) self.new result
             (D.events device.old) (D.events device.new) (counted which (K.taken sink.old) (K.accepted sink.old)) (counted which (K.taken sink.new) (K.accepted sink.new)) }
         ensures taken { AnswersHeld None result }
         ensures limit { limit_text result ≡ None }
         ensures idle { OnOk result (self.new.manager.held ≡ None) }
         ensures unfinished { (which : Bool) → result ≡ Err RunFault.Device → IsAt (D.slot_count device.old) (D.events device.old) (progress_of (D.slot_count device.old) self.old)
-            → StaysUnfinished (D.slot_count device.old) (progress_of (D.slot_count device.old) self.old) (commit_act most) [] self.new
+            → StaysUnfinished (D.slot_count device.old) (progress_of (D.slot_count device.old) self.old) (commit_act fate) [] self.new
             (D.events device.old) (D.events device.new) (D.flight device.new) (counted which (K.taken sink.old) (K.accepted sink.old)) (counted which (K.taken sink.new) (K.accepted sink.new)) }
-        ensures broken { self.new.broken ≡ self.old.broken }
+        ensures broken { Loses (commit_act fate) result self.new.broken }
         ensures room { HasRoomBothWays self.new.manager.held (D.spare device.new) }
         ensures setting { setting_of self.new ≡ setting_of self.old }
         ensures commits { self.new.commits ≤ self.old.commits + 1 }
         ensures in_flight { LeavesWords self.new result (D.flight device.old) (D.flight device.new) }
+        ensures in_step { result ≢ Err RunFault.Sink → StaysInStep (D.slot_count device.old) self.old self.new (D.events device.old) (D.events device.new) (D.flight device.old) (D.flight device.new) }
         ensures leaves { Leaves K.taken K.faults sink.old sink.new D.slot_count D.journal D.faults device.old device.new (result ≡ Err RunFault.Sink) (result ≡ Err RunFault.Device) }
     {
         match self.manager.prepare(&self.pending, device) {
             Ok(_) => {
-                self.most = most;
+                self.fate = fate;
                 self.carry_out(sink, device)
             }
             Err(Refusal::Memory) => Err(RunFault::Memory),
             Err(refusal) => self.refuse(&refusal, sink),
         }
-    }
-
-    // Counts a commit, and drops its batch.
-    fn count_commit(&mut self)
-        requires idle { self.old.manager.held ≡ None }
-        requires commits { self.old.commits < 2 ^ 24 }
-        ensures { self.new ≡ record self.old { pending = []; commits = self.old.commits + 1 } }
-    {
-        self.pending.clear();
-        self.commits += 1;
     }
 
     // Counts a commit that is refused, drops its batch, and writes its line.
@@ -360,52 +380,6 @@ impl Run {
         self.count_commit();
         self.refused = true;
         match write_refused(sink, self.commits, self.watch.family(), refusal) {
-            Ok(()) => Ok(()),
-            Err(Failed) => Err(RunFault::Sink),
-        }
-    }
-
-    // Makes and tells the writes that are left of the commit under way, counts it, drops its batch, and writes its
-    // line.
-    fn carry_out<K: Sink, D: Device>(
-        &mut self,
-        sink: &mut K,
-        device: &mut D,
-    ) -> Result<(), RunFault>
-        requires slots { self.old.manager.slots ≤ D.slot_count device.old }
-        requires in_flight { AreLeft self.old (D.flight device.old) }
-        requires held { IsSome self.old.manager.held }
-        requires room { HasRoomBothWays self.old.manager.held (D.spare device.old) }
-        requires commits { self.old.commits < 2 ^ 24 }
-        ensures resumes { (which : Bool) → (before : Progress) → (front : List Effect) → IsUnfinished (D.slot_count device.old) before front self.old
-            → IsAt (D.slot_count device.old) (D.events device.old) (progress_of (D.slot_count device.old) self.old)
-            → AreCurrent (live_now self.old.manager) (D.flight device.old)
-            → ResumesTo (D.slot_count device.old) before (commit_act self.old.most) front self.new result
-            (D.events device.old) (D.events device.new) (D.flight device.new) (counted which (K.taken sink.old) (K.accepted sink.old)) (counted which (K.taken sink.new) (K.accepted sink.new)) }
-        ensures kind { IfErr result (λ fault. (fault ≡ RunFault.Sink) ⊎ (fault ≡ RunFault.Device)) }
-        ensures idle { OnOk result (self.new.manager.held ≡ None) }
-        ensures broken { self.new.broken ≡ self.old.broken }
-        ensures room { HasRoomBothWays self.new.manager.held (D.spare device.new) }
-        ensures setting { setting_of self.new ≡ setting_of self.old }
-        ensures commits { self.new.commits ≤ self.old.commits + 1 }
-        ensures in_flight { LeavesWords self.new result (D.flight device.old) (D.flight device.new) }
-        ensures leaves { Leaves K.taken K.faults sink.old sink.new D.slot_count D.journal D.faults device.old device.new (result ≡ Err RunFault.Sink) (result ≡ Err RunFault.Device) }
-    {
-        let (manager, count) = (&mut self.manager, &mut self.count);
-        let ended = match make_writes(manager, &self.watch, count, self.most, sink, device) {
-            Ok(ended) => ended,
-            Err(fault) => return Err(fault),
-        };
-        let count = self.count;
-        self.count = NOTHING;
-        self.most = None;
-        self.count_commit();
-        self.writes += count.told;
-        match self.watch.search_all(&count, sink, device) {
-            Ok(()) => {}
-            Err(Failed) => return Err(RunFault::Sink),
-        }
-        match write_ended(sink, self.commits, &ended, count.told) {
             Ok(()) => Ok(()),
             Err(Failed) => Err(RunFault::Sink),
         }
@@ -431,15 +405,5 @@ impl Run {
             Ok(()) => Ok(self.refused),
             Err(Failed) => Err(Failed),
         }
-    }
-}
-
-// The line of a commit that has come to its end, by its number, from 1, and its writes.
-fn write_ended<K: Sink>(sink: &mut K, commit: u32, ended: &Ended, writes: u64) -> Result<(), Failed>
-    ensures { WritesLine K.taken K.accepted K.faults sink.old sink.new (ended_line commit ended.now writes) result }
-{
-    match ended {
-        Ended::Finished(done) => write_accepted(sink, commit, done),
-        Ended::Reverted => write_aborted(sink, commit, writes),
     }
 }

@@ -1,6 +1,6 @@
 //! The commit under way, action by action: its writes, its drain, and what is told of each.
 
-ghost use Rattle.std.specs.Prelude.{⊤, ℕ, ◌≡◌, ◌≢◌, ◌+◌, ◌<◌, ◌≤◌, ◌^◌, ◌++◌, ◌∷◌, [], Bool, Err, IsSome, IsTrue, IfOk, IfSome, OnOk, OnErr, length, min};
+ghost use Rattle.std.specs.Prelude.{⊤, ℕ, ◌≡◌, ◌≢◌, ◌+◌, ◌<◌, ◌≤◌, ◌^◌, ◌++◌, ◌∷◌, [], Bool, Err, None, IsSome, IsTrue, IfOk, IfSome, OnOk, OnErr, length, min};
 ghost use Rattle.std.specs.List.{AllByRecursion};
 ghost use Rattle.script_lines.specs.Given.{counted};
 ghost use Rattle.rule_model.specs.Key.{IsKey};
@@ -14,8 +14,11 @@ ghost use Rattle.replay.specs.Text.{drain_line, trace_line};
 ghost use Rattle.replay.specs.Effects.{traced};
 ghost use Rattle.replay.specs.InFlight.{AreOf, IsSeen, flight_after, found_after};
 ghost use Rattle.replay.specs.Outside.{Leaves, WritesLines};
+ghost use Rattle.replay.specs.Fates.{IsWithinCrash, crash_due, most_of};
+ghost use Rattle.replay.specs.Pausing.{MakesUntil, MakesUpTo};
 ghost use Rattle.replay.specs.Running.{Makes, MayTurn, TurnsAt, left_of, rest_of};
 
+use crate::fate::Fate;
 use crate::watch::{Count, Watch};
 use crate::{RunFault, TRIES};
 use batch_order::{Done, Manager, Step};
@@ -39,7 +42,7 @@ pub(crate) fn make_writes<K: Sink, D: Device>(
     manager: &mut Manager,
     watch: &Watch,
     count: &mut Count,
-    most: Option<u32>,
+    fate: Fate,
     sink: &mut K,
     device: &mut D,
 ) -> Result<Ended, RunFault>
@@ -47,11 +50,11 @@ pub(crate) fn make_writes<K: Sink, D: Device>(
     requires in_flight { AreOf watch.now.probes count.old.waiting (D.flight device.old) }
     requires waiting { count.old.waiting ≤ watch.now.depth }
     requires held { IsSome manager.old.held }
-    requires may_turn { MayTurn most manager.old.held }
+    requires may_turn { MayTurn (most_of fate) manager.old.held }
     requires room { HasRoomBothWays manager.old.held (D.spare device.old) }
-    requires few { IfSome manager.old.held (λ held. count.old.told + length (writes_in (left_of (rest_of most count.old.told) manager.old.state held)) ≤ 2 ^ 40) }
+    requires few { IfSome manager.old.held (λ held. count.old.told + length (writes_in (left_of (rest_of (most_of fate) count.old.told) manager.old.state held)) ≤ 2 ^ 40) }
     ensures makes { (which : Bool) → Makes (IsSeen (D.slot_count device.old) (D.events device.old) (D.flight device.old) manager.old)
-        most manager.old manager.new watch.now (D.slot_count device.old) count.old count.new result
+        (most_of fate) manager.old manager.new watch.now (D.slot_count device.old) count.old count.new result
         (D.events device.old) (D.events device.new) (counted which (K.taken sink.old) (K.accepted sink.old)) (counted which (K.taken sink.new) (K.accepted sink.new)) }
     ensures in_flight { result ≢ Err RunFault.Sink → AreOf watch.now.probes count.new.waiting (D.flight device.new) }
     ensures seen { result ≢ Err RunFault.Sink → IsSeen (D.slot_count device.old) (D.events device.old) (D.flight device.old) manager.old
@@ -60,7 +63,84 @@ pub(crate) fn make_writes<K: Sink, D: Device>(
     ensures room { HasRoomBothWays manager.new.held (D.spare device.new) }
     ensures leaves { Leaves K.taken K.faults sink.old sink.new D.slot_count D.journal D.faults device.old device.new (result ≡ Err RunFault.Sink) (result ≡ Err RunFault.Device) }
 {
+    match make_until(manager, watch, count, fate.most(), None, sink, device) {
+        Ok(Some(ended)) => Ok(ended),
+        // There is no crash to stop for.
+        Ok(None) => unreachable!(),
+        Err(fault) => Err(fault),
+    }
+}
+
+/// Makes the writes of the commit under way, which has more than so many, until that many are told, and tells each as
+/// `make_writes` does. A drain that is due then isn't made.
+pub(crate) fn make_up_to<K: Sink, D: Device>(
+    manager: &mut Manager,
+    watch: &Watch,
+    count: &mut Count,
+    after: u32,
+    sink: &mut K,
+    device: &mut D,
+) -> Result<(), RunFault>
+    requires slots { manager.old.slots ≤ D.slot_count device.old }
+    requires in_flight { AreOf watch.now.probes count.old.waiting (D.flight device.old) }
+    requires waiting { count.old.waiting ≤ watch.now.depth }
+    requires forward { IfSome manager.old.held (λ held. held.turned ≡ None) }
+    requires held { IsSome manager.old.held }
+    requires room { HasRoomBothWays manager.old.held (D.spare device.old) }
+    requires told { count.old.told ≤ after }
+    requires more { IfSome manager.old.held (λ held. after < count.old.told + length (writes_in held.actions)) }
+    requires few { IfSome manager.old.held (λ held. count.old.told + length (writes_in held.actions) ≤ 2 ^ 40) }
+    ensures makes { (which : Bool) → MakesUpTo (IsSeen (D.slot_count device.old) (D.events device.old) (D.flight device.old) manager.old)
+        after manager.old manager.new watch.now (D.slot_count device.old) count.old count.new result
+        (D.events device.old) (D.events device.new) (counted which (K.taken sink.old) (K.accepted sink.old)) (counted which (K.taken sink.new) (K.accepted sink.new)) }
+    ensures in_flight { result ≢ Err RunFault.Sink → AreOf watch.now.probes count.new.waiting (D.flight device.new) }
+    ensures seen { result ≢ Err RunFault.Sink → IsSeen (D.slot_count device.old) (D.events device.old) (D.flight device.old) manager.old
+        → IsSeen (D.slot_count device.new) (D.events device.new) (D.flight device.new) manager.new }
+    ensures room { HasRoomBothWays manager.new.held (D.spare device.new) }
+    ensures leaves { Leaves K.taken K.faults sink.old sink.new D.slot_count D.journal D.faults device.old device.new (result ≡ Err RunFault.Sink) (result ≡ Err RunFault.Device) }
+{
+    match make_until(manager, watch, count, None, Some(after), sink, device) {
+        Ok(None) => Ok(()),
+        // It has more writes than these.
+        Ok(Some(_)) => unreachable!(),
+        Err(fault) => Err(fault),
+    }
+}
+
+// Makes the writes that are left of the commit under way up to its end, or up to a crash behind so many of them where
+// it has more: None comes there.
+fn make_until<K: Sink, D: Device>(
+    manager: &mut Manager,
+    watch: &Watch,
+    count: &mut Count,
+    most: Option<u32>,
+    stop: Option<u32>,
+    sink: &mut K,
+    device: &mut D,
+) -> Result<Option<Ended>, RunFault>
+    requires slots { manager.old.slots ≤ D.slot_count device.old }
+    requires in_flight { AreOf watch.now.probes count.old.waiting (D.flight device.old) }
+    requires waiting { count.old.waiting ≤ watch.now.depth }
+    requires held { IsSome manager.old.held }
+    requires may_turn { MayTurn most manager.old.held }
+    requires forward { IsSome stop → (most ≡ None) × IfSome manager.old.held (λ held. held.turned ≡ None) }
+    requires told { IsWithinCrash stop count.old.told }
+    requires room { HasRoomBothWays manager.old.held (D.spare device.old) }
+    requires few { IfSome manager.old.held (λ held. count.old.told + length (writes_in (left_of (rest_of most count.old.told) manager.old.state held)) ≤ 2 ^ 40) }
+    ensures makes { (which : Bool) → MakesUntil (IsSeen (D.slot_count device.old) (D.events device.old) (D.flight device.old) manager.old)
+        most stop manager.old manager.new watch.now (D.slot_count device.old) count.old count.new result
+        (D.events device.old) (D.events device.new) (counted which (K.taken sink.old) (K.accepted sink.old)) (counted which (K.taken sink.new) (K.accepted sink.new)) }
+    ensures in_flight { result ≢ Err RunFault.Sink → AreOf watch.now.probes count.new.waiting (D.flight device.new) }
+    ensures seen { result ≢ Err RunFault.Sink → IsSeen (D.slot_count device.old) (D.events device.old) (D.flight device.old) manager.old
+        → IsSeen (D.slot_count device.new) (D.events device.new) (D.flight device.new) manager.new }
+    ensures serves { IfOk result (λ ended. IsSome ended → ServesNow manager.new) }
+    ensures room { HasRoomBothWays manager.new.held (D.spare device.new) }
+    ensures leaves { Leaves K.taken K.faults sink.old sink.new D.slot_count D.journal D.faults device.old device.new (result ≡ Err RunFault.Sink) (result ≡ Err RunFault.Device) }
+{
     'making: loop {
+        if stops_here(manager, stop, count.told) {
+            return Ok(None);
+        }
         turn_round(manager, most, count.told);
         match step_tried(manager, device) {
             Ok(Step::Wrote(write)) => match tell_write(watch, count, &write, sink, device) {
@@ -82,13 +162,26 @@ pub(crate) fn make_writes<K: Sink, D: Device>(
                 Ok(()) => {}
                 Err(Failed) => return Err(RunFault::Sink),
             },
-            Ok(Step::Finished(done)) => return Ok(Ended::Finished(done)),
-            Ok(Step::Reverted(_)) => return Ok(Ended::Reverted),
+            Ok(Step::Finished(done)) => return Ok(Some(Ended::Finished(done))),
+            Ok(Step::Reverted(_)) => return Ok(Some(Ended::Reverted)),
             // A commit is under way.
             Ok(Step::Idle) => unreachable!(),
             Err(DeviceFault) => return Err(RunFault::Device),
         }
     }
+}
+
+// Whether a commit that crashes has made as many writes as come before that, and has more to make.
+fn stops_here(manager: &Manager, stop: Option<u32>, told: u64) -> bool
+    ensures { result ≡ crash_due stop told manager.now.held }
+{
+    let Some(after) = stop else {
+        return false;
+    };
+    let Some(left) = manager.left() else {
+        return false;
+    };
+    told >= u64::from(after) && left > 0
 }
 
 // Turns a trial round that has made as many writes as it may, and has more to make.

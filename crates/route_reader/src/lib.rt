@@ -8,6 +8,7 @@
 //!     frame HEX
 //!     commit
 //!     trial COUNT
+//!     crash COUNT
 //!
 //! Addresses, prefixes and frames are those of one version of IP, which the caller names. `read_route` is equal to the
 //! grammar both ways: it answers a command only where the line is one, and a fault only where the line has that fault.
@@ -156,7 +157,7 @@ mod tests {
     fn lines_and_their_commands(rt: HostRuntime) -> Result<(), Fail> {
         let ten = Prefix::v4(0x0a00_0000, 8)?;
         let host = Prefix::v4(0xffff_ffff, 32)?;
-        let table: [(&[u8], Result<Option<RouteCommand>, WordFault>); 66] = [
+        let table: [(&[u8], Result<Option<RouteCommand>, WordFault>); 73] = [
             (
                 b"route add 10.0.0.0/8 7",
                 Ok(Some(RouteCommand::Add(ten, 7))),
@@ -214,6 +215,14 @@ mod tests {
                 b" trial\t4294967295\r",
                 Ok(Some(RouteCommand::Common(CommonCommand::Trial(4294967295)))),
             ),
+            (
+                b"crash 0",
+                Ok(Some(RouteCommand::Common(CommonCommand::Crash(0)))),
+            ),
+            (
+                b"\tcrash 4294967295 ",
+                Ok(Some(RouteCommand::Common(CommonCommand::Crash(4294967295)))),
+            ),
             (b"", Ok(None)),
             (b" \t\r", Ok(None)),
             (b"# route add", Ok(None)),
@@ -243,6 +252,11 @@ mod tests {
             (b"trial x", Err(WordFault::BadCount)),
             (b"trial 01", Err(WordFault::BadCount)),
             (b"trial 4294967296", Err(WordFault::BadCount)),
+            (b"crash", Err(WordFault::WordCount)),
+            (b"crash 1 2", Err(WordFault::WordCount)),
+            (b"Crash 1", Err(WordFault::UnknownCommand)),
+            (b"crash x", Err(WordFault::BadCount)),
+            (b"crash 4294967296", Err(WordFault::BadCount)),
             (b"route add 10.0.0.0/33 7", Err(WordFault::BadPrefix)),
             (b"route add 010.0.0.0/8 7", Err(WordFault::BadPrefix)),
             (b"route add 10.0.0.0 7", Err(WordFault::BadPrefix)),

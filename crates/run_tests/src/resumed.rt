@@ -1,5 +1,6 @@
 // A run whose device failed four times at one write, and that goes on.
-ghost use Rattle.std.specs.Prelude.{◌≡◌, ◌≢◌, ℕ, ◌+◌, ◌<◌, ◌≤◌, [], Err, IfOk, OnOk};
+ghost use Rattle.std.specs.Prelude.{◌≡◌, ◌≢◌, ℕ, ◌+◌, ◌<◌, ◌≤◌, [], Err, IfOk, OnOk, List};
+ghost use Rattle.tcam_device.specs.declared.Action.{Action};
 ghost use Rattle.tcam_device.specs.Flight.{Flight};
 ghost use Rattle.run_tests.specs.Going.{CanGoOn};
 
@@ -11,19 +12,19 @@ use script_lines::MemSink;
 use std::alloc::Global;
 use std::process::Abort;
 use std::test::Fail;
-use tcam_device::{Device, Writable};
+use tcam_device::{ReadBack, Writable};
 
 /// Commits the route of an IPv4 prefix, and tells whether the device cut that.
-fn commit_route<D: Device>(
+fn commit_route<D: ReadBack>(
     run: &mut Run,
     addr: u32,
     len: u8,
     sink: &mut MemSink,
     device: &mut D,
 ) -> Result<bool, Fail>
-    requires going { CanGoOn run.old (D.slot_count device.old) (D.spare device.old) (D.flight device.old) }
+    requires going { CanGoOn run.old (D.slot_count device.old) (D.spare device.old) (D.events device.old) (D.flight device.old) }
     requires few { run.old.commits < 98 }
-    ensures going { OnOk result (CanGoOn run.new (D.slot_count device.new) (D.spare device.new) (D.flight device.new)) }
+    ensures going { OnOk result (CanGoOn run.new (D.slot_count device.new) (D.spare device.new) (D.events device.new) (D.flight device.new)) }
     ensures few { run.new.commits ≤ run.old.commits + 2 }
 {
     add(run, &route(addr, len, [None; 4]), sink, device)?;
@@ -63,14 +64,14 @@ commit 4 ok writes 2 words 0 most 2 span 0
 ";
 
 /// Three commits of a route each, and a probe.
-pub(crate) fn begin<D: Device>(
+pub(crate) fn begin<D: ReadBack>(
     run: &mut Run,
     sink: &mut MemSink,
     device: &mut D,
 ) -> Result<(), Fail>
-    requires going { CanGoOn run.old (D.slot_count device.old) (D.spare device.old) (D.flight device.old) }
+    requires going { CanGoOn run.old (D.slot_count device.old) (D.spare device.old) (D.events device.old) (D.flight device.old) }
     requires few { run.old.commits < 50 }
-    ensures going { OnOk result (CanGoOn run.new (D.slot_count device.new) (D.spare device.new) (D.flight device.new)) }
+    ensures going { OnOk result (CanGoOn run.new (D.slot_count device.new) (D.spare device.new) (D.events device.new) (D.flight device.new)) }
     ensures few { run.new.commits ≤ run.old.commits + 7 }
 {
     commit_route(run, 0x0a00_0000, 8, sink, device)?;
@@ -87,7 +88,7 @@ pub(crate) fn begin<D: Device>(
 
 /// The change that came to this isn't taken, since one write of a commit is left.
 fn see_held(outcome: &Result<(), RunFault>) -> Result<(), Fail>
-    ensures { OnOk result (outcome.now ≢ Err RunFault.Sink) }
+    ensures { OnOk result ((outcome.now ≢ Err RunFault.Sink) × (outcome.now ≢ Err RunFault.Memory)) }
 {
     match outcome {
         Err(RunFault::Held { left: 1 }) => Ok(()),
@@ -96,10 +97,10 @@ fn see_held(outcome: &Result<(), RunFault>) -> Result<(), Fail>
 }
 
 /// A change isn't taken.
-fn is_held<D: Device>(run: &mut Run, sink: &mut MemSink, device: &mut D) -> Result<(), Fail>
-    requires going { CanGoOn run.old (D.slot_count device.old) (D.spare device.old) (D.flight device.old) }
+fn is_held<D: ReadBack>(run: &mut Run, sink: &mut MemSink, device: &mut D) -> Result<(), Fail>
+    requires going { CanGoOn run.old (D.slot_count device.old) (D.spare device.old) (D.events device.old) (D.flight device.old) }
     requires few { run.old.commits < 100 }
-    ensures going { OnOk result (CanGoOn run.new (D.slot_count device.new) (D.spare device.new) (D.flight device.new)) }
+    ensures going { OnOk result (CanGoOn run.new (D.slot_count device.new) (D.spare device.new) (D.events device.new) (D.flight device.new)) }
     ensures few { run.new.commits ≤ run.old.commits + 1 }
 {
     let change = change_of(run.family(), &route(0x0a01_0000, 20, [None; 4]))?;
@@ -108,7 +109,7 @@ fn is_held<D: Device>(run: &mut Run, sink: &mut MemSink, device: &mut D) -> Resu
 }
 
 /// The report of a commit that is cut, and then of its end.
-fn goes_on<D: Device>(
+fn goes_on<D: ReadBack>(
     rt: &impl Abort,
     run: &mut Run,
     front: &str,
@@ -116,7 +117,7 @@ fn goes_on<D: Device>(
     sink: &mut MemSink,
     device: &mut D,
 ) -> Result<(), Fail>
-    requires going { CanGoOn run.old (D.slot_count device.old) (D.spare device.old) (D.flight device.old) }
+    requires going { CanGoOn run.old (D.slot_count device.old) (D.spare device.old) (D.events device.old) (D.flight device.old) }
     requires few { run.old.commits < 50 }
 {
     begin(run, sink, device)?;
@@ -134,7 +135,7 @@ fn goes_on<D: Device>(
 /// A run of routes, for a device of eight slots or more.
 pub(crate) fn run_of_routes(alloc: Global, depth: u32) -> Result<Run, Fail>
     requires { depth ≤ 15 }
-    ensures going { IfOk result (λ run. (slots spare : ℕ) → (flight : Flight) → 8 ≤ slots → flight ≡ [] → CanGoOn run slots spare flight) }
+    ensures going { IfOk result (λ run. (slots spare : ℕ) → (events : List Action) → (flight : Flight) → 8 ≤ slots → events ≡ [] → flight ≡ [] → CanGoOn run slots spare events flight) }
     ensures begins { IfOk result (λ run. run.commits ≡ 0) }
 {
     Ok(Run::new(
@@ -149,7 +150,7 @@ pub(crate) fn run_of_routes(alloc: Global, depth: u32) -> Result<Run, Fail>
 }
 
 /// A whole run over a blank device.
-fn goes_on_over<D: Device>(
+fn goes_on_over<D: ReadBack>(
     rt: &(impl Abort + AllocGlobal),
     depth: u32,
     front: &str,
@@ -159,6 +160,7 @@ fn goes_on_over<D: Device>(
 ) -> Result<(), Fail>
     requires depth { depth ≤ 15 }
     requires slots { 8 ≤ D.slot_count device.old }
+    requires blank { D.events device.old ≡ [] }
     requires none_in_flight { D.flight device.old ≡ [] }
 {
     let mut run = run_of_routes(rt.alloc(), depth)?;

@@ -1,6 +1,7 @@
 // Whole scripts, each once for each of its device writes, which fails at all of its tries. The run goes on behind that,
 // and leaves what it leaves where no write fails.
-ghost use Rattle.std.specs.Prelude.{◌≡◌, ◌≢◌, ℕ, ◌+◌, ◌<◌, ◌≤◌, [], Err, IfOk, OnOk};
+ghost use Rattle.std.specs.Prelude.{◌≡◌, ◌≢◌, ℕ, ◌+◌, ◌<◌, ◌≤◌, [], Err, IfOk, OnOk, List};
+ghost use Rattle.tcam_device.specs.declared.Action.{Action};
 ghost use Rattle.tcam_device.specs.Flight.{Flight};
 ghost use Rattle.replay.specs.Running.{IsActOf};
 ghost use Rattle.run_tests.specs.Going.{CanGoOn};
@@ -15,7 +16,7 @@ use script_lines::MemSink;
 use std::alloc::Global;
 use std::process::Abort;
 use std::test::Fail;
-use tcam_device::{Device, Writable, Write};
+use tcam_device::{ReadBack, Writable, Write};
 
 /// The results of a script's four keys.
 pub(crate) type Answers = [Option<u32>; 4];
@@ -74,16 +75,16 @@ pub(crate) fn change_of(family: Family, step: &Step) -> Result<Act, Fail>
 }
 
 /// Carries out an act.
-pub(crate) fn apply<D: Device>(
+pub(crate) fn apply<D: ReadBack>(
     run: &mut Run,
     act: &Act,
     sink: &mut MemSink,
     device: &mut D,
 ) -> Result<(), RunFault>
-    requires going { CanGoOn run.old (D.slot_count device.old) (D.spare device.old) (D.flight device.old) }
+    requires going { CanGoOn run.old (D.slot_count device.old) (D.spare device.old) (D.events device.old) (D.flight device.old) }
     requires act { IsActOf run.old.family act.now }
     requires few { run.old.commits < 100 }
-    ensures going { result ≢ Err RunFault.Sink → CanGoOn run.new (D.slot_count device.new) (D.spare device.new) (D.flight device.new) }
+    ensures going { result ≢ Err RunFault.Sink → result ≢ Err RunFault.Memory → CanGoOn run.new (D.slot_count device.new) (D.spare device.new) (D.events device.new) (D.flight device.new) }
     ensures family { run.new.family ≡ run.old.family }
     ensures few { run.new.commits ≤ run.old.commits + 1 }
 {
@@ -91,10 +92,10 @@ pub(crate) fn apply<D: Device>(
 }
 
 /// Goes on with the commit that is unfinished, if one is.
-fn resume<D: Device>(run: &mut Run, sink: &mut MemSink, device: &mut D) -> Result<(), RunFault>
-    requires going { CanGoOn run.old (D.slot_count device.old) (D.spare device.old) (D.flight device.old) }
+fn resume<D: ReadBack>(run: &mut Run, sink: &mut MemSink, device: &mut D) -> Result<(), RunFault>
+    requires going { CanGoOn run.old (D.slot_count device.old) (D.spare device.old) (D.events device.old) (D.flight device.old) }
     requires few { run.old.commits < 100 }
-    ensures going { result ≢ Err RunFault.Sink → CanGoOn run.new (D.slot_count device.new) (D.spare device.new) (D.flight device.new) }
+    ensures going { result ≢ Err RunFault.Sink → result ≢ Err RunFault.Memory → CanGoOn run.new (D.slot_count device.new) (D.spare device.new) (D.events device.new) (D.flight device.new) }
     ensures family { run.new.family ≡ run.old.family }
     ensures few { run.new.commits ≤ run.old.commits + 1 }
 {
@@ -102,7 +103,7 @@ fn resume<D: Device>(run: &mut Run, sink: &mut MemSink, device: &mut D) -> Resul
 }
 
 /// The result that a key has in the device.
-pub(crate) fn result_of<D: Device>(device: &D, key: &Key) -> Option<u32> {
+pub(crate) fn result_of<D: ReadBack>(device: &D, key: &Key) -> Option<u32> {
     match device.look(key) {
         Some((_, answer)) => Some(answer),
         None => None,
@@ -110,7 +111,7 @@ pub(crate) fn result_of<D: Device>(device: &D, key: &Key) -> Option<u32> {
 }
 
 /// Each key has its old answer or its new one.
-fn judge<D: Device>(rt: &impl Abort, device: &D, keys: &[Key; 4], old: &Answers, new: &Answers) {
+fn judge<D: ReadBack>(rt: &impl Abort, device: &D, keys: &[Key; 4], old: &Answers, new: &Answers) {
     for at in 0..4 {
         let found = result_of(device, &keys[at]);
         assert!(rt; found == old[at] || found == new[at]);
@@ -118,8 +119,8 @@ fn judge<D: Device>(rt: &impl Abort, device: &D, keys: &[Key; 4], old: &Answers,
 }
 
 /// Whether the device cut an act that came to this.
-fn is_cut(outcome: &Result<(), RunFault>) -> Result<bool, Fail>
-    ensures { IfOk result (λ _. outcome.now ≢ Err RunFault.Sink) }
+pub(crate) fn is_cut(outcome: &Result<(), RunFault>) -> Result<bool, Fail>
+    ensures { IfOk result (λ _. (outcome.now ≢ Err RunFault.Sink) × (outcome.now ≢ Err RunFault.Memory)) }
 {
     match outcome {
         Ok(()) => Ok(false),
@@ -129,15 +130,15 @@ fn is_cut(outcome: &Result<(), RunFault>) -> Result<bool, Fail>
 }
 
 /// Adds a step's rule to the pending batch.
-pub(crate) fn add<D: Device>(
+pub(crate) fn add<D: ReadBack>(
     run: &mut Run,
     step: &Step,
     sink: &mut MemSink,
     device: &mut D,
 ) -> Result<(), Fail>
-    requires going { CanGoOn run.old (D.slot_count device.old) (D.spare device.old) (D.flight device.old) }
+    requires going { CanGoOn run.old (D.slot_count device.old) (D.spare device.old) (D.events device.old) (D.flight device.old) }
     requires few { run.old.commits < 100 }
-    ensures going { OnOk result (CanGoOn run.new (D.slot_count device.new) (D.spare device.new) (D.flight device.new)) }
+    ensures going { OnOk result (CanGoOn run.new (D.slot_count device.new) (D.spare device.new) (D.events device.new) (D.flight device.new)) }
     ensures few { run.new.commits ≤ run.old.commits + 1 }
 {
     let change = change_of(run.family(), step)?;
@@ -146,14 +147,14 @@ pub(crate) fn add<D: Device>(
 }
 
 /// Commits the pending batch, and tells whether the device cut that.
-pub(crate) fn commit<D: Device>(
+pub(crate) fn commit<D: ReadBack>(
     run: &mut Run,
     sink: &mut MemSink,
     device: &mut D,
 ) -> Result<bool, Fail>
-    requires going { CanGoOn run.old (D.slot_count device.old) (D.spare device.old) (D.flight device.old) }
+    requires going { CanGoOn run.old (D.slot_count device.old) (D.spare device.old) (D.events device.old) (D.flight device.old) }
     requires few { run.old.commits < 100 }
-    ensures going { OnOk result (CanGoOn run.new (D.slot_count device.new) (D.spare device.new) (D.flight device.new)) }
+    ensures going { OnOk result (CanGoOn run.new (D.slot_count device.new) (D.spare device.new) (D.events device.new) (D.flight device.new)) }
     ensures few { run.new.commits ≤ run.old.commits + 1 }
 {
     let outcome = apply(run, &Act::Commit, sink, device);
@@ -161,14 +162,14 @@ pub(crate) fn commit<D: Device>(
 }
 
 /// Tries the pending batch, which is taken back where it has more than one write, and tells whether the device cut that.
-pub(crate) fn try_out<D: Device>(
+pub(crate) fn try_out<D: ReadBack>(
     run: &mut Run,
     sink: &mut MemSink,
     device: &mut D,
 ) -> Result<bool, Fail>
-    requires going { CanGoOn run.old (D.slot_count device.old) (D.spare device.old) (D.flight device.old) }
+    requires going { CanGoOn run.old (D.slot_count device.old) (D.spare device.old) (D.events device.old) (D.flight device.old) }
     requires few { run.old.commits < 100 }
-    ensures going { OnOk result (CanGoOn run.new (D.slot_count device.new) (D.spare device.new) (D.flight device.new)) }
+    ensures going { OnOk result (CanGoOn run.new (D.slot_count device.new) (D.spare device.new) (D.events device.new) (D.flight device.new)) }
     ensures few { run.new.commits ≤ run.old.commits + 1 }
 {
     let outcome = apply(run, &Act::Trial(1), sink, device);
@@ -176,14 +177,14 @@ pub(crate) fn try_out<D: Device>(
 }
 
 /// Goes on with the commit that is unfinished, if one is, to its end.
-pub(crate) fn finish<D: Device>(
+pub(crate) fn finish<D: ReadBack>(
     run: &mut Run,
     sink: &mut MemSink,
     device: &mut D,
 ) -> Result<(), Fail>
-    requires going { CanGoOn run.old (D.slot_count device.old) (D.spare device.old) (D.flight device.old) }
+    requires going { CanGoOn run.old (D.slot_count device.old) (D.spare device.old) (D.events device.old) (D.flight device.old) }
     requires few { run.old.commits < 100 }
-    ensures going { OnOk result (CanGoOn run.new (D.slot_count device.new) (D.spare device.new) (D.flight device.new)) }
+    ensures going { OnOk result (CanGoOn run.new (D.slot_count device.new) (D.spare device.new) (D.events device.new) (D.flight device.new)) }
     ensures few { run.new.commits ≤ run.old.commits + 1 }
 {
     resume(run, sink, device)?;
@@ -191,7 +192,7 @@ pub(crate) fn finish<D: Device>(
 }
 
 /// Commits a step's rule, and tells whether the device cut that. The run goes on where it did.
-fn commit_step<D: Device>(
+fn commit_step<D: ReadBack>(
     rt: &impl Abort,
     run: &mut Run,
     keys: &[Key; 4],
@@ -200,9 +201,9 @@ fn commit_step<D: Device>(
     sink: &mut MemSink,
     device: &mut D,
 ) -> Result<bool, Fail>
-    requires going { CanGoOn run.old (D.slot_count device.old) (D.spare device.old) (D.flight device.old) }
+    requires going { CanGoOn run.old (D.slot_count device.old) (D.spare device.old) (D.events device.old) (D.flight device.old) }
     requires few { run.old.commits < 90 }
-    ensures going { OnOk result (CanGoOn run.new (D.slot_count device.new) (D.spare device.new) (D.flight device.new)) }
+    ensures going { OnOk result (CanGoOn run.new (D.slot_count device.new) (D.spare device.new) (D.events device.new) (D.flight device.new)) }
     ensures few { run.new.commits ≤ run.old.commits + 3 }
 {
     add(run, step, sink, device)?;
@@ -214,14 +215,14 @@ fn commit_step<D: Device>(
 }
 
 /// Carries out a script, and tells whether the device cut a commit.
-fn carry_out<D: Device>(
+fn carry_out<D: ReadBack>(
     rt: &impl Abort,
     run: &mut Run,
     script: &Script,
     sink: &mut MemSink,
     device: &mut D,
 ) -> Result<bool, Fail>
-    requires going { CanGoOn run.old (D.slot_count device.old) (D.spare device.old) (D.flight device.old) }
+    requires going { CanGoOn run.old (D.slot_count device.old) (D.spare device.old) (D.events device.old) (D.flight device.old) }
     requires begins { run.old.commits ≡ 0 }
 {
     let steps = script.steps;
@@ -237,7 +238,7 @@ fn carry_out<D: Device>(
 
 /// A traced run of a script's setting, for a device of eight slots or more.
 fn run_of(alloc: Global, script: &Script) -> Result<Run, Fail>
-    ensures going { IfOk result (λ run. (slots spare : ℕ) → (flight : Flight) → 8 ≤ slots → flight ≡ [] → CanGoOn run slots spare flight) }
+    ensures going { IfOk result (λ run. (slots spare : ℕ) → (events : List Action) → (flight : Flight) → 8 ≤ slots → events ≡ [] → flight ≡ [] → CanGoOn run slots spare events flight) }
     ensures begins { IfOk result (λ run. run.commits ≡ 0) }
 {
     Ok(Run::new(
@@ -259,13 +260,14 @@ fn empty_sink(alloc: Global) -> Result<MemSink, Fail> {
 }
 
 /// The report of a script over a blank device, which cuts a commit or doesn't, as is told.
-fn report_over<D: Device>(
+fn report_over<D: ReadBack>(
     rt: &(impl Abort + AllocGlobal),
     script: &Script,
     device: &mut D,
     wants_cut: bool,
 ) -> Result<MemSink, Fail>
     requires slots { 8 ≤ D.slot_count device.old }
+    requires blank { D.events device.old ≡ [] }
     requires none_in_flight { D.flight device.old ≡ [] }
 {
     let mut sink = empty_sink(rt.alloc())?;
@@ -299,6 +301,7 @@ fn undisturbed(
     device: &mut MemTcam,
 ) -> Result<MemSink, Fail>
     requires slots { 8 ≤ device.old.slots }
+    requires blank { device.old.events ≡ [] }
     requires none_in_flight { device.old.flight ≡ [] }
 {
     let sink = report_over(rt, script, device, false)?;

@@ -10,7 +10,7 @@ use rule_model::Key;
 use script_lines::MemSink;
 use std::process::Abort;
 use std::test::Fail;
-use tcam_device::{Device, Writable};
+use tcam_device::{ReadBack, Writable};
 
 const TAKEN_BACK: &str = "\
 commit 1 ok writes 1 words 0 most 1 span 0
@@ -22,13 +22,13 @@ commit 4 aborted writes 2
 ";
 
 /// The report of a trial that is cut and then taken back, and what a packet to its route is answered: as before.
-fn is_taken_back<D: Device>(
+fn is_taken_back<D: ReadBack>(
     rt: &impl Abort,
     run: &mut Run,
     sink: &mut MemSink,
     device: &mut D,
 ) -> Result<(), Fail>
-    requires going { CanGoOn run.old (D.slot_count device.old) (D.spare device.old) (D.flight device.old) }
+    requires going { CanGoOn run.old (D.slot_count device.old) (D.spare device.old) (D.events device.old) (D.flight device.old) }
     requires few { run.old.commits < 50 }
 {
     begin(run, sink, device)?;
@@ -45,12 +45,13 @@ fn is_taken_back<D: Device>(
 }
 
 /// A whole run over a blank device.
-fn taken_back_over<D: Device>(
+fn taken_back_over<D: ReadBack>(
     rt: &(impl Abort + AllocGlobal),
     sink: &mut MemSink,
     device: &mut D,
 ) -> Result<(), Fail>
     requires slots { 8 ≤ D.slot_count device.old }
+    requires blank { D.events device.old ≡ [] }
     requires none_in_flight { D.flight device.old ≡ [] }
 {
     let mut run = run_of_routes(rt.alloc(), 0)?;

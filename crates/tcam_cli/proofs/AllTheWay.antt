@@ -13,11 +13,12 @@ use Rattle.tcam_device.specs.Hitless.{ShowsOldOrNew}
 use Rattle.tcam_device.proofs.Spans.{state_after-append}
 use Rattle.tcam_device.proofs.Wider.{blank_shows}
 use Rattle.replay.specs.declared.Act.{Act}
-use Rattle.replay.specs.declared.Act.TheVariants.{Command, Probe, Packet, Commit, Trial}
+use Rattle.replay.specs.declared.Act.TheVariants.{Command, Probe, Packet, Commit, Trial, Crash}
 use Rattle.replay.specs.Effects.{Setting, Effect, Prints, written}
-use Rattle.replay.specs.Run.{Progress, start, Commits, Returns, Refuses, Tries, Judged, HasEffects, Run, Runs}
+use Rattle.replay.specs.Run.{Progress, start, Commits, Returns, Restarts, Refuses, Tries, Crashes, Judged, HasEffects, Run, Runs}
 use Rattle.tcam_cli.specs.AllTheWay.{sets_through, ShowsSetOrNext, AnswersAllTheWay, EndsAtLast}
 use Rattle.replay.proofs.Effects.{written-append}
+use Rattle.replay.proofs.Crashed.{joined, written-restarts}
 use Rattle.replay.proofs.Written.{written-return, written-segment}
 use Rattle.commit_writes.specs.Undo.{undo_writes}
 use Rattle.commit_writes.proofs.Undone.{length-undo_writes, undo_ends, undo_passes}
@@ -79,6 +80,8 @@ starts setting backs rules batch (Commit ∷ acts) =
     starts-judged setting backs rules batch acts (verdict setting.slots setting.mode rules batch) (starts setting backs rules [] acts)
 starts setting backs rules batch (Trial most ∷ acts) =
     starts-tried setting backs rules batch acts (verdict setting.slots setting.mode rules batch) (starts setting backs rules [] acts)
+starts setting backs rules batch (Crash after ∷ acts) =
+    starts-judged setting backs rules batch acts (verdict setting.slots setting.mode rules batch) (starts setting backs rules [] acts)
 
 first-set : (setting : Setting) (backs : List Bool) (rules : List Rule) (batch : List Change) (acts : List Act) → slice_get (sets_through setting backs rules batch acts) 0 ≡ Some rules
 first-set setting backs rules batch acts = ap (λ sets. slice_get sets 0) (starts setting backs rules batch acts).1
@@ -123,6 +126,8 @@ more-sets-from setting (Commit ∷ acts) later backs rules batch =
     more-judged setting backs rules batch acts later (verdict setting.slots setting.mode rules batch) (more-sets-from setting acts later)
 more-sets-from setting (Trial most ∷ acts) later backs rules batch =
     more-tried setting backs rules batch acts later (verdict setting.slots setting.mode rules batch) (more-sets-from setting acts later)
+more-sets-from setting (Crash after ∷ acts) later backs rules batch =
+    more-judged setting backs rules batch acts later (verdict setting.slots setting.mode rules batch) (more-sets-from setting acts later)
 
 pub more-sets : (setting : Setting) (backs : List Bool) (rules : List Rule) (batch : List Change) (acts later : List Act)
     → Continues (sets_through setting backs rules batch acts) (sets_through setting backs rules batch (acts ++ later))
@@ -259,6 +264,24 @@ goes-commit setting old front mid acts back step more =
           (segment old.rules new sets old.state step.made back (first-set setting last.0 new [] acts) step.segment.hitless.on_the_way.during last.1.0, ends-behind old.state old.rules sets step.made back last.1.1),
     )
 
+-- one that crashes and is gone on with
+goes-restarted : (setting : Setting) (old : Progress) (after : ℕ) (front : List Effect) (mid : Progress) (acts : List Act) (back : List Write) → Restarts setting old after front mid → Later setting mid acts back
+    → (backs : List Bool) × Goes old.state (old.rules ∷ sets_through setting backs (set_after old.rules old.batch) [] acts) (written front ++ back)
+goes-restarted setting old after front mid acts back step more =
+    let new : List Rule = set_after old.rules old.batch in
+    let P : Progress → Type 0 = λ p. Later setting p acts back in
+    let made : List Write = take after step.made ++ step.rest in
+    let shows : Shows (state_after old.state made) new = subst (λ (now : State). Shows now new) (sym (state_after-append old.state (take after step.made) step.rest)) step.goes_on.after in
+    let last = subst P step.new_is more shows in
+    let sets : List (List Rule) = sets_through setting last.0 new [] acts in
+    let same : made ++ back ≡ written front ++ back = sym (ap (λ writes. writes ++ back) (written-restarts setting old mid after front step)) in
+    let during : (n : ℕ) → ShowsOldOrNew (state_after old.state (take n made)) old.rules new =
+    joined old.rules new old.state step.made step.rest after step.crash.more step.crash.segment.hitless.on_the_way.during step.goes_on.during in (
+      last.0,
+      subst (λ writes. Goes old.state (old.rules ∷ sets) writes) same
+          (segment old.rules new sets old.state made back (first-set setting last.0 new [] acts) during last.1.0, ends-behind old.state old.rules sets made back last.1.1),
+    )
+
 -- on the way back each key has the new answer or the old one
 shows-back : (state : State) (old new : List Rule) → ShowsOldOrNew state old new → ShowsOldOrNew state new old
 shows-back state old new shows key valid = elim (shows key valid) [ inl is ↦ inr is | inr is ↦ inl is ]
@@ -331,6 +354,15 @@ goes-tried most setting old (Unsound fault) front mid acts back shown step more 
 goes-tried most setting old (OutOfBits field needed free) front mid acts back shown step more = goes-refused setting old (OutOfBits field needed free) front mid acts back shown step more
 goes-tried most setting old (OutOfSlots needed free) front mid acts back shown step more = goes-refused setting old (OutOfSlots needed free) front mid acts back shown step more
 
+goes-crashed : (after : ℕ) (setting : Setting) (old : Progress) (is : Verdict) (front : List Effect) (mid : Progress) (acts : List Act) (back : List Write)
+    → IsShown old → Judged (Crashes after) setting old is front mid → Later setting mid acts back
+    → (backs : List Bool) × Goes old.state (sets_judged setting backs old.rules old.batch acts is) (written front ++ back)
+goes-crashed after setting old Accepted front mid acts back shown (inl commits) more = goes-commit setting old front mid acts back commits.0 more
+goes-crashed after setting old Accepted front mid acts back shown (inr restarts) more = goes-restarted setting old after front mid acts back restarts more
+goes-crashed after setting old (Unsound fault) front mid acts back shown step more = goes-refused setting old (Unsound fault) front mid acts back shown step more
+goes-crashed after setting old (OutOfBits field needed free) front mid acts back shown step more = goes-refused setting old (OutOfBits field needed free) front mid acts back shown step more
+goes-crashed after setting old (OutOfSlots needed free) front mid acts back shown step more = goes-refused setting old (OutOfSlots needed free) front mid acts back shown step more
+
 -- an act that does nothing to the device
 goes-still : (setting : Setting) (old : Progress) (act : Act) (front : List Effect) (mid now : Progress) (acts : List Act) (back : List Write) → written front ≡ [] → mid ≡ now → IsShown now
     → (GoesOn setting now acts back → GoesOn setting old (act ∷ acts) back) → Later setting mid acts back → GoesOn setting old (act ∷ acts) (written front ++ back)
@@ -348,6 +380,8 @@ goes-step setting old Commit front mid acts back shown step more =
     goes-judged setting old (verdict setting.slots setting.mode old.rules old.batch) front mid acts back shown step more
 goes-step setting old (Trial most) front mid acts back shown step more =
     goes-tried most setting old (verdict setting.slots setting.mode old.rules old.batch) front mid acts back shown step more
+goes-step setting old (Crash after) front mid acts back shown step more =
+    goes-crashed after setting old (verdict setting.slots setting.mode old.rules old.batch) front mid acts back shown step more
 
 goes : (setting : Setting) (old : Progress) (acts : List Act) (effects : List Effect) (new : Progress) → IsShown old → Run setting old acts effects new → GoesOn setting old acts (written effects)
 goes setting old [] effects new shown run =
@@ -366,15 +400,50 @@ pub run-goes : (setting : Setting) (slots : ℕ) (acts : List Act) (effects : Li
 run-goes setting slots acts effects last run = goes setting (start slots) acts effects last (blank_shows slots) run
 
 -- where a run is cut in the middle of an act, by what it would have come to
-pub cut-answers : (setting : Setting) (slots : ℕ) (backs : List Bool) (done : List Act) (act : Act) (behind all : List Act) (body front : List Effect) (due : Effect) (back : List Effect) → all ≡ done ++ act ∷ behind
-    → RunGoes setting slots backs (done ++ act ∷ []) (body ++ (front ++ due ∷ back)) → AnswersAllTheWay (blank slots) (sets_through setting backs [] [] all) (written (body ++ front))
-cut-answers setting slots backs done act behind all body front due back same goes =
+pub cut-answers : (setting : Setting) (slots : ℕ) (backs : List Bool) (done : List Act) (act : Act) (behind all : List Act) (body front back : List Effect) → all ≡ done ++ act ∷ behind
+    → RunGoes setting slots backs (done ++ act ∷ []) (body ++ (front ++ back)) → AnswersAllTheWay (blank slots) (sets_through setting backs [] [] all) (written (body ++ front))
+cut-answers setting slots backs done act behind all body front back same goes =
     let first : List Act = done ++ act ∷ [] in
-    let whole : List Effect = body ++ (front ++ due ∷ back) in
-    let parts : written whole ≡ written (body ++ front) ++ written (due ∷ back) =
-    ap written (sym (append_assoc body front (due ∷ back))) ∙ written-append (body ++ front) (due ∷ back) in
+    let whole : List Effect = body ++ (front ++ back) in
+    let parts : written whole ≡ written (body ++ front) ++ written back = ap written (sym (append_assoc body front back)) ∙ written-append (body ++ front) back in
     let sets : List (List Rule) = sets_through setting backs [] [] all in
     let answers : AnswersAllTheWay (blank slots) sets (written whole) =
     subst (λ acts. AnswersAllTheWay (blank slots) (sets_through setting backs [] [] acts) (written whole)) (sym (same ∙ sym (append_assoc done (act ∷ []) behind)))
     (wider (blank slots) (sets_through setting backs [] [] first) (sets_through setting backs [] [] (first ++ behind)) (written whole) (more-sets setting backs [] [] first behind) goes.0) in
-    cut (blank slots) sets (written (body ++ front)) (written (due ∷ back)) (subst (λ writes. AnswersAllTheWay (blank slots) sets writes) parts answers)
+    cut (blank slots) sets (written (body ++ front)) (written back) (subst (λ writes. AnswersAllTheWay (blank slots) sets writes) parts answers)
+
+-- ---- a commit that crashes leads through the sets of a commit
+
+abbrev SetsSame : Setting → List Act → List Act → Type 0
+SetsSame setting one other = (backs : List Bool) (rules : List Rule) (batch : List Change) → sets_through setting backs rules batch one ≡ sets_through setting backs rules batch other
+
+same-judged : (setting : Setting) (backs : List Bool) (rules : List Rule) (batch : List Change) (one other : List Act) (is : Verdict) → SetsSame setting one other
+    → sets_judged setting backs rules batch one is ≡ sets_judged setting backs rules batch other is
+same-judged setting backs rules batch one other Accepted same = ap (λ sets. rules ∷ sets) (same backs (set_after rules batch) [])
+same-judged setting backs rules batch one other (Unsound fault) same = same backs rules []
+same-judged setting backs rules batch one other (OutOfBits field needed free) same = same backs rules []
+same-judged setting backs rules batch one other (OutOfSlots needed free) same = same backs rules []
+
+same-back : (setting : Setting) (backs : List Bool) (rules : List Rule) (batch : List Change) (one other : List Act) (back : Bool) → SetsSame setting one other
+    → sets_tried setting backs rules batch one back ≡ sets_tried setting backs rules batch other back
+same-back setting backs rules batch one other true same = ap (λ sets. rules ∷ set_after rules batch ∷ sets) (same backs rules [])
+same-back setting backs rules batch one other false same = ap (λ sets. rules ∷ sets) (same backs (set_after rules batch) [])
+
+same-tried : (setting : Setting) (backs : List Bool) (rules : List Rule) (batch : List Change) (one other : List Act) (is : Verdict) → SetsSame setting one other
+    → trial_judged setting backs rules batch one is ≡ trial_judged setting backs rules batch other is
+same-tried setting backs rules batch one other Accepted same = same-back setting (drop 1 backs) rules batch one other (is_back backs) same
+same-tried setting backs rules batch one other (Unsound fault) same = same backs rules []
+same-tried setting backs rules batch one other (OutOfBits field needed free) same = same backs rules []
+same-tried setting backs rules batch one other (OutOfSlots needed free) same = same backs rules []
+
+pub same-sets : (setting : Setting) (done : List Act) (after : ℕ) (behind : List Act) → SetsSame setting (done ++ Commit ∷ behind) (done ++ Crash after ∷ behind)
+same-sets setting [] after behind backs rules batch = refl
+same-sets setting (Command change ∷ done) after behind backs rules batch = same-sets setting done after behind backs rules (batch ++ change ∷ [])
+same-sets setting (Probe key ∷ done) after behind backs rules batch = same-sets setting done after behind backs rules batch
+same-sets setting (Packet key ∷ done) after behind backs rules batch = same-sets setting done after behind backs rules batch
+same-sets setting (Commit ∷ done) after behind backs rules batch =
+    same-judged setting backs rules batch (done ++ Commit ∷ behind) (done ++ Crash after ∷ behind) (verdict setting.slots setting.mode rules batch) (same-sets setting done after behind)
+same-sets setting (Trial most ∷ done) after behind backs rules batch =
+    same-tried setting backs rules batch (done ++ Commit ∷ behind) (done ++ Crash after ∷ behind) (verdict setting.slots setting.mode rules batch) (same-sets setting done after behind)
+same-sets setting (Crash limit ∷ done) after behind backs rules batch =
+    same-judged setting backs rules batch (done ++ Commit ∷ behind) (done ++ Crash after ∷ behind) (verdict setting.slots setting.mode rules batch) (same-sets setting done after behind)

@@ -8,20 +8,22 @@ use Rattle.tcam_device.specs.declared.Action.TheVariants.{Written, Drained}
 use Rattle.tcam_device.specs.Flight.{writes_in}
 use Rattle.tcam_device.specs.State.{State, apply, blank, state_after}
 use Rattle.replay.specs.declared.Act.{Act}
-use Rattle.replay.specs.declared.Act.TheVariants.{Command, Probe, Packet, Commit, Trial}
+use Rattle.replay.specs.declared.Act.TheVariants.{Command, Probe, Packet, Commit, Trial, Crash}
 use Rattle.replay.specs.Script.{Script, Whole, script_of}
 use Rattle.replay.specs.Effects.{Setting, Effect, Acts, Prints, written, traced, searches_of, flushed, searched_after, waiting_after, effects_of}
-use Rattle.replay.specs.Run.{Progress, start, Commits, Tries, actions_back, actions_for, carried, Judged, HasEffects, Runs}
-use Rattle.replay.specs.Text.{aborted_line, accepted_line, drain_line, trace_line}
+use Rattle.replay.specs.Fates.{IsCrash}
+use Rattle.replay.specs.Run.{Progress, start, Commits, Tries, Crashes, actions_back, actions_before, actions_for, actions_over, carried, IsCutBeforeCrash, IsCutInStep, IsCutStep, Judged, HasEffects, Runs, TakesMemory}
+use Rattle.replay.specs.Text.{aborted_line, accepted_line, drain_line, restarted_line, trace_line}
 use Rattle.tcam_cli.specs.declared.Status.{Status}
 use Rattle.tcam_cli.specs.declared.Status.TheVariants.{Done, Refused, Script as ScriptFault, ReadFault, WriteFault, DeviceFault, Memory, Usage}
-use Rattle.tcam_cli.specs.Headline.{Job, NoJob, Tells, Reads, Makes, acts_of, script_so_far, IsAtAct, IsComplete, IsDue, IsOutcome, IsOutOfMemory, IsCarriedOut}
+use Rattle.tcam_cli.specs.Headline.{Job, NoJob, Tells, Reads, Makes, acts_of, script_so_far, IsAtAct, IsComplete, IsDue, IsOutcome, IsOutOfMemory, IsOutOfMemoryAtAct, IsCarriedOut}
 use Rattle.tcam_cli.specs.MadeScript.{made_script}
 use Rattle.tcam_cli.specs.Readings.{reading}
-use Rattle.tcam_cli.specs.AllTheWay.{sets_through, sets_of, AnswersAllTheWay, EndsAtLast, EndsAfter, EndsAfterSome, IsNoProbe, TellsNoWrite, IsHitlessRun, IsHitlessJob}
+use Rattle.tcam_cli.specs.AllTheWay.{sets_through, sets_of, AnswersAllTheWay, EndsAtLast, EndsAfter, CrashesNowhere, EndsAfterSome, IsNoProbe, TellsNoWrite, IsHitlessRun, IsHitlessJob}
 use Rattle.replay.proofs.Effects.{written-append}
 use Rattle.tcam_cli.proofs.OneMore.{run-more, none-probed}
-use Rattle.tcam_cli.proofs.AllTheWay.{RunGoes, cut-answers, more-sets, run-goes, wider}
+use Rattle.tcam_cli.proofs.AllTheWay.{RunGoes, cut-answers, more-sets, run-goes, same-sets, wider}
+use Rattle.tcam_cli.proofs.CutCrash.{AsCommit, cut-as_commit, stops-as_commit}
 use Rattle.tcam_cli.proofs.FirstActs.{AreFirstActs, first-acts}
 
 -- with some trials taken back
@@ -36,23 +38,55 @@ complete setting slots script status effects is =
     (sym (ap written is.effects_are ∙ written-append is.body _ ∙ append-nil (written is.body))) goes.1 in
     (goes.0, both.0, both.1)
 
--- what the act comes to in whose middle a run is cut
-abbrev WholeAct : (setting : Setting) (slots : ℕ) (script : Script) (effects : List Effect) (due : Effect) → IsAtAct setting slots script effects due → Type 0
-WholeAct setting slots script effects due at = (backs : List Bool) × RunGoes setting slots backs (at.done ++ at.act ∷ []) (at.body ++ (at.front ++ due ∷ at.cut.back))
+-- a run that is cut in the middle of an act, by all that this would have done
+abbrev WholeAct : (setting : Setting) (slots : ℕ) (script : Script) (effects : List Effect) (due : Effect) (at : IsAtAct setting slots script effects due) → IsCutInStep setting at.before at.act at.front due → Type 0
+WholeAct setting slots script effects due at cut = (backs : List Bool) × RunGoes setting slots backs (at.done ++ at.act ∷ []) (at.body ++ (at.front ++ due ∷ cut.back))
 
-whole-act : (setting : Setting) (slots : ℕ) (script : Script) (effects : List Effect) (due : Effect) (at : IsAtAct setting slots script effects due) → WholeAct setting slots script effects due at
-whole-act setting slots script effects due at =
-    run-goes setting slots (at.done ++ at.act ∷ []) (at.body ++ (at.front ++ due ∷ at.cut.back)) at.cut.after
-    (run-more setting slots at.done at.body at.before at.act (at.front ++ due ∷ at.cut.back) at.cut.after at.run at.cut.step)
+whole-act : (setting : Setting) (slots : ℕ) (script : Script) (effects : List Effect) (due : Effect) (at : IsAtAct setting slots script effects due) (cut : IsCutInStep setting at.before at.act at.front due) → WholeAct setting slots script effects due at cut
+whole-act setting slots script effects due at cut =
+    run-goes setting slots (at.done ++ at.act ∷ []) (at.body ++ (at.front ++ due ∷ cut.back)) cut.after
+    (run-more setting slots at.done at.body at.before at.act (at.front ++ due ∷ cut.back) cut.after at.run cut.step)
 
-at-act : (setting : Setting) (slots : ℕ) (script : Script) (effects : List Effect) (due : Effect) (at : IsAtAct setting slots script effects due) (whole : WholeAct setting slots script effects due at)
+in-step : (setting : Setting) (slots : ℕ) (script : Script) (effects : List Effect) (due : Effect) (at : IsAtAct setting slots script effects due) (cut : IsCutInStep setting at.before at.act at.front due) (whole : WholeAct setting slots script effects due at cut)
     → AnswersAllTheWay (blank slots) (sets_of setting whole.0 script) (written effects)
-at-act setting slots script effects due at whole =
+in-step setting slots script effects due at cut whole =
     subst (λ effects. AnswersAllTheWay (blank slots) (sets_of setting whole.0 script) (written effects)) (sym at.effects_are)
-    (cut-answers setting slots whole.0 at.done at.act at.later (acts_of script) at.body at.front due at.cut.back at.acts whole.1)
+    (cut-answers setting slots whole.0 at.done at.act at.later (acts_of script) at.body at.front (due ∷ cut.back) at.acts whole.1)
+
+-- or in the middle of a commit that crashes later, by all that a commit would have done
+as-commits : (setting : Setting) (slots : ℕ) (script : Script) (done : List Act) (after : ℕ) (later : List Act) (body front : List Effect) (before : Progress) → acts_of script ≡ done ++ Crash after ∷ later
+    → Runs setting slots done body before → AsCommit setting before front → AnswersSome setting slots script (written (body ++ front))
+as-commits setting slots script done after later body front before acts run whole =
+    let goes = run-goes setting slots (done ++ Commit ∷ []) (body ++ (front ++ whole.back)) whole.after
+    (run-more setting slots done body before Commit (front ++ whole.back) whole.after run whole.step) in
+    let answers = cut-answers setting slots goes.0 done Commit later (done ++ Commit ∷ later) body front whole.back refl goes.1 in (
+      goes.0,
+      subst (λ sets. AnswersAllTheWay (blank slots) sets (written (body ++ front))) (same-sets setting done after later goes.0 [] [] ∙ ap (sets_through setting goes.0 [] []) (sym acts)) answers,
+    )
+
+-- the writes before a crash
+before-crash : (setting : Setting) (slots : ℕ) (script : Script) (effects : List Effect) (due : Effect) (at : IsAtAct setting slots script effects due) → IsCutBeforeCrash setting at.before at.act at.front due
+    → AnswersSome setting slots script (written effects)
+before-crash setting slots script effects due at cut =
+    let whole = cut-as_commit setting at.before at.act at.front due cut in
+    let first : AsCommit setting at.before at.front = record {
+      back = due ∷ whole.back;
+      after = whole.after;
+      step = subst (λ effects. HasEffects setting at.before Commit effects whole.after) (append_assoc at.front (due ∷ []) whole.back) whole.step;
+    } in
+    let acts : acts_of script ≡ at.done ++ Crash cut.after ∷ at.later = at.acts ∙ ap (λ act. at.done ++ act ∷ at.later) cut.act_is in
+    subst (λ effects. AnswersSome setting slots script (written effects)) (sym at.effects_are)
+    (as-commits setting slots script at.done cut.after at.later at.body at.front at.before acts at.run first)
+
+at-act : (setting : Setting) (slots : ℕ) (script : Script) (effects : List Effect) (due : Effect) (at : IsAtAct setting slots script effects due) → AnswersSome setting slots script (written effects)
+at-act setting slots script effects due at = go at.cut
+  where
+    go : IsCutStep setting at.before at.act at.front due → AnswersSome setting slots script (written effects)
+    go (inl cut) = let whole = whole-act setting slots script effects due at cut in (whole.0, in-step setting slots script effects due at cut whole)
+    go (inr cut) = before-crash setting slots script effects due at cut
 
 at-due : (setting : Setting) (slots : ℕ) (script : Script) (effects : List Effect) (due : Effect) → IsDue setting slots script effects due → AnswersSome setting slots script (written effects)
-at-due setting slots script effects due (inl at) = let whole = whole-act setting slots script effects due at in (whole.0, at-act setting slots script effects due at whole)
+at-due setting slots script effects due (inl at) = at-act setting slots script effects due at
 at-due setting slots script effects due (inr end) = let goes = run-goes setting slots (acts_of script) effects end.last end.run in (goes.0, goes.1.0)
 
 -- some first acts, all of them carried out
@@ -82,13 +116,44 @@ whole-acts : (setting : Setting) (slots : ℕ) (backs : List Bool) (script : Scr
 whole-acts setting slots backs script done writes is =
     wider (blank slots) (sets_through setting backs [] [] done) (sets_of setting backs script) writes (is.behind, is.sets) is.answers
 
--- all of some of them
-abbrev AfterSome : Setting → ℕ → Script → List Write → Type 0
-AfterSome setting slots script writes = (done : List Act) × AfterActs setting slots script done writes
+-- where memory was wanting: all of some of them, unless a commit crashes
+abbrev WantsMemory : Setting → ℕ → Script → List Write → Type 0
+WantsMemory setting slots script writes =
+    (backs : List Bool) × AnswersAllTheWay (blank slots) (sets_of setting backs script) writes × (CrashesNowhere script → EndsAfterSome (blank slots) setting backs script writes)
 
-for-memory : (setting : Setting) (slots : ℕ) (script : Script) (effects : List Effect) → IsOutOfMemory setting slots script effects → AfterSome setting slots script (written effects)
-for-memory setting slots script effects (inl none) = ([], after-acts setting slots script [] (acts_of script) effects (start slots) refl (none, refl))
-for-memory setting slots script effects (inr at) = (at.done, after-acts setting slots script at.done (at.act ∷ at.later) effects at.before at.acts at.run)
+wants-none : (setting : Setting) (slots : ℕ) (script : Script) (done later : List Act) (effects : List Effect) (last : Progress) → acts_of script ≡ done ++ later
+    → Runs setting slots done effects last → WantsMemory setting slots script (written effects)
+wants-none setting slots script done later effects last same run =
+    let ends = after-acts setting slots script done later effects last same run in
+    (ends.0, whole-acts setting slots ends.0 script done (written effects) ends.1, λ nowhere. (done, ends.1))
+
+-- a script with a crash has one
+has-crash : (done : List Act) (after : ℕ) (later : List Act) → AllByRecursion (λ act. IsCrash act → ⊥) (done ++ Crash after ∷ later) → ⊥
+has-crash [] after later nowhere = nowhere.0 tt
+has-crash (act ∷ done) after later nowhere = has-crash done after later nowhere.1
+
+wants-at : (setting : Setting) (slots : ℕ) (script : Script) (effects : List Effect) (at : IsOutOfMemoryAtAct setting slots script effects) → WantsMemory setting slots script (written effects)
+wants-at setting slots script effects at = subst (λ effects. WantsMemory setting slots script (written effects)) (sym at.effects_are) (by at.act at.acts at.front at.needs)
+  where
+    nothing : (act : Act) → acts_of script ≡ at.done ++ act ∷ at.later → (front : List Effect) → front ≡ [] → WantsMemory setting slots script (written (at.body ++ front))
+    nothing act acts front none =
+        subst (λ effects. WantsMemory setting slots script (written effects)) (sym (ap (λ effects. at.body ++ effects) none ∙ append-nil at.body))
+        (wants-none setting slots script at.done (act ∷ at.later) at.body at.before acts at.run)
+
+    by : (act : Act) → acts_of script ≡ at.done ++ act ∷ at.later → (front : List Effect) → TakesMemory setting at.before act front → WantsMemory setting slots script (written (at.body ++ front))
+    by (Command change) acts front needs = nothing (Command change) acts front needs
+    by (Probe key) acts front needs = absurd needs
+    by (Packet key) acts front needs = absurd needs
+    by Commit acts front needs = nothing Commit acts front needs.1
+    by (Trial most) acts front needs = nothing (Trial most) acts front needs.1
+    by (Crash after) acts front (accepted, inl none) = nothing (Crash after) acts front none
+    by (Crash after) acts front (accepted, inr stops) =
+        let some = as-commits setting slots script at.done after at.later at.body front at.before acts at.run (stops-as_commit setting at.before after front accepted stops) in
+        (some.0, some.1, λ nowhere. absurd (has-crash at.done after at.later (subst (AllByRecursion (λ act. IsCrash act → ⊥)) acts nowhere)))
+
+for-memory : (setting : Setting) (slots : ℕ) (script : Script) (effects : List Effect) → IsOutOfMemory setting slots script effects → WantsMemory setting slots script (written effects)
+for-memory setting slots script effects (inl none) = wants-none setting slots script [] (acts_of script) effects (start slots) refl (none, refl)
+for-memory setting slots script effects (inr at) = wants-at setting slots script effects at
 
 -- ---- where no write has a line, a line is the last effect of its act
 
@@ -131,6 +196,12 @@ not-none : (front : List Effect) (effect : Effect) (back : List Effect) → fron
 not-none [] effect back is = cc
 not-none (first ∷ front) effect back is = cc
 
+-- actions are no lines
+no-line : (made : List Action) (front : List Effect) (line : List ℕ) (back : List Effect) → map Acts made ≡ front ++ Prints line ∷ back → ⊥
+no-line [] front line back is = not-none front (Prints line) back (sym is)
+no-line (action ∷ made) [] line back is = absurd (cc)
+no-line (action ∷ made) (effect ∷ front) line back is = let more : map Acts made ≡ front ++ Prints line ∷ back = cc in no-line made front line back more
+
 last-line : (made : List Action) (front back : List Effect) (line text : List ℕ) → front ++ Prints line ∷ back ≡ map Acts made ++ Prints text ∷ [] → back ≡ []
 last-line [] [] back line text is = cc
 last-line [] (effect ∷ front) back line text is = let none : front ++ Prints line ∷ back ≡ [] = cc in absurd (not-none front (Prints line) back none)
@@ -158,6 +229,18 @@ last-tried most setting before (Unsound fault) front back line after quiet none 
 last-tried most setting before (OutOfBits field needed free) front back line after quiet none step = last-line [] front back line _ step.0
 last-tried most setting before (OutOfSlots needed free) front back line after quiet none step = last-line [] front back line _ step.0
 
+last-crashed : (limit : ℕ) (setting : Setting) (before : Progress) (is : Verdict) (front back : List Effect) (line : List ℕ) (after : Progress)
+    → setting.trace ≡ false → before.probes ≡ [] → Judged (Crashes limit) setting before is (front ++ Prints line ∷ back) after → back ≡ []
+last-crashed limit setting before Accepted front back line after quiet none (inl commits) = last-judged setting before Accepted front back line after quiet none commits.0
+last-crashed limit setting before Accepted front back line after quiet none (inr restarts) =
+    let actions = actions_over setting before limit restarts.made restarts.rest in
+    let text = restarted_line (before.commits + 1) limit (limit + length restarts.rest) in
+    last-line actions front back line text
+    (restarts.effects_are ∙ ap (λ effects. effects ++ Prints text ∷ []) (quiet-carried setting before actions quiet none))
+last-crashed limit setting before (Unsound fault) front back line after quiet none step = last-line [] front back line _ step.0
+last-crashed limit setting before (OutOfBits field needed free) front back line after quiet none step = last-line [] front back line _ step.0
+last-crashed limit setting before (OutOfSlots needed free) front back line after quiet none step = last-line [] front back line _ step.0
+
 last-step : (setting : Setting) (before : Progress) (act : Act) (front back : List Effect) (line : List ℕ) (after : Progress)
     → setting.trace ≡ false → before.probes ≡ [] → HasEffects setting before act (front ++ Prints line ∷ back) after → back ≡ []
 last-step setting before (Command change) front back line after quiet none step = absurd (not-none front (Prints line) back step.0)
@@ -167,6 +250,8 @@ last-step setting before Commit front back line after quiet none step =
     last-judged setting before (verdict setting.slots setting.mode before.rules before.batch) front back line after quiet none step
 last-step setting before (Trial most) front back line after quiet none step =
     last-tried most setting before (verdict setting.slots setting.mode before.rules before.batch) front back line after quiet none step
+last-step setting before (Crash limit) front back line after quiet none step =
+    last-crashed limit setting before (verdict setting.slots setting.mode before.rules before.batch) front back line after quiet none step
 
 -- the first of some acts are no probes either
 none-first : (done later : List Act) → AllByRecursion IsNoProbe (done ++ later) → AllByRecursion IsNoProbe done
@@ -179,25 +264,39 @@ LineFails setting slots script writes =
     (backs : List Bool) × AnswersAllTheWay (blank slots) (sets_of setting backs script) writes × (TellsNoWrite setting script → EndsAfterSome (blank slots) setting backs script writes)
 
 at-line : (setting : Setting) (slots : ℕ) (script : Script) (effects : List Effect) (line : List ℕ) → IsDue setting slots script effects (Prints line) → LineFails setting slots script (written effects)
-at-line setting slots script effects line (inl at) =
-    let whole = whole-act setting slots script effects (Prints line) at in
-    let done : List Act = at.done ++ at.act ∷ [] in (
-      whole.0,
-      at-act setting slots script effects (Prints line) at whole,
-      λ quiet.
-          let done_none = none-first at.done (at.act ∷ at.later) (subst (AllByRecursion IsNoProbe) at.acts quiet.1) in
-          let probes : at.before.probes ≡ [] = none-probed setting (start slots) at.done at.body at.before done_none at.run in
-          let none = last-step setting at.before at.act at.front at.cut.back line at.cut.after quiet.0 probes at.cut.step in
-          let all : List Effect = at.body ++ (at.front ++ Prints line ∷ at.cut.back) in
-          let same : written all ≡ written effects =
-          ap (λ back. written (at.body ++ (at.front ++ Prints line ∷ back))) none
-          ∙ ap written (sym (append_assoc at.body at.front (Prints line ∷ [])))
-          ∙ written-append (at.body ++ at.front) (Prints line ∷ []) ∙ append-nil (written (at.body ++ at.front)) ∙ sym (ap written at.effects_are) in (
-            done,
-            subst (λ writes. EndsAfter (blank slots) setting whole.0 script done writes) same
-                (ends-after setting slots whole.0 script done at.later all (at.acts ∙ sym (append_assoc at.done (at.act ∷ []) at.later)) whole.1),
-          ),
-    )
+at-line setting slots script effects line (inl at) = go at.cut
+  where
+    probes-none : TellsNoWrite setting script → at.before.probes ≡ []
+    probes-none quiet = none-probed setting (start slots) at.done at.body at.before (none-first at.done (at.act ∷ at.later) (subst (AllByRecursion IsNoProbe) at.acts quiet.1)) at.run
+
+    go : IsCutStep setting at.before at.act at.front (Prints line) → LineFails setting slots script (written effects)
+    go (inl cut) =
+        let whole = whole-act setting slots script effects (Prints line) at cut in
+        let done : List Act = at.done ++ at.act ∷ [] in (
+          whole.0,
+          in-step setting slots script effects (Prints line) at cut whole,
+          λ quiet.
+              let none = last-step setting at.before at.act at.front cut.back line cut.after quiet.0 (probes-none quiet) cut.step in
+              let all : List Effect = at.body ++ (at.front ++ Prints line ∷ cut.back) in
+              let same : written all ≡ written effects =
+              ap (λ back. written (at.body ++ (at.front ++ Prints line ∷ back))) none
+              ∙ ap written (sym (append_assoc at.body at.front (Prints line ∷ [])))
+              ∙ written-append (at.body ++ at.front) (Prints line ∷ []) ∙ append-nil (written (at.body ++ at.front)) ∙ sym (ap written at.effects_are) in (
+                done,
+                subst (λ writes. EndsAfter (blank slots) setting whole.0 script done writes) same
+                    (ends-after setting slots whole.0 script done at.later all (at.acts ∙ sym (append_assoc at.done (at.act ∷ []) at.later)) whole.1),
+              ),
+        )
+    go (inr cut) =
+        let some = before-crash setting slots script effects (Prints line) at cut in (
+          some.0,
+          some.1,
+          λ quiet.
+              let actions = actions_before setting at.before cut.after cut.made in
+              let all : map Acts actions ≡ at.front ++ Prints line ∷ cut.back =
+              sym (quiet-actions setting 0 0 at.before.state actions quiet.0) ∙ ap (λ probes. effects_of setting probes 0 0 at.before.state actions) (sym (probes-none quiet)) ∙ cut.parts in
+              absurd (no-line actions at.front line cut.back all),
+        )
 at-line setting slots script effects line (inr end) =
     let goes = run-goes setting slots (acts_of script) effects end.last end.run in (
       goes.0,
@@ -226,8 +325,7 @@ outcome_answers setting slots script came WriteFault effects partial first is =
 outcome_answers setting slots script came DeviceFault effects partial first is =
     let some = at-due setting slots script effects _ is.0.due in record { backs = some.0; answers = some.1; ends = tt }
 outcome_answers setting slots script came Memory effects partial first is =
-    let ends = for-memory setting slots script effects is.0 in
-    record { backs = ends.1.0; answers = whole-acts setting slots ends.1.0 script ends.0 (written effects) ends.1.1; ends = (ends.0, ends.1.1) }
+    let wants = for-memory setting slots script effects is.0 in record { backs = wants.0; answers = wants.1; ends = wants.2 }
 outcome_answers setting slots script came Usage effects partial first is = absurd is
 
 -- so of a job that is carried out

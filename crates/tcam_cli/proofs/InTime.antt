@@ -21,7 +21,7 @@ use Rattle.tcam_cli.specs.Headline.{Job, NoJob, Tells, Reads, Makes, acts_of}
 use Rattle.tcam_cli.specs.Readings.{reading}
 use Rattle.tcam_cli.specs.Turns.{IsGoing, IsRead, acts_only, SoFar, Closes, Grows, TurnsBy}
 use Rattle.tcam_cli.specs.Given.{given_so_far, IsInTime, WantsInTime, ReadsInTime}
-use Rattle.tcam_cli.proofs.OneMore.{run-at}
+use Rattle.tcam_cli.proofs.OneMore.{does-events, does-report, run-at}
 use Rattle.tcam_cli.proofs.GivenRuns.{may-second}
 use Rattle.tcam_cli.proofs.Endings.{so-far}
 
@@ -201,12 +201,13 @@ wants-in-time setting slots p q old before status new after events_old events_ne
     let next = turn.wants (ap Some memory) left (concat q ++ now) now (Some accepted_old) (may-second left now p q may) s.so_far in
     let (more, begins) = begins-read setting slots p q old before events_old (Some accepted_old) (Some accepted_mid) left now s.so_far turn.rests turn.last may s.begins front last is in
     record {
-      effects = s.so_far.effects;
-      wants = record { done = acts_only s.so_far.acts; act = next.act; later = next.later; acts = next.acts_are; before = before; run = s.so_far.run; needs = next.wants.needs };
+      effects = s.so_far.effects ++ next.wants.effects;
+      wants = record { done = acts_only s.so_far.acts; act = next.act; later = next.later; acts = next.acts_are; body = s.so_far.effects; before = before; run = s.so_far.run; front = next.wants.effects; needs = next.wants.needs; effects_are = refl };
       more = more;
       done_is = begins;
-      events_is = next.wants.does.events ∙ append-nil events_old ∙ s.so_far.events_is;
-      report_is = next.wants.does.report ∙ append-nil accepted_mid ∙ s.so_far.report;
+      events_is = does-events s.so_far.effects next.wants.effects [] events_old events_new (Some accepted_mid) (Some accepted_new) next.wants.does s.so_far.events_is;
+      report_is = does-report s.so_far.effects next.wants.effects [] events_old events_new (Some accepted_old) (Some accepted_mid) (Some accepted_new) next.wants.does s.so_far.report
+          ∙ ap (λ text. accepted_old ++ text) (append-nil (printed (s.so_far.effects ++ next.wants.effects)));
     }
 
 -- ---- by what the source gave

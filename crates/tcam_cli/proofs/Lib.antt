@@ -23,6 +23,7 @@ mod Examples
 mod Wrong
 mod Padded
 mod AllTheWay
+mod CutCrash
 mod FirstActs
 mod HitlessRuns
 mod SetExamples

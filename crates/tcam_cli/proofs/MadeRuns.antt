@@ -16,6 +16,7 @@ use Rattle.replay.specs.Script.{Whole, limit_fault, most_pending, pending_after}
 use Rattle.replay.specs.Effects.{Setting, Effect, events_in, printed}
 use Rattle.replay.specs.Run.{Progress, Runs, ending, start}
 use Rattle.replay.specs.Carried.{IsAt, Carries}
+use Rattle.replay.specs.Fates.{IsCrash}
 use Rattle.replay.specs.Running.{limit_text}
 use Rattle.tcam_cli.specs.declared.Status.{Status}
 use Rattle.tcam_cli.specs.declared.Status.TheVariants.{Done, Refused, Script as ScriptFault, ReadFault, WriteFault, DeviceFault, Memory, Usage}
@@ -34,6 +35,11 @@ map_append (command ∷ done) left = ap (λ acts. made_act command ∷ acts) (ma
 acts-made : (commands : List Made) → map (λ numbered. numbered.act) (map made_numbered commands) ≡ map made_act commands
 acts-made [] = refl
 acts-made (command ∷ commands) = ap (λ acts. made_act command ∷ acts) (acts-made commands)
+
+-- none of them crashes
+pub never-crash : (command : Made) → IsCrash (made_act command) → ⊥
+never-crash (made.Change change) crash = crash
+never-crash made.Commit crash = crash
 
 -- ---- there is room
 

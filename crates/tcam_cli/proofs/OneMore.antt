@@ -7,13 +7,14 @@ use Rattle.tcam_device.specs.declared.Action.{Action}
 use Rattle.tcam_device.specs.Flight.{writes_in}
 use Rattle.tcam_device.specs.State.{state_after, replay}
 use Rattle.replay.specs.declared.Act.{Act}
-use Rattle.replay.specs.declared.Act.TheVariants.{Command, Probe, Packet, Commit, Trial}
+use Rattle.replay.specs.declared.Act.TheVariants.{Command, Probe, Packet, Commit, Trial, Crash}
 use Rattle.replay.specs.Script.{pending_after, probes_after}
 use Rattle.replay.specs.Effects.{Setting, Effect, events_in, written, printed}
-use Rattle.replay.specs.Run.{Progress, start, Commits, Tries, Judged, HasEffects, Run, Runs}
+use Rattle.replay.specs.Run.{Progress, start, Commits, Tries, Crashes, Judged, HasEffects, Run, Runs}
 use Rattle.replay.specs.Carried.{IsAt, Does}
 use Rattle.tcam_device.proofs.Spans.{state_after-append}
 use Rattle.replay.proofs.Effects.{events-append, written-append, printed-append}
+use Rattle.replay.proofs.Crashed.{written-restarts}
 use Rattle.replay.proofs.Written.{written-return, written-segment}
 use Rattle.commit_writes.proofs.Undone.{undo_ends}
 use Rattle.std.specs.List.{AllByRecursion}
@@ -36,12 +37,20 @@ tried-state most setting old (Unsound fault) effects new step = ap (λ p. p.stat
 tried-state most setting old (OutOfBits field needed free) effects new step = ap (λ p. p.state) step.1 ∙ ap (state_after old.state) (sym (ap written step.0))
 tried-state most setting old (OutOfSlots needed free) effects new step = ap (λ p. p.state) step.1 ∙ ap (state_after old.state) (sym (ap written step.0))
 
+crashed-state : (after : ℕ) (setting : Setting) (old : Progress) (v : Verdict) (effects : List Effect) (new : Progress) → Judged (Crashes after) setting old v effects new → new.state ≡ state_after old.state (written effects)
+crashed-state after setting old Accepted effects new (inl commits) = judged-state setting old Accepted effects new commits.0
+crashed-state after setting old Accepted effects new (inr restarts) = ap (λ p. p.state) restarts.new_is ∙ ap (state_after old.state) (sym (written-restarts setting old new after effects restarts))
+crashed-state after setting old (Unsound fault) effects new step = ap (λ p. p.state) step.1 ∙ ap (state_after old.state) (sym (ap written step.0))
+crashed-state after setting old (OutOfBits field needed free) effects new step = ap (λ p. p.state) step.1 ∙ ap (state_after old.state) (sym (ap written step.0))
+crashed-state after setting old (OutOfSlots needed free) effects new step = ap (λ p. p.state) step.1 ∙ ap (state_after old.state) (sym (ap written step.0))
+
 pub step-state : (setting : Setting) (old : Progress) (act : Act) (effects : List Effect) (new : Progress) → HasEffects setting old act effects new → new.state ≡ state_after old.state (written effects)
 step-state setting old (Command change) effects new step = ap (λ p. p.state) step.1 ∙ ap (state_after old.state) (sym (ap written step.0))
 step-state setting old (Probe key) effects new step = ap (λ p. p.state) step.1 ∙ ap (state_after old.state) (sym (ap written step.0))
 step-state setting old (Packet key) effects new step = ap (λ p. p.state) step.1 ∙ ap (state_after old.state) (sym (ap written step.0))
 step-state setting old Commit effects new step = judged-state setting old (verdict setting.slots setting.mode old.rules old.batch) effects new step
 step-state setting old (Trial most) effects new step = tried-state most setting old (verdict setting.slots setting.mode old.rules old.batch) effects new step
+step-state setting old (Crash after) effects new step = crashed-state after setting old (verdict setting.slots setting.mode old.rules old.batch) effects new step
 
 -- the state of a run is what its writes leave
 run-state-from : (setting : Setting) (old : Progress) (acts : List Act) (effects : List Effect) (new : Progress) → Run setting old acts effects new → new.state ≡ state_after old.state (written effects)
@@ -87,12 +96,20 @@ tried-batch most setting old (Unsound fault) effects new step = ap (λ p. length
 tried-batch most setting old (OutOfBits field needed free) effects new step = ap (λ p. length p.batch) step.1
 tried-batch most setting old (OutOfSlots needed free) effects new step = ap (λ p. length p.batch) step.1
 
+crashed-batch : (after : ℕ) (setting : Setting) (old : Progress) (v : Verdict) (effects : List Effect) (new : Progress) → Judged (Crashes after) setting old v effects new → length new.batch ≡ 0
+crashed-batch after setting old Accepted effects new (inl commits) = judged-batch setting old Accepted effects new commits.0
+crashed-batch after setting old Accepted effects new (inr restarts) = ap (λ p. length p.batch) restarts.new_is
+crashed-batch after setting old (Unsound fault) effects new step = ap (λ p. length p.batch) step.1
+crashed-batch after setting old (OutOfBits field needed free) effects new step = ap (λ p. length p.batch) step.1
+crashed-batch after setting old (OutOfSlots needed free) effects new step = ap (λ p. length p.batch) step.1
+
 pub step-pending : (setting : Setting) (old : Progress) (act : Act) (effects : List Effect) (new : Progress) → HasEffects setting old act effects new → length new.batch ≡ pending_after act (length old.batch)
 step-pending setting old (Command change) effects new step = ap (λ p. length p.batch) step.1 ∙ length-append old.batch (change ∷ [])
 step-pending setting old (Probe key) effects new step = ap (λ p. length p.batch) step.1
 step-pending setting old (Packet key) effects new step = ap (λ p. length p.batch) step.1
 step-pending setting old Commit effects new step = judged-batch setting old (verdict setting.slots setting.mode old.rules old.batch) effects new step
 step-pending setting old (Trial most) effects new step = tried-batch most setting old (verdict setting.slots setting.mode old.rules old.batch) effects new step
+step-pending setting old (Crash after) effects new step = crashed-batch after setting old (verdict setting.slots setting.mode old.rules old.batch) effects new step
 
 -- how many probes there are after an act
 judged-probes : (setting : Setting) (old : Progress) (v : Verdict) (effects : List Effect) (new : Progress) → Judged Commits setting old v effects new → new.probes ≡ old.probes
@@ -108,12 +125,20 @@ tried-probes most setting old (Unsound fault) effects new step = ap (λ p. p.pro
 tried-probes most setting old (OutOfBits field needed free) effects new step = ap (λ p. p.probes) step.1
 tried-probes most setting old (OutOfSlots needed free) effects new step = ap (λ p. p.probes) step.1
 
+crashed-probes : (after : ℕ) (setting : Setting) (old : Progress) (v : Verdict) (effects : List Effect) (new : Progress) → Judged (Crashes after) setting old v effects new → new.probes ≡ old.probes
+crashed-probes after setting old Accepted effects new (inl commits) = judged-probes setting old Accepted effects new commits.0
+crashed-probes after setting old Accepted effects new (inr restarts) = ap (λ p. p.probes) restarts.new_is
+crashed-probes after setting old (Unsound fault) effects new step = ap (λ p. p.probes) step.1
+crashed-probes after setting old (OutOfBits field needed free) effects new step = ap (λ p. p.probes) step.1
+crashed-probes after setting old (OutOfSlots needed free) effects new step = ap (λ p. p.probes) step.1
+
 pub step-probes : (setting : Setting) (old : Progress) (act : Act) (effects : List Effect) (new : Progress) → HasEffects setting old act effects new → length new.probes ≡ probes_after act (length old.probes)
 step-probes setting old (Command change) effects new step = ap (λ p. length p.probes) step.1
 step-probes setting old (Probe key) effects new step = ap (λ p. length p.probes) step.1 ∙ length-append old.probes (key ∷ [])
 step-probes setting old (Packet key) effects new step = ap (λ p. length p.probes) step.1
 step-probes setting old Commit effects new step = ap length (judged-probes setting old (verdict setting.slots setting.mode old.rules old.batch) effects new step)
 step-probes setting old (Trial most) effects new step = ap length (tried-probes most setting old (verdict setting.slots setting.mode old.rules old.batch) effects new step)
+step-probes setting old (Crash after) effects new step = ap length (crashed-probes after setting old (verdict setting.slots setting.mode old.rules old.batch) effects new step)
 
 -- acts without a probe leave the probes
 pub none-probed : (setting : Setting) (old : Progress) (acts : List Act) (effects : List Effect) (new : Progress) → AllByRecursion IsNoProbe acts → Run setting old acts effects new → new.probes ≡ old.probes
@@ -125,6 +150,8 @@ none-probed setting old (Commit ∷ acts) effects new none (front, mid, back, st
     none-probed setting mid acts back new none.1 rest ∙ judged-probes setting old (verdict setting.slots setting.mode old.rules old.batch) front mid step
 none-probed setting old (Trial most ∷ acts) effects new none (front, mid, back, step, rest, whole) =
     none-probed setting mid acts back new none.1 rest ∙ tried-probes most setting old (verdict setting.slots setting.mode old.rules old.batch) front mid step
+none-probed setting old (Crash after ∷ acts) effects new none (front, mid, back, step, rest, whole) =
+    none-probed setting mid acts back new none.1 rest ∙ crashed-probes after setting old (verdict setting.slots setting.mode old.rules old.batch) front mid step
 
 -- device and report after more effects
 pub does-events : (effects more : List Effect) (partial : List ℕ) (events_old events_new : List Action) (taken_old taken_new : Option (List ℕ))

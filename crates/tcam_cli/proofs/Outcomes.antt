@@ -1,5 +1,5 @@
 -- How a run ends, by the acts that were carried out before.
-use Rattle.std.proofs.Common.{◌≡◌, inl, inr, ℕ, ◌∷◌, ◌++◌, Option, None, Err, List, [], refl, ap, sym, ◌∙◌, subst, append-nil}
+use Rattle.std.proofs.Common.{◌≡◌, inl, inr, ℕ, ◌∷◌, ◌++◌, Bool, true, false, Option, None, Err, List, [], refl, ap, sym, ◌∙◌, subst, append-nil}
 use Rattle.std.specs.Io.KnownBytes.{Appends}
 use Rattle.std.proofs.KnownBytes.{Appends-trans}
 use Rattle.tcam_device.specs.declared.Action.{Action}
@@ -23,30 +23,36 @@ use Rattle.tcam_cli.proofs.InTime.{does-grows}
 abbrev pub Stops : ℕ → Setting → Progress → Act → RunFault → List Action → List Action → Option (List ℕ) → Option (List ℕ) → Type 0
 Stops slots setting last act fault.Sink events events_new before after = IsAt slots events last → CutsAtLine setting last act events events_new before after
 Stops slots setting last act fault.Device events events_new before after = IsAt slots events last → CutsAtWrite setting last act events events_new before after
-Stops slots setting last act fault.Memory events events_new before after = Wants setting last act events events_new before after
+Stops slots setting last act fault.Memory events events_new before after = IsAt slots events last → Wants setting last act events events_new before after
 Stops slots setting last act fault.BatchFull events events_new before after = Unit {0}
 Stops slots setting last act fault.ProbesFull events events_new before after = Unit {0}
 Stops slots setting last act (fault.Held left) events events_new before after = Unit {0}
+
+-- want of memory, where a call may follow or where none may
+wants-at : (slots : ℕ) (old : Running) (act : Act) (new : Running) (events events_new : List Action) (before after : Option (List ℕ)) (broken : Bool) → new.broken ≡ broken
+    → ComesTo slots old act new (Err fault.Memory) events events_new before after → IsAt slots events (progress_of slots old) → Wants (setting_of old) (progress_of slots old) act events events_new before after
+wants-at slots old act new events events_new before after false is comes at = (subst (λ one. ComesTo slots old act (record new { broken = one }) (Err fault.Memory) events events_new before after) is comes).0
+wants-at slots old act new events events_new before after true is comes at = (subst (λ one. ComesTo slots old act (record new { broken = one }) (Err fault.Memory) events events_new before after) is comes) at
 
 pub stops : (slots : ℕ) (old : Running) (act : Act) (new : Running) (why : RunFault) (events events_new : List Action) (before after : Option (List ℕ))
     → ComesTo slots old act new (Err why) events events_new before after → Stops slots (setting_of old) (progress_of slots old) act why events events_new before after
 stops slots old act new fault.Sink events events_new before after comes = comes
 stops slots old act new fault.Device events events_new before after comes = comes
-stops slots old act new fault.Memory events events_new before after comes = comes.0
+stops slots old act new fault.Memory events events_new before after comes = wants-at slots old act new events events_new before after new.broken refl comes
 stops slots old act new fault.BatchFull events events_new before after comes = tt
 stops slots old act new fault.ProbesFull events events_new before after comes = tt
 stops slots old act new (fault.Held left) events events_new before after comes = tt
 
 pub stops-memory : (slots : ℕ) (setting : Setting) (last : Progress) (act : Act) (why : RunFault) (events events_new : List Action) (before after : Option (List ℕ))
-    → why ≡ fault.Memory → Stops slots setting last act why events events_new before after → Wants setting last act events events_new before after
-stops-memory slots setting last act why events events_new before after is stop = subst (λ why. Stops slots setting last act why events events_new before after) is stop
+    → why ≡ fault.Memory → IsAt slots events last → Stops slots setting last act why events events_new before after → Wants setting last act events events_new before after
+stops-memory slots setting last act why events events_new before after is at stop = (subst (λ why. Stops slots setting last act why events events_new before after) is stop) at
 
 -- events and report have only grown
 pub stops-grows : (slots : ℕ) (setting : Setting) (last : Progress) (act : Act) (why : RunFault) (events events_new : List Action) (before after : Option (List ℕ))
     → limit_text (Err why) ≡ None → IsAt slots events last → Stops slots setting last act why events events_new before after → Grows events events_new before after
 stops-grows slots setting last act fault.Sink events events_new before after room at is = does-grows _ _ events events_new before after (is at).does
 stops-grows slots setting last act fault.Device events events_new before after room at is = does-grows _ _ events events_new before after (is at).does
-stops-grows slots setting last act fault.Memory events events_new before after room at is = does-grows _ _ events events_new before after is.does
+stops-grows slots setting last act fault.Memory events events_new before after room at is = does-grows _ _ events events_new before after (is at).does
 stops-grows slots setting last act fault.BatchFull events events_new before after room at is = absurd (cc)
 stops-grows slots setting last act fault.ProbesFull events events_new before after room at is = absurd (cc)
 stops-grows slots setting last act (fault.Held left) events events_new before after room at is = absurd (cc)
@@ -115,13 +121,14 @@ module _ (setting : Setting) (slots : ℕ) (script came : Script) (done : List A
           events_is = does-events effects cut.front [] events events_new before after cut.does events_is;
           report_is = does-report effects cut.front [] events events_new start before after cut.does report;
         }
-    stopped-outcome fault.Memory room is = record {
-      effects = effects;
-      partial = [];
-      outcome = (inr (record { done = done; act = act; later = later; acts = acts; before = last; run = run; needs = is.needs }), refl);
-      events_is = does-events effects [] [] events events_new before after is.does events_is ∙ ap events_in (append-nil effects);
-      report_is = subst (λ e. Appends start after (printed e ++ [])) (append-nil effects) (does-report effects [] [] events events_new start before after is.does report);
-    }
+    stopped-outcome fault.Memory room is =
+        let wants = is at in record {
+          effects = effects ++ wants.effects;
+          partial = [];
+          outcome = (inr (record { done = done; act = act; later = later; acts = acts; body = effects; before = last; run = run; front = wants.effects; needs = wants.needs; effects_are = refl }), refl);
+          events_is = does-events effects wants.effects [] events events_new before after wants.does events_is;
+          report_is = does-report effects wants.effects [] events events_new start before after wants.does report;
+        }
     stopped-outcome fault.BatchFull room is = absurd (cc)
     stopped-outcome fault.ProbesFull room is = absurd (cc)
     stopped-outcome (fault.Held left) room is = absurd (cc)

@@ -10,7 +10,8 @@ use Rattle.tcam_device.specs.declared.Write.{Write}
 use Rattle.tcam_device.specs.State.{State, blank, Shows, state_after}
 use Rattle.tcam_device.specs.Hitless.{ShowsOldOrNew}
 use Rattle.replay.specs.declared.Act.{Act}
-use Rattle.replay.specs.declared.Act.TheVariants.{Command, Probe, Packet, Commit, Trial}
+use Rattle.replay.specs.declared.Act.TheVariants.{Command, Probe, Packet, Commit, Trial, Crash}
+use Rattle.replay.specs.Fates.{IsCrash}
 use Rattle.replay.specs.Script.{Script, script_of}
 use Rattle.replay.specs.Effects.{Setting}
 use Rattle.tcam_cli.specs.declared.Status.{Status}
@@ -38,6 +39,11 @@ sets_through setting backs rules batch (Trial most ∷ acts) =
             | true ↦ rules ∷ set_after rules batch ∷ sets_through setting (drop 1 backs) rules [] acts
             | false ↦ rules ∷ sets_through setting (drop 1 backs) (set_after rules batch) [] acts
           ]
+      | _ ↦ sets_through setting backs rules [] acts
+    ]
+sets_through setting backs rules batch (Crash after ∷ acts) =
+    elim (verdict setting.slots setting.mode rules batch) [
+      | Accepted ↦ rules ∷ sets_through setting backs (set_after rules batch) [] acts
       | _ ↦ sets_through setting backs rules [] acts
     ]
 
@@ -87,16 +93,22 @@ IsNoProbe (Probe key) = ⊥
 IsNoProbe (Packet key) = Unit {0}
 IsNoProbe Commit = Unit {0}
 IsNoProbe (Trial most) = Unit {0}
+IsNoProbe (Crash after) = Unit {0}
 
 -- no write has a line of its own: no trace is wanted, and the script has no probe
 abbrev pub TellsNoWrite : Setting → Script → Type 0
 TellsNoWrite setting script = (setting.trace ≡ false) × AllByRecursion IsNoProbe (acts_of script)
 
+-- no commit of the script crashes
+abbrev pub CrashesNowhere : Script → Type 0
+CrashesNowhere script = AllByRecursion (λ act. IsCrash act → ⊥) (acts_of script)
+
 -- Where the writes of a run end, by its status: at the last set of the script, of what came of it, or of some first
--- acts. Memory is wanting only before a commit's first write, and a commit prints its line after its last one, so
--- want of memory leaves no commit half made, nor does a line that fails where no write has a line of its own. A device
--- write that fails each time may, and so may the line of a write: the writes then end within a commit, where each key
--- has the answer of the set before it or of the one after it (`answers` of IsHitlessRun), and nothing more can be said.
+-- acts. Memory is wanting only before a commit's first write, or where it crashes: so in a script without crashes want of
+-- memory leaves no commit half made. A commit prints its line after its last write: so a line that fails leaves none half
+-- made where no write has a line of its own. A device write that fails each time may, and so may the line of a write, or
+-- a crash: the writes then end within a commit, where each key has the answer of the set before it or of the one after it
+-- (`answers` of IsHitlessRun), and nothing more can be said.
 abbrev pub EndsAs : State → Setting → List Bool → Script → Script → Status → List Write → Type 0
 EndsAs state setting backs script came Done writes = EndsAtLast state (sets_of setting backs script) writes
 EndsAs state setting backs script came Refused writes = EndsAtLast state (sets_of setting backs script) writes
@@ -104,7 +116,7 @@ EndsAs state setting backs script came ScriptFault writes = EndsAtLast state (se
 EndsAs state setting backs script came ReadFault writes = EndsAfter state setting backs script (acts_of came) writes
 EndsAs state setting backs script came WriteFault writes = TellsNoWrite setting script → EndsAfterSome state setting backs script writes
 EndsAs state setting backs script came DeviceFault writes = Unit {0}
-EndsAs state setting backs script came Memory writes = EndsAfterSome state setting backs script writes
+EndsAs state setting backs script came Memory writes = CrashesNowhere script → EndsAfterSome state setting backs script writes
 EndsAs state setting backs script came Usage writes = ⊥
 
 -- What packets see of a run over a script, on a device that was blank: its trials were taken back, or not, as these

@@ -44,8 +44,8 @@ pub record IsInTime (setting : Setting) (device_slots : ℕ) (before : List (Lis
   pub report_rest : List ℕ
   pub report_is : accepted_new ≡ accepted_old ++ printed effects ++ report_rest
 
--- Memory was wanting at an act of a script that was not whole before the last read, and nothing was done for it: the
--- acts before it begin with those of the pieces that came before that read.
+-- Memory was wanting at an act of a script that was not whole before the last read, and nothing was done for it but up to
+-- its crash: the acts before it begin with those of the pieces that came before that read.
 pub record WantsInTime (setting : Setting) (device_slots : ℕ) (before : List (List ℕ)) (bytes : List ℕ) (events : List Action) (accepted_old accepted_new : List ℕ) : Type 0 where
   pub effects : List Effect
   pub wants : IsOutOfMemoryAtAct setting device_slots (script_of (reading setting.family) bytes) effects

@@ -1,8 +1,8 @@
 -- What the top call promises: for every script the commits are accepted or refused as the rule lists alone say; after
--- every device write each packet gets the old or the new rule set's answer, and after the last write of a commit that
--- finishes the new one, of a trial that is taken back the old one; a refused commit writes nothing; and an insertion
--- takes at most 1 + 2 m (1 + c) writes. Writes, drains and lines come in one order: a probe's line stands a depth of
--- writes behind its write, or before a drain or the commit's end, and a drain only where a commit gives new bits.
+-- every device write each packet gets the old or the new rule set's answer, over a crash too, and after the last write of
+-- a commit that finishes the new one, of a trial that is taken back the old one; a refused commit writes nothing; and an
+-- insertion takes at most 1 + 2 m (1 + c) writes. Writes, drains and lines come in one order: a probe's line stands a
+-- depth of writes behind its write, or before a drain or the commit's end, and a drain only where a commit gives new bits.
 use Rattle.std.specs.Prelude.{◌≡◌, ◌≢◌, ℕ, ◌-◌, ◌==◌, true, false, Bool, Option, Some, option_map, IfSome, List, [], ◌∷◌, ◌++◌, length, take, drop, map, ◌⊎◌}
 use Rattle.std.specs.Io.KnownBytes.{Appends}
 use Rattle.call_history.specs.Cause.{IsCounted}
@@ -16,7 +16,7 @@ use Rattle.tcam_device.specs.declared.Action.{Action}
 use Rattle.tcam_device.specs.declared.Action.TheVariants.{Written}
 use Rattle.batch_order.specs.CarriedOut.{IsTried}
 use Rattle.replay.specs.declared.Act.{Act}
-use Rattle.replay.specs.declared.Act.TheVariants.{Command, Probe, Packet, Commit, Trial}
+use Rattle.replay.specs.declared.Act.TheVariants.{Command, Probe, Packet, Commit, Trial, Crash}
 use Rattle.replay.specs.Script.{Script, ScriptEnd, Whole, FaultAt, Reading, acts_from, script_of}
 use Rattle.replay.specs.Text.{fault_line, usage_line}
 use Rattle.replay.specs.Effects.{Setting, Effect, Acts, Prints, events_in, printed}
@@ -91,15 +91,18 @@ pub record IsCutAtWrite (setting : Setting) (device_slots : ℕ) (script : Scrip
   pub write : Write
   pub due : IsDue setting device_slots script effects (Acts (Written write))
 
--- Memory was wanting at an act: the effects of those before it.
+-- Memory was wanting at an act: the effects of those before it, and those that it had by then.
 pub record IsOutOfMemoryAtAct (setting : Setting) (device_slots : ℕ) (script : Script) (effects : List Effect) : Type 0 where
   pub done : List Act
   pub act : Act
   pub later : List Act
   pub acts : acts_of script ≡ done ++ act ∷ later
+  pub body : List Effect
   pub before : Progress
-  pub run : Runs setting device_slots done effects before
-  pub needs : TakesMemory setting before act
+  pub run : Runs setting device_slots done body before
+  pub front : List Effect
+  pub needs : TakesMemory setting before act front
+  pub effects_are : effects ≡ body ++ front
 
 -- or before the first
 abbrev pub IsOutOfMemory : Setting → ℕ → Script → List Effect → Type 0
@@ -210,6 +213,11 @@ any_refused setting backs rules batch (Trial most ∷ acts) =
             | true ↦ any_refused setting (drop 1 backs) rules [] acts
             | false ↦ any_refused setting (drop 1 backs) (set_after rules batch) [] acts
           ]
+      | _ ↦ true
+    ]
+any_refused setting backs rules batch (Crash after ∷ acts) =
+    elim (verdict setting.slots setting.mode rules batch) [
+      | Accepted ↦ any_refused setting backs (set_after rules batch) [] acts
       | _ ↦ true
     ]
 

@@ -82,6 +82,7 @@ ipv6_named = record {
 unfoldable pub script_commands : Named → List ℕ
 script_commands named = codes "    commit                     carries out all changes since the last, or none"
     ++ 10 ∷ codes "    trial K                    the same, and takes it back after write K of more"
+    ++ 10 ∷ codes "    crash K                    the same, and restarts after write K of more"
     ++ 10 ∷ codes "    packet SRC DST PROTO SPORT DPORT    looks this packet up"
     ++ 10 ∷ codes "    probe SRC DST PROTO SPORT DPORT     looks it up after each later write"
     ++ 10 ∷ codes "    frame HEX                           looks up an " ++ named.version ++ codes " packet in hexadecimal"

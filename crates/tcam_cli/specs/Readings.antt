@@ -18,7 +18,7 @@ use Rattle.acl_reader.specs.declared.AclCommand.{AclCommand}
 use Rattle.acl_reader.specs.declared.AclCommand.TheVariants as acl
 use Rattle.acl_reader.specs.Grammar.{acl_line}
 use Rattle.replay.specs.declared.Act.{Act}
-use Rattle.replay.specs.declared.Act.TheVariants.{Command, Probe, Packet, Commit, Trial}
+use Rattle.replay.specs.declared.Act.TheVariants.{Command, Probe, Packet, Commit, Trial, Crash}
 use Rattle.replay.specs.declared.Family.{Family}
 use Rattle.replay.specs.declared.Family.TheVariants.{Route, Acl, Route6, Acl6}
 use Rattle.replay.specs.Script.{Reading}
@@ -29,6 +29,7 @@ common_act (common.Probe key) = Probe key
 common_act (common.Packet key) = Packet key
 common_act common.Commit = Commit
 common_act (common.Trial most) = Trial most
+common_act (common.Crash after) = Crash after
 
 -- the priority of a route of a version of IP, by its prefix
 abbrev pub route_rank : IpVersion → AddressBlock → ℕ

@@ -131,7 +131,7 @@ pub record GoesOn (setting : Setting) (slots : ℕ) (acts : List NumberedAct) (b
   pub more : List Act
   pub acts_are : acts_only so_far.acts ≡ acts_only acts ++ more
 
--- memory is wanting at the act after these, and nothing is done for it
+-- memory is wanting at the act after these, and nothing is done for it but up to its crash
 pub record WantsNext (setting : Setting) (acts : List NumberedAct) (bytes : List ℕ) (before : Progress) (events_old events_new : List Action) (taken_old taken_new : Option (List ℕ)) : Type 0 where
   pub act : Act
   pub later : List Act

@@ -81,6 +81,7 @@ Commands of a script, one a line:
     route del PREFIX           the route of this prefix goes
     commit                     carries out all changes since the last, or none
     trial K                    the same, and takes it back after write K of more
+    crash K                    the same, and restarts after write K of more
     packet SRC DST PROTO SPORT DPORT    looks this packet up
     probe SRC DST PROTO SPORT DPORT     looks it up after each later write
     frame HEX                           looks up an IPv4 packet in hexadecimal
@@ -120,6 +121,7 @@ Commands of a script, one a line, with the source's side and ports first:
     acl del SEQ                the rule of this number goes
     commit                     carries out all changes since the last, or none
     trial K                    the same, and takes it back after write K of more
+    crash K                    the same, and restarts after write K of more
     packet SRC DST PROTO SPORT DPORT    looks this packet up
     probe SRC DST PROTO SPORT DPORT     looks it up after each later write
     frame HEX                           looks up an IPv4 packet in hexadecimal
@@ -161,6 +163,7 @@ Commands of a script, one a line:
     route del PREFIX           the route of this prefix goes
     commit                     carries out all changes since the last, or none
     trial K                    the same, and takes it back after write K of more
+    crash K                    the same, and restarts after write K of more
     packet SRC DST PROTO SPORT DPORT    looks this packet up
     probe SRC DST PROTO SPORT DPORT     looks it up after each later write
     frame HEX                           looks up an IPv6 packet in hexadecimal
@@ -200,6 +203,7 @@ Commands of a script, one a line, with the source's side and ports first:
     acl del SEQ                the rule of this number goes
     commit                     carries out all changes since the last, or none
     trial K                    the same, and takes it back after write K of more
+    crash K                    the same, and restarts after write K of more
     packet SRC DST PROTO SPORT DPORT    looks this packet up
     probe SRC DST PROTO SPORT DPORT     looks it up after each later write
     frame HEX                           looks up an IPv6 packet in hexadecimal

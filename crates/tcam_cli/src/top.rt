@@ -10,6 +10,7 @@ ghost use Rattle.tcam_cli.specs.Given.{IsPromisedByGiven, ReadsInTime};
 ghost use Rattle.line_words.specs.Texts.{word_fault_text};
 ghost use Rattle.rule_model.specs.Rule.{route_rule};
 ghost use Rattle.replay.specs.Run.{start, ending};
+ghost use Rattle.replay.specs.Carried.{IsAt};
 ghost use Rattle.replay.specs.Outside.{Leaves};
 ghost use Rattle.replay.specs.Running.{progress_of, limit_text, setting_of, routes_of, IsActOf};
 ghost use Rattle.replay.specs.Script.{Whole};
@@ -36,7 +37,7 @@ use rule_model::{
 use rule_store::Command;
 use script_lines::{Failed, Line, LineFault, Lines, Sink, Source};
 use std::alloc::Global;
-use tcam_device::Device;
+use tcam_device::ReadBack;
 
 /// Runs what the words of a command line ask for, the program's name first, over a blank device of at least 4,096
 /// slots with no word in flight: a script of routes or of an access list from the source, commands of an access list
@@ -48,21 +49,25 @@ use tcam_device::Device;
 /// trial with more writes than it may make makes so many of them and then undoes each, the last one first: it ends with
 /// the set, the live ranges and the device as they were before it. A trial with no more is a commit.
 ///
+/// A crash with more writes than it may make makes so many of them. Then its manager is dropped, and another one goes on
+/// with the commit by what the device shows: the same is promised of the writes of both, one after the other. A crash
+/// with no more is a commit.
+///
 /// A probe's line stands a depth of writes behind the write that it is for, or before a drain or the commit's line
 /// where that comes first, and has what the device answers the probe's key at that moment. The device is drained once
 /// in a commit that gives new bits, behind the words of its tables, unless it is a trial that is turned round by then,
-/// and not otherwise.
+/// and once more behind a crash that comes before an entry stands that the commit inserts; not otherwise.
 ///
 /// The answer is `Done` or `Refused` where the script was read to its end, `Refused` where some commit was refused;
 /// `Script` where a line is at fault, which the last line of the report names. `ReadFault` and `WriteFault` come
 /// exactly where the count of failures of source or sink rose. A device write that fails is tried again at once, four
 /// times in all; `DeviceFault` comes where the fourth failed too. After any of the three nothing more is read, written
-/// or printed. `Memory` comes for want of memory alone, before a commit's first write. `Usage` comes where the words
-/// are no command line, and there nothing else comes but a failing sink and want of memory. The lines of an act are
-/// handed to the sink before the next act is carried out. No input is taken in vain: of the lines that were whole
-/// before the last read none is at fault or wants memory, journal and accepted report begin with their effects, and no
-/// read before it was the end of the input.
-pub fn run<S: Source, K: Sink, D: Device>(
+/// or printed. `Memory` comes for want of memory alone, before a commit's first write or at its crash. `Usage` comes
+/// where the words are no command line, and there nothing else comes but a failing sink and want of memory. The lines of
+/// an act are handed to the sink before the next act is carried out. No input is taken in vain: of the lines that were
+/// whole before the last read none is at fault or wants memory, journal and accepted report begin with their effects,
+/// and no read before it was the end of the input.
+pub fn run<S: Source, K: Sink, D: ReadBack>(
     alloc: Global,
     words: &[String],
     source: &mut S,
@@ -121,7 +126,7 @@ pub fn run<S: Source, K: Sink, D: Device>(
 }
 
 /// Carries out a script to its end or its first fault.
-fn run_script<S: Source, K: Sink, D: Device>(
+fn run_script<S: Source, K: Sink, D: ReadBack>(
     run: &mut Run,
     source: &mut S,
     sink: &mut K,
@@ -156,7 +161,7 @@ fn run_script<S: Source, K: Sink, D: Device>(
 
 /// Carries out the next line. None: the run goes on. A line takes a byte at least, so that no script has more commits
 /// than a run counts.
-fn turn<S: Source, K: Sink, D: Device>(
+fn turn<S: Source, K: Sink, D: ReadBack>(
     lines: &mut Lines,
     run: &mut Run,
     source: &mut S,
@@ -166,7 +171,9 @@ fn turn<S: Source, K: Sink, D: Device>(
     requires slots { run.old.manager.slots ≤ D.slot_count device.old }
     requires none_in_flight { D.flight device.old ≡ [] }
     requires stands { IsBetweenLines lines.old run.old }
+    requires at { IsAt (D.slot_count device.old) (D.events device.old) (progress_of (D.slot_count device.old) run.old) }
     ensures goes { IfNone result ((lines.old.before < lines.new.before) × IsBetweenLines lines.new run.new) }
+    ensures at { IfNone result (IsAt (D.slot_count device.new) (D.events device.new) (progress_of (D.slot_count device.new) run.new)) }
     ensures setting { setting_of run.new ≡ setting_of run.old }
     ensures gives { (pieces : List (List ℕ)) × GivesPieces (S.given source.old) (S.given source.new) (S.left source.old) (S.left source.new) pieces
         × ((which : Bool) → TurnsBy (setting_of run.old) (D.slot_count device.old) lines.old (progress_of (D.slot_count device.old) run.old) pieces result
@@ -200,7 +207,7 @@ fn turn<S: Source, K: Sink, D: Device>(
 
 /// Carries out the commands of a seed, of an access list, to their end. There is room for each of them, and there are
 /// fewer commits than a run counts.
-fn run_made<K: Sink, D: Device>(
+fn run_made<K: Sink, D: ReadBack>(
     run: &mut Run,
     seed: u32,
     rules: u32,
@@ -377,6 +384,7 @@ fn common_act(command: &CommonCommand) -> Act
         CommonCommand::Packet(key) => Act::Packet(*key),
         CommonCommand::Commit => Act::Commit,
         CommonCommand::Trial(most) => Act::Trial(*most),
+        CommonCommand::Crash(after) => Act::Crash(*after),
     }
 }
 

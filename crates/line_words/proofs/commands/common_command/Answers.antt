@@ -1,7 +1,7 @@
 use Rattle.std.proofs.Common.{rules, arith}
 use Rattle.std.proofs.lemmas.Slice.Eq.{text_from_reads}
 use Rattle.std.specs.Prelude.{codes}
-use Rattle.line_words.specs.declared.commands.CommonCommand.TheVariants.{Probe, Packet, Trial}
+use Rattle.line_words.specs.declared.commands.CommonCommand.TheVariants.{Probe, Packet, Trial, Crash}
 use Rattle.line_words.proofs.Mapped.{mapped}
 use Rattle.line_words.proofs.commands.common_command.Goals as goal
 
@@ -18,7 +18,12 @@ returns-in-packet c =
 pub returns-in-trial : goal.returns-in-trial
 returns-in-trial c =
     let word = text_from_reads c.args.first.now (codes "trial") (omega arith) (search rules) in
-    rw (word, ← c.trial_of.ensures) (mapped c.trial_of.result Trial c.map-in-trial.result c.map-in-trial.ensures.cases)
+    rw (word, ← c.limit_of.ensures) (mapped c.limit_of.result Trial c.map-in-trial.result c.map-in-trial.ensures.cases)
+
+pub returns-in-crash : goal.returns-in-crash
+returns-in-crash c =
+    let word = text_from_reads c.args.first.now (codes "crash") (omega arith) (search rules) in
+    rw (word, ← c.limit_of-in-crash.ensures) (mapped c.limit_of-in-crash.result Crash c.map-in-crash.result c.map-in-crash.ensures.cases)
 
 pub returns-in-commit : goal.returns-in-commit
 returns-in-commit c =

@@ -6,12 +6,13 @@ use Rattle.rule_gen.specs.declared.Made.{Made}
 use Rattle.replay.specs.declared.Family.{Family}
 use Rattle.replay.specs.Effects.{Setting}
 use Rattle.replay.specs.Run.{Progress}
+use Rattle.replay.specs.Fates.{IsCrash}
 use Rattle.replay.specs.Running.{IsActOf, progress_of, setting_of}
 use Rattle.replay.specs.Carried.{Carries}
 use Rattle.replay.proofs.Leaving.{leaves-line, leaves-then, uncounted}
 use Rattle.tcam_cli.specs.MadeScript.{made_act}
 use Rattle.tcam_cli.proofs.FaultCounts.{closed-leaves, leaves-none, stopped-leaves}
-use Rattle.tcam_cli.proofs.MadeRuns.{MadeSoFar, made-at, made-ended, made-first, made-fits, made-more, made-pending, made-stopped}
+use Rattle.tcam_cli.proofs.MadeRuns.{MadeSoFar, made-at, made-ended, made-first, made-fits, made-more, made-pending, made-stopped, never-crash}
 use Rattle.tcam_cli.proofs.OneMore.{step-pending}
 use Rattle.tcam_cli.proofs.Outcomes.{Stops, stops}
 use Rattle.tcam_cli.proofs.top.run_made.Goals as goal
@@ -46,6 +47,7 @@ apply-requires g c =
       none_in_flight = λ _. i.none_in_flight;
       act = subst (λ (family : Family). IsActOf family c.act_of_made.result) (sym family) c.act_of_made.ensures.list;
       whole = i.whole;
+      stands = λ crash. absurd (never-crash c.in-Some.made (subst IsCrash c.act_of_made.ensures.act crash));
       commits = omega (arith, few);
     }
 

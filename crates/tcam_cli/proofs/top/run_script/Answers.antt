@@ -1,4 +1,4 @@
-use Rattle.std.proofs.Common.{true, false, ◌≡◌, ◌++◌, [], Some, refl, ap, ◌∙◌, arith}
+use Rattle.std.proofs.Common.{true, false, ◌≡◌, ◌++◌, [], Some, refl, sym, ap, ◌∙◌, arith}
 use Rattle.std.specs.List.{concat}
 use Rattle.script_lines.specs.Given.{HasEnd, counted}
 use Rattle.tcam_cli.proofs.GivenRuns.{gives-none, gives-trans, may-first, may-second, ended-both, no-more, may-all, ends-told, promised}
@@ -10,6 +10,7 @@ use Rattle.replay.specs.Outside.{Leaves}
 use Rattle.replay.proofs.Leaving.{leaves-line, leaves-then, uncounted}
 use Rattle.tcam_cli.specs.declared.Status.TheVariants.{WriteFault, DeviceFault}
 use Rattle.tcam_device.specs.Flight.{writes_in}
+use Rattle.tcam_device.specs.State.{replay}
 use Rattle.tcam_cli.proofs.FaultCounts.{leaves-none, made-tried, status-leaves}
 use Rattle.tcam_cli.proofs.WholeRun.{starts, told-source, counted-last, carried, may-end}
 use Rattle.tcam_cli.proofs.top.run_script.Goals as goal
@@ -23,6 +24,7 @@ acts-init g c = record {
     commits = let none : c.args.run.now.commits ≡ 0 = ap (λ (p : Progress). p.commits) c.requires.begun in omega (arith, none);
     within = let none = ap (λ (h : HeldBytes). h.before) c.new-lines.ensures in omega (arith, none);
   };
+  at = ap (λ (p : Progress). p.state) c.requires.begun ∙ sym (ap (λ events. replay (g.D.Writable.slot_count c.args.device.now) (writes_in events)) c.requires.blank);
   gives = ([], gives-none _ _, λ e. absurd e, λ which left now may. stands-first _ _ _ _ _ _ _ _ _ (starts _ _ left _ now _ _ _ c.new-lines.ensures (ap Some may.bytes) c.requires.begun c.requires.blank), in-time-none _ _ _ _ _);
   none_in_flight = c.requires.none_in_flight;
   leaves = leaves-line _ _ _ _ _ _ _ _ _ ⊥ ⊥ (λ some. some) refl refl refl (uncounted ⊥ _ _ (λ e. e) refl) (λ e. e);
@@ -36,6 +38,7 @@ acts-preserved g c =
     record {
       setting = t.setting ∙ i.setting;
       stands = t.goes.1;
+      at = t.at;
       gives = (
         i.gives.0 ++ t.gives.0,
         gives-trans _ _ _ _ _ _ i.gives.0 t.gives.0 i.gives.1 t.gives.1 (λ e. (t.gives.2 true).rests (no-more _ (i.gives.2 e))) (λ e. (t.rests (no-more _ (i.gives.2 e))).0),

@@ -1,6 +1,7 @@
 use Rattle.std.proofs.Common.{◌≡◌, ◌-◌, ℕ, [], Bool, List}
 use Rattle.script_lines.specs.Given.{HasEnd, MayGive, GivesPieces, counted}
 use Rattle.script_lines.specs.declared.Over.TheVariants as over
+use Rattle.replay.specs.Carried.{IsAt}
 use Rattle.replay.specs.Outside.{Leaves}
 use Rattle.replay.specs.Running.{progress_of, setting_of}
 use Rattle.tcam_cli.specs.Turns.{IsBetweenLines}
@@ -11,6 +12,7 @@ abbrev pub invariant-acts : goal.invariant-acts
 invariant-acts g l = record {
   setting : setting_of l.run ≡ setting_of l.fn.run;
   stands : IsBetweenLines l.lines l.run;
+  at : IsAt (g.D.Writable.slot_count l.device) (g.D.Writable.events l.device) (progress_of (g.D.Writable.slot_count l.device) l.run);
   gives : (pieces : List (List ℕ)) × GivesPieces (g.S.Source.given l.fn.source) (g.S.Source.given l.source) (g.S.Source.left l.fn.source) (g.S.Source.left l.source) pieces
       × (HasEnd pieces → l.lines.over ≡ over.Ended)
       × ((which : Bool) (left now : List ℕ) → MayGive left pieces now

@@ -138,7 +138,7 @@ returns-in-Err-apply-clause-gives g c =
           (λ memory bytes left now start may s.
           wants-next _ _ bytes _ left _ _ start _ s h.line c.next.new.self now (rw h.field-0-is at h.ensures.again) (λ going. rw h.field-0-is at (h.ensures.gives.2.hands going left now may))
           _ (c.in-Ok-Some-read_act.ensures.ok ∙ ap Ok c.in-Ok-Some-read_act.field-0-is) full _ _
-          (stops-memory _ _ _ _ why _ _ _ _ memory comes))),
+          (stops-memory _ _ _ _ why _ _ _ _ memory (so-far-at _ _ _ _ _ _ _ _ _ s) comes))),
     )
 
 pub returns-in-Err-apply-clause-leaves : goal.returns-in-Err-apply-clause-leaves

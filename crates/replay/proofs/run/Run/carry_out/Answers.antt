@@ -1,135 +1,132 @@
--- The actions are those that are left of the commit, and a part of them where sink or device fails.
-use Rattle.std.proofs.Common.{true, rules, IsSome, ap, refl, sym, ◌∙◌, subst}
-use Rattle.std.specs.Io.KnownBytes.{Appends}
+-- The writes up to the crash, those of the manager that goes on, and what is left without a crash.
+use Rattle.std.proofs.Common.{List, ◌≡◌, false, ◌++◌, Err, refl, sym, ap, ◌∙◌, subst, ◌≤◌}
 use Rattle.script_lines.specs.Given.{counted}
-use Rattle.replay.specs.Effects.{printed}
-use Rattle.replay.specs.Outside.{CutsLines}
-use Rattle.replay.specs.InFlight.{AreOf}
-use Rattle.replay.specs.Running.{Running, setting_of}
-use Rattle.replay.proofs.Acting.{some-held}
-use Rattle.replay.proofs.Halfway.{few-left, few-made, idle-now, made-run_held, may-half, after-writes_run, setting-counted}
-use Rattle.replay.proofs.Exits.{as-last, cut-held, cut-setting, cut-some, is-seen, resumes-cut, resumes-all, resumes-last, resumes-searching}
-use Rattle.replay.proofs.Leftover.{are-of-left, few-waiting, words-cut_run}
+use Rattle.commit_writes.specs.InFlight.{AreCurrent}
+use Rattle.batch_order.specs.Managed.{live_now}
+use Rattle.replay.specs.declared.RunFault.TheVariants as fault
+use Rattle.replay.specs.Fates.{commit_act}
+use Rattle.replay.specs.Carried.{IsAt}
+use Rattle.replay.specs.Effects.{Effect, Setting}
+use Rattle.replay.specs.Running.{AreLeft, Running, progress_of, setting_of}
+use Rattle.replay.specs.Unfinished.{IsUnfinished, ResumesTo, StaysInStep}
+use Rattle.replay.proofs.InStep.{in-step-gone, in-step-then}
+use Rattle.replay.proofs.Leaving.{leaves-line, leaves-then, uncounted}
+use Rattle.replay.proofs.Leftover.{left-gone}
+use Rattle.replay.proofs.Over.{carried-over, fate-crashes, runs-out}
 use Rattle.replay.proofs.run.Run.carry_out.Goals as goal
-use Rattle.replay.proofs.run.Run.carry_out.Goals.{in-Ok-write_ended, in-Err-write_ended}
+use Rattle.replay.proofs.run.Run.carry_out.Goals.{in-Some+in-Ok+in-Ok-restart, in_default}
 
-pub make_writes-requires-clause-in_flight : goal.make_writes-requires-clause-in_flight
-make_writes-requires-clause-in_flight g c =
-    subst (λ (run : Running). AreOf run.probes run.waiting (g.D.Writable.flight c.args.device.now)) (sym c.self.view_is)
-    (are-of-left c.args.self.now (g.D.Writable.flight c.args.device.now) c.requires.held c.requires.in_flight)
+pub returns-in-Err-clause-in_step : goal.returns-in-Err-clause-in_step
+returns-in-Err-clause-in_step g c = λ not_sink. c.in-Err.ensures.in_step (λ e. not_sink (let same : c.in-Err.fault ≡ fault.Sink = cc in ap Err same))
 
-pub make_writes-requires-clause-waiting : goal.make_writes-requires-clause-waiting
-make_writes-requires-clause-waiting g c =
-    few-waiting _ (c.self.invariant.halfway (subst (λ (run : Running). IsSome run.manager.held) (sym c.self.view_is) c.requires.held))
+pub returns-in-Err-restart-clause-resumes : goal.returns-in-Err-restart-clause-resumes
+returns-in-Err-restart-clause-resumes g c = λ which before front unfinished at current.
+    let slots = g.D.Writable.slot_count c.args.device.now in
+    let mid = c.come_to_crash.new.self in
+    let new = c.restart.new.self in
+    let goes = c.in-Ok.ensures.comes which before front unfinished at current in
+    let wants = rw c.in-Ok.ensures.leaves.slot_count at (c.in-Err-restart.ensures.wants before (front ++ goes.more)) in
+    rw c.in-Err-restart.ensures.events
+    (runs-out slots before (commit_act c.args.self.now.fate) front mid new (g.D.Writable.events c.args.device.now) (g.D.Writable.events c.come_to_crash.new.device)
+    (g.D.Writable.flight c.come_to_crash.new.device) (g.D.Writable.flight c.restart.new.device) _ _ c.in-Err-restart.ensures.setting goes
+    (rw c.in-Ok.ensures.fate at (wants goes.unfinished)))
 
-pub make_writes-requires-clause-few : goal.make_writes-requires-clause-few
-make_writes-requires-clause-few g c =
-    few-left _ (c.self.invariant.halfway (subst (λ (run : Running). IsSome run.manager.held) (sym c.self.view_is) c.requires.held))
-
-pub make_writes-requires-clause-may_turn : goal.make_writes-requires-clause-may_turn
-make_writes-requires-clause-may_turn g c =
-    may-half _ (c.self.invariant.halfway (subst (λ (run : Running). IsSome run.manager.held) (sym c.self.view_is) c.requires.held))
-
-pub invariant_of-self : goal.invariant_of-self
-invariant_of-self g c =
-    let held = subst (λ (run : Running). IsSome run.manager.held) (sym c.self.view_is) c.requires.held in
-    cut-held c.in-Err.fault _ _ c.make_writes.new.manager _ c.make_writes.new.count _ _ _ _ c.self.invariant held (c.in-Err.ensures.makes true)
-
-pub returns-in-Err-clause-resumes : goal.returns-in-Err-clause-resumes
-returns-in-Err-clause-resumes g c = λ which before front unfinished at current.
-    let seen = is-seen _ before front _ c.args.self.now c.self.view_is c.self.invariant c.requires.slots (g.D.Writable.events c.args.device.now) (g.D.Writable.events c.args.device.now) unfinished at _ current in
-    resumes-cut _ before front _ c.args.self.now c.self.view_is c.self.invariant c.requires.slots (g.D.Writable.events c.args.device.now) (g.D.Writable.events c.make_writes.new.device) unfinished at _ current c.in-Err.fault c.make_writes.new.manager c.make_writes.new.count (g.D.Writable.flight c.make_writes.new.device) _ _ (c.in-Err.ensures.makes which)
-    (λ is. (c.in-Err.ensures.seen (λ e. absurd (cc)) seen).current)
-
-pub returns-in-Err-clause-in_flight : goal.returns-in-Err-clause-in_flight
-returns-in-Err-clause-in_flight g c =
-    let kind = cut-some c.in-Err.fault _ _ _ _ _ _ _ _ _ _ _ _ (c.in-Err.ensures.makes true) in
-    let held : IsSome c.make_writes.new.manager.held = subst (λ held. IsSome held) (sym (some-held _ _ _ _ kind.0)) refl in
-    words-cut_run _ c.make_writes.new.manager c.make_writes.new.count c.in-Err.fault (g.D.Writable.flight c.args.device.now) (g.D.Writable.flight c.make_writes.new.device) c.self.invariant kind.2 held (λ is. c.in-Err.ensures.in_flight (λ e. absurd (cc)))
-
-pub returns-in-Err-clause-kind : goal.returns-in-Err-clause-kind
-returns-in-Err-clause-kind g c = (cut-some c.in-Err.fault _ _ _ _ _ _ _ _ _ _ _ _ (c.in-Err.ensures.makes true)).2
-
-pub returns-in-Err-clause-setting : goal.returns-in-Err-clause-setting
-returns-in-Err-clause-setting g c =
-    cut-setting c.in-Err.fault _ _ c.make_writes.new.manager _ c.make_writes.new.count _ _ _ _ c.self.invariant (c.in-Err.ensures.makes true) ∙ ap setting_of c.self.view_is
-
-pub invariant_of-self-2 : goal.invariant_of-self-2
-invariant_of-self-2 g c =
-    let held = subst (λ (run : Running). IsSome run.manager.held) (sym c.self.view_is) c.requires.held in
-    made-run_held _ _ (c.self.invariant.halfway held) _ _ c.make_writes.new.count c.in-Ok.ended c.make_writes.new.manager _ _ _ _ (c.in-Ok.ensures.makes true) c.self.invariant
-
-pub count_commit-requires-clause-idle : goal.count_commit-requires-clause-idle
-count_commit-requires-clause-idle g c =
-    let held = subst (λ (run : Running). IsSome run.manager.held) (sym c.self.view_is) c.requires.held in
-    let none = idle-now _ _ (c.self.invariant.halfway held) _ _ c.make_writes.new.count c.in-Ok.ended c.make_writes.new.manager _ _ _ _ (c.in-Ok.ensures.makes true) in
-    search rules
-
-pub overflow_add-self : goal.overflow_add-self
-overflow_add-self g c =
-    let held = subst (λ (run : Running). IsSome run.manager.held) (sym c.self.view_is) c.requires.held in
-    let few = few-made _ _ (c.self.invariant.halfway held) _ _ c.make_writes.new.count c.in-Ok.ended c.make_writes.new.manager _ _ _ _ (c.in-Ok.ensures.makes true) in
-    search rules
-
-pub invariant_of-self-3 : goal.invariant_of-self-3
-invariant_of-self-3 g c =
-    let held = subst (λ (run : Running). IsSome run.manager.held) (sym c.self.view_is) c.requires.held in
-    after-writes_run _ _ (c.self.invariant.halfway held) _ _ c.make_writes.new.count c.in-Ok.ended c.make_writes.new.manager _ _ _ _ (c.in-Ok.ensures.makes true) _
-    (c.self-2.view_is ∙ c.count_commit.ensures) c.self.invariant
-
-pub invariant_of-self-in-Err-search_all : goal.invariant_of-self-in-Err-search_all
-invariant_of-self-in-Err-search_all g c =
-    let held = subst (λ (run : Running). IsSome run.manager.held) (sym c.self.view_is) c.requires.held in
-    after-writes_run _ _ (c.self.invariant.halfway held) _ _ c.make_writes.new.count c.in-Ok.ended c.make_writes.new.manager _ _ _ _ (c.in-Ok.ensures.makes true) _
-    (c.self-2.view_is ∙ c.count_commit.ensures) c.self.invariant
-
-pub returns-in-Err-search_all-clause-setting : goal.returns-in-Err-search_all-clause-setting
-returns-in-Err-search_all-clause-setting g c =
-    let held = subst (λ (run : Running). IsSome run.manager.held) (sym c.self.view_is) c.requires.held in
-    setting-counted _ _ (c.self.invariant.halfway held) _ _ c.make_writes.new.count c.in-Ok.ended c.make_writes.new.manager _ _ _ _ (c.in-Ok.ensures.makes true) _ (c.self-2.view_is ∙ c.count_commit.ensures)
-    ∙ ap setting_of c.self.view_is
-
--- a line of the words that are searched behind the last action is cut
-pub returns-in-Err-search_all-clause-resumes : goal.returns-in-Err-search_all-clause-resumes
-returns-in-Err-search_all-clause-resumes g c = λ which before front unfinished at current.
-    let made = c.in-Ok.ensures in
-    let slots = made.leaves.slot_count in
-    let all = made.makes which in
-    let closed = c.self-2.view_is ∙ c.count_commit.ensures in
-    let seen = is-seen _ before front _ c.args.self.now c.self.view_is c.self.invariant c.requires.slots (g.D.Writable.events c.args.device.now) (g.D.Writable.events c.args.device.now) unfinished at _ current in
-    let now = rw slots at (made.seen (λ e. cc) seen) in
-    let cuts = as-last _ before front _ c.args.self.now c.self.view_is c.self.invariant c.requires.slots (g.D.Writable.events c.args.device.now) (g.D.Writable.events c.make_writes.new.device) unfinished at _ current c.in-Ok.ended c.make_writes.new.manager c.make_writes.new.count _ _ all _ closed
-    (λ lines. CutsLines lines (counted which (g.K.Sink.taken c.make_writes.new.sink) (g.K.Sink.accepted c.make_writes.new.sink)) (counted which (g.K.Sink.taken c.search_all.new.sink) (g.K.Sink.accepted c.search_all.new.sink))) _ _ (g.met.D.Writable.agrees c.make_writes.new.device) made.serves now (made.in_flight (λ e. cc)) (rw slots at (c.in-Err-search_all.ensures.lines.part which)) in
-    rw c.in-Err-search_all.ensures.events (resumes-searching _ before front _ c.args.self.now c.self.view_is c.self.invariant c.requires.slots (g.D.Writable.events c.args.device.now) (g.D.Writable.events c.make_writes.new.device) unfinished at _ current c.in-Ok.ended c.make_writes.new.manager c.make_writes.new.count _ _ all _ closed _ (g.D.Writable.flight c.search_all.new.device) cuts)
-
--- or all of them are told, and then its own line, or a part of that
-pub returns-clause-resumes : goal.returns-clause-resumes
-returns-clause-resumes g c = λ which before front unfinished at current.
-    let made = c.in-Ok.ensures in
-    let slots = made.leaves.slot_count in
-    let all = made.makes which in
-    let closed = c.self-2.view_is ∙ c.count_commit.ensures in
-    let seen = is-seen _ before front _ c.args.self.now c.self.view_is c.self.invariant c.requires.slots (g.D.Writable.events c.args.device.now) (g.D.Writable.events c.args.device.now) unfinished at _ current in
-    let now = rw slots at (made.seen (λ e. cc) seen) in
-    let last = as-last _ before front _ c.args.self.now c.self.view_is c.self.invariant c.requires.slots (g.D.Writable.events c.args.device.now) (g.D.Writable.events c.make_writes.new.device) unfinished at _ current c.in-Ok.ended c.make_writes.new.manager c.make_writes.new.count _ _ all _ closed
-    (λ lines. Appends (counted which (g.K.Sink.taken c.make_writes.new.sink) (g.K.Sink.accepted c.make_writes.new.sink)) (counted which (g.K.Sink.taken c.search_all.new.sink) (g.K.Sink.accepted c.search_all.new.sink)) (printed lines)) _ _ (g.met.D.Writable.agrees c.make_writes.new.device) made.serves now (made.in_flight (λ e. cc)) (rw slots at (c.in-Ok-search_all.ensures.lines.whole which)) in
-    elim c.match-write_ended.branch [
-      | in-Ok-write_ended w ↦ rw (w.result-is, c.in-Ok-search_all.ensures.events)
-          (resumes-all _ before front _ c.args.self.now c.self.view_is c.self.invariant c.requires.slots (g.D.Writable.events c.args.device.now) (g.D.Writable.events c.make_writes.new.device) unfinished at _ current c.in-Ok.ended c.make_writes.new.manager c.make_writes.new.count _ _ all _ closed _ last _ (g.D.Writable.flight c.search_all.new.device)
-          (w.in-Ok-write_ended.ensures.whole which))
-      | in-Err-write_ended w ↦ rw (w.result-is, c.in-Ok-search_all.ensures.events)
-          (resumes-last _ before front _ c.args.self.now c.self.view_is c.self.invariant c.requires.slots (g.D.Writable.events c.args.device.now) (g.D.Writable.events c.make_writes.new.device) unfinished at _ current c.in-Ok.ended c.make_writes.new.manager c.make_writes.new.count _ _ all _ closed _ last _ (g.D.Writable.flight c.search_all.new.device)
-          (w.in-Err-write_ended.ensures.part which))
+pub complete-requires-clause-slots : goal.complete-requires-clause-slots
+complete-requires-clause-slots g c =
+    elim c.match-crash_ahead.branch [
+      | in-Some+in-Ok+in-Ok-restart w ↦
+          let same : w.restart.new.self.manager.slots ≡ c.args.self.now.manager.slots = ap (λ (setting : Setting). setting.slots) (w.in-Ok-restart.ensures.setting ∙ w.in-Ok.ensures.setting) in
+          let width : g.D.Writable.slot_count w.restart.new.device ≡ g.D.Writable.slot_count c.args.device.now = w.in-Ok-restart.ensures.slot_count ∙ w.in-Ok.ensures.leaves.slot_count in
+          rw (w.self-is, w.device-is)
+          (subst (λ n. n ≤ g.D.Writable.slot_count w.restart.new.device) (sym same) (subst (λ n. c.args.self.now.manager.slots ≤ n) (sym width) c.requires.slots))
+      | in_default w ↦ rw (w.self-is, w.device-is) c.requires.slots
     ]
 
-pub returns-clause-idle : goal.returns-clause-idle
-returns-clause-idle g c =
-    let held = subst (λ (run : Running). IsSome run.manager.held) (sym c.self.view_is) c.requires.held in
-    let none = idle-now _ _ (c.self.invariant.halfway held) _ _ c.make_writes.new.count c.in-Ok.ended c.make_writes.new.manager _ _ _ _ (c.in-Ok.ensures.makes true) in
-    search rules
+pub complete-requires-clause-in_flight : goal.complete-requires-clause-in_flight
+complete-requires-clause-in_flight g c =
+    elim c.match-crash_ahead.branch [
+      | in-Some+in-Ok+in-Ok-restart w ↦
+          subst (λ (run : Running). AreLeft run (g.D.Writable.flight c.match-crash_ahead.device)) (sym w.self-is)
+          (subst (λ device. AreLeft w.restart.new.self (g.D.Writable.flight device)) (sym w.device-is)
+          (left-gone w.in-Some.after w.come_to_crash.new.self w.restart.new.self (g.D.Writable.flight w.come_to_crash.new.device) (g.D.Writable.flight w.restart.new.device)
+          w.in-Ok-restart.ensures.goes_on w.in-Ok.ensures.at_crash.held (w.in-Ok.ensures.in_flight (λ e. absurd (cc))) w.in-Ok-restart.ensures.flight))
+      | in_default w ↦
+          subst (λ (run : Running). AreLeft run (g.D.Writable.flight c.match-crash_ahead.device)) (sym w.self-is)
+          (subst (λ device. AreLeft c.args.self.now (g.D.Writable.flight device)) (sym w.device-is) c.requires.in_flight)
+    ]
+
+pub returns-clause-resumes : goal.returns-clause-resumes
+returns-clause-resumes g c = λ which before front unfinished at current.
+    let slots = g.D.Writable.slot_count c.args.device.now in
+    let device = c.match-crash_ahead.device in
+    let sink = c.match-crash_ahead.sink in
+    let by_self = λ (effects : List Effect) (run : Running) (same : c.match-crash_ahead.self ≡ run).
+    subst (λ (one : Running). IsUnfinished (g.D.Writable.slot_count device) before effects one → IsAt (g.D.Writable.slot_count device) (g.D.Writable.events device) (progress_of (g.D.Writable.slot_count device) one)
+    → AreCurrent (live_now one.manager) (g.D.Writable.flight device)
+    → ResumesTo (g.D.Writable.slot_count device) before (commit_act one.fate) effects c.complete.new.self c.complete.result (g.D.Writable.events device) (g.D.Writable.events c.complete.new.device) (g.D.Writable.flight c.complete.new.device)
+    (counted which (g.K.Sink.taken sink) (g.K.Sink.accepted sink)) (counted which (g.K.Sink.taken c.complete.new.sink) (g.K.Sink.accepted c.complete.new.sink))) same (c.complete.ensures.resumes which before effects) in
+    elim c.match-crash_ahead.branch [
+      | in-Some+in-Ok+in-Ok-restart w ↦
+          let came = w.in-Ok.ensures in
+          let gone = w.in-Ok-restart.ensures in
+          let width = came.leaves.slot_count in
+          let goes = came.comes which before front unfinished at current in
+          let more = front ++ goes.more in
+          let still = (rw width at (gone.unfinished before more)) goes.unfinished in
+          let stood : progress_of slots w.restart.new.self ≡ progress_of slots w.come_to_crash.new.self = rw width at gone.stands in
+          let there : IsAt slots (g.D.Writable.events w.come_to_crash.new.device) (progress_of slots w.restart.new.self) =
+          subst (IsAt slots (g.D.Writable.events w.come_to_crash.new.device)) (sym stood) goes.stands in
+          let ends = (rw (w.sink-is, w.device-is, gone.slot_count, width, gone.events) at (by_self more w.restart.new.self w.self-is)) still there (gone.current goes.current) in
+          carried-over c.complete.result slots w.in-Some.after before front c.args.self.now w.come_to_crash.new.self w.restart.new.self c.complete.new.self (g.D.Writable.events c.args.device.now) (g.D.Writable.events w.come_to_crash.new.device)
+          (g.D.Writable.events c.complete.new.device) (g.D.Writable.flight w.come_to_crash.new.device) (g.D.Writable.flight c.complete.new.device) _ _ _ (fate-crashes c.args.self.now.fate w.in-Some.after w.in-Some.ensures.ahead.0) gone.goes_on goes ends
+      | in_default w ↦ (rw (w.sink-is, w.device-is) at (by_self front c.args.self.now w.self-is)) unfinished at current
+    ]
 
 pub returns-clause-setting : goal.returns-clause-setting
 returns-clause-setting g c =
-    let held = subst (λ (run : Running). IsSome run.manager.held) (sym c.self.view_is) c.requires.held in
-    setting-counted _ _ (c.self.invariant.halfway held) _ _ c.make_writes.new.count c.in-Ok.ended c.make_writes.new.manager _ _ _ _ (c.in-Ok.ensures.makes true) _ (c.self-2.view_is ∙ c.count_commit.ensures)
-    ∙ ap setting_of c.self.view_is
+    c.complete.ensures.setting ∙ elim c.match-crash_ahead.branch [
+      | in-Some+in-Ok+in-Ok-restart w ↦ ap setting_of w.self-is ∙ w.in-Ok-restart.ensures.setting ∙ w.in-Ok.ensures.setting
+      | in_default w ↦ ap setting_of w.self-is
+    ]
+
+pub returns-clause-in_step : goal.returns-clause-in_step
+returns-clause-in_step g c = λ not_sink.
+    let slots = g.D.Writable.slot_count c.args.device.now in
+    let device = c.match-crash_ahead.device in
+    let by_self = λ (run : Running) (same : c.match-crash_ahead.self ≡ run).
+    subst (λ (one : Running). StaysInStep (g.D.Writable.slot_count device) one c.complete.new.self (g.D.Writable.events device) (g.D.Writable.events c.complete.new.device)
+    (g.D.Writable.flight device) (g.D.Writable.flight c.complete.new.device)) same (c.complete.ensures.in_step not_sink) in
+    elim c.match-crash_ahead.branch [
+      | in-Some+in-Ok+in-Ok-restart w ↦
+          let came = w.in-Ok.ensures in
+          let gone = w.in-Ok-restart.ensures in
+          let width = came.leaves.slot_count in
+          let mid = w.come_to_crash.new.self in
+          let over = w.restart.new.self in
+          let events = g.D.Writable.events c.args.device.now in
+          let flight = g.D.Writable.flight c.args.device.now in
+          let events_mid = g.D.Writable.events w.come_to_crash.new.device in
+          let flight_mid = g.D.Writable.flight w.come_to_crash.new.device in
+          let events_over = g.D.Writable.events w.restart.new.device in
+          let flight_over = g.D.Writable.flight w.restart.new.device in
+          let whole : mid.broken ≡ false = came.broken ∙ c.requires.whole in
+          let second = in-step-gone slots mid over events_mid events_over flight_mid flight_over (rw width at gone.stands) gone.current gone.events in
+          let both = in-step-then slots c.args.self.now mid over events events_mid events_over flight flight_mid flight_over (came.in_step (λ e. absurd (cc))) whole second in
+          in-step-then slots c.args.self.now over c.complete.new.self events events_over (g.D.Writable.events c.complete.new.device) flight flight_over (g.D.Writable.flight c.complete.new.device)
+          both (ap (λ (run : Running). run.broken) gone.goes_on.2 ∙ whole)
+          (rw (w.device-is, gone.slot_count, width) at (by_self w.restart.new.self w.self-is))
+      | in_default w ↦ rw w.device-is at (by_self c.args.self.now w.self-is)
+    ]
+
+pub returns-clause-leaves : goal.returns-clause-leaves
+returns-clause-leaves g c =
+    elim c.match-crash_ahead.branch [
+      | in-Some+in-Ok+in-Ok-restart w ↦
+          let gone = w.in-Ok-restart.ensures in
+          let sink = w.come_to_crash.new.sink in
+          leaves-then _ _ _ _ _ c.args.sink.now sink c.complete.new.sink c.args.device.now w.come_to_crash.new.device c.complete.new.device _ _ _ _ (λ e. absurd (cc)) (λ e. absurd (cc)) w.in-Ok.ensures.leaves
+          (leaves-then _ _ _ _ _ sink sink c.complete.new.sink w.come_to_crash.new.device w.restart.new.device c.complete.new.device ⊥ ⊥ _ _ (λ never. never) (λ never. never)
+          (leaves-line _ _ _ _ _ sink sink w.come_to_crash.new.device w.restart.new.device ⊥ ⊥ (λ some. some) gone.slot_count gone.journal gone.faults (uncounted ⊥ _ _ (λ never. never) refl) (λ never. never))
+          (rw (w.sink-is, w.device-is) at c.complete.ensures.leaves))
+      | in_default w ↦ rw (w.sink-is, w.device-is) at c.complete.ensures.leaves
+    ]

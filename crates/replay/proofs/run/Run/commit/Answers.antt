@@ -1,7 +1,9 @@
 -- What the manager holds is the commit of the batch, and what it refuses is refused by the verdict.
-use Rattle.std.proofs.Common.{◌≡◌, None, rules, sym, subst, ◌∙◌}
+use Rattle.std.proofs.Common.{◌≡◌, None, rules, sym, ap, subst, ◌∙◌}
 use Rattle.replay.specs.Running.{Running}
+use Rattle.replay.specs.Unfinished.{StaysInStep}
 use Rattle.replay.proofs.Exits.{refused-acts, taken-acts, taken-run, taken-stays}
+use Rattle.replay.proofs.InStep.{in-step-kept, in-step-taken, loses-so}
 use Rattle.replay.proofs.Leaving.{leaves-line, line-counted, no-write}
 use Rattle.replay.proofs.Leftover.{left-taken, words-from, words-kept}
 use Rattle.replay.proofs.run.Run.commit.Goals as goal
@@ -9,23 +11,23 @@ use Rattle.replay.proofs.run.Run.commit.Goals as goal
 pub invariant_of-self : goal.invariant_of-self
 invariant_of-self g c =
     let idle = subst (λ (run : Running). run.manager.held ≡ None) (sym c.self.view_is) c.requires.idle in
-    taken-run _ c.in-Ok.field-0 c.prepare.new.self c.self.invariant idle c.in-Ok.ensures.ready c.in-Ok.ensures.judged c.args.most
+    taken-run _ c.in-Ok.field-0 c.prepare.new.self c.self.invariant idle c.in-Ok.ensures.ready c.in-Ok.ensures.judged c.args.fate c.requires.first
 
 pub returns-in-Ok-clause-acts : goal.returns-in-Ok-clause-acts
 returns-in-Ok-clause-acts g c = λ which.
     let idle = subst (λ (run : Running). run.manager.held ≡ None) (sym c.self.view_is) c.requires.idle in
-    taken-acts _ c.in-Ok.field-0 c.prepare.new.self c.self.invariant idle c.in-Ok.ensures.ready c.in-Ok.ensures.judged c.args.most _ c.args.self.now _ c.self.view_is _ _ _ _ (c.prepare.ensures.flight ∙ c.requires.none_in_flight) _ _ c.carry_out.result c.carry_out.ensures.setting
-    c.carry_out.ensures.kind (rw (c.prepare.ensures.slot_count, c.prepare.ensures.events) at (c.carry_out.ensures.resumes which))
+    taken-acts _ c.in-Ok.field-0 c.prepare.new.self c.self.invariant idle c.in-Ok.ensures.ready c.in-Ok.ensures.judged c.args.fate c.requires.first _ c.args.self.now _ c.self.view_is _ _ _ _ (c.prepare.ensures.flight ∙ c.requires.none_in_flight) _ _ c.carry_out.result c.carry_out.ensures.setting
+    c.carry_out.ensures.kind c.carry_out.ensures.broken (rw (c.prepare.ensures.slot_count, c.prepare.ensures.events) at (c.carry_out.ensures.resumes which))
 
 pub returns-in-Ok-clause-unfinished : goal.returns-in-Ok-clause-unfinished
 returns-in-Ok-clause-unfinished g c = λ which.
     let idle = subst (λ (run : Running). run.manager.held ≡ None) (sym c.self.view_is) c.requires.idle in
-    taken-stays _ c.in-Ok.field-0 c.prepare.new.self c.self.invariant idle c.in-Ok.ensures.ready c.in-Ok.ensures.judged c.args.most _ c.args.self.now _ c.self.view_is _ _ _ _ (c.prepare.ensures.flight ∙ c.requires.none_in_flight) _ _ c.carry_out.result
+    taken-stays _ c.in-Ok.field-0 c.prepare.new.self c.self.invariant idle c.in-Ok.ensures.ready c.in-Ok.ensures.judged c.args.fate c.requires.first _ c.args.self.now _ c.self.view_is _ _ _ _ (c.prepare.ensures.flight ∙ c.requires.none_in_flight) _ _ c.carry_out.result
     (rw (c.prepare.ensures.slot_count, c.prepare.ensures.events) at (c.carry_out.ensures.resumes which))
 
 pub returns-in-Err-clause-acts : goal.returns-in-Err-clause-acts
 returns-in-Err-clause-acts g c = λ which.
-    refused-acts c.args.most c.refuse.result _ _ c.args.self.now c.refuse.new.self c.in-Err.refusal c.prepare.new.self _ _ _ _ c.self.view_is c.requires.idle c.in-Err.ensures.judged
+    refused-acts c.args.fate c.refuse.result _ _ c.args.self.now c.refuse.new.self c.in-Err.refusal c.prepare.new.self _ _ _ _ c.self.view_is c.requires.idle c.in-Err.ensures.judged
     (search rules) c.in-Err.ensures.refused c.prepare.ensures.events c.refuse.ensures.refused c.refuse.ensures.kind (c.refuse.ensures.line.whole which) (c.refuse.ensures.line.part which)
 
 pub returns-in-Err-clause-leaves : goal.returns-in-Err-clause-leaves
@@ -37,10 +39,31 @@ returns-in-Err-clause-leaves g c =
 pub carry_out-requires-clause-in_flight : goal.carry_out-requires-clause-in_flight
 carry_out-requires-clause-in_flight g c =
     let idle = subst (λ (run : Running). run.manager.held ≡ None) (sym c.self.view_is) c.requires.idle in
-    left-taken _ c.prepare.new.self c.args.most _ c.self.invariant idle (c.prepare.ensures.flight ∙ c.requires.none_in_flight)
+    left-taken _ c.prepare.new.self c.args.fate _ c.self.invariant idle (c.prepare.ensures.flight ∙ c.requires.none_in_flight)
 
 pub returns-in-Ok-clause-in_flight : goal.returns-in-Ok-clause-in_flight
 returns-in-Ok-clause-in_flight g c = words-from c.carry_out.new.self c.carry_out.result (g.D.Writable.flight c.prepare.new.device) (g.D.Writable.flight c.args.device.now) (g.D.Writable.flight c.carry_out.new.device) c.prepare.ensures.flight c.carry_out.ensures.in_flight
 
 pub returns-in-Err-clause-in_flight : goal.returns-in-Err-clause-in_flight
 returns-in-Err-clause-in_flight g c = words-kept c.refuse.new.self c.refuse.result (g.D.Writable.flight c.args.device.now) (g.D.Writable.flight c.prepare.new.device) c.prepare.ensures.flight c.requires.none_in_flight (no-write c.refuse.result c.refuse.ensures.kind)
+
+pub returns-in-Ok-clause-broken : goal.returns-in-Ok-clause-broken
+returns-in-Ok-clause-broken g c = loses-so c.args.fate c.carry_out.result c.carry_out.new.self.broken c.carry_out.ensures.broken c.carry_out.ensures.kind
+
+pub returns-in-Ok-clause-in_step : goal.returns-in-Ok-clause-in_step
+returns-in-Ok-clause-in_step g c = λ not_sink.
+    let slots = g.D.Writable.slot_count c.args.device.now in
+    let events = g.D.Writable.events c.args.device.now in
+    let flight = g.D.Writable.flight c.args.device.now in
+    let new = c.carry_out.new.self in
+    let events_new = g.D.Writable.events c.carry_out.new.device in
+    let flight_new = g.D.Writable.flight c.carry_out.new.device in
+    subst (λ (run : Running). StaysInStep slots run new events events_new flight flight_new) c.self.view_is
+    (in-step-taken slots _ c.self.invariant c.prepare.new.self c.args.fate new c.in-Ok.field-0 events events_new flight (g.D.Writable.flight c.prepare.new.device) flight_new c.in-Ok.ensures.ready
+    (c.prepare.ensures.flight ∙ c.requires.none_in_flight) (rw (c.prepare.ensures.slot_count, c.prepare.ensures.events) at (c.carry_out.ensures.in_step not_sink)))
+
+pub returns-in-Err-clause-in_step : goal.returns-in-Err-clause-in_step
+returns-in-Err-clause-in_step g c = λ not_sink.
+    rw (c.prepare.ensures.events, c.prepare.ensures.flight)
+    (in-step-kept (g.D.Writable.slot_count c.args.device.now) c.args.self.now c.refuse.new.self (g.D.Writable.events c.args.device.now) (g.D.Writable.flight c.args.device.now)
+    (ap (λ (run : Running). run.manager) c.refuse.ensures.refused ∙ c.in-Err.ensures.refused ∙ ap (λ (run : Running). run.manager) c.self.view_is))

@@ -3,4 +3,4 @@ use Rattle.replay.proofs.Runs.{marked-run}
 use Rattle.replay.proofs.run.Run.mark.Goals as goal
 
 pub invariant_of-self : goal.invariant_of-self
-invariant_of-self c = marked-run _ c.match-matches.self c.self.invariant
+invariant_of-self c = marked-run _ _ c.self.invariant

@@ -1,6 +1,7 @@
 -- A change that joins the batch, and a key that is probed.
-use Rattle.std.proofs.Common.{refl}
+use Rattle.std.proofs.Common.{refl, ◌++◌, ◌∷◌, []}
 use Rattle.replay.proofs.Acts.{push-acts, probe-acts}
+use Rattle.replay.proofs.InStep.{in-step-kept, kept-manager}
 use Rattle.replay.proofs.Leaving.{leaves-line, line-counted, no-fault, no-write, uncounted}
 use Rattle.replay.proofs.Leftover.{words-kept}
 use Rattle.replay.proofs.run.Run.perform.Goals as goal
@@ -27,3 +28,16 @@ returns-in-Command-clause-in_flight g c = words-kept c.push.new.self c.push.resu
 
 pub returns-in-Packet-clause-in_flight : goal.returns-in-Packet-clause-in_flight
 returns-in-Packet-clause-in_flight g c = words-kept c.args.self.now c.packet.result (g.D.Writable.flight c.args.device.now) (g.D.Writable.flight c.args.device.now) refl c.requires.none_in_flight (no-write c.packet.result c.packet.ensures.kind)
+
+pub returns-in-Command-clause-in_step : goal.returns-in-Command-clause-in_step
+returns-in-Command-clause-in_step g c = λ not_sink.
+    in-step-kept (g.D.Writable.slot_count c.args.device.now) c.args.self.now c.push.new.self (g.D.Writable.events c.args.device.now) (g.D.Writable.flight c.args.device.now)
+    (kept-manager c.push.result c.args.self.now (record c.args.self.now { pending = c.args.self.now.pending ++ c.in-Command.command ∷ [] }) c.push.new.self refl c.push.ensures.pushed c.push.ensures.unchanged)
+
+pub returns-in-Probe-clause-in_step : goal.returns-in-Probe-clause-in_step
+returns-in-Probe-clause-in_step g c = λ not_sink.
+    in-step-kept (g.D.Writable.slot_count c.args.device.now) c.args.self.now c.probe.new.self (g.D.Writable.events c.args.device.now) (g.D.Writable.flight c.args.device.now)
+    (kept-manager c.probe.result c.args.self.now (record c.args.self.now { probes = c.args.self.now.probes ++ c.in-Probe.key ∷ [] }) c.probe.new.self refl c.probe.ensures.probed c.probe.ensures.unchanged)
+
+pub returns-in-Packet-clause-in_step : goal.returns-in-Packet-clause-in_step
+returns-in-Packet-clause-in_step g c = λ not_sink. in-step-kept (g.D.Writable.slot_count c.args.device.now) c.args.self.now c.args.self.now (g.D.Writable.events c.args.device.now) (g.D.Writable.flight c.args.device.now) refl

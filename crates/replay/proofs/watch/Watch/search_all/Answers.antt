@@ -1,7 +1,6 @@
 -- The words of one write after the other are searched, and of the last one a part where the sink fails.
-use Rattle.std.proofs.Common.{rules, true, ◌≡◌, ◌<◌, ◌≤◌, ◌∙◌, ap, sym, subst, arith}
+use Rattle.std.proofs.Common.{rules, ◌<◌, ◌≤◌, ◌∙◌, arith}
 use Rattle.std.proofs.KnownBytes.{Appends-nil}
-use Rattle.replay.specs.Running.{Watching}
 use Rattle.replay.proofs.Flushing.{cuts-more, flushing-empty, flushing-enough, flushing-more, flushing-none, flushing-whole, told-more}
 use Rattle.replay.proofs.watch.Watch.search_all.Goals as goal
 

@@ -1,5 +1,5 @@
 -- The trace line stands before those of the words that are searched, and either may be cut.
-use Rattle.std.proofs.Common.{rules, ◌≡◌, ◌≤◌, ◌+◌, ◌++◌, ◌∙◌, length, take, subst, sym, arith}
+use Rattle.std.proofs.Common.{rules, ◌≡◌, ◌≤◌, length, subst, sym, arith}
 use Rattle.script_lines.specs.Given.{counted}
 use Rattle.tcam_device.specs.State.{replay}
 use Rattle.replay.specs.Effects.{traced}
@@ -7,7 +7,7 @@ use Rattle.replay.specs.InFlight.{found_after}
 use Rattle.replay.specs.Outside.{CutsLines}
 use Rattle.replay.specs.Running.{Watching}
 use Rattle.replay.specs.Text.{trace_line}
-use Rattle.replay.proofs.InFlight.{are-more, enough-of, found-full, room-of}
+use Rattle.replay.proofs.InFlight.{found-full, room-of}
 use Rattle.replay.proofs.Telling.{cuts-behind}
 use Rattle.replay.proofs.watch.Watch.tell.Goals as goal
 

@@ -2,9 +2,10 @@ use Rattle.std.proofs.Common.{Bool}
 use Rattle.script_lines.specs.Given.{counted}
 use Rattle.replay.specs.InFlight.{IsSeen}
 use Rattle.replay.specs.Outside.{Leaves}
+use Rattle.replay.specs.Fates.{IsBefore, IsWithinCrash}
 use Rattle.replay.specs.Running.{Tells, rest_of}
 use Rattle.replay.proofs.Making.{IsMaking, left_number}
-use Rattle.replay.proofs.steps.make_writes.Given as goal
+use Rattle.replay.proofs.steps.make_until.Given as goal
 
 abbrev pub invariant-making : goal.invariant-making
 invariant-making g l = record {
@@ -14,6 +15,8 @@ invariant-making g l = record {
       (counted which (g.K.Sink.taken l.fn.sink) (g.K.Sink.accepted l.fn.sink)) (counted which (g.K.Sink.taken l.sink) (g.K.Sink.accepted l.sink));
   seen : IsSeen (g.D.Writable.slot_count l.fn.device) (g.D.Writable.events l.fn.device) (g.D.Writable.flight l.fn.device) l.fn.manager
       → IsSeen (g.D.Writable.slot_count l.fn.device) (g.D.Writable.events l.device) (g.D.Writable.flight l.device) l.manager;
+  before : IsBefore l.fn.stop l.fn.count.told making.some.made making.some.left;
+  reach : IsWithinCrash l.fn.stop l.count.told;
   leaves : Leaves (g.K.Sink.taken) (g.K.Sink.faults) l.fn.sink l.sink g.D.Writable.slot_count g.D.Writable.journal g.D.Writable.faults l.fn.device l.device ⊥ ⊥;
 }
 

@@ -1,0 +1,166 @@
+-- The actions are those that are left of the commit, and a part of them where sink or device fails.
+use Rattle.std.proofs.Common.{◌≡◌, ◌≤◌, true, rules, IsSome, Err, ap, refl, sym, ◌∙◌, subst}
+use Rattle.replay.specs.declared.RunFault.TheVariants as fault
+use Rattle.std.specs.Io.KnownBytes.{Appends}
+use Rattle.script_lines.specs.Given.{counted}
+use Rattle.replay.specs.Effects.{printed}
+use Rattle.replay.specs.Outside.{CutsLines}
+use Rattle.replay.specs.InFlight.{AreOf}
+use Rattle.replay.specs.Running.{IsRun, Running, setting_of}
+use Rattle.replay.specs.Unfinished.{IsUnfinished}
+use Rattle.replay.proofs.Acting.{some-held}
+use Rattle.replay.proofs.Exits.{as-last, cut-held, cut-setting, cut-some, is-seen, resumes-cut, resumes-all, resumes-last, resumes-searching}
+use Rattle.replay.proofs.InStep.{in-step-cut, in-step-done}
+use Rattle.replay.proofs.Leftover.{are-of-left, words-cut_run}
+use Rattle.replay.proofs.Rest.{HasNoCrash}
+use Rattle.replay.proofs.RestOf.{any-now, rest-of}
+use Rattle.replay.proofs.run.Run.complete.Goals as goal
+use Rattle.replay.proofs.run.Run.complete.Goals.{in-Ok-write_ended, in-Err-write_ended}
+
+pub make_writes-requires-clause-in_flight : goal.make_writes-requires-clause-in_flight
+make_writes-requires-clause-in_flight g c =
+    subst (λ (run : Running). AreOf run.probes run.waiting (g.D.Writable.flight c.args.device.now)) (sym c.self.view_is)
+    (are-of-left c.args.self.now (g.D.Writable.flight c.args.device.now) c.requires.held c.requires.in_flight)
+
+pub make_writes-requires-clause-waiting : goal.make_writes-requires-clause-waiting
+make_writes-requires-clause-waiting g c =
+    (any-now _ c.args.self.now c.self.view_is c.self.invariant c.requires.held c.requires.no_crash).rest.few_waiting
+
+pub make_writes-requires-clause-few : goal.make_writes-requires-clause-few
+make_writes-requires-clause-few g c =
+    (any-now _ c.args.self.now c.self.view_is c.self.invariant c.requires.held c.requires.no_crash).rest.few_left
+
+pub make_writes-requires-clause-may_turn : goal.make_writes-requires-clause-may_turn
+make_writes-requires-clause-may_turn g c =
+    (any-now _ c.args.self.now c.self.view_is c.self.invariant c.requires.held c.requires.no_crash).rest.may_turn
+
+pub invariant_of-self : goal.invariant_of-self
+invariant_of-self g c =
+    let any = any-now _ c.args.self.now c.self.view_is c.self.invariant c.requires.held c.requires.no_crash in
+    cut-held c.in-Err.fault _ any.slots _ any.before any.front _ any.rest c.make_writes.new.manager c.make_writes.new.count _ _ _ _ c.self.invariant any.inside (c.in-Err.ensures.makes true)
+
+pub returns-in-Err-clause-resumes : goal.returns-in-Err-clause-resumes
+returns-in-Err-clause-resumes g c = λ which before front unfinished at current.
+    let slots = g.D.Writable.slot_count c.args.device.now in
+    let inside = subst (λ (run : Running). run.manager.slots ≤ slots) (sym c.self.view_is) c.requires.slots in
+    let rest = rest-of slots before front _ (subst (IsUnfinished slots before front) (sym c.self.view_is) unfinished) c.self.invariant inside (subst HasNoCrash (sym c.self.view_is) c.requires.no_crash) in
+    let seen = is-seen slots before front _ c.args.self.now c.self.view_is c.requires.slots (g.D.Writable.events c.args.device.now) (g.D.Writable.events c.args.device.now) rest at _ current in
+    resumes-cut slots before front _ c.args.self.now c.self.view_is c.requires.slots (g.D.Writable.events c.args.device.now) (g.D.Writable.events c.make_writes.new.device) rest at _ current c.in-Err.fault c.make_writes.new.manager c.make_writes.new.count (g.D.Writable.flight c.make_writes.new.device) _ _ (c.in-Err.ensures.makes which)
+    (λ is. (c.in-Err.ensures.seen (λ e. absurd (cc)) seen).current)
+
+pub returns-in-Err-clause-in_flight : goal.returns-in-Err-clause-in_flight
+returns-in-Err-clause-in_flight g c =
+    let kind = cut-some c.in-Err.fault _ _ _ _ _ _ _ _ _ _ _ _ (c.in-Err.ensures.makes true) in
+    let held : IsSome c.make_writes.new.manager.held = subst (λ held. IsSome held) (sym (some-held _ _ _ _ kind.0)) refl in
+    words-cut_run _ c.make_writes.new.manager c.make_writes.new.count c.in-Err.fault (g.D.Writable.flight c.args.device.now) (g.D.Writable.flight c.make_writes.new.device) c.self.invariant kind.2 held (λ is. c.in-Err.ensures.in_flight (λ e. absurd (cc)))
+
+pub returns-in-Err-clause-kind : goal.returns-in-Err-clause-kind
+returns-in-Err-clause-kind g c = (cut-some c.in-Err.fault _ _ _ _ _ _ _ _ _ _ _ _ (c.in-Err.ensures.makes true)).2
+
+pub returns-in-Err-clause-setting : goal.returns-in-Err-clause-setting
+returns-in-Err-clause-setting g c =
+    cut-setting c.in-Err.fault _ _ c.make_writes.new.manager _ c.make_writes.new.count _ _ _ _ c.self.invariant (c.in-Err.ensures.makes true) ∙ ap setting_of c.self.view_is
+
+pub invariant_of-self-2 : goal.invariant_of-self-2
+invariant_of-self-2 g c =
+    let any = any-now _ c.args.self.now c.self.view_is c.self.invariant c.requires.held c.requires.no_crash in
+    (any.rest.ends _ _ _ c.make_writes.new.count c.in-Ok.ended c.make_writes.new.manager _ _ _ _ (c.in-Ok.ensures.makes true)).closing
+
+pub count_commit-requires-clause-idle : goal.count_commit-requires-clause-idle
+count_commit-requires-clause-idle g c =
+    let any = any-now _ c.args.self.now c.self.view_is c.self.invariant c.requires.held c.requires.no_crash in
+    let none = (any.rest.ends _ _ _ c.make_writes.new.count c.in-Ok.ended c.make_writes.new.manager _ _ _ _ (c.in-Ok.ensures.makes true)).idle in
+    search rules
+
+pub overflow_add-self : goal.overflow_add-self
+overflow_add-self g c =
+    let any = any-now _ c.args.self.now c.self.view_is c.self.invariant c.requires.held c.requires.no_crash in
+    let few = (any.rest.ends _ _ _ c.make_writes.new.count c.in-Ok.ended c.make_writes.new.manager _ _ _ _ (c.in-Ok.ensures.makes true)).few in
+    search rules
+
+pub invariant_of-self-3 : goal.invariant_of-self-3
+invariant_of-self-3 g c =
+    let any = any-now _ c.args.self.now c.self.view_is c.self.invariant c.requires.held c.requires.no_crash in
+    let ends = any.rest.ends _ _ _ c.make_writes.new.count c.in-Ok.ended c.make_writes.new.manager _ _ _ _ (c.in-Ok.ensures.makes true) in
+    subst IsRun (sym (ends.counted _ (c.self-2.view_is ∙ c.count_commit.ensures)).0) ends.ended_is
+
+pub invariant_of-self-in-Err-search_all : goal.invariant_of-self-in-Err-search_all
+invariant_of-self-in-Err-search_all g c =
+    let any = any-now _ c.args.self.now c.self.view_is c.self.invariant c.requires.held c.requires.no_crash in
+    let ends = any.rest.ends _ _ _ c.make_writes.new.count c.in-Ok.ended c.make_writes.new.manager _ _ _ _ (c.in-Ok.ensures.makes true) in
+    subst IsRun (sym (ends.counted _ (c.self-2.view_is ∙ c.count_commit.ensures)).0) ends.ended_is
+
+pub returns-in-Err-search_all-clause-setting : goal.returns-in-Err-search_all-clause-setting
+returns-in-Err-search_all-clause-setting g c =
+    let any = any-now _ c.args.self.now c.self.view_is c.self.invariant c.requires.held c.requires.no_crash in
+    let ends = any.rest.ends _ _ _ c.make_writes.new.count c.in-Ok.ended c.make_writes.new.manager _ _ _ _ (c.in-Ok.ensures.makes true) in
+    ap setting_of (ends.counted _ (c.self-2.view_is ∙ c.count_commit.ensures)).0 ∙ any.rest.ending.setting ∙ ap setting_of c.self.view_is
+
+-- a line of the words that are searched behind the last action is cut
+pub returns-in-Err-search_all-clause-resumes : goal.returns-in-Err-search_all-clause-resumes
+returns-in-Err-search_all-clause-resumes g c = λ which before front unfinished at current.
+    let made = c.in-Ok.ensures in
+    let width = made.leaves.slot_count in
+    let all = made.makes which in
+    let closed = c.self-2.view_is ∙ c.count_commit.ensures in
+    let slots = g.D.Writable.slot_count c.args.device.now in
+    let inside = subst (λ (run : Running). run.manager.slots ≤ slots) (sym c.self.view_is) c.requires.slots in
+    let rest = rest-of slots before front _ (subst (IsUnfinished slots before front) (sym c.self.view_is) unfinished) c.self.invariant inside (subst HasNoCrash (sym c.self.view_is) c.requires.no_crash) in
+    let seen = is-seen slots before front _ c.args.self.now c.self.view_is c.requires.slots (g.D.Writable.events c.args.device.now) (g.D.Writable.events c.args.device.now) rest at _ current in
+    let now = rw width at (made.seen (λ e. cc) seen) in
+    let cuts = as-last slots before front _ c.args.self.now c.self.view_is c.requires.slots (g.D.Writable.events c.args.device.now) (g.D.Writable.events c.make_writes.new.device) rest at _ current c.in-Ok.ended c.make_writes.new.manager c.make_writes.new.count _ _ all _ closed
+    (λ lines. CutsLines lines (counted which (g.K.Sink.taken c.make_writes.new.sink) (g.K.Sink.accepted c.make_writes.new.sink)) (counted which (g.K.Sink.taken c.search_all.new.sink) (g.K.Sink.accepted c.search_all.new.sink))) _ _ (g.met.D.Writable.agrees c.make_writes.new.device) made.serves now (made.in_flight (λ e. cc)) (rw width at (c.in-Err-search_all.ensures.lines.part which)) in
+    rw c.in-Err-search_all.ensures.events (resumes-searching slots before front _ c.args.self.now c.self.view_is c.requires.slots (g.D.Writable.events c.args.device.now) (g.D.Writable.events c.make_writes.new.device) rest at _ current c.in-Ok.ended c.make_writes.new.manager c.make_writes.new.count _ _ all _ closed _ (g.D.Writable.flight c.search_all.new.device) cuts)
+
+-- or all of them are told, and then its own line, or a part of that
+pub returns-clause-resumes : goal.returns-clause-resumes
+returns-clause-resumes g c = λ which before front unfinished at current.
+    let made = c.in-Ok.ensures in
+    let width = made.leaves.slot_count in
+    let all = made.makes which in
+    let closed = c.self-2.view_is ∙ c.count_commit.ensures in
+    let slots = g.D.Writable.slot_count c.args.device.now in
+    let inside = subst (λ (run : Running). run.manager.slots ≤ slots) (sym c.self.view_is) c.requires.slots in
+    let rest = rest-of slots before front _ (subst (IsUnfinished slots before front) (sym c.self.view_is) unfinished) c.self.invariant inside (subst HasNoCrash (sym c.self.view_is) c.requires.no_crash) in
+    let seen = is-seen slots before front _ c.args.self.now c.self.view_is c.requires.slots (g.D.Writable.events c.args.device.now) (g.D.Writable.events c.args.device.now) rest at _ current in
+    let now = rw width at (made.seen (λ e. cc) seen) in
+    let last = as-last slots before front _ c.args.self.now c.self.view_is c.requires.slots (g.D.Writable.events c.args.device.now) (g.D.Writable.events c.make_writes.new.device) rest at _ current c.in-Ok.ended c.make_writes.new.manager c.make_writes.new.count _ _ all _ closed
+    (λ lines. Appends (counted which (g.K.Sink.taken c.make_writes.new.sink) (g.K.Sink.accepted c.make_writes.new.sink)) (counted which (g.K.Sink.taken c.search_all.new.sink) (g.K.Sink.accepted c.search_all.new.sink)) (printed lines)) _ _ (g.met.D.Writable.agrees c.make_writes.new.device) made.serves now (made.in_flight (λ e. cc)) (rw width at (c.in-Ok-search_all.ensures.lines.whole which)) in
+    elim c.match-write_ended.branch [
+      | in-Ok-write_ended w ↦ rw (w.result-is, c.in-Ok-search_all.ensures.events)
+          (resumes-all slots before front _ c.args.self.now c.self.view_is c.requires.slots (g.D.Writable.events c.args.device.now) (g.D.Writable.events c.make_writes.new.device) rest at _ current c.in-Ok.ended c.make_writes.new.manager c.make_writes.new.count _ _ all _ closed _ last _ (g.D.Writable.flight c.search_all.new.device)
+          (w.in-Ok-write_ended.ensures.whole which))
+      | in-Err-write_ended w ↦ rw (w.result-is, c.in-Ok-search_all.ensures.events)
+          (resumes-last slots before front _ c.args.self.now c.self.view_is c.requires.slots (g.D.Writable.events c.args.device.now) (g.D.Writable.events c.make_writes.new.device) rest at _ current c.in-Ok.ended c.make_writes.new.manager c.make_writes.new.count _ _ all _ closed _ last _ (g.D.Writable.flight c.search_all.new.device)
+          (w.in-Err-write_ended.ensures.part which))
+    ]
+
+pub returns-clause-idle : goal.returns-clause-idle
+returns-clause-idle g c =
+    let any = any-now _ c.args.self.now c.self.view_is c.self.invariant c.requires.held c.requires.no_crash in
+    let none = (any.rest.ends _ _ _ c.make_writes.new.count c.in-Ok.ended c.make_writes.new.manager _ _ _ _ (c.in-Ok.ensures.makes true)).idle in
+    search rules
+
+pub returns-clause-setting : goal.returns-clause-setting
+returns-clause-setting g c =
+    let any = any-now _ c.args.self.now c.self.view_is c.self.invariant c.requires.held c.requires.no_crash in
+    let ends = any.rest.ends _ _ _ c.make_writes.new.count c.in-Ok.ended c.make_writes.new.manager _ _ _ _ (c.in-Ok.ensures.makes true) in
+    ap setting_of (ends.counted _ (c.self-2.view_is ∙ c.count_commit.ensures)).0 ∙ any.rest.ending.setting ∙ ap setting_of c.self.view_is
+
+-- where the sink didn't fail the device stays the manager's
+pub returns-in-Err-clause-in_step : goal.returns-in-Err-clause-in_step
+returns-in-Err-clause-in_step g c = λ not_sink.
+    in-step-cut (g.D.Writable.slot_count c.args.device.now) _ c.args.self.now c.self.invariant c.self.view_is c.make_writes.new.manager c.make_writes.new.count
+    (g.D.Writable.events c.args.device.now) (g.D.Writable.events c.make_writes.new.device) (g.D.Writable.flight c.args.device.now) (g.D.Writable.flight c.make_writes.new.device)
+    (λ seen. rw c.in-Err.ensures.leaves.slot_count at (c.in-Err.ensures.seen (λ e. not_sink (let same : c.in-Err.fault ≡ fault.Sink = cc in ap Err same)) seen))
+
+pub returns-in-Err-search_all-clause-in_step : goal.returns-in-Err-search_all-clause-in_step
+returns-in-Err-search_all-clause-in_step g c = λ not_sink. absurd (not_sink refl)
+
+pub returns-clause-in_step : goal.returns-clause-in_step
+returns-clause-in_step g c = λ not_sink.
+    let made = c.in-Ok.ensures in
+    in-step-done (g.D.Writable.slot_count c.args.device.now) _ c.args.self.now c.self.invariant c.self.view_is c.make_writes.new.manager _ c.make_writes.new.count.told (c.self-2.view_is ∙ c.count_commit.ensures)
+    (g.D.Writable.events c.args.device.now) (g.D.Writable.events c.make_writes.new.device) (g.D.Writable.events c.search_all.new.device)
+    (g.D.Writable.flight c.args.device.now) (g.D.Writable.flight c.make_writes.new.device) (g.D.Writable.flight c.search_all.new.device)
+    (λ seen. rw made.leaves.slot_count at (made.seen (λ e. cc) seen)) c.in-Ok-search_all.ensures.events c.in-Ok-search_all.ensures.flight

@@ -1,0 +1,10 @@
+-- Few writes are made and left, so their number fits.
+use Rattle.std.proofs.Common.{◌+◌, ◌^◌, ◌≤◌, rules}
+use Rattle.replay.proofs.Coming.{few-told}
+use Rattle.replay.proofs.run.Run.crash_ahead.Goals as goal
+
+pub overflow_add-self-inside : goal.overflow_add-self-inside
+overflow_add-self-inside c =
+    let few : c.self.inside.count.told + c.in_ok-left.left ≤ 2 ^ 40 =
+    few-told c.in-Crashes.after _ c.args.self.now c.self.view_is c.self.invariant c.requires.held c.in-Crashes.is c.in_ok-left.left (cc) in
+    search rules

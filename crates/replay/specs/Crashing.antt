@@ -1,0 +1,71 @@
+-- What a run comes to where its commit crashes, and what is left of it then.
+use Rattle.std.specs.Prelude.{◌≡◌, ◌⊎◌, ℕ, ◌+◌, ◌<◌, ◌++◌, Bool, true, false, IsSome, IfSome, Option, Result, Ok, Err, List, [], length}
+use Rattle.tcam_device.specs.declared.Action.{Action}
+use Rattle.tcam_device.specs.Flight.{Flight}
+use Rattle.commit_writes.specs.InFlight.{AreCurrent}
+use Rattle.batch_order.specs.Managed.{Managed, fresh, live_now, writes_due}
+use Rattle.replay.specs.declared.Act.{Act}
+use Rattle.replay.specs.declared.RunFault.{RunFault}
+use Rattle.replay.specs.declared.RunFault.TheVariants as fault
+use Rattle.replay.specs.declared.fate.Fate.TheVariants.{Finishes, Crashes, Restarted}
+use Rattle.replay.specs.Effects.{Effect}
+use Rattle.replay.specs.Run.{Progress}
+use Rattle.replay.specs.Carried.{IsAt, Does}
+use Rattle.replay.specs.Running.{Running, progress_of}
+use Rattle.replay.specs.Unfinished.{IsUnfinished, ResumesTo}
+
+-- the commit under way has more writes than so many, those included that were made
+abbrev pub HasMoreThan : ℕ → Running → Type 0
+HasMoreThan after run = IfSome run.manager.held (λ held. after < run.told + length (writes_due held))
+
+-- A commit is where it crashes: so many writes were made, and it has more.
+pub record IsAtCrash (after : ℕ) (run : Running) : Type 0 where
+  pub fate_is : run.fate ≡ Crashes after
+  pub told_is : run.told ≡ after
+  pub held : IsSome run.manager.held
+  pub more : HasMoreThan after run
+
+-- some effects more of a commit came about, up to its crash, and it is unfinished
+pub record Continues (device_slots : ℕ) (before : Progress) (front : List Effect) (new : Running) (events_old events_new : List Action) (flight : Flight) (taken_old taken_new : Option (List ℕ)) : Type 0 where
+  pub more : List Effect
+  pub unfinished : IsUnfinished device_slots before (front ++ more) new
+  pub does : Does more [] events_old events_new taken_old taken_new
+  pub stands : IsAt device_slots events_new (progress_of device_slots new)
+  pub current : AreCurrent (live_now new.manager) flight
+
+-- what its first part comes to: its crash, or the write or the line that failed before
+abbrev pub ComesToCrash : ℕ → Progress → Act → List Effect → Running → Result (Unit {0}) RunFault → List Action → List Action → Flight → Option (List ℕ) → Option (List ℕ) → Type 0
+ComesToCrash device_slots before act front new (Ok done) events_old events_new flight taken_old taken_new =
+    Continues device_slots before front new events_old events_new flight taken_old taken_new
+ComesToCrash device_slots before act front new (Err why) events_old events_new flight taken_old taken_new =
+    ResumesTo device_slots before act front new (Err why) events_old events_new flight taken_old taken_new
+
+-- another manager goes on with the commit
+abbrev pub IsGoneOnWith : ℕ → Running → Running → Type 0
+IsGoneOnWith after old new =
+    (manager : Managed) × IsSome manager.held × (new ≡ record old { manager = manager; fate = Restarted after })
+
+-- where there was no memory for that, nothing is left of the commit
+abbrev pub lost : Running → Running
+lost old =
+    record old {
+      manager = fresh old.manager.slots old.manager.mode old.manager.placement;
+      told = 0;
+      waiting = 0;
+      fate = Finishes;
+      broken = true;
+    }
+
+-- or all of it, and no call may follow either way
+abbrev pub IsLost : Running → Running → Type 0
+IsLost old new = (new ≡ lost old) ⊎ (new ≡ record old { broken = true })
+
+-- a manager was lost, by the answer of what carries out the commit
+abbrev pub loses : Result (Unit {0}) RunFault → Bool
+loses (Ok done) = false
+loses (Err fault.Sink) = false
+loses (Err fault.Device) = false
+loses (Err fault.Memory) = true
+loses (Err fault.BatchFull) = false
+loses (Err fault.ProbesFull) = false
+loses (Err (fault.Held left)) = false

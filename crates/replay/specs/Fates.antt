@@ -1,0 +1,91 @@
+-- What becomes of a commit that was taken, and where it crashes.
+use Rattle.std.specs.Prelude.{◌≡◌, ℕ, ◌-◌, ◌<◌, ◌≤◌, ◌++◌, nat_le, nat_lt, ◌&&◌, Bool, true, false, Option, Some, None, IfSome, Result, Ok, Err, List, length}
+use Rattle.tcam_device.specs.declared.Action.{Action}
+use Rattle.tcam_device.specs.Flight.{writes_in}
+use Rattle.commit_writes.specs.Actions.{up_to_writes}
+use Rattle.batch_order.specs.Managed.{HeldCommit, writes_due}
+use Rattle.replay.specs.declared.Act.{Act}
+use Rattle.replay.specs.declared.Act.TheVariants.{Command, Probe, Packet, Commit, Trial, Crash}
+use Rattle.replay.specs.declared.RunFault.{RunFault}
+use Rattle.replay.specs.declared.RunFault.TheVariants as fault
+use Rattle.replay.specs.declared.fate.Fate.{Fate}
+use Rattle.replay.specs.declared.fate.Fate.TheVariants.{Finishes, Returns, Crashes, Restarted}
+
+-- the act of a commit: a trial where it is taken back after so many writes, and a crash where its manager is dropped
+abbrev pub commit_act : Fate → Act
+commit_act Finishes = Commit
+commit_act (Returns most) = Trial most
+commit_act (Crashes after) = Crash after
+commit_act (Restarted after) = Crash after
+
+-- an act that crashes
+abbrev pub IsCrash : Act → Type 0
+IsCrash (Command change) = ⊥
+IsCrash (Probe key) = ⊥
+IsCrash (Packet key) = ⊥
+IsCrash Commit = ⊥
+IsCrash (Trial most) = ⊥
+IsCrash (Crash after) = Unit {0}
+
+-- after how many writes a commit is taken back where it has more, if it is
+abbrev pub most_of : Fate → Option ℕ
+most_of Finishes = None
+most_of (Returns most) = Some most
+most_of (Crashes after) = None
+most_of (Restarted after) = None
+
+-- after how many writes its manager is dropped where it has more, if it is still to be
+abbrev pub crash_of : Fate → Option ℕ
+crash_of Finishes = None
+crash_of (Returns most) = None
+crash_of (Crashes after) = Some after
+crash_of (Restarted after) = None
+
+-- it is still to crash
+abbrev pub IsToCrash : Fate → Type 0
+IsToCrash Finishes = ⊥
+IsToCrash (Returns most) = ⊥
+IsToCrash (Crashes after) = Unit {0}
+IsToCrash (Restarted after) = ⊥
+
+-- its manager is the one that was asked for it
+abbrev pub IsFirst : Fate → Type 0
+IsFirst Finishes = Unit {0}
+IsFirst (Returns most) = Unit {0}
+IsFirst (Crashes after) = Unit {0}
+IsFirst (Restarted after) = ⊥
+
+-- Where there are more writes than so many, what was made comes before a crash behind these, and so does what is left up
+-- to there: no drain that is due then is among it.
+abbrev pub IsUpTo : ℕ → List Action → List Action → Type 0
+IsUpTo more made left =
+    more < length (writes_in (made ++ left)) → up_to_writes more (made ++ left) ≡ made ++ up_to_writes (more - length (writes_in made)) left
+
+-- with so many writes told before, where there is a crash
+abbrev pub IsBefore : Option ℕ → ℕ → List Action → List Action → Type 0
+IsBefore stop told made left = IfSome stop (λ after. IsUpTo (after - told) made left)
+
+-- so many writes are told, and no more than come before the crash
+abbrev pub IsWithinCrash : Option ℕ → ℕ → Type 0
+IsWithinCrash stop told = IfSome stop (λ after. told ≤ after)
+
+-- the crash is due: so many writes are told, and more are left
+abbrev pub crash_due : Option ℕ → ℕ → Option HeldCommit → Bool
+crash_due None told held = false
+crash_due (Some after) told None = false
+crash_due (Some after) told (Some held) = nat_le after told && nat_lt 0 (length (writes_due held))
+
+-- What an answer says of whether a call may follow: none may behind a failure of the sink, and perhaps none where a commit
+-- that crashed found no memory.
+abbrev pub Breaks : Act → Result (Unit {0}) RunFault → Bool → Type 0
+Breaks act (Ok done) broken = broken ≡ false
+Breaks act (Err fault.Sink) broken = broken ≡ true
+Breaks act (Err fault.Device) broken = broken ≡ false
+Breaks act (Err fault.Memory) broken = broken ≡ true → IsCrash act
+Breaks act (Err fault.BatchFull) broken = broken ≡ false
+Breaks act (Err fault.ProbesFull) broken = broken ≡ false
+Breaks act (Err (fault.Held left)) broken = broken ≡ false
+
+-- before the sink's failure is remembered: the manager was lost
+abbrev pub Loses : Act → Result (Unit {0}) RunFault → Bool → Type 0
+Loses act result broken = broken ≡ true → (result ≡ Err fault.Memory) × IsCrash act

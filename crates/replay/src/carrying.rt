@@ -1,0 +1,257 @@
+//! A commit under way is carried out: by its manager to the end, or by two of them where it crashes between.
+
+ghost use Rattle.std.specs.Prelude.{Bool, true, false, ◌≡◌, ◌≢◌, ◌⊎◌, ◌+◌, ◌<◌, ◌≤◌, ◌^◌, ◌++◌, ◌∷◌, [], ℕ, List, Ok, Err, IsSome, IsNone, IfSome, IfErr, OnOk, OnErr, None, Some};
+ghost use Rattle.script_lines.specs.Given.{counted};
+ghost use Rattle.commit_writes.specs.InFlight.{AreCurrent};
+ghost use Rattle.batch_order.specs.CarriedOut.{HasRoomBothWays};
+ghost use Rattle.batch_order.specs.Managed.{live_now};
+ghost use Rattle.replay.specs.Effects.{Effect};
+ghost use Rattle.replay.specs.Run.{Progress};
+ghost use Rattle.replay.specs.Outside.{Leaves, WritesLine};
+ghost use Rattle.replay.specs.Carried.{IsAt};
+ghost use Rattle.replay.specs.Fates.{IsToCrash, commit_act, crash_of};
+ghost use Rattle.replay.specs.Running.{AreLeft, LeavesWords, ended_line, progress_of, setting_of};
+ghost use Rattle.replay.specs.Unfinished.{IsUnfinished, ResumesTo, StaysInStep, TakesAtCrash};
+ghost use Rattle.replay.specs.Crashing.{ComesToCrash, HasMoreThan, IsAtCrash, IsGoneOnWith, IsLost, loses};
+
+use crate::RunFault;
+use crate::fate::Fate;
+use crate::report::{write_aborted, write_accepted, write_restarted};
+use crate::run::Run;
+use crate::steps::{Ended, make_up_to, make_writes};
+use crate::watch::NOTHING;
+use batch_order::{Manager, RestartFault};
+use script_lines::{Failed, Sink};
+use std::alloc::AllocError;
+use std::mem::replace;
+use tcam_device::{Device, ReadBack};
+
+impl Run {
+    /// Makes and tells the writes that are left of the commit under way, over its crash where that is still to come,
+    /// counts it, drops its batch, and writes its line. `Memory` comes at the crash alone.
+    pub(crate) fn carry_out<K: Sink, D: ReadBack>(
+        &mut self,
+        sink: &mut K,
+        device: &mut D,
+    ) -> Result<(), RunFault>
+        requires slots { self.old.manager.slots ≤ D.slot_count device.old }
+        requires in_flight { AreLeft self.old (D.flight device.old) }
+        requires held { IsSome self.old.manager.held }
+        requires whole { self.old.broken ≡ false }
+        requires room { HasRoomBothWays self.old.manager.held (D.spare device.old) }
+        requires stands { IsToCrash self.old.fate → IsAt (D.slot_count device.old) (D.events device.old) (progress_of (D.slot_count device.old) self.old) }
+        requires commits { self.old.commits < 2 ^ 24 }
+        ensures resumes { (which : Bool) → (before : Progress) → (front : List Effect) → IsUnfinished (D.slot_count device.old) before front self.old
+            → IsAt (D.slot_count device.old) (D.events device.old) (progress_of (D.slot_count device.old) self.old)
+            → AreCurrent (live_now self.old.manager) (D.flight device.old)
+            → ResumesTo (D.slot_count device.old) before (commit_act self.old.fate) front self.new result
+            (D.events device.old) (D.events device.new) (D.flight device.new) (counted which (K.taken sink.old) (K.accepted sink.old)) (counted which (K.taken sink.new) (K.accepted sink.new)) }
+        ensures kind { IfErr result (λ fault. (fault ≡ RunFault.Sink) ⊎ ((fault ≡ RunFault.Device) ⊎ ((fault ≡ RunFault.Memory) × IsToCrash self.old.fate))) }
+        ensures idle { OnOk result (self.new.manager.held ≡ None) }
+        ensures broken { self.new.broken ≡ loses result }
+        ensures room { HasRoomBothWays self.new.manager.held (D.spare device.new) }
+        ensures setting { setting_of self.new ≡ setting_of self.old }
+        ensures commits { self.new.commits ≤ self.old.commits + 1 }
+        ensures in_flight { LeavesWords self.new result (D.flight device.old) (D.flight device.new) }
+        ensures in_step { result ≢ Err RunFault.Sink → StaysInStep (D.slot_count device.old) self.old self.new (D.events device.old) (D.events device.new) (D.flight device.old) (D.flight device.new) }
+        ensures leaves { Leaves K.taken K.faults sink.old sink.new D.slot_count D.journal D.faults device.old device.new (result ≡ Err RunFault.Sink) (result ≡ Err RunFault.Device) }
+    {
+        if let Some(after) = self.crash_ahead() {
+            match self.come_to_crash(after, sink, device) {
+                Ok(()) => {}
+                Err(fault) => return Err(fault),
+            }
+            match self.restart(after, device) {
+                Ok(()) => {}
+                Err(AllocError) => return Err(RunFault::Memory),
+            }
+        }
+        self.complete(sink, device)
+    }
+
+    // Behind how many writes the commit under way crashes, if it is to and has more.
+    fn crash_ahead(&self) -> Option<u32>
+        requires held { IsSome self.now.manager.held }
+        ensures ahead { IfSome result (λ after. (crash_of self.now.fate ≡ Some after) × HasMoreThan after self.now) }
+        ensures none { IsNone result → IfSome (crash_of self.now.fate) (λ after. ¬ (HasMoreThan after self.now)) }
+    {
+        let Fate::Crashes(after) = self.fate else {
+            return None;
+        };
+        let left = self.manager.left()?;
+        if self.count.told + left > u64::from(after) {
+            Some(after)
+        } else {
+            None
+        }
+    }
+
+    // Makes and tells the writes up to the crash.
+    fn come_to_crash<K: Sink, D: Device>(
+        &mut self,
+        after: u32,
+        sink: &mut K,
+        device: &mut D,
+    ) -> Result<(), RunFault>
+        requires slots { self.old.manager.slots ≤ D.slot_count device.old }
+        requires in_flight { AreLeft self.old (D.flight device.old) }
+        requires crashes { self.old.fate ≡ Fate.Crashes after }
+        requires held { IsSome self.old.manager.held }
+        requires more { HasMoreThan after self.old }
+        requires room { HasRoomBothWays self.old.manager.held (D.spare device.old) }
+        ensures comes { (which : Bool) → (before : Progress) → (front : List Effect) → IsUnfinished (D.slot_count device.old) before front self.old
+            → IsAt (D.slot_count device.old) (D.events device.old) (progress_of (D.slot_count device.old) self.old)
+            → AreCurrent (live_now self.old.manager) (D.flight device.old)
+            → ComesToCrash (D.slot_count device.old) before (commit_act self.old.fate) front self.new result
+            (D.events device.old) (D.events device.new) (D.flight device.new) (counted which (K.taken sink.old) (K.accepted sink.old)) (counted which (K.taken sink.new) (K.accepted sink.new)) }
+        ensures at_crash { OnOk result (IsAtCrash after self.new) }
+        ensures stands { OnOk result (IsAt (D.slot_count device.old) (D.events device.old) (progress_of (D.slot_count device.old) self.old)
+            → IsAt (D.slot_count device.new) (D.events device.new) (progress_of (D.slot_count device.new) self.new)) }
+        ensures kind { IfErr result (λ fault. (fault ≡ RunFault.Sink) ⊎ (fault ≡ RunFault.Device)) }
+        ensures broken { self.new.broken ≡ self.old.broken }
+        ensures fate { self.new.fate ≡ self.old.fate }
+        ensures room { HasRoomBothWays self.new.manager.held (D.spare device.new) }
+        ensures setting { setting_of self.new ≡ setting_of self.old }
+        ensures commits { self.new.commits ≡ self.old.commits }
+        ensures in_flight { result ≢ Err RunFault.Sink → AreLeft self.new (D.flight device.new) }
+        ensures in_step { result ≢ Err RunFault.Sink → StaysInStep (D.slot_count device.old) self.old self.new (D.events device.old) (D.events device.new) (D.flight device.old) (D.flight device.new) }
+        ensures leaves { Leaves K.taken K.faults sink.old sink.new D.slot_count D.journal D.faults device.old device.new (result ≡ Err RunFault.Sink) (result ≡ Err RunFault.Device) }
+    {
+        let (manager, count) = (&mut self.manager, &mut self.count);
+        make_up_to(manager, &self.watch, count, after, sink, device)
+    }
+
+    // Drops the manager, and has another one go on with the commit by what the device shows, with the words in flight
+    // as they are. For want of memory no call may follow.
+    fn restart<D: ReadBack>(&mut self, after: u32, device: &mut D) -> Result<(), AllocError>
+        requires slots { self.old.manager.slots ≤ D.slot_count device.old }
+        requires at_crash { IsAtCrash after self.old }
+        requires stands { IsAt (D.slot_count device.old) (D.events device.old) (progress_of (D.slot_count device.old) self.old) }
+        requires room { HasRoomBothWays self.old.manager.held (D.spare device.old) }
+        ensures goes_on { OnOk result (IsGoneOnWith after self.old self.new) }
+        ensures unfinished { OnOk result ((before : Progress) → (front : List Effect)
+            → IsUnfinished (D.slot_count device.old) before front self.old → IsUnfinished (D.slot_count device.old) before front self.new) }
+        ensures stands { OnOk result (progress_of (D.slot_count device.old) self.new ≡ progress_of (D.slot_count device.old) self.old) }
+        ensures current { OnOk result (AreCurrent (live_now self.old.manager) (D.flight device.old) → AreCurrent (live_now self.new.manager) (D.flight device.new)) }
+        ensures wants { OnErr result ((before : Progress) → (front : List Effect)
+            → IsUnfinished (D.slot_count device.old) before front self.old → TakesAtCrash (setting_of self.old) before (commit_act self.old.fate) front) }
+        ensures lost { OnErr result (IsLost self.old self.new) }
+        ensures setting { setting_of self.new ≡ setting_of self.old }
+        ensures room { HasRoomBothWays self.new.manager.held (D.spare device.new) }
+        ensures journal { D.journal device.new ≡ D.journal device.old }
+        ensures events { D.events device.new ≡ D.events device.old }
+        ensures flight { D.flight device.new ≡ D.flight device.old }
+        ensures slot_count { D.slot_count device.new ≡ D.slot_count device.old }
+        ensures faults { D.faults device.new ≡ D.faults device.old }
+    {
+        let (slots, mode, placement) = self.manager.setting();
+        // The words in flight are current for the ranges that the other manager finds.
+        self.manager.serving();
+        let blank = match Manager::new(self.alloc, slots, mode, placement) {
+            Ok(blank) => blank,
+            Err(AllocError) => {
+                self.broken = true;
+                return Err(AllocError);
+            }
+        };
+        let parts = replace(&mut self.manager, blank).into_parts();
+        match Manager::restart(
+            self.alloc,
+            slots,
+            mode,
+            placement,
+            parts,
+            &self.pending,
+            device,
+        ) {
+            Ok(manager) => {
+                self.manager = manager;
+                self.fate = Fate::Restarted(after);
+                Ok(())
+            }
+            Err((RestartFault::Memory, _)) => {
+                self.count = NOTHING;
+                self.fate = Fate::Finishes;
+                self.broken = true;
+                Err(AllocError)
+            }
+            // The device shows a stage of the commit, and the parts are those of its manager.
+            Err(_) => unreachable!(),
+        }
+    }
+
+    // Makes and tells the writes that are left of a commit that comes to its end by the manager that it has, counts it,
+    // drops its batch, and writes its line.
+    fn complete<K: Sink, D: Device>(&mut self, sink: &mut K, device: &mut D) -> Result<(), RunFault>
+        requires slots { self.old.manager.slots ≤ D.slot_count device.old }
+        requires in_flight { AreLeft self.old (D.flight device.old) }
+        requires held { IsSome self.old.manager.held }
+        requires no_crash { IfSome (crash_of self.old.fate) (λ after. ¬ (HasMoreThan after self.old)) }
+        requires room { HasRoomBothWays self.old.manager.held (D.spare device.old) }
+        requires commits { self.old.commits < 2 ^ 24 }
+        ensures resumes { (which : Bool) → (before : Progress) → (front : List Effect) → IsUnfinished (D.slot_count device.old) before front self.old
+            → IsAt (D.slot_count device.old) (D.events device.old) (progress_of (D.slot_count device.old) self.old)
+            → AreCurrent (live_now self.old.manager) (D.flight device.old)
+            → ResumesTo (D.slot_count device.old) before (commit_act self.old.fate) front self.new result
+            (D.events device.old) (D.events device.new) (D.flight device.new) (counted which (K.taken sink.old) (K.accepted sink.old)) (counted which (K.taken sink.new) (K.accepted sink.new)) }
+        ensures kind { IfErr result (λ fault. (fault ≡ RunFault.Sink) ⊎ (fault ≡ RunFault.Device)) }
+        ensures idle { OnOk result (self.new.manager.held ≡ None) }
+        ensures broken { self.new.broken ≡ self.old.broken }
+        ensures room { HasRoomBothWays self.new.manager.held (D.spare device.new) }
+        ensures setting { setting_of self.new ≡ setting_of self.old }
+        ensures commits { self.new.commits ≤ self.old.commits + 1 }
+        ensures in_flight { LeavesWords self.new result (D.flight device.old) (D.flight device.new) }
+        ensures in_step { result ≢ Err RunFault.Sink → StaysInStep (D.slot_count device.old) self.old self.new (D.events device.old) (D.events device.new) (D.flight device.old) (D.flight device.new) }
+        ensures leaves { Leaves K.taken K.faults sink.old sink.new D.slot_count D.journal D.faults device.old device.new (result ≡ Err RunFault.Sink) (result ≡ Err RunFault.Device) }
+    {
+        let (manager, count, fate) = (&mut self.manager, &mut self.count, self.fate);
+        let ended = match make_writes(manager, &self.watch, count, fate, sink, device) {
+            Ok(ended) => ended,
+            Err(fault) => return Err(fault),
+        };
+        let count = self.count;
+        self.count = NOTHING;
+        self.fate = Fate::Finishes;
+        self.count_commit();
+        self.writes += count.told;
+        match self.watch.search_all(&count, sink, device) {
+            Ok(()) => {}
+            Err(Failed) => return Err(RunFault::Sink),
+        }
+        match write_ended(sink, self.commits, fate, &ended, count.told) {
+            Ok(()) => Ok(()),
+            Err(Failed) => Err(RunFault::Sink),
+        }
+    }
+
+    /// Counts a commit, and drops its batch.
+    pub(crate) fn count_commit(&mut self)
+        requires idle { self.old.manager.held ≡ None }
+        requires commits { self.old.commits < 2 ^ 24 }
+        ensures { self.new ≡ record self.old { pending = []; commits = self.old.commits + 1 } }
+    {
+        self.pending.clear();
+        self.commits += 1;
+    }
+}
+
+// The line of a commit that has come to its end, by its number, from 1, by what became of it, and by its writes.
+fn write_ended<K: Sink>(
+    sink: &mut K,
+    commit: u32,
+    fate: Fate,
+    ended: &Ended,
+    writes: u64,
+) -> Result<(), Failed>
+    ensures { WritesLine K.taken K.accepted K.faults sink.old sink.new (ended_line commit fate ended.now writes) result }
+{
+    match ended {
+        Ended::Finished(done) => match fate {
+            Fate::Restarted(after) => write_restarted(sink, commit, after, writes),
+            Fate::Finishes | Fate::Returns(_) | Fate::Crashes(_) => write_accepted(
+                sink, commit, done,
+            ),
+        },
+        Ended::Reverted => write_aborted(sink, commit, writes),
+    }
+}

@@ -1,0 +1,94 @@
+-- A commit that crashes does up to then what any commit does.
+use Rattle.std.proofs.Common.{◌≡◌, ℕ, zero, suc, ◌+◌, inl, inr, Bool, List, [], ◌∷◌, ◌++◌, length, refl, sym, ap, ◌∙◌, subst, append_assoc}
+use Rattle.std.specs.List.{AllByRecursion}
+use Rattle.rule_store.specs.Verdict.{Accepted, verdict}
+use Rattle.tcam_device.specs.declared.Write.{Write}
+use Rattle.tcam_device.specs.declared.Action.{Action}
+use Rattle.tcam_device.specs.declared.Action.TheVariants.{Written, Drained}
+use Rattle.tcam_device.specs.Flight.{writes_in}
+use Rattle.tcam_device.specs.State.{state_after}
+use Rattle.commit_writes.specs.Actions.{up_to_writes}
+use Rattle.replay.specs.declared.Act.{Act}
+use Rattle.replay.specs.declared.Act.TheVariants.{Commit, Crash}
+use Rattle.replay.specs.Effects.{Setting, Effect, Prints, effects_of, flushed, waiting_after}
+use Rattle.replay.specs.Run.{Progress, Commits, CrashesIn, HasEffects, IsCutBeforeCrash, Judged, StopsAtCrash, actions_before, actions_for, after_segment, carried}
+use Rattle.replay.specs.Text.{accepted_line}
+use Rattle.replay.proofs.Effects.{effects-append}
+
+-- the actions behind so many writes
+rest-after : ℕ → List Action → List Action
+rest-after zero actions = actions
+rest-after (suc more) [] = []
+rest-after (suc more) (Written write ∷ actions) = rest-after more actions
+rest-after (suc more) (Drained ∷ actions) = rest-after (suc more) actions
+
+front-and-rest : (more : ℕ) (actions : List Action) → up_to_writes more actions ++ rest-after more actions ≡ actions
+unfolding rest-after
+front-and-rest zero actions = refl
+front-and-rest (suc more) [] = refl
+front-and-rest (suc more) (Written write ∷ actions) = ap (λ rest. Written write ∷ rest) (front-and-rest more actions)
+front-and-rest (suc more) (Drained ∷ actions) = ap (λ rest. Drained ∷ rest) (front-and-rest (suc more) actions)
+
+-- all effects of a commit with these writes begin with those up to the crash
+pub record AsCommit (setting : Setting) (before : Progress) (front : List Effect) : Type 0 where
+  pub back : List Effect
+  pub after : Progress
+  pub step : HasEffects setting before Commit (front ++ back) after
+
+pub as-commit : (setting : Setting) (before : Progress) (after : ℕ) (made : List Write) → verdict setting.slots setting.mode before.rules before.batch ≡ Accepted → CrashesIn setting before after made
+    → AsCommit setting before (effects_of setting before.probes 0 0 before.state (actions_before setting before after made))
+as-commit setting before after made accepted crash = record {
+  back = behind ++ (end ++ line);
+  after = after_segment setting before made;
+  step = subst (λ verdict. Judged Commits setting before verdict (front ++ (behind ++ (end ++ line))) (after_segment setting before made)) (sym accepted) (record {
+    made = made;
+    counts = crash.counts;
+    segment = crash.segment;
+    placed = crash.placed;
+    of_family = crash.of_family;
+    in_use = crash.in_use;
+    numbers = crash.numbers;
+    effects_are = sym (append_assoc front behind (end ++ line)) ∙ ap (λ effects. effects ++ (end ++ line)) (sym parts) ∙ sym (append_assoc (effects_of setting before.probes 0 0 before.state actions) end line);
+    after = refl;
+  });
+}
+  where
+    actions : List Action
+    actions = actions_for setting before made
+
+    first : List Action
+    first = actions_before setting before after made
+
+    rest : List Action
+    rest = rest-after after actions
+
+    front : List Effect
+    front = effects_of setting before.probes 0 0 before.state first
+
+    behind : List Effect
+    behind = effects_of setting before.probes (0 + length (writes_in first)) (waiting_after setting.depth 0 first) (state_after before.state (writes_in first)) rest
+
+    end : List Effect
+    end = flushed setting.family before.probes (length (writes_in actions)) (state_after before.state (writes_in actions)) (waiting_after setting.depth 0 actions)
+
+    line : List Effect
+    line = Prints (accepted_line (before.commits + 1) crash.counts) ∷ []
+
+    parts : effects_of setting before.probes 0 0 before.state actions ≡ front ++ behind
+    parts = ap (effects_of setting before.probes 0 0 before.state) (sym (front-and-rest after actions)) ∙ effects-append setting before.probes 0 0 before.state first rest
+
+-- so one that is cut before its crash is a commit that is cut
+pub cut-as_commit : (setting : Setting) (before : Progress) (act : Act) (front : List Effect) (due : Effect) → IsCutBeforeCrash setting before act front due → AsCommit setting before (front ++ due ∷ [])
+cut-as_commit setting before act front due cut =
+    let whole = as-commit setting before cut.after cut.made cut.accepted cut.crash in record {
+      back = cut.back ++ whole.back;
+      after = whole.after;
+      step = subst (λ effects. HasEffects setting before Commit effects whole.after)
+          (ap (λ effects. effects ++ whole.back) cut.parts ∙ append_assoc front (due ∷ cut.back) whole.back ∙ sym (append_assoc front (due ∷ []) (cut.back ++ whole.back)))
+          whole.step;
+    }
+
+-- and one that finds no memory at its crash has made the first effects of a commit
+pub stops-as_commit : (setting : Setting) (before : Progress) (after : ℕ) (front : List Effect) → verdict setting.slots setting.mode before.rules before.batch ≡ Accepted → StopsAtCrash setting before after front → AsCommit setting before front
+stops-as_commit setting before after front accepted stops =
+    subst (AsCommit setting before) (sym stops.effects_are) (as-commit setting before after stops.made accepted stops.crash)
