@@ -25,6 +25,7 @@ use Rattle.batch_order.specs.Passed.{HasWayBack}
 use Rattle.batch_order.specs.Managed.{room_both_ways, room_needed}
 use Rattle.batch_order.proofs.Carried.{held_size, view_of}
 use Rattle.batch_order.proofs.Drains.{writes_left_are}
+use Rattle.batch_order.proofs.OnWay.{managed_at}
 use Rattle.batch_order.proofs.Stepped.{both_on, both_back, needed_back, needed_on}
 
 -- what a call of abort leaves, whatever it answers
@@ -67,43 +68,14 @@ module _ (translation : Option Translation) (rules : StoredRules) (kept : Entrie
   -- one that was prepared can be carried back
   pub managed_turned : held.prepared ≡ true → IsManaged translation rules kept slots (Some (turned_at held))
   managed_turned prepared =
-      let carried = managed.carried in
-      record {
-        right = managed.right;
-        is_set = managed.is_set;
-        tables = managed.tables;
-        translated = managed.translated;
-        carried = record {
-          size = carried.size;
-          entries = carried.entries;
-          coded = carried.coded;
-          during = carried.during;
-          way_back = carried.way_back;
-          back = λ some. prepared;
-          after = carried.after;
-          leads = carried.leads;
-          tables = carried.tables;
-          translated = carried.translated;
-          answers = carried.answers;
-          serves_before = carried.serves_before;
-          serves_behind = carried.serves_behind;
-          words_first = carried.words_first;
-          plain = carried.plain;
-          early = carried.early;
-          late = carried.late;
-          undrained = carried.undrained;
-          drains = λ forward none not. absurd (let clash : Some held.made ≡ None = forward in cc);
-          made = carried.made;
-          in_use = carried.in_use;
-          right = carried.right;
-          sound = carried.sound;
-          changes = carried.changes;
-          few = carried.few;
-          room = carried.room;
-          changed = carried.changed;
-          gone = carried.gone;
-          once = carried.once;
-        };
+      managed_at translation rules kept slots held managed held.made (Some held.made) held.awaits held.drained record {
+        served = λ when. when;
+        back = λ some. prepared;
+        early = managed.carried.early;
+        late = managed.carried.late;
+        undrained = managed.carried.undrained;
+        drains = λ forward none not. absurd (let clash : Some held.made ≡ None = forward in cc);
+        made_are = managed.carried.made;
       }
 
   pub turns_back : held.turned ≡ None

@@ -30,6 +30,7 @@ use Rattle.batch_order.specs.Kept.{IsManaged, IsPrepared, bits_after, bits_of, c
 use Rattle.batch_order.specs.Planning.{as_write, as_writes}
 use Rattle.batch_order.specs.Steps.{Steps, StepsBack, StepsEither, current_back, due_write, next_of}
 use Rattle.batch_order.proofs.Carried.{held_size, view_of}
+use Rattle.batch_order.proofs.OnWay.{managed_at}
 use Rattle.batch_order.proofs.Restored.{length-restorings, restoring_in_use, restoring_read}
 use Rattle.batch_order.proofs.Walked.{all_at}
 
@@ -59,43 +60,14 @@ module _ (translation : Option Translation) (rules : StoredRules) (kept : Entrie
   -- with one write less made it can be carried out still
   pub managed_back : 1 ≤ held.made → IsManaged translation rules kept slots (Some (one_less held))
   managed_back some =
-      let carried = managed.carried in
-      record {
-        right = managed.right;
-        is_set = managed.is_set;
-        tables = managed.tables;
-        translated = managed.translated;
-        carried = record {
-          size = carried.size;
-          entries = carried.entries;
-          coded = carried.coded;
-          during = carried.during;
-          way_back = carried.way_back;
-          back = carried.back;
-          after = carried.after;
-          leads = carried.leads;
-          tables = carried.tables;
-          translated = carried.translated;
-          answers = carried.answers;
-          serves_before = λ some. carried.serves_before (inl (carried.back is_back));
-          serves_behind = carried.serves_behind;
-          words_first = carried.words_first;
-          plain = carried.plain;
-          early = λ still. (let below = carried.early still in omega arith);
-          late = late (nat_lt (held.made - 1) held.counts.words) refl;
-          undrained = undrained (nat_lt (held.made - 1) held.counts.words) refl;
-          drains = λ forward none not. absurd (let clash : Some undone ≡ None = sym turned ∙ forward in cc);
-          made = (let all = carried.made in omega arith);
-          in_use = carried.in_use;
-          right = carried.right;
-          sound = carried.sound;
-          changes = carried.changes;
-          few = carried.few;
-          room = carried.room;
-          changed = carried.changed;
-          gone = carried.gone;
-          once = carried.once;
-        };
+      managed_at translation rules kept slots held managed (held.made - 1) held.turned held.awaits (elim (nat_lt (held.made - 1) held.counts.words) [ true ↦ false | false ↦ held.drained ]) record {
+        served = λ when. inl (managed.carried.back is_back);
+        back = managed.carried.back;
+        early = λ still. (let below = managed.carried.early still in omega arith);
+        late = late (nat_lt (held.made - 1) held.counts.words) refl;
+        undrained = undrained (nat_lt (held.made - 1) held.counts.words) refl;
+        drains = λ forward none not. absurd (let clash : Some undone ≡ None = sym turned ∙ forward in cc);
+        made_are = (let all = managed.carried.made in omega arith);
       }
     where
       late : (b : Bool) → nat_lt (held.made - 1) held.counts.words ≡ b → (elim b [ true ↦ false | false ↦ held.drained ]) ≡ true → held.counts.words ≤ held.made - 1

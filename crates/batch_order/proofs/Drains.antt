@@ -10,7 +10,7 @@ use Rattle.tcam_device.specs.declared.Action.TheVariants.{Written, Drained}
 use Rattle.tcam_device.specs.Flight.{writes_in}
 use Rattle.tcam_device.specs.Insertion.{is_table_write, table_writes}
 use Rattle.commit_writes.specs.Actions.{with_drain}
-use Rattle.commit_writes.proofs.Seen.{writes_of_commit}
+use Rattle.commit_writes.proofs.WritesIn.{writes_of_commit}
 use Rattle.commit_writes.proofs.SlotWrites.{AreToSlots, no_table}
 use Rattle.commit_writes.proofs.TableWrites.{AreToTables}
 use Rattle.batch_order.specs.Steps.{due_write, is_drain_next}

@@ -67,7 +67,7 @@ module _ (translation : Option Translation) (rules : StoredRules) (kept : Entrie
   abbrev begun : State
   begun = settled_state translation kept.entries slots
 
-  begin : (device_slots : ℕ) → MayBegin mode bits rules.rules batch (on_device device_slots begun)
+  pub begin : (device_slots : ℕ) → MayBegin (mode_of translation) (bits_of translation) rules.rules batch (on_device device_slots (settled_state translation kept.entries slots))
   begin device_slots = record {
     at_rest = rests_on_wider_devices mode bits rules.rules begun device_slots (rests translation rules kept slots begins.managed);
     changes = begins.changes;

@@ -23,10 +23,11 @@ use Rattle.commit_writes.specs.Bits.{FieldBits, bits_left, bits_with, new_bits}
 use Rattle.commit_writes.specs.InFlight.{ServesLive}
 use Rattle.commit_writes.specs.Planned.{Planned, AreEntriesOf, contents, with_slots}
 use Rattle.commit_writes.specs.PlannedBatch.{batch_writes, erased_live, rewritten_entries}
-use Rattle.commit_writes.specs.Serving.{AreBitsOf}
+use Rattle.commit_writes.specs.Serving.{AreBitsOf, AreTranslated}
 use Rattle.commit_writes.specs.Shape.{set_pieces}
 use Rattle.commit_writes.proofs.BatchRules.{IsSoundChange, right_after}
 use Rattle.commit_writes.proofs.KeptBits.{pieces_left}
+use Rattle.commit_writes.proofs.Led.{ArePassed, serves_same}
 use Rattle.commit_writes.proofs.LiveRanges.{live_meanwhile, same_ranges}
 use Rattle.commit_writes.proofs.ServedTables.{IsBitsStart, bits_after, words_done}
 use Rattle.commit_writes.proofs.SlotWrites.{AreToSlots, LeavesTables, no_table}
@@ -35,7 +36,6 @@ use Rattle.rule_store.proofs.Counts.{count_by-append}
 use Rattle.batch_pieces.specs.Changes.{during_of}
 use Rattle.readback.specs.declared.staging.Shown.{Shown}
 use Rattle.readback.specs.Going.{GoesOn, needs_drain, twin_writes}
-use Rattle.readback.specs.Stage.{AreTranslated}
 use Rattle.readback.specs.Tasks.{CommitPieces, Task, commit_pieces, stands_in}
 use Rattle.readback.proofs.Begun.{begun, change_of}
 use Rattle.planned_rests.specs.Ending.{LeadsOn}
@@ -43,18 +43,17 @@ use Rattle.planned_rests.specs.PlannedRest.{rest_words, restart_writes}
 use Rattle.planned_rests.specs.Restart.{IsPlannedRestart}
 use Rattle.planned_rests.specs.Serving.{stopped_ranges}
 use Rattle.planned_rests.proofs.AtRest.{restarts_lead_on}
-use Rattle.planned_rests.proofs.Led.{ArePassed}
 use Rattle.planned_rests.proofs.Restart.{restarts_go_on, to_slots}
 use Rattle.planned_rests.proofs.Same.{stage_on, twin_on}
 use Rattle.planned_rests.proofs.Served.{passed}
-use Rattle.planned_rests.proofs.Serving.{serves_same, some_stand}
+use Rattle.planned_rests.proofs.Serving.{some_stand}
 use Rattle.batch_order.specs.declared.Placement.{Placement}
 use Rattle.batch_order.specs.declared.held.Held.{Held}
 use Rattle.batch_order.specs.declared.restarting.resuming.Rest.{Rest}
 use Rattle.batch_order.specs.declared.translation.Translation.{Translation}
 use Rattle.batch_order.specs.Entries.{Entries}
 use Rattle.batch_order.specs.Kept.{IsArranged, IsHeld, IsManaged, bits_of, changed_by, held_writes, mode_of, settled_state, tables_of, translation_after}
-use Rattle.batch_order.specs.Restarted.{has_drained, in_use}
+use Rattle.batch_order.specs.Restart.{has_drained, in_use}
 use Rattle.batch_order.specs.Stopped.{IsAsFound, IsPlannedOn, IsStopped, held_from}
 use Rattle.batch_order.proofs.Entered.{contents_kept}
 use Rattle.batch_order.proofs.Judged.{accepted_room}

@@ -18,7 +18,8 @@ use Rattle.commit_writes.specs.Bits.{FieldBits, bits_with, bits_left, new_bits}
 use Rattle.commit_writes.specs.Serving.{AreBitsOf, HaveFreeBits}
 use Rattle.commit_writes.specs.Commit.{IsSegment}
 use Rattle.commit_writes.specs.InFlight.{ServesLive}
-use Rattle.commit_writes.specs.Undo.{undo_writes}
+use Rattle.commit_writes.specs.Segments.{MayBegin}
+use Rattle.commit_writes.specs.Undo.{undo_writes, restorings}
 use Rattle.commit_writes.specs.PlannedBatch.{IsPlannedSegment, erased_slots, rewritten_entries}
 use Rattle.commit_writes.proofs.BatchRules.{right_after}
 use Rattle.commit_writes.proofs.SlotWrites.{no_table}
@@ -30,12 +31,11 @@ use Rattle.batch_order.specs.declared.Ready.{Ready}
 use Rattle.batch_order.specs.declared.Placement.{Placement}
 use Rattle.batch_order.specs.Entries.{AddsIds, Entries}
 use Rattle.batch_order.specs.Planning.{as_writes}
-use Rattle.batch_order.specs.Restoring.{restorings}
 use Rattle.batch_order.proofs.Refused.{adds_first, adds_last}
 use Rattle.batch_order.specs.Kept.{IsManaged, IsArranged, bits_of, changed_by, held_of, held_writes, mode_of, settled_state, tables_of, translation_after}
 use Rattle.batch_order.specs.Kept as kept
 use Rattle.batch_order.specs.Managed.{CanRestart, HeldCommit, Holds, commit_of, ready_of, room_both_ways}
-use Rattle.batch_order.proofs.FromRest.{BeginsAtRest, answers_all, restarts_all, serves_first, serves_then, words_come_first}
+use Rattle.batch_order.proofs.FromRest.{BeginsAtRest, answers_all, begin, restarts_all, serves_first, serves_then, words_come_first}
 use Rattle.batch_order.proofs.Judged.{idle_count}
 use Rattle.batch_order.proofs.Unchanged.{arranged_same}
 use Rattle.batch_order.proofs.Carried.{held_size, view_of}
@@ -192,6 +192,11 @@ module _ (placement : Placement) (translation : Option Translation) (rules rules
         in_use = plan.in_use;
         few = few_planned placement translation rules old new slots middle batch held.rewrites.items held.erased.items writes held.counts plan;
         segment = λ device_slots wide. (made_by device_slots).segment;
+        begins = λ device_slots wide.
+            subst (λ (old_set : List Rule). MayBegin mode bits old_set batch (on_device device_slots before)) holds.same
+            (subst (λ (b : List Command). MayBegin mode bits rules'.rules b (on_device device_slots before)) holds.batch_is
+            (subst (λ (s : State). MayBegin mode bits rules'.rules held.batch (on_device device_slots s)) same_begun
+            (begin translation rules' (record new { live = old.live }) slots held.batch writes begins device_slots)));
         restarts = λ device_slots wide.
             subst (λ (old_set : List Rule). CanRestart (length slots) mode bits old_set batch (on_device device_slots before) writes) holds.same
             (subst (λ (b : List Command). CanRestart (length slots) mode bits rules'.rules b (on_device device_slots before) writes) holds.batch_is

@@ -15,9 +15,9 @@ use Rattle.rule_store.specs.Store.{StoredRules}
 use Rattle.slot_pool.specs.Arrangement.{Slots}
 use Rattle.range_bits.specs.FieldMap.{live_count}
 use Rattle.move_planner.specs.Insertion.{free_slots}
-use Rattle.commit_writes.specs.Bits.{FieldBits, bits_with}
+use Rattle.commit_writes.specs.Bits.{FieldBits, bits_with, ranges_in}
 use Rattle.commit_writes.specs.Serving.{AreRangesOf, HaveFreeBits}
-use Rattle.translation_tables.specs.Needed.{AreLive, ranges_in, ranges_needed, with_needed}
+use Rattle.translation_tables.specs.Needed.{AreLive, ranges_needed, with_needed}
 use Rattle.translation_tables.proofs.RulesBits.{are_live, live_count-coded, with_needed-new, without_bits-new}
 use Rattle.batch_order.specs.declared.held.Held.{Held}
 use Rattle.batch_order.specs.declared.translation.Translation.{Translation}

@@ -28,6 +28,7 @@ use Rattle.batch_order.specs.Managed.{HeldCommit, Managed, actions_due}
 use Rattle.batch_order.specs.Steps.{IsAllMade, Steps, StepsEither, StepsOn, awaits_drain, due_write, is_drain_next, next_of}
 use Rattle.batch_order.proofs.Carried.{view_of, drop-read, get-drop, held_size}
 use Rattle.batch_order.proofs.Drains.{AreTablesFirst, IsDue, count_table, drain_next_is, drained_next, drains_when, drop_tables, due_first, due_is, kind_at, tables_first}
+use Rattle.batch_order.proofs.OnWay.{managed_at}
 
 -- with no action left, none is left to make
 pub none_left : (held : Option HeldCommit) → next_of held ≡ None → awaits_drain held ≡ false → IsAllMade held
@@ -157,43 +158,14 @@ module _ (translation : Option Translation) (rules : StoredRules) (kept : Entrie
     -- with one write more made, the commit can be carried out still
     pub managed_made : held.turned ≡ None → IsManaged translation rules kept slots (Some (record held { made = held.made + 1 }))
     managed_made forward =
-        let carried = managed.carried in
-        record {
-          right = managed.right;
-          is_set = managed.is_set;
-          tables = managed.tables;
-          translated = managed.translated;
-          carried = record {
-            size = carried.size;
-            entries = carried.entries;
-            coded = carried.coded;
-            during = carried.during;
-            way_back = carried.way_back;
-            back = carried.back;
-            after = carried.after;
-            leads = carried.leads;
-            tables = carried.tables;
-            translated = carried.translated;
-            answers = carried.answers;
-            serves_before = carried.serves_before;
-            serves_behind = carried.serves_behind;
-            words_first = carried.words_first;
-            plain = carried.plain;
-            early = early;
-            late = λ is. (let above = carried.late is in omega arith);
-            undrained = λ not. undrained held.awaits refl not;
-            drains = carried.drains;
-            made = (let within = made_inside in omega arith);
-            in_use = carried.in_use;
-            right = carried.right;
-            sound = carried.sound;
-            changes = carried.changes;
-            few = carried.few;
-            room = carried.room;
-            changed = carried.changed;
-            gone = carried.gone;
-            once = carried.once;
-          };
+        managed_at translation rules kept slots held managed (held.made + 1) held.turned held.awaits held.drained record {
+          served = λ when. when;
+          back = managed.carried.back;
+          early = early;
+          late = λ is. (let above = managed.carried.late is in omega arith);
+          undrained = λ not. undrained held.awaits refl not;
+          drains = managed.carried.drains;
+          made_are = (let within = made_inside in omega arith);
         }
       where
         early : held.awaits ≡ true → held.made + 1 ≤ held.counts.words
@@ -264,43 +236,14 @@ module _ (translation : Option Translation) (rules : StoredRules) (kept : Entrie
     -- with the drain made, the commit can be carried out still
     pub managed_drained : IsManaged translation rules kept slots (Some (record held { awaits = false; drained = true }))
     managed_drained =
-        let carried = managed.carried in
-        record {
-          right = managed.right;
-          is_set = managed.is_set;
-          tables = managed.tables;
-          translated = managed.translated;
-          carried = record {
-            size = carried.size;
-            entries = carried.entries;
-            coded = carried.coded;
-            during = carried.during;
-            way_back = carried.way_back;
-            back = carried.back;
-            after = carried.after;
-            leads = carried.leads;
-            tables = carried.tables;
-            translated = carried.translated;
-            answers = carried.answers;
-            serves_before = λ some. carried.serves_before (elim some [ inl is ↦ inl is | inr not ↦ absurd (let clash : true ≡ false = not in cc) ]);
-            serves_behind = carried.serves_behind;
-            words_first = carried.words_first;
-            plain = carried.plain;
-            early = λ still. absurd (let clash : false ≡ true = still in cc);
-            late = λ is. late;
-            undrained = λ not. absurd (let clash : true ≡ false = not in cc);
-            drains = λ forward none not. absurd (let clash : true ≡ false = not in cc);
-            made = carried.made;
-            in_use = carried.in_use;
-            right = carried.right;
-            sound = carried.sound;
-            changes = carried.changes;
-            few = carried.few;
-            room = carried.room;
-            changed = carried.changed;
-            gone = carried.gone;
-            once = carried.once;
-          };
+        managed_at translation rules kept slots held managed held.made held.turned false true record {
+          served = λ when. elim when [ inl is ↦ inl is | inr not ↦ absurd (let clash : true ≡ false = not in cc) ];
+          back = managed.carried.back;
+          early = λ still. absurd (let clash : false ≡ true = still in cc);
+          late = λ is. late;
+          undrained = λ not. absurd (let clash : true ≡ false = not in cc);
+          drains = λ forward none not. absurd (let clash : true ≡ false = not in cc);
+          made_are = managed.carried.made;
         }
       where
         late : held.counts.words ≤ held.made

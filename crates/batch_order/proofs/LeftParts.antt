@@ -21,15 +21,6 @@ pairs_drop R zero xs pairs = pairs
 pairs_drop R (suc n) [] pairs = pairs
 pairs_drop R (suc n) (x ∷ xs) pairs = pairs_drop R n xs (pairs_tail R x xs pairs)
 
--- and what holds of all of the second part of a list
-pub all_second : {X : Type 0} (P : X → Type 0) (xs ys : List X) → AllByRecursion P (xs ++ ys) → AllByRecursion P ys
-all_second P [] ys all = all
-all_second P (x ∷ xs) ys all = all_second P xs ys all.1
-
-pub all_first : {X : Type 0} (P : X → Type 0) (xs ys : List X) → AllByRecursion P (xs ++ ys) → AllByRecursion P xs
-all_first P [] ys all = tt
-all_first P (x ∷ xs) ys all = (all.0, all_first P xs ys all.1)
-
 -- tasks behind the first ones, where the foremost are of one kind
 drop_kind : (task : RankedPiece → Task) (n : ℕ) (xs : List RankedPiece) (rest : List Task) → drop n (map task xs ++ rest) ≡ map task (drop n xs) ++ drop (n - length xs) rest
 drop_kind task zero xs rest = ap (λ (k : ℕ). map task xs ++ drop k rest) (let k : 0 ≡ 0 - length xs = omega arith in k)

@@ -15,6 +15,7 @@ pub mod Numbered
 pub mod Unchanged
 pub mod Carried
 pub mod Drains
+pub mod OnWay
 pub mod Left
 pub mod Stepped
 pub mod Begun

@@ -20,8 +20,9 @@ use Rattle.tcam_device.specs.Order.{IsTranslated}
 use Rattle.commit_writes.specs.Bits.{FieldBits, new_bits}
 use Rattle.commit_writes.specs.InFlight.{HasBits}
 use Rattle.commit_writes.specs.Shape.{bit_writes, field_writes, word_write}
-use Rattle.readback.specs.Stage.{AreTranslated, IsStageAt}
-use Rattle.readback.specs.Tasks.{CommitPieces, Task, Insert, Rewrite, Erase, IsDone, IsLeft, IsStanding, stands_in}
+use Rattle.readback.specs.Stage.{IsStageAt}
+use Rattle.commit_writes.specs.Serving.{AreTranslated}
+use Rattle.readback.specs.Tasks.{CommitPieces, Task, Insert, Rewrite, Erase, IsDone, IsLeft, stands_in}
 use Rattle.readback.proofs.Tests.{stands_from, stands_is}
 
 -- a bit that is as it should be stays

@@ -12,7 +12,7 @@ use Rattle.tcam_device.specs.Insertion.{is_table_write}
 use Rattle.commit_writes.specs.declared.Done.{Done}
 use Rattle.commit_writes.specs.Bits.{FieldBits}
 use Rattle.commit_writes.specs.Undo.{restoring}
-use Rattle.commit_writes.proofs.Actions.{writes_in-append, writes_of_map}
+use Rattle.commit_writes.proofs.WritesIn.{writes_of_map, writes_in-append}
 use Rattle.batch_order.specs.declared.Step.{Step}
 use Rattle.batch_order.specs.declared.Step.TheVariants as step
 use Rattle.batch_order.specs.Managed.{Managed, HeldCommit, actions_due, writes_due}

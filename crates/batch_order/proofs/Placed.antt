@@ -13,7 +13,7 @@ use Rattle.overlap_index.specs.Live.{is_live}
 use Rattle.overlap_index.proofs.Above.{is_live_from}
 use Rattle.commit_writes.specs.Planned.{IdEntries, entry_at}
 use Rattle.batch_order.specs.Entries.{Entries}
-use Rattle.batch_order.specs.Restarting.{AreStanding, StandsFor}
+use Rattle.batch_order.specs.Standing.{AreStanding, StandsFor}
 use Rattle.batch_order.proofs.Entered.{kept_set}
 
 -- a slot without a piece gets none

@@ -29,6 +29,7 @@ use Rattle.commit_writes.proofs.BatchRules.{IsSoundChange}
 use Rattle.commit_writes.proofs.SetPieces.{AreOnce}
 use Rattle.commit_writes.proofs.SlotWrites.{AreToSlots, batch_slots, no_table}
 use Rattle.commit_writes.proofs.TableWrites.{all_tables, bit_writes-tables, tables_in_use}
+use Rattle.commit_writes.proofs.Wider.{all_front, all_back}
 use Rattle.batch_pieces.specs.Changes.{coded_by, during_of}
 use Rattle.readback.specs.declared.staging.Shown.{Shown}
 use Rattle.readback.specs.Going.{erased_by, inserted_by, rewritten_by, twin_writes}
@@ -49,15 +50,15 @@ use Rattle.batch_order.specs.Entries.{AddsIds, Entries}
 use Rattle.batch_order.specs.Kept.{bits_of, changed_by, mode_of, needed_by, tables_of}
 use Rattle.batch_order.specs.Placing.{aims_from, aims_left, aims_of}
 use Rattle.batch_order.specs.Planning.{AreAllPlanned, IsPlannable, IsSettled, IsWithin, as_write, as_writes}
-use Rattle.batch_order.specs.Restarted.{in_use}
-use Rattle.batch_order.specs.Restarting.{planned_twin}
-use Rattle.batch_order.specs.Resting.{IsRestPlan}
+use Rattle.batch_order.specs.Restart.{in_use}
+use Rattle.batch_order.specs.Standing.{planned_twin}
+use Rattle.batch_order.specs.RestPlan.{IsRestPlan}
 use Rattle.batch_order.specs.Stopped.{IsPlannedOn, IsReadAgain, IsStopped, counts_of}
 use Rattle.batch_order.proofs.Aimed.{aims_rest}
 use Rattle.batch_order.proofs.Cleared.{settled_erased}
 use Rattle.batch_order.proofs.Judged.{Fits}
 use Rattle.batch_order.proofs.Leading.{rewritten_ids, still_changed, still_live}
-use Rattle.batch_order.proofs.LeftParts.{all_drop, all_first, all_second, erased_left, inserted_left, pairs_drop, rewritten_left}
+use Rattle.batch_order.proofs.LeftParts.{all_drop, erased_left, inserted_left, pairs_drop, rewritten_left}
 use Rattle.batch_order.proofs.Meant.{as_append, as_words, words_within}
 use Rattle.batch_order.proofs.Numbered.{ids_apart, ids_few}
 use Rattle.batch_order.proofs.Rested.{restart_planned, restart_written}
@@ -163,15 +164,15 @@ module _ (mode : Mode) (bits : FieldBits) (rules : List Rule) (batch : List Comm
 
   -- it has entries
   new_encodable : AllByRecursion (λ ranked. IsEncodable ranked.piece) (pieces.inserted ++ pieces.rewritten)
-  new_encodable = all_second (λ (ranked : RankedPiece). IsEncodable ranked.piece) pieces.old (pieces.inserted ++ pieces.rewritten) stopped.encodable
+  new_encodable = all_back (λ (ranked : RankedPiece). IsEncodable ranked.piece) pieces.old (pieces.inserted ++ pieces.rewritten) stopped.encodable
 
   pub rewritten_encodable : AllByRecursion (λ ranked. IsEncodable ranked.piece) shown.rewritten.items
   rewritten_encodable = subst (AllByRecursion (λ (ranked : RankedPiece). IsEncodable ranked.piece)) (sym stopped.is_shown.rewritten)
-      (all_second (λ (ranked : RankedPiece). IsEncodable ranked.piece) pieces.inserted pieces.rewritten new_encodable)
+      (all_back (λ (ranked : RankedPiece). IsEncodable ranked.piece) pieces.inserted pieces.rewritten new_encodable)
 
   pub inserted_encodable : AllByRecursion (λ ranked. IsEncodable ranked.piece) (drop shown.stage.done shown.inserted.items)
   inserted_encodable = subst (λ (some : List RankedPiece). AllByRecursion (λ (ranked : RankedPiece). IsEncodable ranked.piece) (drop put some)) (sym stopped.is_shown.inserted)
-      (all_drop (λ (ranked : RankedPiece). IsEncodable ranked.piece) put pieces.inserted (all_first (λ (ranked : RankedPiece). IsEncodable ranked.piece) pieces.inserted pieces.rewritten new_encodable))
+      (all_drop (λ (ranked : RankedPiece). IsEncodable ranked.piece) put pieces.inserted (all_front (λ (ranked : RankedPiece). IsEncodable ranked.piece) pieces.inserted pieces.rewritten new_encodable))
 
   -- no two of it are one piece
   abbrev Differ : RankedPiece → RankedPiece → Type 0

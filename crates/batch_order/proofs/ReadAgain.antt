@@ -9,7 +9,7 @@ use Rattle.tcam_device.specs.State.{State}
 use Rattle.commit_writes.specs.Bits.{FieldBits}
 use Rattle.readback.specs.declared.staging.Shown.{Shown}
 use Rattle.batch_order.specs.Entries.{Entries}
-use Rattle.batch_order.specs.Restarting.{AreStanding, HasPieceOf, IsWithTwin, without_twin}
+use Rattle.batch_order.specs.Standing.{AreStanding, HasPieceOf, IsWithTwin, without_twin}
 use Rattle.batch_order.specs.Stopped.{IsAsFound, IsReadAgain, IsStopped}
 use Rattle.batch_order.proofs.ReadRest.{rest_read}
 use Rattle.batch_order.proofs.ReadSlots.{twin_piece}

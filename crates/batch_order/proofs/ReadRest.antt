@@ -21,7 +21,7 @@ use Rattle.readback.specs.declared.staging.Shown.{Shown}
 use Rattle.readback.specs.Tasks.{CommitPieces, commit_pieces}
 use Rattle.batch_order.specs.Entries.{Entries, HasId}
 use Rattle.batch_order.specs.Planning.{IsSettled}
-use Rattle.batch_order.specs.Restarting.{AreStanding, without_twin}
+use Rattle.batch_order.specs.Standing.{AreStanding, without_twin}
 use Rattle.batch_order.specs.Stopped.{IsReadAgain, IsStopped}
 use Rattle.batch_order.proofs.Filled.{filled_count, ids_in, ids_once, in_slot, of_slot}
 use Rattle.batch_order.proofs.Judged.{accepted_room}

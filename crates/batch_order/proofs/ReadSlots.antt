@@ -28,8 +28,8 @@ use Rattle.readback.proofs.Pieces.{pieces_are}
 use Rattle.planned_rests.specs.Standing.{AreReadIds}
 use Rattle.planned_rests.proofs.Rest.{slot_contents}
 use Rattle.batch_order.specs.Entries.{Entries, HasId}
-use Rattle.batch_order.specs.Restarted.{in_use}
-use Rattle.batch_order.specs.Restarting.{AreStanding, HasPieceOf, StandsFor, without_twin}
+use Rattle.batch_order.specs.Restart.{in_use}
+use Rattle.batch_order.specs.Standing.{AreStanding, HasPieceOf, StandsFor, without_twin}
 use Rattle.batch_order.specs.Stopped.{IsStopped}
 use Rattle.batch_order.proofs.Twinned.{IsOther, is_twin, lesser_other, of_all, no_twin, but_twin, erased_other, erased_twin, erased_size, if_some}
 

@@ -42,8 +42,8 @@ use Rattle.planned_rests.proofs.Narrow.{stages_narrow}
 use Rattle.planned_rests.proofs.ReadIds.{stages_have_ids}
 use Rattle.planned_rests.proofs.Same.{stage_on, twin_on}
 use Rattle.batch_order.specs.Entries.{Entries, HasId}
-use Rattle.batch_order.specs.Restarted.{in_use}
-use Rattle.batch_order.specs.Restarting.{AreStanding, StandsFor, without_twin}
+use Rattle.batch_order.specs.Restart.{in_use}
+use Rattle.batch_order.specs.Standing.{AreStanding, StandsFor, without_twin}
 use Rattle.batch_order.specs.Stopped.{IsStopped}
 use Rattle.batch_order.proofs.Numbered.{as_many}
 use Rattle.batch_order.proofs.ReadSlots.{cleared_by, facts, ids_read, mirror_at, narrow, of_one}

@@ -22,8 +22,8 @@ use Rattle.commit_writes.specs.PlannedBatch.{IsIdOf}
 use Rattle.readback.specs.declared.staging.Shown.{Shown}
 use Rattle.planned_rests.proofs.Rest.{slot_contents}
 use Rattle.batch_order.specs.Entries.{Entries}
-use Rattle.batch_order.specs.Restarted.{in_use}
-use Rattle.batch_order.specs.Restarting.{AreStanding, IsWithTwin, without_twin}
+use Rattle.batch_order.specs.Restart.{in_use}
+use Rattle.batch_order.specs.Standing.{AreStanding, IsWithTwin, without_twin}
 use Rattle.batch_order.specs.Stopped.{IsAsFound, IsStopped}
 use Rattle.batch_order.proofs.ReadSlots.{beside, mirror_at, narrow, of_place, within}
 use Rattle.batch_order.proofs.ReadStage.{ids}

@@ -11,7 +11,7 @@ use Rattle.readback.specs.Fault.{IsFaultOf}
 use Rattle.readback.specs.Found.{AnswersStage}
 use Rattle.batch_order.specs.declared.Placement.{Placement}
 use Rattle.batch_order.specs.declared.restarting.fault.RestartFault.TheVariants.{Memory}
-use Rattle.batch_order.specs.Restarted.{AnswersRestart, IsRestartFault, bits_in, restart_fault}
+use Rattle.batch_order.specs.Restart.{AnswersRestart, IsRestartFault, bits_in, restart_fault}
 
 module _ (slots : ℕ) (mode : Mode) (placement : Placement) (parts : Parts) (batch : List Command) (device_slots : ℕ) (state : State) where
   -- the fault of a stage

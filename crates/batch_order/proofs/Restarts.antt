@@ -30,9 +30,9 @@ use Rattle.batch_order.specs.declared.translation.Translation.{Translation}
 use Rattle.batch_order.specs.Entries.{Entries}
 use Rattle.batch_order.specs.Kept.{IsManaged, bits_of, held_of, mode_of, tables_of}
 use Rattle.batch_order.specs.Managed.{room_both_ways, room_needed}
-use Rattle.batch_order.specs.Restarted.{Resumes, bits_in}
+use Rattle.batch_order.specs.Restart.{Resumes, bits_in}
 use Rattle.batch_order.specs.Managed.{HasBlankTables}
-use Rattle.batch_order.specs.Restarting.{AreEncodable, AreStanding, IsWithTwin, managed_by, without_twin}
+use Rattle.batch_order.specs.Standing.{AreEncodable, AreStanding, IsWithTwin, managed_by, without_twin}
 use Rattle.batch_order.specs.Stopped.{IsAsFound, IsPlannedOn, IsReadAgain, IsStopped, held_from}
 use Rattle.batch_order.proofs.GoesOn.{IsResumed, held_by, managed_on}
 use Rattle.batch_order.proofs.Judged.{accepted_room}

@@ -25,7 +25,7 @@ use Rattle.batch_order.specs.Entries.{Entries}
 use Rattle.batch_order.specs.Planning.{AreAllPlanned, as_writes, planned_moves}
 use Rattle.batch_order.proofs.Entered.{contents_kept, entries_of_kept}
 use Rattle.batch_order.proofs.Meant.{as_append, as_planned}
-use Rattle.batch_order.specs.Resting.{PlansRest}
+use Rattle.batch_order.specs.RestPlan.{PlansRest}
 
 module _ (device_slots : ℕ) (mode : Mode) (bits : FieldBits) (rules : List Rule) (batch : List Command) (state : State) (done left : List Task) (twin : Option ℕ)
     (old new : Entries) (slots middle : Slots) (plan plan' : Plan) (aims : List Aim) (rewrites : List Rewrite) (erased : List ℕ)

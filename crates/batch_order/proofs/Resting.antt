@@ -22,13 +22,13 @@ use Rattle.commit_writes.specs.Bits.{FieldBits, bits_left, bits_with, new_bits}
 use Rattle.commit_writes.specs.Actions.{have_bits}
 use Rattle.commit_writes.specs.InFlight.{ArePartOf, ServesLive, TestsLive}
 use Rattle.commit_writes.specs.Segments.{IsAtRest}
-use Rattle.commit_writes.specs.Serving.{AreServing}
+use Rattle.commit_writes.specs.Serving.{AreServing, AreTranslated}
 use Rattle.commit_writes.specs.Shape.{set_pieces}
 use Rattle.commit_writes.specs.Planned.{IsServedBy, held_entry}
 use Rattle.commit_writes.proofs.AtRest.{rests_on_wider_devices}
 use Rattle.commit_writes.proofs.Current.{current_part}
 use Rattle.commit_writes.proofs.LiveBits.{chosen_live, tests_live}
-use Rattle.commit_writes.proofs.LiveRanges.{AreTranslated, translated, live_meanwhile, same_ranges}
+use Rattle.commit_writes.proofs.LiveRanges.{translated, live_meanwhile, same_ranges}
 use Rattle.commit_writes.proofs.ServedTables.{IsBitsStart}
 use Rattle.commit_writes.proofs.SetPieces.{set_served}
 use Rattle.batch_pieces.specs.Changes.{during_of}
@@ -68,7 +68,7 @@ serves_same some others state part back serves = record {
 rest_serves : (mode : Mode) (bits : FieldBits) (rules : List Rule) (state : State) → IsAtRest mode bits rules state → ServesLive bits state
 rest_serves mode bits rules state rest =
     let serving : AreServing mode bits rules state = serving_of mode bits rules state rest.bits_are in
-    let right : AreTranslated bits state = translated mode bits rules state serving in
+    let right : AreTranslated state bits = translated mode bits rules state serving in
     let served : AllByRecursion (IsServedBy state) (set_pieces mode bits rules) = set_served mode bits state rules serving rest.right in
     record {
       src_words = rest.is_state.src_words;

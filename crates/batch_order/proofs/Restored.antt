@@ -13,11 +13,10 @@ use Rattle.tcam_device.specs.Insertion.{is_table_write}
 use Rattle.tcam_device.specs.State.{IsInUse, State, apply, state_after}
 use Rattle.commit_writes.specs.declared.Rewrite.{Rewrite}
 use Rattle.commit_writes.specs.Planned.{IdEntries, with_slots}
-use Rattle.commit_writes.specs.Undo.{restoring}
+use Rattle.commit_writes.specs.Undo.{restoring, restorings}
 use Rattle.batch_order.specs.declared.planned_writes.PlannedWrite.{PlannedWrite}
 use Rattle.batch_order.specs.declared.translation.Translation.{Translation}
 use Rattle.batch_order.specs.Planning.{as_write}
-use Rattle.batch_order.specs.Restoring.{restorings}
 use Rattle.batch_order.specs.Undoing.{Each, IsPut, TellOf, tables_then}
 
 -- one item more, and another one at a place

@@ -40,8 +40,8 @@ use Rattle.batch_order.specs.Entries.{Entries}
 use Rattle.batch_order.specs.Kept.{bits_of, held_of, held_writes, mode_of, tables_of}
 use Rattle.batch_order.specs.Managed.{HasBlankTables, Managed, OnlyChangesRoutes, room_both_ways, room_needed}
 use Rattle.batch_order.specs.Placing.{IsRestPlacedBy}
-use Rattle.batch_order.specs.Restarted.{Resumes, bits_in, has_drained, in_use}
-use Rattle.batch_order.specs.Restarting.{managed_by}
+use Rattle.batch_order.specs.Restart.{Resumes, bits_in, has_drained, in_use}
+use Rattle.batch_order.specs.Standing.{managed_by}
 use Rattle.batch_order.specs.Stopped.{counts_of}
 use Rattle.batch_order.proofs.Carried.{held_size}
 use Rattle.batch_order.proofs.Drains.{length_drain, writes_left_are}

@@ -6,7 +6,7 @@ use Rattle.tcam_device.specs.declared.Write.{Write}
 use Rattle.tcam_device.specs.declared.Action.{Action}
 use Rattle.tcam_device.specs.declared.Action.TheVariants.{Written, Drained}
 use Rattle.tcam_device.specs.Flight.{writes_in}
-use Rattle.commit_writes.proofs.Actions.{writes_in-append}
+use Rattle.commit_writes.proofs.WritesIn.{writes_in-append}
 use Rattle.batch_order.specs.declared.Step.{Step}
 use Rattle.batch_order.specs.declared.Step.TheVariants as step
 use Rattle.batch_order.specs.Managed.{Managed}

@@ -10,7 +10,7 @@ use Rattle.overlap_index.specs.declared.LivePiece.{LivePiece}
 use Rattle.tcam_device.specs.State.{State, state_after}
 use Rattle.readback.specs.Going.{twin_writes}
 use Rattle.batch_order.specs.Entries.{HasId}
-use Rattle.batch_order.specs.Restarting.{without_twin}
+use Rattle.batch_order.specs.Standing.{without_twin}
 
 -- an emptied slot is empty, also past the end
 pub emptied : {X : Type 0} (held : List (Option X)) (at : ℕ) → slot (slice_set held at None) at ≡ None

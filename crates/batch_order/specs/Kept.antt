@@ -24,7 +24,7 @@ use Rattle.commit_writes.specs.Actions.{have_bits, with_drain}
 use Rattle.commit_writes.specs.Bits.{FieldBits, no_bits, bits_with, bits_left, new_bits}
 use Rattle.commit_writes.specs.InFlight.{ServesLive}
 use Rattle.commit_writes.specs.Serving.{AreBitsOf, HaveFreeBits}
-use Rattle.commit_writes.specs.Undo.{undo_writes}
+use Rattle.commit_writes.specs.Undo.{undo_writes, restorings}
 use Rattle.commit_writes.specs.Shape.{set_pieces}
 use Rattle.commit_writes.specs.Planned.{AreEntriesOf, contents, with_slots}
 use Rattle.commit_writes.specs.PlannedBatch.{rewritten_entries, erased_live}
@@ -35,7 +35,6 @@ use Rattle.batch_order.specs.declared.translation.Translation.{Translation}
 use Rattle.batch_order.specs.Entries.{AreLast, Entries}
 use Rattle.batch_order.specs.Planning.{IsSettled, as_writes}
 use Rattle.batch_order.specs.Managed.{HeldCommit}
-use Rattle.batch_order.specs.Restoring.{restorings}
 
 -- What a manager keeps of its device's translation: by covers nothing, and by bits the live ranges and both tables.
 abbrev pub mode_of : Option Translation → Mode

@@ -6,10 +6,9 @@ pub mod Steps
 pub mod Turning
 pub mod Passed
 pub mod CarriedOut
-pub mod Restoring
 pub mod Kept
 pub mod Undoing
-pub mod Restarted
-pub mod Restarting
-pub mod Resting
+pub mod Restart
+pub mod Standing
+pub mod RestPlan
 pub mod Stopped

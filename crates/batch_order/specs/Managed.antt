@@ -22,6 +22,7 @@ use Rattle.commit_writes.specs.Bits.{FieldBits, no_bits, bits_with, bits_left}
 use Rattle.commit_writes.specs.Commit.{IsSegment, AreCounts}
 use Rattle.commit_writes.specs.Actions.{commit_actions}
 use Rattle.commit_writes.specs.Routes.{IsRoute, prefix_lengths}
+use Rattle.commit_writes.specs.Segments.{MayBegin}
 use Rattle.commit_writes.specs.Shape.{inserted_pieces}
 use Rattle.readback.specs.Fault.{AreSetBits}
 use Rattle.readback.specs.Stage.{IsStage}
@@ -168,6 +169,9 @@ pub record Holds (old : Managed) (batch : List Command) (ready : Ready) (new : M
   -- hitless after every write, of the commit's shape, and within the bounds on insertions
   pub segment : (device_slots : ℕ) → old.slots ≤ device_slots
       → IsSegment old.mode old.bits old.rules batch (on_device device_slots old.state) made
+  -- the device is between commits before them, as the laws of commits and of their stages ask for it
+  pub begins : (device_slots : ℕ) → old.slots ≤ device_slots
+      → MayBegin old.mode old.bits old.rules batch (on_device device_slots old.state)
   -- from each state that they pass another manager can go on
   pub restarts : (device_slots : ℕ) → old.slots ≤ device_slots
       → CanRestart old.slots old.mode old.bits old.rules batch (on_device device_slots old.state) made

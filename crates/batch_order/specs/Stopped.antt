@@ -33,8 +33,8 @@ use Rattle.batch_order.specs.Entries.{AddsIds, Entries, HaveIds, KeepEntries}
 use Rattle.batch_order.specs.Kept.{changed_by}
 use Rattle.batch_order.specs.Placing.{aims_left}
 use Rattle.batch_order.specs.Planning.{IsSettled, IsWithin, as_writes}
-use Rattle.batch_order.specs.Restarted.{in_use}
-use Rattle.batch_order.specs.Resting.{IsRestPlan}
+use Rattle.batch_order.specs.Restart.{in_use}
+use Rattle.batch_order.specs.RestPlan.{IsRestPlan}
 
 -- What a device shows that was stopped in a commit: a stage, with the piece of each slot and the pieces that the commit is about.
 pub record IsStopped (slots : ℕ) (mode : Mode) (bits : FieldBits) (rules : List Rule) (batch : List Command) (state : State) (shown : Shown) : Type 0 where

@@ -7,11 +7,10 @@ use Rattle.tcam_device.specs.declared.Write.TheVariants.{Slot}
 use Rattle.tcam_device.specs.State.{State, apply}
 use Rattle.commit_writes.specs.declared.Rewrite.{Rewrite}
 use Rattle.commit_writes.specs.Planned.{IdEntries, with_slots}
-use Rattle.commit_writes.specs.Undo.{restoring}
+use Rattle.commit_writes.specs.Undo.{restoring, restorings}
 use Rattle.batch_order.specs.declared.planned_writes.PlannedWrite.{PlannedWrite}
 use Rattle.batch_order.specs.declared.translation.Translation.{Translation}
 use Rattle.batch_order.specs.Kept.{settled_state, tables_of}
-use Rattle.batch_order.specs.Restoring.{restorings}
 use Rattle.batch_order.specs.Planning.{as_write, as_writes}
 
 -- planned writes restore those of a plan, whatever the entries of the ids are

@@ -1,6 +1,6 @@
 //! What holds of the way back that a commit under way keeps.
 
-ghost use Rattle.batch_order.specs.Resting.{PlansRest};
+ghost use Rattle.batch_order.specs.RestPlan.{PlansRest};
 ghost use Rattle.batch_order.specs.Passed.{GoesBackThroughStates};
 ghost use Rattle.batch_order.specs.Turning.{RevertsToTheOldState, StepsKeepTheWayBack};
 

@@ -22,7 +22,7 @@ use translation_tables::FieldBits;
 /// What a commit does: the pieces that it inserts, the new entry of each id whose piece gets a result, both by falling
 /// priority, and the ids of the pieces that go, by rising priority.
 #[derive(Drop)]
-pub(crate) struct Parts {
+pub(crate) struct CommitParts {
     pub(crate) inserted: Vec<Ranked>,
     pub(crate) rewrites: Vec<Rewrite>,
     pub(crate) erased: Vec<u32>,
@@ -35,7 +35,7 @@ pub(crate) fn parts_of(
     live: &LiveEntries,
     bits: &Option<FieldBits>,
     batch: &Batch,
-) -> Result<Parts, AllocError>
+) -> Result<CommitParts, AllocError>
     requires is_set { IsRuleSet rules.now.rules }
     requires right { AllByRecursion HasConditions rules.now.rules }
     requires changes { AllByRecursion ChangesRules batch.now }
@@ -49,7 +49,7 @@ pub(crate) fn parts_of(
     let pieces = batch_pieces(alloc, bits, rules, batch)?;
     let rewrites = rewrites(alloc, live, &pieces.rewritten)?;
     let erased = ids_of(alloc, live, &pieces.erased)?;
-    Ok(Parts {
+    Ok(CommitParts {
         inserted: pieces.inserted,
         rewrites,
         erased,

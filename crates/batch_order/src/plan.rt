@@ -8,7 +8,7 @@ ghost use Rattle.commit_writes.specs.PlannedBatch.{erase_write, erased_slots, re
 ghost use Rattle.batch_order.specs.Managed.{ready_of};
 ghost use Rattle.batch_order.specs.Planning.{IsStanding, IsWithin, as_writes};
 
-use crate::parts::Parts;
+use crate::parts::CommitParts;
 use crate::planned_writes::PlannedWrite;
 use crate::{Done, Ready};
 use commit_writes::Rewrite;
@@ -107,7 +107,7 @@ pub(crate) fn ready(counts: &Done) -> Ready
 
 /// Plans the writes behind the insertions, the new entries before the erases, and reserves the device for all.
 pub(crate) fn plan_changes<D: Writable>(
-    parts: &Parts,
+    parts: &CommitParts,
     arrangement: &Arrangement,
     plan: &mut Plan,
     device: &mut D,

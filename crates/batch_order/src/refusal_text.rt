@@ -3,7 +3,7 @@
 ghost use Rattle.std.specs.Prelude.{◌≡◌};
 
 use crate::Refusal;
-use crate::rule_name::{RuleName, field_name};
+use crate::rule_name::RuleName;
 use rule_model::{IpVersion, Rank};
 use std::fmt;
 
@@ -48,11 +48,7 @@ impl fmt::Display for RefusalText {
             Refusal::Taken(priority) => write!(f, "rule {} is taken", self.name(priority)),
             Refusal::Absent(priority) => write!(f, "rule {} is absent", self.name(priority)),
             Refusal::Bits { field, need, free } => {
-                write!(
-                    f,
-                    "{need} {} bits needed and {free} free",
-                    field_name(field)
-                )
+                write!(f, "{need} {field} bits needed and {free} free")
             }
             Refusal::Slots { need, free } => write!(f, "{need} slots needed and {free} free"),
             Refusal::Memory => write!(f, "out of memory"),

@@ -2,7 +2,7 @@
 
 ghost use Rattle.std.specs.Prelude.{◌≡◌};
 
-use rule_model::{Field, IpVersion, Rank, ipv4_route_of, ipv6_route_of, list_number_of};
+use rule_model::{IpVersion, Rank, ipv4_route_of, ipv6_route_of, list_number_of};
 use std::fmt;
 use std::net::{Ipv4Addr, Ipv6Addr};
 
@@ -47,15 +47,7 @@ impl fmt::Display for RuleName {
         let priority = self.priority;
         match list_number_of(priority) {
             Some(number) => write!(f, "{number}"),
-            None => write!(f, "priority {}/{}", priority.high, priority.low),
+            None => write!(f, "priority {priority}"),
         }
-    }
-}
-
-/// The name of a field of ports, as reports have it.
-pub(crate) fn field_name(field: Field) -> &'static str {
-    match field {
-        Field::Src => "src",
-        Field::Dst => "dst",
     }
 }

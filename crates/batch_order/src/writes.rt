@@ -14,7 +14,7 @@ ghost use Rattle.batch_order.specs.Undoing.{AreRestoring};
 use crate::Placement;
 use crate::entries::LiveEntries;
 use crate::insertions::{forget_all, plan_additions};
-use crate::parts::Parts;
+use crate::parts::CommitParts;
 use crate::plan::{Plan, plan_changes};
 use crate::planned_writes::PlannedWrite;
 use crate::translation::{Translation, encoding};
@@ -39,7 +39,7 @@ pub(crate) fn plan_writes<D: Writable>(
     translation: &Option<Translation>,
     rules: &Store,
     before: &Arrangement,
-    parts: &Parts,
+    parts: &CommitParts,
     live: &mut LiveEntries,
     arrangement: &mut Arrangement,
     plan: &mut Plan,

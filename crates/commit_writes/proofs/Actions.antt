@@ -1,16 +1,13 @@
 -- The writes and the drain of a commit, and those of one that is taken back, serve live ranges all the way.
-use Rattle.std.proofs.Common.{◌≡◌, ℕ, suc, ◌+◌, ◌≤◌, Bool, true, false, List, [], ◌∷◌, ◌++◌, length, map, take, drop, ◌⊎◌, inl, inr, refl, sym, ◌∙◌, ap, subst, arith, append_assoc}
+use Rattle.std.proofs.Common.{◌≡◌, ℕ, suc, ◌≤◌, Bool, true, false, List, [], ◌∷◌, ◌++◌, length, map, take, drop, inl, inr, refl, sym, ◌∙◌, ap, subst, arith, append_assoc}
 use Rattle.std.proofs.lemmas.Bool.{cases_lt}
 use Rattle.std.proofs.lemmas.List.{append-nil, take-take, length-take, map-append}
-use Rattle.std.proofs.lemmas.List.Sums.{count_by-le-length}
-use Rattle.std.proofs.Math.Seq.{take-add, take-length}
 use Rattle.rule_model.specs.declared.Rule.{Rule}
 use Rattle.rule_store.specs.declared.Mode.{Mode}
 use Rattle.rule_store.specs.declared.Command.{Command}
 use Rattle.tcam_device.specs.declared.Write.{Write}
 use Rattle.tcam_device.specs.State.{State, apply, state_after}
-use Rattle.tcam_device.specs.Insertion.{is_table_write, table_writes}
-use Rattle.tcam_device.proofs.Spans.{state_after-append}
+use Rattle.tcam_device.specs.Insertion.{table_writes}
 use Rattle.commit_writes.specs.Bits.{FieldBits, bits_with, new_bits}
 use Rattle.commit_writes.specs.Commit.{IsSegment}
 use Rattle.tcam_device.specs.declared.Action.{Action}
@@ -19,39 +16,16 @@ use Rattle.tcam_device.specs.Flight.{writes_in}
 use Rattle.commit_writes.specs.InFlight.{ArePartOf, ServesLive, ServingTo, LeadsTo}
 use Rattle.commit_writes.specs.Undo.{restoring, undo_writes}
 use Rattle.commit_writes.specs.Actions.{have_bits, with_drain, commit_actions, back_from}
-use Rattle.commit_writes.specs.Segments.{MayBegin, CommitsServe, ReturnsServe, live_behind}
+use Rattle.commit_writes.specs.Segments.{MayBegin, CommitsServe, ReturnsServe}
+use Rattle.commit_writes.proofs.Led as led
+use Rattle.commit_writes.proofs.Led.{ArePassed, same_part, part_of_part, serving_on, serves_same, front_of_writes, front_of_drained, front_leads, all_lead}
 use Rattle.commit_writes.proofs.Undone.{restored, undo_ends}
-use Rattle.commit_writes.proofs.Current.{current_part}
 use Rattle.commit_writes.proofs.LiveRanges.{live_meanwhile, same_ranges}
 use Rattle.commit_writes.proofs.ServedLive.{bits_begun, early, late}
 use Rattle.commit_writes.proofs.ServedTables.{IsBitsStart}
+use Rattle.commit_writes.proofs.WritesIn.{writes_of_map, writes_in-append}
 
-abbrev pub same_part : (bits : FieldBits) → ArePartOf bits bits
-same_part bits = record { src = λ bit range live. live; dst = λ bit range live. live }
-
-part_of_part : (least less more : FieldBits) → ArePartOf least less → ArePartOf less more → ArePartOf least more
-part_of_part least less more inner outer = record {
-  src = λ bit range live. outer.src bit range (inner.src bit range live);
-  dst = λ bit range live. outer.dst bit range (inner.dst bit range live);
-}
-
--- some writes serve the same ranges after each of them, and what follows serves on
-serving_on : (bits last : FieldBits) (state : State) (writes : List Write) (rest : List Action)
-    → ((n : ℕ) → n ≤ length writes → ServesLive bits (state_after state (take n writes)))
-    → ServingTo bits (state_after state writes) rest last → ServingTo bits state (map Written writes ++ rest) last
-serving_on bits last state [] rest each on = on
-serving_on bits last state (write ∷ writes) rest each on =
-    (each 0 (omega arith), (bits, same_part bits, serving_on bits last (apply state write) writes rest (λ n below. each (suc n) (omega arith)) on))
-
--- with nothing behind them they serve these to the end
-serving_all : (bits : FieldBits) (state : State) (writes : List Write)
-    → ((n : ℕ) → n ≤ length writes → ServesLive bits (state_after state (take n writes)))
-    → ServingTo bits state (map Written writes) bits
-serving_all bits state writes each =
-    let whole : ServesLive bits (state_after state writes) = subst (λ ws. ServesLive bits (state_after state ws)) (take-length writes) (each (length writes) (omega arith)) in
-    subst (λ actions. ServingTo bits state actions bits) (append-nil (map Written writes)) (serving_on bits bits state writes [] each (whole, same_part bits))
-
--- and so do their undo writes
+-- where writes serve the same ranges after each of them, so do their undo writes
 serving_back : (bits last : FieldBits) (state : State) (writes : List Write) (rest : List Action)
     → ((n : ℕ) → n ≤ length writes → ServesLive bits (state_after state (take n writes)))
     → ServingTo bits state rest last → ServingTo bits (state_after state writes) (map Written (undo_writes state writes) ++ rest) last
@@ -80,77 +54,12 @@ serving_more less more last state [] part serves on = (serves, part_of_part last
 serving_more less more last state (Written write ∷ actions) part serves on = (serves, (on.1.0, part_of_part on.1.0 less more on.1.1 part, on.1.2))
 serving_more less more last state (Drained ∷ actions) part serves on = (serves, on.1)
 
--- where fewer ranges are asked for in the end, they serve these
-serving_less : (bits less last : FieldBits) (state : State) (actions : List Action) → ArePartOf less last → ServingTo bits state actions last → ServingTo bits state actions less
-serving_less bits less last state [] part on = (on.0, part_of_part less last bits part on.1)
-serving_less bits less last state (Written write ∷ actions) part on =
-    (on.0, (on.1.0, on.1.1, serving_less on.1.0 less last (apply state write) actions part on.1.2))
-serving_less bits less last state (Drained ∷ actions) part on = (on.0, (on.1.0, serving_less on.1.0 less last state actions part on.1.1))
-
--- where the same ranges are live in both, a state serves both
-serves_same : (some others : FieldBits) (state : State) → ArePartOf some others → ArePartOf others some → ServesLive others state → ServesLive some state
-serves_same some others state part back serves = record {
-  src_words = serves.src_words;
-  dst_words = serves.dst_words;
-  src_right = λ bit range live. serves.src_right bit range (part.src bit range live);
-  dst_right = λ bit range live. serves.dst_right bit range (part.dst bit range live);
-  tested = λ at entry held key a b first second. serves.tested at entry held key a b (current_part others some key a back first) (current_part others some key b back second);
-}
-
 -- undo writes of some writes and then others
 pub undo-append : (state : State) (a b : List Write) → undo_writes state (a ++ b) ≡ undo_writes (state_after state a) b ++ undo_writes state a
 undo-append state [] b = sym (append-nil (undo_writes state b))
 undo-append state (write ∷ a) b =
     ap (λ xs. xs ++ restoring state write ∷ []) (undo-append (apply state write) a b)
     ∙ append_assoc (undo_writes (state_after (apply state write) a) b) (undo_writes (apply state write) a) (restoring state write ∷ [])
-
-pub writes_of_map : (writes : List Write) → writes_in (map Written writes) ≡ writes
-writes_of_map [] = refl
-writes_of_map (write ∷ writes) = ap (λ ws. write ∷ ws) (writes_of_map writes)
-
-pub writes_in-append : (a b : List Action) → writes_in (a ++ b) ≡ writes_in a ++ writes_in b
-writes_in-append [] b = refl
-writes_in-append (Written write ∷ a) b = ap (λ ws. write ∷ ws) (writes_in-append a b)
-writes_in-append (Drained ∷ a) b = writes_in-append a b
-
--- the first of some writes
-front_of_writes : (front back : List Action) (writes : List Write) → map Written writes ≡ front ++ back
-    → (n : ℕ) × (n ≤ length writes) × (front ≡ map Written (take n writes))
-front_of_writes [] back writes is = (0, omega arith, refl)
-front_of_writes (action ∷ front) back [] is = absurd (cc)
-front_of_writes (action ∷ front) back (write ∷ writes) is =
-    let head : Written write ≡ action = cc in
-    let tail : map Written writes ≡ front ++ back = cc in
-    let w = front_of_writes front back writes tail in
-    let less = w.1 in
-    (suc w.0, omega arith, ap (λ a. a ∷ front) (sym head) ∙ ap (λ xs. Written write ∷ xs) w.2)
-
--- of writes with a drain among them: either the first before it, or all before it and the first behind it
-front_of_drained : (front back : List Action) (a b : List Write) → map Written a ++ Drained ∷ map Written b ≡ front ++ back
-    → ((n : ℕ) × (n ≤ length a) × (front ≡ map Written (take n a)))
-    ⊎ ((n : ℕ) × (n ≤ length b) × (front ≡ map Written a ++ Drained ∷ map Written (take n b)))
-front_of_drained [] back a b is = inl (0, omega arith, refl)
-front_of_drained (action ∷ front) back [] b is =
-    let head : Drained ≡ action = cc in
-    let tail : map Written b ≡ front ++ back = cc in
-    let w = front_of_writes front back b tail in
-    inr (w.0, w.1, ap (λ x. x ∷ front) (sym head) ∙ ap (λ xs. Drained ∷ xs) w.2)
-front_of_drained (action ∷ front) back (write ∷ a) b is =
-    let head : Written write ≡ action = cc in
-    let tail : map Written a ++ Drained ∷ map Written b ≡ front ++ back = cc in
-    elim (front_of_drained front back a b tail) [
-      | inl w ↦ let less = w.1 in inl (suc w.0, omega arith, ap (λ x. x ∷ front) (sym head) ∙ ap (λ xs. Written write ∷ xs) w.2)
-      | inr w ↦ inr (w.0, w.1, ap (λ x. x ∷ front) (sym head) ∙ ap (λ xs. Written write ∷ xs) w.2)
-    ]
-
--- the ranges that are live behind writes alone, and behind a drain among them
-live_writes : (before meanwhile : FieldBits) (writes : List Write) → live_behind before meanwhile (map Written writes) ≡ before
-live_writes before meanwhile [] = refl
-live_writes before meanwhile (write ∷ writes) = live_writes before meanwhile writes
-
-live_drained : (before meanwhile : FieldBits) (writes : List Write) (rest : List Action) → live_behind before meanwhile (map Written writes ++ Drained ∷ rest) ≡ meanwhile
-live_drained before meanwhile [] rest = refl
-live_drained before meanwhile (write ∷ writes) rest = live_drained before meanwhile writes rest
 
 module _ (mode : Mode) (bits : FieldBits) (rules : List Rule) (batch : List Command) (state : State) (made : List Write)
     (begin : MayBegin mode bits rules batch state) (segment : IsSegment mode bits rules batch state made) where
@@ -175,18 +84,6 @@ module _ (mode : Mode) (bits : FieldBits) (rules : List Rule) (batch : List Comm
   served_late : (n : ℕ) → count ≤ n → ServesLive during (state_after state (take n made))
   served_late n above = late mode bits rules batch state made begin segment n above
 
-  in_front : (n : ℕ) → n ≤ length front_part → ServesLive bits (state_after state (take n front_part))
-  in_front n below =
-      let size = length-take count made in
-      let few : n ≤ count = omega arith in
-      subst (λ ws. ServesLive bits (state_after state ws)) (sym (take-take n count made few)) (served_early n few)
-
-  behind : (n : ℕ) → ServesLive during (state_after (state_after state front_part) (take n back_part))
-  behind n =
-      let whole : state_after state (take (count + n) made) ≡ state_after (state_after state front_part) (take n back_part) =
-      ap (state_after state) (take-add count n made) ∙ state_after-append state front_part (take n back_part) in
-      subst (ServesLive during) whole (served_late (count + n) (omega arith))
-
   -- without a new bit the live ranges are served all the way
   unchanged : have_bits (new_bits bits during) ≡ false → (n : ℕ) → ServesLive bits (state_after state (take n made))
   unchanged none n = elim (cases_lt count n) [
@@ -196,73 +93,14 @@ module _ (mode : Mode) (bits : FieldBits) (rules : List Rule) (batch : List Comm
     | inr early ↦ served_early n early
   ]
 
-  -- the drain and the first writes behind it
-  drained_on : (n : ℕ) → ServingTo bits (state_after state front_part) (Drained ∷ map Written (take n back_part)) during
-  drained_on n =
-      let each : (m : ℕ) → m ≤ length (take n back_part) → ServesLive during (state_after (state_after state front_part) (take m (take n back_part))) = (λ m less.
-      let size = length-take n back_part in
-      let few : m ≤ n = omega arith in
-      subst (λ ws. ServesLive during (state_after (state_after state front_part) ws)) (sym (take-take m n back_part few)) (behind m)) in
-      (served_early count (omega arith), (during, serving_all during (state_after state front_part) (take n back_part) each))
+  passed : ArePassed bits during (have_bits (new_bits bits during)) state made
+  passed = record { early = served_early; late = served_late; undrained = unchanged; part = same_ranges mode bits rules batch state start }
 
-  -- some first writes, all of which serve the ranges
-  lead_at_once : (n : ℕ) (writes : List Write) → ((m : ℕ) → m ≤ length writes → ServesLive bits (state_after state (take m writes))) → n ≤ length writes
-      → LeadsTo bits state (map Written (take n writes)) bits
-  lead_at_once n writes each below =
-      let size = length-take n writes in
-      let front : (m : ℕ) → m ≤ length (take n writes) → ServesLive bits (state_after state (take m (take n writes))) = (λ m less.
-      let few : m ≤ n = omega arith in
-      subst (λ ws. ServesLive bits (state_after state ws)) (sym (take-take m n writes few)) (each m (omega arith))) in (
-        serving_all bits state (take n writes) front,
-        subst (λ ws. ServesLive bits (state_after state ws)) (sym (writes_of_map (take n writes))) (each n below),
-      )
+  in_front : (n : ℕ) → n ≤ length front_part → ServesLive bits (state_after state (take n front_part))
+  in_front = led.in_front bits during (have_bits (new_bits bits during)) state made passed
 
-  -- the writes before the drain, the drain, and some first writes behind it
-  lead_over_drain : (n : ℕ) → LeadsTo bits state (map Written front_part ++ Drained ∷ map Written (take n back_part)) during
-  lead_over_drain n =
-      let inside : writes_in (map Written front_part ++ Drained ∷ map Written (take n back_part)) ≡ front_part ++ take n back_part =
-      writes_in-append (map Written front_part) (Drained ∷ map Written (take n back_part))
-      ∙ ap (λ ws. ws ++ writes_in (map Written (take n back_part))) (writes_of_map front_part) ∙ ap (λ ws. front_part ++ ws) (writes_of_map (take n back_part)) in (
-        serving_on bits during state front_part (Drained ∷ map Written (take n back_part)) in_front (drained_on n),
-        subst (ServesLive during) (sym (ap (state_after state) inside ∙ state_after-append state front_part (take n back_part))) (behind n),
-      )
-
-  pub front_leads : (front back : List Action) → commit_actions mode bits rules batch made ≡ front ++ back → LeadsTo bits state front (live_behind bits during front)
-  front_leads front back = go (have_bits (new_bits bits during)) refl
-    where
-      at_once : (n : ℕ) (writes : List Write) → front ≡ map Written (take n writes) → LeadsTo bits state (map Written (take n writes)) bits → LeadsTo bits state front (live_behind bits during front)
-      at_once n writes is leads =
-          subst (λ actions. LeadsTo bits state actions (live_behind bits during actions)) (sym is)
-          (subst (LeadsTo bits state (map Written (take n writes))) (sym (live_writes bits during (take n writes))) leads)
-
-      over_drain : (n : ℕ) → front ≡ map Written front_part ++ Drained ∷ map Written (take n back_part) → LeadsTo bits state front (live_behind bits during front)
-      over_drain n is =
-          subst (λ actions. LeadsTo bits state actions (live_behind bits during actions)) (sym is)
-          (subst (LeadsTo bits state (map Written front_part ++ Drained ∷ map Written (take n back_part))) (sym (live_drained bits during front_part (map Written (take n back_part)))) (lead_over_drain n))
-
-      go : (drains : Bool) → have_bits (new_bits bits during) ≡ drains → with_drain drains made ≡ front ++ back → LeadsTo bits state front (live_behind bits during front)
-      go false none is = let w = front_of_writes front back made is in at_once w.0 made w.2 (lead_at_once w.0 made (λ m below. unchanged none m) w.1)
-      go true some is = elim (front_of_drained front back front_part back_part is) [
-        | inl w ↦ at_once w.0 front_part w.2 (lead_at_once w.0 front_part in_front w.1)
-        | inr w ↦ over_drain w.0 w.2
-      ]
-
-  -- all of them lead to the ranges that are live meanwhile, also where none of these is new
-  pub commit_leads : LeadsTo bits state (commit_actions mode bits rules batch made) during
-  commit_leads = go (have_bits (new_bits bits during)) refl
-    where
-      whole : ServesLive during (state_after state made)
-      whole =
-          let less = count_by-le-length is_table_write made in
-          subst (λ ws. ServesLive during (state_after state ws)) (take-length made) (served_late (length made) (omega arith))
-
-      go : (drains : Bool) → have_bits (new_bits bits during) ≡ drains → LeadsTo bits state (with_drain drains made) during
-      go false none = (
-        serving_less bits during bits state (map Written made) (same_ranges mode bits rules batch state start none) (serving_all bits state made (λ n below. unchanged none n)),
-        subst (λ ws. ServesLive during (state_after state ws)) (sym (writes_of_map made)) whole,
-      )
-      go true some =
-          subst (λ ws. LeadsTo bits state (map Written front_part ++ Drained ∷ map Written ws) during) (take-length back_part) (lead_over_drain (length back_part))
+  behind : (n : ℕ) → ServesLive during (state_after (state_after state front_part) (take n back_part))
+  behind = led.behind bits during (have_bits (new_bits bits during)) state made passed
 
   -- some first writes, all of which serve the ranges, and their undo writes
   back_at_once : (n : ℕ) (writes : List Write) → ((m : ℕ) → m ≤ length writes → ServesLive bits (state_after state (take m writes))) → n ≤ length writes
@@ -334,10 +172,12 @@ module _ (mode : Mode) (bits : FieldBits) (rules : List Rule) (batch : List Comm
           ∙ undo_ends state (writes_in front)
 
 pub commits_serve : CommitsServe
-commits_serve mode bits rules batch state made begin segment = (
-  λ front some. front_leads mode bits rules batch state made begin segment front some.0 some.1,
-  commit_leads mode bits rules batch state made begin segment,
-)
+commits_serve mode bits rules batch state made begin segment =
+    let during = bits_with mode rules batch bits in
+    let are = passed mode bits rules batch state made begin segment in (
+      λ front some. front_leads bits during (have_bits (new_bits bits during)) state made are front some.0 some.1,
+      all_lead bits during (have_bits (new_bits bits during)) state made are,
+    )
 
 pub returns_serve : ReturnsServe
 returns_serve mode bits rules batch state actions begin return =

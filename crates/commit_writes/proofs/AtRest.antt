@@ -28,7 +28,7 @@ use Rattle.commit_writes.proofs.BatchRules.{right_after, set_after-is}
 use Rattle.commit_writes.proofs.Current.{are_current_part}
 use Rattle.commit_writes.proofs.KeptBits.{pieces_left}
 use Rattle.commit_writes.proofs.Searches.{stay_current, state_after-events}
-use Rattle.commit_writes.proofs.Seen.{writes_of_commit}
+use Rattle.commit_writes.proofs.WritesIn.{writes_of_commit}
 use Rattle.commit_writes.proofs.ServedLive.{change_begun, bits_begun, tables_stay}
 use Rattle.commit_writes.proofs.ServedTables.{fresh_writes, words_done, bits_after}
 use Rattle.commit_writes.proofs.SlotWrites.{LeavesTables}

@@ -60,6 +60,8 @@ pub mod LiveBits
 pub mod LiveRanges
 pub mod SlotsBehind
 pub mod ServedLive
+pub mod WritesIn
+pub mod Led
 pub mod Actions
 pub mod Seen
 pub mod AtRest

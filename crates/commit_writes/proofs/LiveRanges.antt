@@ -13,23 +13,17 @@ use Rattle.range_bits.specs.LiveRanges.{LiveRanges, no_ranges, range_at, with_ra
 use Rattle.range_bits.proofs.FieldMaps.{no_range}
 use Rattle.range_bits.proofs.Newer.{newly_live-parts}
 use Rattle.tcam_device.specs.State.{State}
-use Rattle.tcam_device.specs.Order.{IsTranslated}
 use Rattle.commit_writes.specs.Actions.{have_bits}
 use Rattle.commit_writes.specs.Bits.{FieldBits, bits_with, new_bits}
 use Rattle.commit_writes.specs.InFlight.{ArePartOf}
-use Rattle.commit_writes.specs.Serving.{AreServing}
+use Rattle.commit_writes.specs.Serving.{AreServing, AreTranslated}
 use Rattle.commit_writes.proofs.ServedTables.{IsBitsStart, field_given}
-
--- each live bit is set in its table exactly at the ports of its range
-pub record AreTranslated (bits : FieldBits) (state : State) : Type 0 where
-  pub src : (bit : ℕ) (range : PortRange) → range_at bits.src bit ≡ Some range → IsTranslated state.src bit range
-  pub dst : (bit : ℕ) (range : PortRange) → range_at bits.dst bit ≡ Some range → IsTranslated state.dst bit range
 
 none_live : (bit : ℕ) (range : PortRange) → range_at no_ranges bit ≡ Some range → ⊥
 none_live bit range live = let clash : Some range ≡ None = sym live ∙ no_range bit in cc
 
--- so it is where the tables serve some rules
-pub translated : (mode : Mode) (bits : FieldBits) (rules : List Rule) (state : State) → AreServing mode bits rules state → AreTranslated bits state
+-- where the tables serve some rules, each live bit is right in them
+pub translated : (mode : Mode) (bits : FieldBits) (rules : List Rule) (state : State) → AreServing mode bits rules state → AreTranslated state bits
 translated Cover bits rules state serving = record {
   src = λ bit range live. absurd (none_live bit range (subst (λ (some : FieldBits). range_at some.src bit ≡ Some range) serving live));
   dst = λ bit range live. absurd (none_live bit range (subst (λ (some : FieldBits). range_at some.dst bit ≡ Some range) serving live));

@@ -1,19 +1,20 @@
 -- Look-ups of two events see the old or the new set's answer all through a commit, and while it is taken back.
-use Rattle.std.proofs.Common.{◌≡◌, ℕ, suc, ◌+◌, ◌-◌, ◌≤◌, Bool, true, false, List, [], ◌∷◌, ◌++◌, length, map, take, drop, inl, inr, sym, ◌∙◌, ap, subst, arith}
+use Rattle.std.proofs.Common.{◌≡◌, ℕ, suc, ◌+◌, ◌-◌, ◌≤◌, List, [], ◌∷◌, ◌++◌, length, map, take, drop, inl, inr, sym, ◌∙◌, ap, subst, arith}
 use Rattle.std.specs.List.{AllByRecursion}
 use Rattle.std.proofs.lemmas.Bool.{cases_lt}
-use Rattle.std.proofs.lemmas.List.{take-append-le, take-append-drop, take_all}
+use Rattle.std.proofs.lemmas.List.{take-append-le, take_all}
 use Rattle.std.proofs.Math.Seq.{take-append-add}
 use Rattle.slot_order.proofs.Lists.{all_append}
 use Rattle.rule_model.specs.declared.Key.{Key}
 use Rattle.rule_model.specs.declared.Rule.{Rule}
 use Rattle.rule_model.specs.Key.{IsKey}
 use Rattle.rule_model.specs.RuleSet.{Answer}
+use Rattle.rule_store.specs.declared.Mode.{Mode}
+use Rattle.rule_store.specs.declared.Command.{Command}
 use Rattle.rule_store.specs.Batch.{set_after}
 use Rattle.ternary_word.specs.declared.Word.{Word}
 use Rattle.tcam_device.specs.declared.Write.{Write}
 use Rattle.tcam_device.specs.State.{State, apply, state_after}
-use Rattle.tcam_device.specs.Insertion.{table_writes}
 use Rattle.tcam_device.specs.Hitless.{ShowsOldOrNew}
 use Rattle.commit_writes.specs.Bits.{FieldBits, bits_with, new_bits}
 use Rattle.tcam_device.specs.declared.Action.{Action}
@@ -21,11 +22,13 @@ use Rattle.tcam_device.specs.declared.Action.TheVariants.{Written, Drained}
 use Rattle.tcam_device.specs.Flight.{Event, Acted, Translated, Searched, Flight, Pipeline, MayGo, actions_in, writes_in, searched_by, searches, happens}
 use Rattle.commit_writes.specs.InFlight.{AreCurrent, ServingTo, IsLookUp, IsOldOrNew}
 use Rattle.commit_writes.specs.Undo.{undo_writes}
-use Rattle.commit_writes.specs.Actions.{have_bits, with_drain}
+use Rattle.commit_writes.specs.Actions.{IsReturn, have_bits}
 use Rattle.commit_writes.specs.Segments.{SeesOldOrNew, SeesOldOrNewBack, ReturnsAreHitless, live_behind}
 use Rattle.commit_writes.proofs.Undone.{undo_passes, undo_ends, length-undo_writes}
 use Rattle.commit_writes.proofs.Searches.{answer_as_look_ups, serves_now}
-use Rattle.commit_writes.proofs.Actions.{same_part, writes_of_map, writes_in-append, commits_serve, returns_serve}
+use Rattle.commit_writes.proofs.Actions.{commits_serve, returns_serve}
+use Rattle.commit_writes.proofs.Led.{same_part}
+use Rattle.commit_writes.proofs.WritesIn.{writes_of_commit, writes_of_map, writes_in-append}
 
 -- the first of some actions serve as all of them do
 serving_front : (bits last : FieldBits) (state : State) (front back : List Action) → ServingTo bits state (front ++ back) last
@@ -87,14 +90,18 @@ old_or_new old new [] looks keys shows = tt
 old_or_new old new (one ∷ seen) looks keys shows =
     (elim (shows.0 one.1 keys.0) [ inl was ↦ inl (looks.0 ∙ was) | inr is ↦ inr (looks.0 ∙ is) ], old_or_new old new seen looks.1 keys.1 shows.1)
 
--- the writes among a commit's actions
-pub writes_of_commit : (drains : Bool) (made : List Write) → writes_in (with_drain drains made) ≡ made
-writes_of_commit false made = writes_of_map made
-writes_of_commit true made =
-    let count = table_writes made in
-    writes_in-append (map Written (take count made)) (Drained ∷ map Written (drop count made))
-    ∙ ap (λ ws. ws ++ writes_in (map Written (drop count made))) (writes_of_map (take count made))
-    ∙ ap (λ ws. take count made ++ ws) (writes_of_map (drop count made)) ∙ take-append-drop count made
+-- Searches answer as look-ups do while the words in flight are current, and with the old or the new set's answer where each state that is
+-- passed shows one of them.
+pub seen : (bits last : FieldBits) (old new : List Rule) (line : Pipeline) (events : List Event)
+    → ServingTo bits line.state (actions_in events) last → AreCurrent bits line.flight → MayGo line events
+    → ((n : ℕ) → n ≤ length (writes_in (actions_in events)) → ShowsOldOrNew (state_after line.state (take n (writes_in (actions_in events)))) old new)
+    → AllByRecursion IsLookUp (searches line events) × AllByRecursion (IsOldOrNew old new) (searches line events)
+seen bits last old new line events serving current may each =
+    let looks = answer_as_look_ups bits last line events serving current may in (
+      looks,
+      old_or_new old new (searches line events) looks (keys_right line events (current_keys bits line.flight current) may)
+          (states_passed line events (λ state. ShowsOldOrNew state old new) each),
+    )
 
 -- what holds after each of some writes holds after each of the first of them
 pub fewer : (state : State) (P : State → Type 0) (front back : List Write) → ((n : ℕ) → P (state_after state (take n (front ++ back))))
@@ -129,43 +136,51 @@ both_ways state P writes each n = elim (cases_lt (length writes) n) [
 
 pub sees_old_or_new : SeesOldOrNew
 sees_old_or_new mode bits rules batch line made events begin segment front current may =
+    let during = bits_with mode rules batch bits in
     let leads = (commits_serve mode bits rules batch line.state made begin segment).0 (actions_in events) front in
-    let looks = answer_as_look_ups bits (live_behind bits (bits_with mode rules batch bits) (actions_in events)) line events leads.0 current may in
     let same : made ≡ writes_in (actions_in events) ++ writes_in front.0 =
-    sym (writes_of_commit (have_bits (new_bits bits (bits_with mode rules batch bits))) made) ∙ ap writes_in front.1 ∙ writes_in-append (actions_in events) front.0 in
+    sym (writes_of_commit (have_bits (new_bits bits during)) made) ∙ ap writes_in front.1 ∙ writes_in-append (actions_in events) front.0 in
     let Shown : State → Type 0 = λ state. ShowsOldOrNew state rules (set_after rules batch) in
-    let each = fewer line.state Shown (writes_in (actions_in events)) (writes_in front.0)
-    (λ n. subst (λ ws. Shown (state_after line.state (take n ws))) same (segment.hitless.on_the_way.during n)) in
-    (looks, old_or_new rules (set_after rules batch) (searches line events) looks (keys_right line events (current_keys bits line.flight current) may) (states_passed line events Shown each))
+    seen bits (live_behind bits during (actions_in events)) rules (set_after rules batch) line events leads.0 current may
+    (fewer line.state Shown (writes_in (actions_in events)) (writes_in front.0)
+    (λ n. subst (λ ws. Shown (state_after line.state (take n ws))) same (segment.hitless.on_the_way.during n)))
+
+-- the first writes of a commit, and their undo writes, show the old or the new set
+both_shown : (mode : Mode) (bits : FieldBits) (rules : List Rule) (batch : List Command) (state : State) (actions : List Action) (return : IsReturn mode bits rules batch state actions) (n : ℕ)
+    → ShowsOldOrNew (state_after state (take n (writes_in return.front ++ undo_writes state (writes_in return.front)))) rules (set_after rules batch)
+both_shown mode bits rules batch state actions return =
+    let Shown : State → Type 0 = λ now. ShowsOldOrNew now rules (set_after rules batch) in
+    let whole : return.made ≡ writes_in return.front ++ writes_in return.back =
+    sym (writes_of_commit (have_bits (new_bits bits (bits_with mode rules batch bits))) return.made) ∙ ap writes_in return.parts ∙ writes_in-append return.front return.back in
+    both_ways state Shown (writes_in return.front)
+    (fewer state Shown (writes_in return.front) (writes_in return.back) (λ n. subst (λ ws. Shown (state_after state (take n ws))) whole (return.segment.hitless.on_the_way.during n)))
+
+-- these are the writes of its return
+return_writes : (mode : Mode) (bits : FieldBits) (rules : List Rule) (batch : List Command) (state : State) (actions : List Action) (return : IsReturn mode bits rules batch state actions)
+    → writes_in actions ≡ writes_in return.front ++ undo_writes state (writes_in return.front)
+return_writes mode bits rules batch state actions return =
+    let some = writes_in return.front in
+    ap writes_in return.actions_are ∙ writes_in-append return.front (map Written (undo_writes state some)) ∙ ap (λ ws. some ++ ws) (writes_of_map (undo_writes state some))
 
 pub sees_old_or_new_back : SeesOldOrNewBack
 sees_old_or_new_back mode bits rules batch line actions events begin return front current may =
     let state = line.state in
     let serving = serving_front bits bits state (actions_in events) front.0
     (subst (λ all. ServingTo bits state all bits) front.1 (returns_serve mode bits rules batch state actions begin return).0) in
-    let looks = answer_as_look_ups bits serving.0 line events serving.1 current may in
     let Shown : State → Type 0 = λ now. ShowsOldOrNew now rules (set_after rules batch) in
-    let some = writes_in return.front in
-    let whole : return.made ≡ some ++ writes_in return.back =
-    sym (writes_of_commit (have_bits (new_bits bits (bits_with mode rules batch bits))) return.made) ∙ ap writes_in return.parts ∙ writes_in-append return.front return.back in
-    let there = fewer state Shown some (writes_in return.back) (λ n. subst (λ ws. Shown (state_after state (take n ws))) whole (return.segment.hitless.on_the_way.during n)) in
-    let both = both_ways state Shown some there in
-    let same : some ++ undo_writes state some ≡ writes_in (actions_in events) ++ writes_in front.0 =
-    ap (λ ws. some ++ ws) (sym (writes_of_map (undo_writes state some))) ∙ sym (writes_in-append return.front (map Written (undo_writes state some)))
-    ∙ ap writes_in (sym return.actions_are ∙ front.1) ∙ writes_in-append (actions_in events) front.0 in
-    let each = fewer state Shown (writes_in (actions_in events)) (writes_in front.0) (λ n. subst (λ ws. Shown (state_after state (take n ws))) same (both n)) in
-    (looks, old_or_new rules (set_after rules batch) (searches line events) looks (keys_right line events (current_keys bits line.flight current) may) (states_passed line events Shown each))
+    let same : writes_in return.front ++ undo_writes state (writes_in return.front) ≡ writes_in (actions_in events) ++ writes_in front.0 =
+    sym (return_writes mode bits rules batch state actions return) ∙ ap writes_in front.1 ∙ writes_in-append (actions_in events) front.0 in
+    seen bits serving.0 rules (set_after rules batch) line events serving.1 current may
+    (fewer state Shown (writes_in (actions_in events)) (writes_in front.0)
+    (λ n. subst (λ ws. Shown (state_after state (take n ws))) same (both_shown mode bits rules batch state actions return n)))
 
 pub returns_are_hitless : ReturnsAreHitless
 returns_are_hitless mode bits rules batch state actions return =
-    let some = writes_in return.front in
     let Shown : State → Type 0 = λ now. ShowsOldOrNew now rules (set_after rules batch) in
-    let whole : return.made ≡ some ++ writes_in return.back =
-    sym (writes_of_commit (have_bits (new_bits bits (bits_with mode rules batch bits))) return.made) ∙ ap writes_in return.parts ∙ writes_in-append return.front return.back in
-    let there = fewer state Shown some (writes_in return.back) (λ n. subst (λ ws. Shown (state_after state (take n ws))) whole (return.segment.hitless.on_the_way.during n)) in
-    let both = both_ways state Shown some there in
-    let same : writes_in actions ≡ some ++ undo_writes state some =
-    ap writes_in return.actions_are ∙ writes_in-append return.front (map Written (undo_writes state some)) ∙ ap (λ ws. some ++ ws) (writes_of_map (undo_writes state some)) in (
-      record { before = return.segment.hitless.on_the_way.before; during = λ n. subst (λ ws. Shown (state_after state (take n ws))) (sym same) (both n) },
-      ap (state_after state) same ∙ undo_ends state some,
+    let same = return_writes mode bits rules batch state actions return in (
+      record {
+        before = return.segment.hitless.on_the_way.before;
+        during = λ n. subst (λ ws. Shown (state_after state (take n ws))) (sym same) (both_shown mode bits rules batch state actions return n);
+      },
+      ap (state_after state) same ∙ undo_ends state (writes_in return.front),
     )

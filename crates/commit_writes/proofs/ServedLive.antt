@@ -31,7 +31,8 @@ use Rattle.commit_writes.specs.Segments.{MayBegin}
 use Rattle.commit_writes.proofs.BatchPieces.{after_served, row_served}
 use Rattle.commit_writes.proofs.BatchRules.{IsSoundChange}
 use Rattle.commit_writes.proofs.LiveBits.{chosen_live, tests_live}
-use Rattle.commit_writes.proofs.LiveRanges.{AreTranslated, translated}
+use Rattle.commit_writes.proofs.LiveRanges.{translated}
+use Rattle.commit_writes.specs.Serving.{AreTranslated}
 use Rattle.commit_writes.proofs.ServedTables.{IsBitsStart, fresh_writes, words_state, words_done, words_keep, tables_serve}
 use Rattle.commit_writes.proofs.SetPieces.{set_served}
 use Rattle.commit_writes.proofs.SlotsBehind.{IsCutAtSlots, cut_at_slots}
@@ -84,7 +85,7 @@ module _ (mode : Mode) (bits : FieldBits) (rules : List Rule) (batch : List Comm
         (chosen_live bits (pieces_of mode) rules known.0 known.1));
   }
     where
-      right : AreTranslated bits (state_after state (take n tables))
+      right : AreTranslated (state_after state (take n tables)) bits
       right = translated mode bits rules (state_after state (take n tables)) (words_keep mode bits rules batch state start n)
 
       served : AllByRecursion (IsServedBy (state_after state (take n tables))) (set_pieces mode bits rules)
@@ -160,5 +161,5 @@ module _ (mode : Mode) (bits : FieldBits) (rules : List Rule) (batch : List Comm
       is : IsState (length behind.slots) behind
       is = (words_done mode bits rules batch state start).0
 
-      right : AreTranslated during behind
+      right : AreTranslated behind during
       right = translated mode during (rules ++ additions batch) behind (tables_serve mode bits rules batch state start)

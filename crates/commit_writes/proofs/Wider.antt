@@ -25,11 +25,12 @@ use Rattle.commit_writes.specs.PlannedBatch.{IsPlannedSegment}
 abbrev pub AreInUse : State → List Write → Type 0
 AreInUse state writes = AllByRecursion (IsInUse (length state.slots)) writes
 
-all_front : {X : Type 0} (P : X → Type 0) (xs ys : List X) → AllByRecursion P (xs ++ ys) → AllByRecursion P xs
+-- what holds of all holds of the first, and of those behind them
+pub all_front : {X : Type 0} (P : X → Type 0) (xs ys : List X) → AllByRecursion P (xs ++ ys) → AllByRecursion P xs
 all_front P [] ys all = tt
 all_front P (x ∷ xs) ys all = (all.0, all_front P xs ys all.1)
 
-all_back : {X : Type 0} (P : X → Type 0) (xs ys : List X) → AllByRecursion P (xs ++ ys) → AllByRecursion P ys
+pub all_back : {X : Type 0} (P : X → Type 0) (xs ys : List X) → AllByRecursion P (xs ++ ys) → AllByRecursion P ys
 all_back P [] ys all = all
 all_back P (x ∷ xs) ys all = all_back P xs ys all.1
 
@@ -42,10 +43,10 @@ zip_wider P Q each (x ∷ xs) (y ∷ ys) all = (each x y all.0, zip_wider P Q ea
 stands : (more : ℕ) (state : State) (at : ℕ) (ranked : RankedPiece) → Stands state at ranked → Stands (padded more state) at ranked
 stands more state at ranked is = (is.0, slot-padded state.slots more at ∙ is.1, is.2)
 
-rewrites : (more : ℕ) (state : State) (pieces : List RankedPiece) (writes : List Write) → AllZip (Rewrites state) pieces writes → AllZip (Rewrites (padded more state)) pieces writes
+pub rewrites : (more : ℕ) (state : State) (pieces : List RankedPiece) (writes : List Write) → AllZip (Rewrites state) pieces writes → AllZip (Rewrites (padded more state)) pieces writes
 rewrites more state pieces writes all = zip_wider (Rewrites state) (Rewrites (padded more state)) (λ ranked write is. (is.0, stands more state is.0 ranked is.1, is.2)) pieces writes all
 
-erases : (more : ℕ) (state : State) (pieces : List RankedPiece) (writes : List Write) → AllZip (Erases state) pieces writes → AllZip (Erases (padded more state)) pieces writes
+pub erases : (more : ℕ) (state : State) (pieces : List RankedPiece) (writes : List Write) → AllZip (Erases state) pieces writes → AllZip (Erases (padded more state)) pieces writes
 erases more state pieces writes all = zip_wider (Erases state) (Erases (padded more state)) (λ ranked write is. (is.0, stands more state is.0 ranked is.1, is.2)) pieces writes all
 
 pub HasCommitShape-padded : (more : ℕ) (mode : Mode) (bits : FieldBits) (rules : List Rule) (batch : List Command) (state : State) (writes : List Write)

@@ -20,6 +20,11 @@ pub record ServesRanges (ranges : List PortRange) (live : LiveRanges) (table : L
   pub have_bits : (range : PortRange) → Contains ranges range → IsSome (bit_of live range)
   pub translated : (bit : ℕ) (range : PortRange) → range_at live bit ≡ Some range → IsTranslated table bit range
 
+-- each live range's bit is set in its table exactly at the ports of the range
+pub record AreTranslated (state : State) (bits : FieldBits) : Type 0 where
+  pub src : (bit : ℕ) (range : PortRange) → range_at bits.src bit ≡ Some range → IsTranslated state.src bit range
+  pub dst : (bit : ℕ) (range : PortRange) → range_at bits.dst bit ≡ Some range → IsTranslated state.dst bit range
+
 -- the tables serve some rules: by covers no rule needs a bit
 abbrev pub AreServing : Mode → FieldBits → List Rule → State → Type 0
 AreServing Cover bits rules state = bits ≡ no_bits

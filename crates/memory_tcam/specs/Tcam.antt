@@ -87,6 +87,11 @@ pub record Flaky : Type 0 where
   pub calls : CallCount
   pub faults : ℕ
 
+-- A device in memory that makes room up to a number of writes.
+pub record Scarce : Type 0 where
+  pub device : Tcam
+  pub most : ℕ
+
 -- the sizes of the tables in memory
 pub record IsMemory (src dst : List ℕ) : Type 0 where
   pub src_size : length src ≡ 2 ^ 16

@@ -9,7 +9,7 @@ pub mod Counts
 pub mod Ending
 pub mod AtRest
 pub mod ReadIds
-pub mod Led
+pub mod Lives
 pub mod Serving
 pub mod Served
 pub mod Narrow

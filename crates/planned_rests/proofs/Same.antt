@@ -8,7 +8,8 @@ use Rattle.tcam_device.specs.Order.{IsTranslated, AreAlike, HasOneTwin}
 use Rattle.commit_writes.specs.Bits.{FieldBits}
 use Rattle.commit_writes.proofs.Filters.{all_members}
 use Rattle.readback.specs.Tasks.{CommitPieces, Task, Insert, Rewrite, Erase, IsStanding, IsDone, IsLeft}
-use Rattle.readback.specs.Stage.{AreTranslated, IsStageAt, IsTwinSlot}
+use Rattle.readback.specs.Stage.{IsStageAt, IsTwinSlot}
+use Rattle.commit_writes.specs.Serving.{AreTranslated}
 
 module _ (state next : State) (same : (at : ℕ) → slot next.slots at ≡ slot state.slots at) where
   pub stands_on : (x : RankedPiece) → IsStanding state x → IsStanding next x

@@ -25,23 +25,23 @@ use Rattle.commit_writes.specs.Bits.{FieldBits, bits_with, new_bits}
 use Rattle.commit_writes.specs.InFlight.{ServesLive}
 use Rattle.commit_writes.specs.Planned.{IdEntries, Planned}
 use Rattle.commit_writes.specs.PlannedBatch.{batch_writes}
-use Rattle.commit_writes.proofs.Actions.{same_part}
+use Rattle.commit_writes.proofs.Led.{ArePassed, same_part, serves_same, front_leads, all_lead}
 use Rattle.commit_writes.proofs.BatchRules.{IsSoundChange}
 use Rattle.commit_writes.proofs.LiveRanges.{live_meanwhile, same_ranges, translated}
 use Rattle.commit_writes.proofs.ServedTables.{IsBitsStart, tables_serve}
 use Rattle.commit_writes.proofs.SlotWrites.{no_table, tables_left}
 use Rattle.commit_writes.proofs.TableWrites.{all_tables, bit_writes-tables}
 use Rattle.readback.specs.Tasks.{CommitPieces, Task, commit_pieces, stands_in, IsStanding}
-use Rattle.readback.specs.Stage.{AreTranslated, IsStage}
+use Rattle.readback.specs.Stage.{IsStage}
+use Rattle.commit_writes.specs.Serving.{AreTranslated}
 use Rattle.readback.specs.Going.{needs_drain, twin_writes}
 use Rattle.readback.proofs.Begun.{change_of}
 use Rattle.readback.proofs.Tables.{words_slots, all_right}
 use Rattle.planned_rests.specs.PlannedRest.{rest_words, restart_writes}
 use Rattle.planned_rests.specs.Restart.{IsPlannedRestart}
 use Rattle.planned_rests.specs.Serving.{PlannedRestartsServe, stopped_ranges}
-use Rattle.planned_rests.proofs.Led.{ArePassed, front_leads, all_lead}
 use Rattle.planned_rests.proofs.Restart.{passes, seam, sized, to_slots, wide_start}
-use Rattle.planned_rests.proofs.Serving.{serves_same, some_stand, none_stand, serving_during, serving_before}
+use Rattle.planned_rests.proofs.Serving.{some_stand, none_stand, serving_during, serving_before}
 
 module _ (device_slots : ℕ) (mode : Mode) (bits : FieldBits) (rules : List Rule) (batch : List Command) (state : State) (done left : List Task) (twin : Option ℕ)
     (live_ids : List LivePiece) (slots : Slots) (entries : IdEntries) (planned : List Planned) (rewrites : List Rewrite) (erased : List ℕ)
@@ -92,7 +92,7 @@ module _ (device_slots : ℕ) (mode : Mode) (bits : FieldBits) (rules : List Rul
 
   -- behind them the tables are right
   right_behind : AreTranslated (state_after wide tables) during
-  right_behind = let w = translated mode during (rules ++ additions batch) (state_after wide tables) (tables_serve mode bits rules batch wide start) in record { src = w.src; dst = w.dst }
+  right_behind = translated mode during (rules ++ additions batch) (state_after wide tables) (tables_serve mode bits rules batch wide start)
 
   right_late : (n : ℕ) → length tables ≤ n → AreTranslated (now n) during
   right_late n long =

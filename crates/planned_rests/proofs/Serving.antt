@@ -13,30 +13,19 @@ use Rattle.ternary_word.specs.Entry.{RankedPiece, entry_for}
 use Rattle.tcam_device.specs.State.{State, IsState, state_after}
 use Rattle.tcam_device.proofs.One.{same_match-same}
 use Rattle.commit_writes.specs.Bits.{FieldBits, bits_with}
-use Rattle.commit_writes.specs.InFlight.{ArePartOf, TestsLive, ServesLive}
-use Rattle.commit_writes.specs.Serving.{AreServing}
+use Rattle.commit_writes.specs.InFlight.{TestsLive, ServesLive}
+use Rattle.commit_writes.specs.Serving.{AreServing, AreTranslated}
 use Rattle.commit_writes.proofs.BatchRules.{IsSoundChange}
-use Rattle.commit_writes.proofs.Current.{current_part}
 use Rattle.commit_writes.proofs.KeptBits.{pieces_same}
 use Rattle.commit_writes.proofs.LiveBits.{HasLiveBits, chosen_live, tests_live}
 use Rattle.commit_writes.proofs.ServedTables.{IsBitsStart, fresh_writes, tables_serve}
 use Rattle.readback.specs.Tasks.{CommitPieces, Task, commit_pieces, known_pieces, stands_in, IsStanding}
-use Rattle.readback.specs.Stage.{AreTranslated, IsCommitAt}
+use Rattle.readback.specs.Stage.{IsCommitAt}
 use Rattle.readback.proofs.Begun.{begun, change_of}
 use Rattle.readback.proofs.Facts.{known_cases}
 use Rattle.readback.proofs.Pieces.{live, served, pieces_are}
 use Rattle.readback.proofs.Tests.{stands_is, stands_from}
 use Rattle.planned_rests.specs.Serving.{StagesServe}
-
--- where the same ranges are live in both, a state serves both
-pub serves_same : (some others : FieldBits) (state : State) → ArePartOf some others → ArePartOf others some → ServesLive others state → ServesLive some state
-serves_same some others state part back serves = record {
-  src_words = serves.src_words;
-  dst_words = serves.dst_words;
-  src_right = λ bit range live. serves.src_right bit range (part.src bit range live);
-  dst_right = λ bit range live. serves.dst_right bit range (part.dst bit range live);
-  tested = λ at entry held key a b first second. serves.tested at entry held key a b (current_part others some key a back first) (current_part others some key b back second);
-}
 
 module _ (mode : Mode) (bits : FieldBits) (rules : List Rule) (batch : List Command) (change : IsSoundChange rules batch) (began : State) (start : IsBitsStart mode bits rules batch began) where
   abbrev during : FieldBits

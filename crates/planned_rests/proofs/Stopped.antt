@@ -20,7 +20,8 @@ use Rattle.commit_writes.specs.Commit.{IsSegment}
 use Rattle.commit_writes.specs.InFlight.{ArePartOf, AreCurrent, after_events}
 use Rattle.commit_writes.specs.PlannedBatch.{batch_writes}
 use Rattle.commit_writes.specs.Segments.{MayBegin, live_behind}
-use Rattle.commit_writes.proofs.Actions.{commits_serve, same_part}
+use Rattle.commit_writes.proofs.Actions.{commits_serve}
+use Rattle.commit_writes.proofs.Led.{same_part}
 use Rattle.commit_writes.proofs.Current.{are_current_part}
 use Rattle.commit_writes.proofs.KeptBits.{pieces_same}
 use Rattle.commit_writes.proofs.LiveRanges.{live_meanwhile, same_ranges}
@@ -36,7 +37,7 @@ use Rattle.readback.proofs.Tables.{words_slots}
 use Rattle.readback.proofs.Tests.{stands_is}
 use Rattle.planned_rests.specs.PlannedRest.{restart_writes}
 use Rattle.planned_rests.specs.Serving.{StoppedCommitsAreCurrent, StoppedRestartsAreCurrent, stopped_ranges}
-use Rattle.planned_rests.proofs.Led.{front_lives}
+use Rattle.planned_rests.proofs.Lives.{front_lives}
 use Rattle.planned_rests.proofs.Served.{count_is, passed, restarts_serve, start}
 
 -- where none of some pieces stands

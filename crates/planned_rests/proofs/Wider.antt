@@ -1,10 +1,9 @@
 -- On a device with more slots the writes of a rest are the same, and keep the same.
-use Rattle.std.proofs.Common.{◌≡◌, ℕ, None, List, [], ◌∷◌, ◌++◌, length, map, take, Contains, sym, ◌∙◌, subst, ap}
+use Rattle.std.proofs.Common.{◌≡◌, ℕ, None, List, ◌++◌, length, map, take, Contains, sym, ◌∙◌, subst, ap}
 use Rattle.std.specs.Prelude.{flat_map}
 use Rattle.std.specs.List.{AllByRecursion, AllZip, filter_map}
 use Rattle.slot_order.specs.Order.{slot}
 use Rattle.slot_order.proofs.Lists.{all_append}
-use Rattle.ternary_word.specs.Entry.{RankedPiece}
 use Rattle.tcam_device.specs.declared.Write.{Write}
 use Rattle.tcam_device.specs.State.{State, IsInUse, state_after}
 use Rattle.tcam_device.specs.Order.{IsOrdered, HasOneTwin}
@@ -12,36 +11,14 @@ use Rattle.tcam_device.specs.Insertion.{Insertion, insertions}
 use Rattle.tcam_device.proofs.Spans.{state_after-append}
 use Rattle.tcam_device.proofs.Wider.{padded, all_take, slot-padded, state_after-padded, IsOrdered-padded, HasOneTwin-padded}
 use Rattle.tcam_device.proofs.WiderInsertions.{insertions-padded, writes-widened, entries-widened}
-use Rattle.commit_writes.specs.Shape.{Stands, Rewrites, Erases}
+use Rattle.commit_writes.specs.Shape.{Rewrites, Erases}
+use Rattle.commit_writes.proofs.Wider.{all_front, all_back, rewrites, erases}
 use Rattle.readback.specs.Tasks.{CommitPieces, Task, IsStanding}
 use Rattle.readback.specs.Stage.{IsTwinSlot}
 use Rattle.readback.specs.Going.{rewritten_by, erased_by}
 use Rattle.readback.specs.Laws.{HasUnused, KeepsRest}
 use Rattle.readback.proofs.Rest.{AreRest}
 use Rattle.planned_rests.proofs.Same.{stands_on, twin_on}
-
-all_front : {X : Type 0} (P : X → Type 0) (xs ys : List X) → AllByRecursion P (xs ++ ys) → AllByRecursion P xs
-all_front P [] ys all = tt
-all_front P (x ∷ xs) ys all = (all.0, all_front P xs ys all.1)
-
-all_back : {X : Type 0} (P : X → Type 0) (xs ys : List X) → AllByRecursion P (xs ++ ys) → AllByRecursion P ys
-all_back P [] ys all = all
-all_back P (x ∷ xs) ys all = all_back P xs ys all.1
-
-zip_wider : {X Y : Type 0} (P Q : X → Y → Type 0) → ((x : X) (y : Y) → P x y → Q x y) → (xs : List X) (ys : List Y) → AllZip P xs ys → AllZip Q xs ys
-zip_wider P Q each [] [] all = tt
-zip_wider P Q each [] (y ∷ ys) all = absurd all
-zip_wider P Q each (x ∷ xs) [] all = absurd all
-zip_wider P Q each (x ∷ xs) (y ∷ ys) all = (each x y all.0, zip_wider P Q each xs ys all.1)
-
-stands : (more : ℕ) (state : State) (at : ℕ) (ranked : RankedPiece) → Stands state at ranked → Stands (padded more state) at ranked
-stands more state at ranked is = (is.0, slot-padded state.slots more at ∙ is.1, is.2)
-
-rewrites : (more : ℕ) (state : State) (pieces : List RankedPiece) (writes : List Write) → AllZip (Rewrites state) pieces writes → AllZip (Rewrites (padded more state)) pieces writes
-rewrites more state pieces writes all = zip_wider (Rewrites state) (Rewrites (padded more state)) (λ ranked write is. (is.0, stands more state is.0 ranked is.1, is.2)) pieces writes all
-
-erases : (more : ℕ) (state : State) (pieces : List RankedPiece) (writes : List Write) → AllZip (Erases state) pieces writes → AllZip (Erases (padded more state)) pieces writes
-erases more state pieces writes all = zip_wider (Erases state) (Erases (padded more state)) (λ ranked write is. (is.0, stands more state is.0 ranked is.1, is.2)) pieces writes all
 
 module _ (more : ℕ) (p : CommitPieces) (start : State) (left : List Task) (inserted rewritten erased : List Write) (inside : AllByRecursion (IsInUse (length start.slots)) (inserted ++ (rewritten ++ erased))) where
   abbrev first : AllByRecursion (IsInUse (length start.slots)) inserted

@@ -17,7 +17,7 @@ use Rattle.tcam_device.proofs.Lookups.{HitAsPieces}
 use Rattle.tcam_device.proofs.Shown.{ArePiecesOf, hit_as_pieces, ordered_shows}
 use Rattle.commit_writes.specs.Bits.{FieldBits, bits_with}
 use Rattle.commit_writes.specs.Planned.{IsServedBy}
-use Rattle.commit_writes.specs.Serving.{AreServing}
+use Rattle.commit_writes.specs.Serving.{AreServing, AreTranslated}
 use Rattle.commit_writes.specs.Shape.{set_pieces}
 use Rattle.commit_writes.proofs.BatchRules.{IsSoundChange, right_after, set_after-is}
 use Rattle.commit_writes.proofs.KeptBits.{pieces_same}
@@ -25,7 +25,7 @@ use Rattle.commit_writes.proofs.LiveBits.{HasLiveBits, chosen_live}
 use Rattle.commit_writes.proofs.ServedTables.{IsBitsStart, fresh_writes, tables_serve}
 use Rattle.commit_writes.proofs.SetPieces.{set_pieces-of}
 use Rattle.readback.specs.Tasks.{CommitPieces, commit_pieces, Task, Insert, IsStanding, stands_in}
-use Rattle.readback.specs.Stage.{AreTranslated, IsCommitAt}
+use Rattle.readback.specs.Stage.{IsCommitAt}
 use Rattle.readback.proofs.Facts.{ArePieces, old_known}
 use Rattle.readback.proofs.Pieces.{live, new_live, served, new_served, pieces_are, pieces_lead}
 use Rattle.readback.proofs.Shows.{any_insert, answers, answers_new, old_ordered, insert_task, in_done}

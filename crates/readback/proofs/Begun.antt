@@ -14,12 +14,11 @@ use Rattle.range_bits.proofs.Given.{bit_of-at}
 use Rattle.tcam_device.specs.State.{State, IsState}
 use Rattle.tcam_device.specs.Order.{IsTranslated}
 use Rattle.commit_writes.specs.Bits.{FieldBits, no_bits}
-use Rattle.commit_writes.specs.Serving.{AreRangesOf, AreBitsOf}
+use Rattle.commit_writes.specs.Serving.{AreRangesOf, AreBitsOf, AreTranslated}
 use Rattle.commit_writes.proofs.BatchRules.{IsSoundChange}
 use Rattle.commit_writes.proofs.ServedTables.{IsBitsStart}
 use Rattle.readback.specs.Fault.{AreSetBits}
 use Rattle.readback.specs.Laws.{CanCommit}
-use Rattle.readback.specs.Stage.{AreTranslated}
 
 -- where no range is live each bit is free
 all_free : (live : LiveRanges) → ((bit : ℕ) (range : PortRange) → range_at live bit ≡ Some range → ⊥) → live ≡ replicate (length live) None

@@ -15,7 +15,8 @@ use Rattle.tcam_device.proofs.One.{same_match-same}
 use Rattle.commit_writes.specs.Bits.{FieldBits, bits_with}
 use Rattle.readback.specs.declared.StageFault.TheVariants.{Word, Foreign, Crossed, Twin, Gap}
 use Rattle.readback.specs.Tasks.{CommitPieces, Task, commit_pieces, known_pieces, tasks_of, piece_of, IsStanding, IsDone, IsLeft, stands_in, is_done}
-use Rattle.readback.specs.Stage.{AreTranslated, IsStageAt}
+use Rattle.readback.specs.Stage.{IsStageAt}
+use Rattle.commit_writes.specs.Serving.{AreTranslated}
 use Rattle.tcam_device.specs.Order.{HasOneTwin}
 use Rattle.readback.specs.Fault.{HasWrongWord, IsForeign, IsCrossed, IsOneTooMany, IsMissing, IsEarly, OnlyStagesHaveNoFault}
 use Rattle.readback.proofs.Matches.{match_same}

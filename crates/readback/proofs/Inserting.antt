@@ -16,7 +16,8 @@ use Rattle.commit_writes.specs.Shape.{Stands}
 use Rattle.commit_writes.proofs.Filters.{all_members}
 use Rattle.commit_writes.proofs.Members.{pairs_across}
 use Rattle.readback.specs.Tasks.{CommitPieces, known_pieces, Task, Insert, Rewrite, Erase, tasks_of, IsStanding, IsTold, IsDone, IsLeft}
-use Rattle.readback.specs.Stage.{AreTranslated, IsStageAt}
+use Rattle.readback.specs.Stage.{IsStageAt}
+use Rattle.commit_writes.specs.Serving.{AreTranslated}
 use Rattle.readback.proofs.Facts.{ArePieces, AreOthers, IsSame, same_sym, same_trans, old_known, inserted_known, rewritten_known}
 
 -- the first tasks, and the others

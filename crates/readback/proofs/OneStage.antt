@@ -16,7 +16,8 @@ use Rattle.tcam_device.specs.State.{State}
 use Rattle.commit_writes.specs.Bits.{no_bits}
 use Rattle.readback.specs.Tasks.{CommitPieces, commit_pieces, tasks_of}
 use Rattle.tcam_device.specs.Order.{IsTwin}
-use Rattle.readback.specs.Stage.{AreTranslated, IsCommitAt, Finds}
+use Rattle.readback.specs.Stage.{IsCommitAt, Finds}
+use Rattle.commit_writes.specs.Serving.{AreTranslated}
 
 -- no bit is live where none was given
 no_bits_right : (state : State) → AreTranslated state no_bits

@@ -17,7 +17,8 @@ use Rattle.commit_writes.specs.Bits.{FieldBits}
 use Rattle.commit_writes.specs.Shape.{Rewrites, Erases}
 use Rattle.commit_writes.proofs.Members.{pairs_behind, pairs_across}
 use Rattle.readback.specs.Tasks.{CommitPieces, Task, Insert, Rewrite, Erase, IsStanding}
-use Rattle.readback.specs.Stage.{AreTranslated, IsStageAt, IsTwinSlot}
+use Rattle.readback.specs.Stage.{IsStageAt, IsTwinSlot}
+use Rattle.commit_writes.specs.Serving.{AreTranslated}
 use Rattle.readback.specs.Going.{twin_writes, inserted_by, rewritten_by, erased_by}
 use Rattle.readback.specs.Laws.{KeepsRest}
 use Rattle.readback.proofs.Facts.{ArePieces}

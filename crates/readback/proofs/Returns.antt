@@ -3,11 +3,11 @@ use Rattle.std.proofs.Common.{◌≡◌, ◌++◌, map, take, sym, ◌∙◌, su
 use Rattle.tcam_device.specs.declared.Action.TheVariants.{Written}
 use Rattle.tcam_device.specs.State.{State, state_after}
 use Rattle.tcam_device.specs.Flight.{writes_in}
-use Rattle.commit_writes.proofs.Actions.{writes_of_map, writes_in-append}
 use Rattle.commit_writes.specs.Actions.{have_bits}
 use Rattle.commit_writes.specs.Bits.{bits_with, new_bits}
 use Rattle.commit_writes.specs.Undo.{undo_writes}
-use Rattle.commit_writes.proofs.Seen.{writes_of_commit, fewer, both_ways}
+use Rattle.commit_writes.proofs.Seen.{fewer, both_ways}
+use Rattle.commit_writes.proofs.WritesIn.{writes_of_commit, writes_of_map, writes_in-append}
 use Rattle.readback.specs.Stage.{IsStage}
 use Rattle.readback.specs.Laws.{ReturnsPassStages}
 use Rattle.readback.proofs.Segments.{segment_stages}

@@ -29,7 +29,7 @@ use Rattle.commit_writes.specs.InFlight.{ArePartOf}
 use Rattle.commit_writes.specs.Shape.{rewritten_pieces, erased_pieces, Stands, Rewrites, Erases}
 use Rattle.commit_writes.specs.Commit.{IsSegment, insertion_writes}
 use Rattle.commit_writes.specs.Segments.{MayBegin}
-use Rattle.commit_writes.specs.Serving.{AreServing}
+use Rattle.commit_writes.specs.Serving.{AreServing, AreTranslated}
 use Rattle.commit_writes.proofs.BatchPieces.{row_pieces, row_once}
 use Rattle.commit_writes.proofs.BatchRules.{IsSoundChange}
 use Rattle.commit_writes.proofs.Front.{front_insertions}
@@ -41,7 +41,7 @@ use Rattle.commit_writes.proofs.ServedTables.{IsBitsStart, fresh_writes, tables_
 use Rattle.commit_writes.proofs.SlotsBehind.{cut_at_slots}
 use Rattle.commit_writes.proofs.TableWords.{words_taken}
 use Rattle.readback.specs.Tasks.{CommitPieces, commit_pieces, known_pieces, changes_result, Insert, Rewrite, Erase, IsStanding}
-use Rattle.readback.specs.Stage.{AreTranslated, IsStageAt, IsStage}
+use Rattle.readback.specs.Stage.{IsStageAt, IsStage}
 use Rattle.readback.proofs.Facts.{ArePieces, IsSame, same_sym, old_known, inserted_known}
 use Rattle.readback.proofs.First.{first_insertions}
 use Rattle.readback.proofs.Rewriting.{HasNoTwin, stands_back}

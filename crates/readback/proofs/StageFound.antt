@@ -19,7 +19,7 @@ use Rattle.ternary_word.specs.Entry.{RankedPiece, IsEncodable}
 use Rattle.tcam_device.specs.declared.Write.{Write}
 use Rattle.tcam_device.specs.State.{State, IsState, replay, state_after}
 use Rattle.commit_writes.specs.Bits.{FieldBits, bits_with}
-use Rattle.commit_writes.specs.Serving.{AreServing}
+use Rattle.commit_writes.specs.Serving.{AreServing, AreTranslated}
 use Rattle.commit_writes.specs.Shape.{set_pieces, inserted_pieces, rewritten_pieces, erased_pieces}
 use Rattle.commit_writes.proofs.BatchPieces.{rewritten_stays}
 use Rattle.commit_writes.proofs.BatchRules.{IsSoundChange}
@@ -31,10 +31,10 @@ use Rattle.readback.specs.declared.StageFault.{StageFault}
 use Rattle.readback.specs.declared.StageFault.TheVariants.{BitsDiffer, Word, Foreign, Crossed, Twin, Gap, Memory}
 use Rattle.readback.specs.Fault.{AreSetBits, AreSetRanges, HasWrongWord, IsFaultOf}
 use Rattle.readback.specs.declared.staging.Shown.{Shown}
-use Rattle.readback.specs.Found.{AnswersStage, IsShown, stage_in}
+use Rattle.readback.specs.Found.{AnswersStage, IsRead, IsShown, stage_in}
 use Rattle.readback.specs.Laws.{CanCommit}
 use Rattle.readback.specs.Sorted.{AreSorted, IsSlotFault}
-use Rattle.readback.specs.Stage.{AreTranslated, Finds}
+use Rattle.readback.specs.Stage.{Finds}
 use Rattle.readback.specs.Tasks.{CommitPieces, commit_pieces, pieces_with, known_pieces, IsStanding, stands_in}
 use Rattle.readback.specs.Words.{AreRight, AreShort, NamesWord}
 use Rattle.readback.proofs.Accepted.{taken}
@@ -164,14 +164,6 @@ new_right mode bits rules batch state (Some now) coded is old new = subst (λ b.
 -- the bits of two maps
 pub maps_are : (bits : FieldBits) (src dst : LiveRanges) → bits.src ≡ src → bits.dst ≡ dst → bits ≡ record { src = src; dst = dst }
 maps_are bits src dst src_is dst_is = ap₂ (λ (a b : LiveRanges). let both : FieldBits = record { src = a; dst = b } in both) src_is dst_is
-
--- What is known once the maps and the words are right, with the live ranges while the commit is made.
-pub record IsRead (mode : Mode) (bits : FieldBits) (rules : List Rule) (batch : List Command) (device_slots : ℕ) (writes : List Write) (live : Option FieldBits) : Type 0 where
-  pub can : CanCommit mode bits rules batch
-  pub right : AreRight bits (replay device_slots writes)
-  pub short : AreShort (replay device_slots writes)
-  pub coded : coded_by live ≡ mode
-  pub during_is : during_of live ≡ bits_with mode rules batch bits
 
 -- an accepted batch of changes to a set, whose maps are the given ones
 pub is_read : (slots : ℕ) (mode : Mode) (src dst : LiveRanges) (rules : List Rule) (batch : List Command) (device_slots : ℕ) (writes : List Write) (live : Option FieldBits) (given : FieldBits)

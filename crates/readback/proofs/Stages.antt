@@ -21,7 +21,7 @@ use Rattle.tcam_device.proofs.Spans.{state_after-append}
 use Rattle.tcam_device.proofs.Wider.{all_take}
 use Rattle.commit_writes.specs.Bits.{FieldBits, bits_with}
 use Rattle.commit_writes.specs.InFlight.{ArePartOf}
-use Rattle.commit_writes.specs.Serving.{AreServing}
+use Rattle.commit_writes.specs.Serving.{AreServing, AreTranslated}
 use Rattle.commit_writes.specs.Shape.{set_pieces, Rewrites, Erases}
 use Rattle.commit_writes.proofs.BatchRules.{IsSoundChange}
 use Rattle.commit_writes.proofs.LiveRanges.{live_meanwhile, translated}
@@ -29,7 +29,7 @@ use Rattle.commit_writes.proofs.ServedTables.{IsBitsStart, fresh_writes, tables_
 use Rattle.commit_writes.proofs.SlotWrites.{AreToSlots, tables_left}
 use Rattle.commit_writes.proofs.SlotsBehind.{insertion_slots}
 use Rattle.readback.specs.Tasks.{Task, CommitPieces, commit_pieces, IsLeft}
-use Rattle.readback.specs.Stage.{AreTranslated, IsCommitAt, IsStage, IsTwinSlot}
+use Rattle.readback.specs.Stage.{IsCommitAt, IsStage, IsTwinSlot}
 use Rattle.readback.specs.Going.{HasRestShape, twin_writes, inserted_by, rewritten_by, erased_by}
 use Rattle.readback.specs.Laws.{CanCommit, KeepsRest, StagesAnswerOldOrNew, LastStagesAnswerNew, SegmentsPassStages, PassesStages, RestsPassStages, OnePieceStandsTwice, TasksPartOnce}
 use Rattle.readback.proofs.Answers.{stage_answers, last_answers}
@@ -144,7 +144,7 @@ module _ (slots device_slots : ℕ) (mode : Mode) (bits : FieldBits) (rules : Li
   bits_stay = live_meanwhile mode bits rules batch state start_bits
 
   right_there : AreTranslated behind during
-  right_there = let w = translated mode during (rules ++ additions batch) behind serving in record { src = w.src; dst = w.dst }
+  right_there = translated mode during (rules ++ additions batch) behind serving
 
   to_slots : (n : ℕ) → AreToSlots (twin_writes twin ++ take n shape.inserted)
   to_slots n =

@@ -21,7 +21,8 @@ use Rattle.commit_writes.proofs.ServedTables.{IsBitsStart, fresh_writes, field_g
 use Rattle.commit_writes.proofs.TableWords.{words_taken}
 use Rattle.commit_writes.proofs.WordWrites.{IsMixed}
 use Rattle.readback.specs.Tasks.{CommitPieces, Task, Insert, Rewrite, Erase, IsStanding, IsDone, IsLeft}
-use Rattle.readback.specs.Stage.{AreTranslated, IsStageAt}
+use Rattle.readback.specs.Stage.{IsStageAt}
+use Rattle.commit_writes.specs.Serving.{AreTranslated}
 
 -- tasks are told by the slots alone
 same_done : (state next : State) → next.slots ≡ state.slots → (task : Task) → IsDone state task → IsDone next task

@@ -3,7 +3,6 @@ use Rattle.std.specs.Prelude.{◌≡◌, ◌≢◌, ℕ, ◌<◌, ◌≤◌, ◌
 use Rattle.slot_order.specs.Order.{slot}
 use Rattle.rule_model.specs.declared.Rule.{Rule}
 use Rattle.rule_model.specs.declared.Field.{Field}
-use Rattle.rule_model.specs.declared.Field.TheVariants.{Src, Dst}
 use Rattle.rule_model.specs.PortRange.{PortRange, is_bit_set, range_holds}
 use Rattle.rule_model.specs.Piece.{PiecesOverlap}
 use Rattle.ternary_word.specs.declared.Entry.{Entry}
@@ -15,16 +14,11 @@ use Rattle.rule_store.specs.Verdict.{coded_ranges}
 use Rattle.range_bits.specs.LiveRanges.{LiveRanges, bit_of, range_at}
 use Rattle.tcam_device.specs.State.{State, table_of}
 use Rattle.tcam_device.specs.Order.{StandsAt, AreAlike, IsTwin}
-use Rattle.commit_writes.specs.Bits.{FieldBits, bits_with}
+use Rattle.commit_writes.specs.Bits.{FieldBits, bits_with, ranges_in}
 use Rattle.readback.specs.declared.StageFault.{StageFault}
 use Rattle.readback.specs.declared.StageFault.TheVariants.{BitsDiffer, Word, Foreign, Crossed, Twin, Gap, Memory}
 use Rattle.readback.specs.Tasks.{CommitPieces, Task, commit_pieces, known_pieces, tasks_of, piece_of, IsStanding, IsDone, IsLeft}
 use Rattle.readback.specs.Stage.{IsStage}
-
--- the live ranges of a field
-abbrev pub live_of : Field → FieldBits → LiveRanges
-live_of Src bits = bits.src
-live_of Dst bits = bits.dst
 
 -- the ranges of a set that have a bit: in bits mode those that are no single block, and by covers none
 abbrev pub set_ranges : Mode → Field → List Rule → List PortRange
@@ -34,7 +28,7 @@ set_ranges Bits field rules = coded_ranges field rules
 -- the live ranges of a field are those of the set
 abbrev pub AreSetRanges : Mode → Field → List Rule → FieldBits → Type 0
 AreSetRanges mode field rules bits =
-    (range : PortRange) → IsSome (bit_of (live_of field bits) range) ↔ Contains (set_ranges mode field rules) range
+    (range : PortRange) → IsSome (bit_of (ranges_in field bits) range) ↔ Contains (set_ranges mode field rules) range
 
 -- the bits are those of the set's ranges, in both fields
 abbrev pub AreSetBits : Mode → List Rule → FieldBits → Type 0
@@ -49,9 +43,9 @@ IsWrongWord live port word =
 abbrev pub HasWrongWord : FieldBits → FieldBits → CommitPieces → State → Field → ℕ → Type 0
 HasWrongWord before during pieces state field port =
     (port < 2 ^ 16)
-    × (IsWrongWord (live_of field before) port (slice_index (table_of field state) port)
+    × (IsWrongWord (ranges_in field before) port (slice_index (table_of field state) port)
     ⊎ ((ranked : RankedPiece) × Contains pieces.inserted ranked × IsStanding state ranked
-    × IsWrongWord (live_of field during) port (slice_index (table_of field state) port)))
+    × IsWrongWord (ranges_in field during) port (slice_index (table_of field state) port)))
 
 -- the slot holds an entry and isn't in use, or the entry is of none of the pieces
 abbrev pub IsForeign : ℕ → CommitPieces → State → ℕ → Type 0

@@ -3,23 +3,17 @@ use Rattle.std.specs.Prelude.{◌≡◌, ℕ, ◌<◌, ◌≤◌, Option, Some, 
 use Rattle.std.specs.List.{AllByRecursion}
 use Rattle.slot_order.specs.Order.{slot}
 use Rattle.rule_model.specs.declared.Rule.{Rule}
-use Rattle.rule_model.specs.PortRange.{PortRange}
 use Rattle.rule_model.specs.Piece.{PiecesOverlap}
 use Rattle.ternary_word.specs.declared.Entry.{Entry}
 use Rattle.ternary_word.specs.Entry.{RankedPiece, entry_for}
 use Rattle.rule_store.specs.declared.Mode.{Mode}
 use Rattle.rule_store.specs.declared.Command.{Command}
-use Rattle.range_bits.specs.LiveRanges.{range_at}
 use Rattle.tcam_device.specs.State.{State}
-use Rattle.tcam_device.specs.Order.{StandsAt, IsTwin, HasOneTwin, IsTranslated}
+use Rattle.tcam_device.specs.Order.{StandsAt, IsTwin, HasOneTwin}
 use Rattle.commit_writes.specs.Bits.{FieldBits, bits_with}
+use Rattle.commit_writes.specs.Serving.{AreTranslated}
 use Rattle.readback.specs.declared.Stage.{Stage}
 use Rattle.readback.specs.Tasks.{CommitPieces, Task, commit_pieces, known_pieces, tasks_of, IsStanding, IsDone, IsLeft}
-
--- each live range's bit is set in its table exactly at the ports of the range
-pub record AreTranslated (state : State) (bits : FieldBits) : Type 0 where
-  pub src : (bit : ℕ) (range : PortRange) → range_at bits.src bit ≡ Some range → IsTranslated state.src bit range
-  pub dst : (bit : ℕ) (range : PortRange) → range_at bits.dst bit ≡ Some range → IsTranslated state.dst bit range
 
 -- The state is a stage of a commit of these pieces, with so many slots in use, the bits of the old set, and those that are
 -- live meanwhile: these tasks are done, and those are left.

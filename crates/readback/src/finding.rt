@@ -17,9 +17,9 @@ use crate::{Stage, StageFault};
 use batch_pieces::Ranked;
 use ternary_word::Entry;
 
-/// How far a commit came by what the slots hold, of which so many are in use, and which piece each holds. What is wrong is looked for in this
-/// order: an entry of no piece, one behind a lower one that it overlaps, one that stands once too often, a piece that
-/// is missing, and a task that is done out of its turn.
+/// How far a commit came by what the slots hold, of which so many are in use, and which piece each holds. What is wrong
+/// is looked for in this order: an entry of no piece, one behind a lower one that it overlaps, one that stands once too
+/// often, a piece that is missing, and a task that is done out of its turn.
 pub(crate) fn find_in(
     slots: u32,
     held: &[Option<Entry>],

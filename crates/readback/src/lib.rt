@@ -51,10 +51,10 @@ use thiserror::Error;
 #[derive(Clone, Copy, Debug, PartialEq, Eq, Error)]
 pub enum Rejection {
     /// A command of the batch can't be carried out.
-    #[error("a command can't be carried out")]
+    #[error("a command can't be carried out: {0}")]
     Unsound(BatchFault),
     /// The additions need more bits for their port ranges than a field has free.
-    #[error("{need} bits needed and {free} free")]
+    #[error("{need} {field} bits needed and {free} free")]
     Bits { field: Field, need: u32, free: u32 },
     /// The additions need more entries than there are free slots.
     #[error("{need} slots needed and {free} free")]
@@ -82,10 +82,10 @@ pub struct Stage {
 #[derive(Clone, Copy, Debug, PartialEq, Eq, Error)]
 pub enum StageFault {
     /// The bits that were handed in are not those of the set's port ranges.
-    #[error("other port ranges have bits than those of the rules")]
+    #[error("other {0} port ranges have bits than those of the rules")]
     BitsDiffer(Field),
     /// A bit of a table's word at this port doesn't say whether the port is in the bit's range.
-    #[error("the table's word at port {port} is wrong")]
+    #[error("the {field} table's word at port {port} is wrong")]
     Word { field: Field, port: u16 },
     /// The slot holds an entry that is none of the commit's, or isn't in use.
     #[error("slot {slot} holds an entry of no rule")]
@@ -93,11 +93,11 @@ pub enum StageFault {
     /// A lesser slot holds an entry of lower priority that overlaps the one here.
     #[error("slot {slot} stands behind a lower one that it overlaps")]
     Crossed { slot: u32 },
-    /// A lesser slot holds the entry too, with another result, or it isn't the only one of which this is so.
+    /// A lesser slot holds the entry too, with another result, or a lesser slot than this is such a one too.
     #[error("slot {slot} holds an entry once more")]
     Twin { slot: u32 },
     /// An entry of this rule is missing, or a task of it is done before an earlier one.
-    #[error("a rule is carried out in part")]
+    #[error("the rule of priority {priority} is carried out in part")]
     Gap { priority: Rank },
     /// Want of memory.
     #[error("out of memory")]

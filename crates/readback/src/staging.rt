@@ -1,12 +1,12 @@
 //! How far a commit came that was stopped on a device.
 
-ghost use Rattle.std.specs.Prelude.{◌≡◌, ◌<◌, ◌≤◌, ◌^◌, length, true, Some, OnOk, IfOk, IfErr, IfSome, Contains};
+ghost use Rattle.std.specs.Prelude.{◌≡◌, ◌<◌, ◌≤◌, ◌^◌, length, true, Some, Err, OnOk, IfOk, IfErr, IfSome, Contains};
 ghost use Rattle.std.specs.List.{AllByRecursion};
 ghost use Rattle.rule_store.specs.Verdict.{Accepted, verdict};
 ghost use Rattle.ternary_word.specs.Entry.{RankedPiece, IsEncodable};
 ghost use Rattle.tcam_device.specs.State.{IsState, State, replay};
 ghost use Rattle.commit_writes.specs.Bits as bits;
-ghost use Rattle.readback.specs.Found.{AnswersStage, IsShown, stage_in};
+ghost use Rattle.readback.specs.Found.{AnswersStage, IsRead, IsShown, stage_in};
 ghost use Rattle.readback.specs.Laws.{CanCommit};
 ghost use Rattle.readback.specs.Sorted.{AreSorted, IsSlotFault};
 ghost use Rattle.readback.specs.Tasks.{commit_pieces, known_pieces, stands_in};
@@ -84,12 +84,7 @@ pub fn show_commit<D: ReadBack>(
     ensures can { IfOk result (λ shown. CanCommit mode (record { src = parts.now.src; dst = parts.now.dst }) parts.now.rules.rules batch.now) }
     ensures is_state { IfOk result (λ shown. IsState (D.slot_count device.now) (replay (D.slot_count device.now) (D.journal device.now))) }
 {
-    check_maps(parts, mode)?;
-    let bits = FieldBits::of_maps(parts.src, parts.dst);
-    check_words(device, &bits)?;
-    let live = live_meanwhile(&bits, &parts.rules, batch, mode);
-    right_rules(&parts.rules);
-    batch.changes_rules();
+    let live = read_live(parts, batch, slots, mode, device)?;
     let commit = match commit_of(alloc, &live, &parts.rules, batch) {
         Ok(commit) => commit,
         Err(AllocError) => return Err(StageFault::Memory),
@@ -100,6 +95,30 @@ pub fn show_commit<D: ReadBack>(
     };
     check_new_words(device, &held, &commit, &live)?;
     show_in(alloc, slots, &held, commit)
+}
+
+/// The live ranges while the commit is made, once the bits that were handed in are found to be those of the set, and each
+/// word of the tables to be right for them.
+fn read_live<D: ReadBack>(
+    parts: &Parts,
+    batch: &Batch,
+    slots: u32,
+    mode: Mode,
+    device: &D,
+) -> Result<Option<FieldBits>, StageFault>
+    requires accepted { verdict slots mode parts.now.rules.rules batch.now ≡ Accepted }
+    ensures read { IfOk result (IsRead mode (record { src = parts.now.src; dst = parts.now.dst }) parts.now.rules.rules batch.now
+        (D.slot_count device.now) (D.journal device.now)) }
+    ensures wrong { IfErr result (λ fault. AnswersStage slots mode (record { src = parts.now.src; dst = parts.now.dst }) parts.now.rules.rules batch.now
+        (replay (D.slot_count device.now) (D.journal device.now)) (Err fault)) }
+{
+    check_maps(parts, mode)?;
+    let bits = FieldBits::of_maps(parts.src, parts.dst);
+    check_words(device, &bits)?;
+    let live = live_meanwhile(&bits, &parts.rules, batch, mode);
+    right_rules(&parts.rules);
+    batch.changes_rules();
+    Ok(live)
 }
 
 /// What the slots show of a commit.

@@ -126,10 +126,10 @@ refuse-step fate slots run reason line judged other same = go fate
         (judged-refused Does (setting_of run) (progress_of slots run) reason (Prints line ∷ []) (progress_of slots (run_refused run)) other (ap (λ text. Prints text ∷ []) same, refl))
 
     go : (one : Fate) → HasEffects (setting_of run) (progress_of slots run) (commit_act one) (Prints line ∷ []) (progress_of slots (run_refused run))
-    go fates.Finishes = by Commits
-    go (fates.Returns most) = by (Tries most)
-    go (fates.Crashes after) = by (Crashes after)
-    go (fates.Restarted after) = by (Crashes after)
+    go fates.ToTheEnd = by Commits
+    go (fates.BackAfter most) = by (Tries most)
+    go (fates.CrashAfter after) = by (Crashes after)
+    go (fates.RestartedAfter after) = by (Crashes after)
 
 -- a commit that is refused, with its line
 pub refuse-carries : (fate : Fate) (slots : ℕ) (run new : Running) (reason : Verdict) (events_old events_new : List Action) (old taken : Option (List ℕ))

@@ -21,7 +21,7 @@ use Rattle.commit_writes.specs.InFlight.{ArePartOf, AreCurrent}
 use Rattle.commit_writes.specs.Routes.{IsRoute}
 use Rattle.commit_writes.specs.Shape.{inserted_pieces}
 use Rattle.commit_writes.proofs.Current.{are_current_part}
-use Rattle.commit_writes.proofs.Seen.{writes_of_commit}
+use Rattle.commit_writes.proofs.WritesIn.{writes_of_commit}
 use Rattle.readback.specs.declared.Parts.{Parts}
 use Rattle.readback.specs.Fault.{AreSetBits}
 use Rattle.readback.specs.Stage.{IsStage}
@@ -30,7 +30,7 @@ use Rattle.batch_order.specs.declared.Placement.{Placement}
 use Rattle.batch_order.specs.declared.restarting.fault.RestartFault.{RestartFault}
 use Rattle.batch_order.specs.declared.restarting.fault.RestartFault.TheVariants as restart_faults
 use Rattle.batch_order.specs.Managed.{CanRestart, HasBlankTables, HeldCommit, Managed, fresh, live_now}
-use Rattle.batch_order.specs.Restarted.{AnswersRestart, ArePartsOf, Resumes, bits_in, has_drained, rest_of}
+use Rattle.batch_order.specs.Restart.{AnswersRestart, ArePartsOf, Resumes, bits_in, has_drained, rest_of}
 use Rattle.batch_order.specs.Turning.{IsCurrentRight, IsHeldRight, has_drain}
 use Rattle.replay.specs.declared.Act.TheVariants.{Crash}
 use Rattle.replay.specs.declared.fate.Fate.TheVariants as fates
@@ -40,7 +40,7 @@ use Rattle.replay.specs.Fates.{commit_act}
 use Rattle.replay.specs.Running.{Running, IsHalfway, IsOnward, IsRun, MakesSome, first_actions, left_in, left_of, progress_of, routes_of, setting_of}
 use Rattle.replay.specs.Unfinished.{IsUnfinished, StandsHalfway, StandsOnward, TakesAtCrash}
 use Rattle.replay.specs.Carried.{IsAt}
-use Rattle.replay.specs.Crashing.{IsAtCrash, IsGoneOnWith, IsLost, lost}
+use Rattle.replay.specs.Crashing.{IsAtCrash, IsGoneOnWith, IsLost, after_loss}
 use Rattle.replay.proofs.Acting.{some-held}
 use Rattle.replay.proofs.Halfway.{begun-is, held-same, setting-begun, whole-forward}
 use Rattle.replay.proofs.Onward.{GoesBy, goes-by}
@@ -225,7 +225,7 @@ module _ (slots after : ℕ) (base : Running) (half : IsHalfway (crashing after 
     held_rest = rest_of half.begun.mode bits half.begun.rules run.pending at_crash goes.made goes.counts
 
     abbrev pub over : Running
-    over = record base { manager = restarted; fate = fates.Restarted after }
+    over = record base { manager = restarted; fate = fates.RestartedAfter after }
 
     pub held-over : restarted.held ≡ Some held_rest
     held-over = ap (λ (manager : Managed). manager.held) goes.restarted_is
@@ -311,12 +311,12 @@ module _ (slots after : ℕ) (base : Running) (half : IsHalfway (crashing after 
 -- ---- by what a run is
 
 -- one that is to crash holds a commit
-held-some : (after : ℕ) (run : Running) → IsRun run → run.fate ≡ fates.Crashes after → IsSome run.manager.held
+held-some : (after : ℕ) (run : Running) → IsRun run → run.fate ≡ fates.CrashAfter after → IsSome run.manager.held
 held-some after run is fate_is = go run.manager.held refl
   where
     go : (held : Option HeldCommit) → run.manager.held ≡ held → IsSome held
     go (Some one) some = refl
-    go None none = absurd (let bad : fates.Crashes after ≡ fates.Finishes = sym fate_is ∙ (is.idle none).2 in cc)
+    go None none = absurd (let bad : fates.CrashAfter after ≡ fates.ToTheEnd = sym fate_is ∙ (is.idle none).2 in cc)
 
 pub to-crash : (after : ℕ) (run : Running) → IsRun run → IsAtCrash after run → IsToStop after run
 to-crash after run is at = to-stop after run is (held-some after run is at.fate_is) at.fate_is at.more
@@ -336,18 +336,18 @@ wants-over slots after base is at inside before front (inl stands) =
     (subst (TakesAtCrash (setting_of base) start (Crash after)) (sym so)
     (accepted-run slots after base half stop.is inside more, stops-now slots after base half stop.is inside more (none-first slots after base half stop.is inside more at.told_is)))
 wants-over slots after base is at inside before front (inr stands) =
-    absurd (let bad : fates.Crashes after ≡ fates.Restarted stands.onward.after = sym at.fate_is ∙ stands.onward.fate_is in cc)
+    absurd (let bad : fates.CrashAfter after ≡ fates.RestartedAfter stands.onward.after = sym at.fate_is ∙ stands.onward.fate_is in cc)
 
 -- its commit stays unfinished by the other manager
 pub unfinished-over : (slots after : ℕ) (base : Running) (is : IsRun base) (at : IsAtCrash after base) (inside : base.manager.slots ≤ slots) (parts : Parts) (are : ArePartsOf base.manager parts) (restarted : Managed)
     → Resumes base.manager.slots base.manager.mode base.manager.placement parts base.pending slots (on_device slots base.manager.state) restarted → (before : Progress) (front : List Effect)
-    → IsUnfinished slots before front base → IsUnfinished slots before front (record base { manager = restarted; fate = fates.Restarted after })
+    → IsUnfinished slots before front base → IsUnfinished slots before front (record base { manager = restarted; fate = fates.RestartedAfter after })
 unfinished-over slots after base is at inside parts are restarted resumed before front (inl stands) =
     let stop = to-crash after base is at in
     let first : StandsHalfway slots before front (crashing after base) = subst (StandsHalfway slots before front) stop.same stands in
     inr (stands-over slots after base first.halfway stop.is inside (more-made after base first.halfway at.more) at.told_is parts are restarted resumed before front first.before_is first.front_is)
 unfinished-over slots after base is at inside parts are restarted resumed before front (inr stands) =
-    absurd (let bad : fates.Crashes after ≡ fates.Restarted stands.onward.after = sym at.fate_is ∙ stands.onward.fate_is in cc)
+    absurd (let bad : fates.CrashAfter after ≡ fates.RestartedAfter stands.onward.after = sym at.fate_is ∙ stands.onward.fate_is in cc)
 
 -- ---- over the device that it stands over
 
@@ -378,16 +378,16 @@ module _ (slots after : ℕ) (base now : Running) (view_is : base ≡ now) (is :
   -- another manager is asked for, with the setting and the parts of the first
   module _ (asked : ℕ) (mode : Mode) (placement : Placement) (asked_is : asked ≡ base.manager.slots) (mode_is : mode ≡ base.manager.mode) (placement_is : placement ≡ base.manager.placement) where
     -- in the place of which a blank one stands meanwhile
-    lost-shown : (blank : Managed) → blank ≡ fresh asked mode placement → ◌≡◌ {A = Running} (record base { manager = blank; told = 0; waiting = 0; fate = fates.Finishes; broken = true }) (lost now)
+    lost-shown : (blank : Managed) → blank ≡ fresh asked mode placement → ◌≡◌ {A = Running} (record base { manager = blank; told = 0; waiting = 0; fate = fates.ToTheEnd; broken = true }) (after_loss now)
     lost-shown blank blank_is =
-        ap (λ (manager : Managed). record base { manager = manager; told = 0; waiting = 0; fate = fates.Finishes; broken = true })
+        ap (λ (manager : Managed). record base { manager = manager; told = 0; waiting = 0; fate = fates.ToTheEnd; broken = true })
         (blank_is ∙ ap (λ n. fresh n mode placement) asked_is ∙ ap (λ (m : Mode). fresh base.manager.slots m placement) mode_is ∙ ap (fresh base.manager.slots base.manager.mode) placement_is)
-        ∙ ap lost view_is
+        ∙ ap after_loss view_is
 
-    pub is-lost : (blank : Managed) → blank ≡ fresh asked mode placement → IsLost now (record base { manager = blank; told = 0; waiting = 0; fate = fates.Finishes; broken = true })
+    pub is-lost : (blank : Managed) → blank ≡ fresh asked mode placement → IsLost now (record base { manager = blank; told = 0; waiting = 0; fate = fates.ToTheEnd; broken = true })
     is-lost blank blank_is = inl (lost-shown blank blank_is)
 
-    pub run-lost : (blank : Managed) → blank ≡ fresh asked mode placement → IsRun (record base { manager = blank; told = 0; waiting = 0; fate = fates.Finishes; broken = true })
+    pub run-lost : (blank : Managed) → blank ≡ fresh asked mode placement → IsRun (record base { manager = blank; told = 0; waiting = 0; fate = fates.ToTheEnd; broken = true })
     run-lost blank blank_is = subst IsRun (sym (lost-shown blank blank_is)) (lost-run now (subst IsRun view_is is))
 
     module _ (old : Managed) (old_is : old ≡ base.manager) (parts : Parts) (of_old : ArePartsOf old parts) where
@@ -408,7 +408,7 @@ module _ (slots after : ℕ) (base now : Running) (view_is : base ≡ now) (is :
 
       module _ (restarted : Managed) (answers : AnswersRestart asked mode placement parts base.pending slots (replay slots journal) (Ok restarted)) where
         abbrev gone : Running
-        gone = record base { manager = restarted; fate = fates.Restarted after }
+        gone = record base { manager = restarted; fate = fates.RestartedAfter after }
 
         resumed : Resumes base.manager.slots base.manager.mode base.manager.placement parts base.pending slots (on_device slots base.manager.state) restarted
         resumed = (as_shown (Ok restarted) answers).1
@@ -419,7 +419,7 @@ module _ (slots after : ℕ) (base now : Running) (view_is : base ≡ now) (is :
         pub is-gone : IsGoneOnWith after now gone
         is-gone =
             let held = held-over slots after base stop.half stop.is inside_base stop.more at_base.told_is parts are_parts restarted resumed in
-            (restarted, subst (λ (one : Option HeldCommit). IsSome one) (sym held) refl, ap (λ (r : Running). record r { manager = restarted; fate = fates.Restarted after }) view_is)
+            (restarted, subst (λ (one : Option HeldCommit). IsSome one) (sym held) refl, ap (λ (r : Running). record r { manager = restarted; fate = fates.RestartedAfter after }) view_is)
 
         pub unfinished-gone : (before : Progress) (front : List Effect) → IsUnfinished slots before front now → IsUnfinished slots before front gone
         unfinished-gone before front unfinished =

@@ -4,7 +4,7 @@ use Rattle.std.specs.Prelude.{option_map}
 use Rattle.tcam_device.specs.declared.Action.{Action}
 use Rattle.tcam_device.specs.Flight.{Flight, writes_in}
 use Rattle.commit_writes.specs.InFlight.{AreCurrent}
-use Rattle.commit_writes.proofs.Actions.{writes_in-append}
+use Rattle.commit_writes.proofs.WritesIn.{writes_in-append}
 use Rattle.batch_order.specs.Managed.{HeldCommit, Managed, live_now, writes_due}
 use Rattle.replay.specs.declared.RunFault.{RunFault}
 use Rattle.replay.specs.declared.RunFault.TheVariants as fault
@@ -27,7 +27,7 @@ use Rattle.replay.proofs.ToCrash.{IsToStop, comes-to, crashing, few-due, held-fe
 use Rattle.replay.proofs.Upto.{left-writes}
 
 -- few writes were told and are left, by their number
-pub few-told : (after : ℕ) (base now : Running) → base ≡ now → IsRun base → IsSome now.manager.held → base.fate ≡ fates.Crashes after
+pub few-told : (after : ℕ) (base now : Running) → base ≡ now → IsRun base → IsSome now.manager.held → base.fate ≡ fates.CrashAfter after
     → (left : ℕ) → Some left ≡ option_map (λ held. length (writes_due held)) base.manager.held → base.told + left ≤ 2 ^ 40
 few-told after base now view_is is held fate_is left left_is =
     go base.manager.held (few-due after base is (subst (λ (r : Running). IsSome r.manager.held) (sym view_is) held) fate_is) left_is
@@ -58,7 +58,7 @@ made-up_to Seen slots after base (Err fault.ProbesFull) now count events_old eve
 made-up_to Seen slots after base (Err fault.Memory) now count events_old events_new taken taken_new stops = absurd stops
 made-up_to Seen slots after base (Err (fault.Held left)) now count events_old events_new taken taken_new stops = absurd stops
 
-module _ (slots after : ℕ) (base began : Running) (view_is : base ≡ began) (is : IsRun base) (within : began.manager.slots ≤ slots) (held : IsSome began.manager.held) (fate_is : began.fate ≡ fates.Crashes after) (more : HasMoreThan after began) where
+module _ (slots after : ℕ) (base began : Running) (view_is : base ≡ began) (is : IsRun base) (within : began.manager.slots ≤ slots) (held : IsSome began.manager.held) (fate_is : began.fate ≡ fates.CrashAfter after) (more : HasMoreThan after began) where
   stop : IsToStop after base
   stop = stop-at after base began view_is is held fate_is more
 

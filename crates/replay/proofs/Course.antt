@@ -11,7 +11,7 @@ use Rattle.tcam_device.specs.State.{IsInUse, apply, blank, replay, state_after, 
 use Rattle.tcam_device.proofs.Spans.{state_after-append}
 use Rattle.tcam_device.proofs.Wider.{state_after-on_device}
 use Rattle.commit_writes.specs.InFlight.{AreCurrent}
-use Rattle.commit_writes.proofs.Actions.{writes_in-append}
+use Rattle.commit_writes.proofs.WritesIn.{writes_in-append}
 use Rattle.batch_order.specs.Managed.{live_now}
 use Rattle.batch_order.specs.Steps.{next_of}
 use Rattle.replay.specs.declared.Act.{Act}

@@ -8,7 +8,7 @@ use Rattle.tcam_device.specs.declared.Action.{Action}
 use Rattle.tcam_device.specs.declared.Action.TheVariants.{Written, Drained}
 use Rattle.tcam_device.specs.Flight.{writes_in}
 use Rattle.tcam_device.specs.State.{State, apply, state_after}
-use Rattle.commit_writes.proofs.Actions.{writes_in-append}
+use Rattle.commit_writes.proofs.WritesIn.{writes_in-append}
 use Rattle.replay.specs.declared.Family.{Family}
 use Rattle.replay.specs.Effects.{Setting, Effect, Acts, Prints, events_in, written, printed, traced, searches_of, flushed, searched_after, waiting_after, effects_of}
 use Rattle.replay.specs.Text.{trace_line, drain_line}

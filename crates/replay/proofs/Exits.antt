@@ -14,7 +14,7 @@ use Rattle.tcam_device.proofs.Spans.{state_after-append}
 use Rattle.replay.specs.declared.steps.Ended.{Ended}
 use Rattle.commit_writes.specs.Routes.{IsRoute}
 use Rattle.commit_writes.specs.InFlight.{AreCurrent}
-use Rattle.commit_writes.proofs.Actions.{writes_in-append}
+use Rattle.commit_writes.proofs.WritesIn.{writes_in-append}
 use Rattle.batch_order.specs.declared.Ready.{Ready}
 use Rattle.batch_order.specs.declared.Refusal.{Refusal}
 use Rattle.batch_order.specs.declared.Refusal.TheVariants as refusal
@@ -28,12 +28,12 @@ use Rattle.replay.specs.Effects.{Setting, Effect, Acts, Prints, flushed, printed
 use Rattle.batch_order.specs.Steps.{ServesNow}
 use Rattle.replay.specs.InFlight.{AreOf, IsSeen, found_all}
 use Rattle.replay.specs.Run.{Progress, HasEffects, IsCutStep, TakesMemory, ending}
-use Rattle.replay.specs.Crashing.{loses}
+use Rattle.replay.specs.Crashing.{memory_wanted}
 use Rattle.replay.specs.Text.{refused_line, end_line}
 use Rattle.replay.specs.Told.{verdict_told}
 use Rattle.replay.specs.Outside.{AppendsPart, CutsLines}
 use Rattle.replay.specs.Carried.{IsAt}
-use Rattle.replay.specs.Running.{Running, Watching, HasCome, IsRun, IsHalfway, IsUnderWay, ComesTo, Makes, MakesAll, MakesSome, ShowsRules, Tells, breaks as breaks_at, ended_line, watching, setting_of, progress_of, routes_of, verdict_of}
+use Rattle.replay.specs.Running.{Running, Watching, HasCome, IsRun, IsHalfway, IsUnderWay, ComesTo, Makes, MakesAll, MakesSome, ShowsRules, Tells, sink_failed, ended_line, watching, setting_of, progress_of, routes_of, verdict_of}
 use Rattle.replay.specs.declared.fate.Fate.{Fate}
 use Rattle.replay.specs.declared.fate.Fate.TheVariants as fates
 use Rattle.replay.specs.Fates.{IsFirst, IsToCrash, commit_act, most_of}
@@ -121,7 +121,7 @@ module _ (slots : ℕ) (before : Progress) (front : List Effect) (inside run : R
   resumes-cut (fault.Held left) now count flight_new old taken stops current_new = absurd stops
 
   module _ (end : Ended) (now : Managed) (count : Count) (old mid : Option (List ℕ)) (all : MakesAll Seen (most_of inside.fate) inside.manager (watching inside) slots (count_of inside) count end now events_old events_new old mid)
-      (counted : Running) (closed : counted ≡ record inside { manager = now; told = 0; waiting = 0; fate = fates.Finishes; pending = []; commits = inside.commits + 1 }) where
+      (counted : Running) (closed : counted ≡ record inside { manager = now; told = 0; waiting = 0; fate = fates.ToTheEnd; pending = []; commits = inside.commits + 1 }) where
     abbrev run_now : Running
     run_now = record counted { writes = counted.writes + count.told }
 
@@ -285,7 +285,7 @@ module _ (inside : Running) (ready : Ready) (manager : Managed) (is : IsRun insi
     setting-taken setting = setting ∙ ap (λ (m : Managed). setting_of (record inside { manager = m; fate = fate })) holds.new_is ∙ ap setting_of same
 
     pub taken-acts : (result : Result (Unit {0}) RunFault) → setting_of new ≡ setting_of (record inside { manager = manager; fate = fate }) → IfErr result (λ why. (why ≡ fault.Sink) ⊎ ((why ≡ fault.Device) ⊎ ((why ≡ fault.Memory) × IsToCrash fate)))
-        → new.broken ≡ loses result → Goes result → ComesTo slots run (commit_act fate) new result events_old events_new old taken
+        → new.broken ≡ memory_wanted result → Goes result → ComesTo slots run (commit_act fate) new result events_old events_new old taken
     taken-acts (Ok done) setting kind broken goes = λ at.
         let ends = begins (Ok done) goes at in
         record { effects = ends.rest; step = subst (λ one. HasEffects one (progress_of slots run) (commit_act fate) ends.rest (progress_of slots new)) (setting-taken setting) ends.step; does = ends.does }
@@ -310,7 +310,7 @@ module _ (inside : Running) (ready : Ready) (manager : Managed) (is : IsRun insi
         })
     taken-acts (Err why) setting (inr (inr (memory, crashes))) broken goes =
         let goes_memory : Goes (Err fault.Memory) = subst (λ one. Goes (Err one)) memory goes in
-        let lost : new.broken ≡ true = broken ∙ ap (λ one. loses (Err one)) memory in
+        let lost : new.broken ≡ true = broken ∙ ap (λ one. memory_wanted (Err one)) memory in
         subst (λ one. ComesTo slots run (commit_act fate) new (Err one) events_old events_new old taken) (sym memory)
         (lost-comes _ _ new.broken lost (λ at.
         let ends = begins (Err fault.Memory) goes_memory at in record {
@@ -324,7 +324,7 @@ module _ (inside : Running) (ready : Ready) (manager : Managed) (is : IsRun insi
     taken-stays result goes cut at = subst (λ one. ResumesTo slots (progress_of slots run) (commit_act fate) [] new one events_old events_new flight_new old taken) cut (begins result goes at)
 
 -- the mark of a sink that failed changes nothing else
-pub marked-same : (result : Result (Unit {0}) RunFault) (mid new : Running) → new ≡ record mid { broken = mid.broken || breaks_at result } → mid.broken ≡ loses result → result ≢ Err fault.Sink → new ≡ mid
+pub marked-same : (result : Result (Unit {0}) RunFault) (mid new : Running) → new ≡ record mid { broken = mid.broken || sink_failed result } → mid.broken ≡ memory_wanted result → result ≢ Err fault.Sink → new ≡ mid
 marked-same (Ok done) mid new is whole other = is ∙ ap (λ mark. record mid { broken = mark || false }) whole ∙ ap (λ mark. record mid { broken = mark }) (sym whole)
 marked-same (Err fault.Sink) mid new is whole other = absurd (other refl)
 marked-same (Err fault.Device) mid new is whole other = is ∙ ap (λ mark. record mid { broken = mark || false }) whole ∙ ap (λ mark. record mid { broken = mark }) (sym whole)
@@ -334,7 +334,7 @@ marked-same (Err fault.ProbesFull) mid new is whole other = is ∙ ap (λ mark. 
 marked-same (Err (fault.Held left)) mid new is whole other = is ∙ ap (λ mark. record mid { broken = mark || false }) whole ∙ ap (λ mark. record mid { broken = mark }) (sym whole)
 
 pub marked-resumes : (result : Result (Unit {0}) RunFault) (slots : ℕ) (before : Progress) (act : Act) (front : List Effect) (mid new : Running) (events_old events_new : List Action) (flight : Flight) (old taken : Option (List ℕ))
-    → new ≡ record mid { broken = mid.broken || breaks_at result } → mid.broken ≡ loses result → ResumesTo slots before act front mid result events_old events_new flight old taken → ResumesTo slots before act front new result events_old events_new flight old taken
+    → new ≡ record mid { broken = mid.broken || sink_failed result } → mid.broken ≡ memory_wanted result → ResumesTo slots before act front mid result events_old events_new flight old taken → ResumesTo slots before act front new result events_old events_new flight old taken
 marked-resumes (Ok done) slots before act front mid new events_old events_new flight old taken is whole ends =
     subst (λ (run : Running). ResumesTo slots before act front run (Ok done) events_old events_new flight old taken) (sym (marked-same (Ok done) mid new is whole (λ e. absurd (cc)))) ends
 marked-resumes (Err fault.Device) slots before act front mid new events_old events_new flight old taken is whole ends =

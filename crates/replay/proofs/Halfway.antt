@@ -12,8 +12,7 @@ use Rattle.batch_order.specs.declared.Ready.{Ready}
 use Rattle.commit_writes.specs.Actions.{have_bits}
 use Rattle.commit_writes.specs.Routes.{IsRoute}
 use Rattle.commit_writes.specs.Bits.{FieldBits, bits_with, new_bits}
-use Rattle.commit_writes.proofs.Actions.{writes_in-append}
-use Rattle.commit_writes.proofs.Seen.{writes_of_commit}
+use Rattle.commit_writes.proofs.WritesIn.{writes_of_commit, writes_in-append}
 use Rattle.batch_order.specs.Managed.{Managed, HeldCommit, Holds, commit_of}
 use Rattle.std.specs.List.{AllByRecursion}
 use Rattle.rule_model.specs.declared.IpVersion.{IpVersion}
@@ -22,7 +21,7 @@ use Rattle.replay.specs.declared.steps.Ended.{Ended}
 use Rattle.replay.specs.declared.steps.Ended.TheVariants as ended
 use Rattle.replay.specs.Effects.{waiting_after}
 use Rattle.replay.specs.declared.fate.Fate.{Fate}
-use Rattle.replay.specs.declared.fate.Fate.TheVariants.{Finishes, Returns, Crashes, Restarted}
+use Rattle.replay.specs.declared.fate.Fate.TheVariants.{ToTheEnd, BackAfter, CrashAfter, RestartedAfter}
 use Rattle.replay.specs.Fates.{IsBefore, IsFirst, IsWithinCrash, crash_of, most_of}
 use Rattle.replay.specs.Running.{Running, Watching, EndsBy, HasCome, IsRun, IsHalfway, IsUnderWay, MakesAll, MakesSome, MayTurn, ShowsRules, ended_line, finished_line, goes_back, left_of, rest_of, setting_of, routes_of, trial_left, verdict_of, watching}
 use Rattle.replay.specs.Text.{aborted_line, accepted_line}
@@ -341,11 +340,11 @@ module _ (Seen : Type 0) (run : Running) (half : IsHalfway run) (watch : Watchin
   few-made = subst (λ n. n ≤ 2 ^ 40 - 1) (sym number-whole) (whole-few run half)
 
   -- before its batch is dropped
-  pub made-run_held : IsRun run → IsRun (record run { manager = now; told = 0; waiting = 0; fate = Finishes })
+  pub made-run_held : IsRun run → IsRun (record run { manager = now; told = 0; waiting = 0; fate = ToTheEnd })
   made-run_held is =
-      subst (λ (manager : Managed). IsRun (record run { manager = manager; told = 0; waiting = 0; fate = Finishes })) (sym now-same) (go (is_back run half) refl)
+      subst (λ (manager : Managed). IsRun (record run { manager = manager; told = 0; waiting = 0; fate = ToTheEnd })) (sym now-same) (go (is_back run half) refl)
     where
-      go : (back : Bool) → is_back run half ≡ back → IsRun (record run { manager = (ended_by run half back).manager; told = 0; waiting = 0; fate = Finishes })
+      go : (back : Bool) → is_back run half ≡ back → IsRun (record run { manager = (ended_by run half back).manager; told = 0; waiting = 0; fate = ToTheEnd })
       go true back =
           returned-run (run_begun run half) half.holds.0 (begun-is run half is) half.holds.1 run.pending run.commits run.writes (writes_in (whole_actions run half)) is.changes is.few (back-ends run half back) half.shows
       go false on = made-run (run_begun run half) half.holds.0 (begun-is run half is) half.holds.1 run.pending run.commits run.writes is.changes is.few
@@ -363,21 +362,21 @@ module _ (Seen : Type 0) (run : Running) (half : IsHalfway run) (watch : Watchin
       go false on = after-run (run_begun run half) half.holds.0 (begun-is run half is) half.holds.1
 
   -- and its batch is dropped
-  module _ (counted : Running) (closed : counted ≡ record run { manager = now; told = 0; waiting = 0; fate = Finishes; pending = []; commits = run.commits + 1 }) where
+  module _ (counted : Running) (closed : counted ≡ record run { manager = now; told = 0; waiting = 0; fate = ToTheEnd; pending = []; commits = run.commits + 1 }) where
     pub after-writes : ◌≡◌ {A = Running} (record counted { writes = counted.writes + count_now.told }) (run_ended run half)
     after-writes =
         ap (λ (r : Running). record r { writes = r.writes + count_now.told }) closed
-        ∙ ap (λ (manager : Managed). record run { manager = manager; told = 0; waiting = 0; fate = Finishes; pending = []; commits = run.commits + 1; writes = run.writes + count_now.told }) now-same
+        ∙ ap (λ (manager : Managed). record run { manager = manager; told = 0; waiting = 0; fate = ToTheEnd; pending = []; commits = run.commits + 1; writes = run.writes + count_now.told }) now-same
         ∙ go (is_back run half) refl
       where
         go : (back : Bool) → is_back run half ≡ back
-            → ◌≡◌ {A = Running} (record run { manager = (ended_by run half (is_back run half)).manager; told = 0; waiting = 0; fate = Finishes; pending = []; commits = run.commits + 1; writes = run.writes + count_now.told }) (ended_by run half (is_back run half))
+            → ◌≡◌ {A = Running} (record run { manager = (ended_by run half (is_back run half)).manager; told = 0; waiting = 0; fate = ToTheEnd; pending = []; commits = run.commits + 1; writes = run.writes + count_now.told }) (ended_by run half (is_back run half))
         go back same =
-            subst (λ one. ◌≡◌ {A = Running} (record run { manager = (ended_by run half one).manager; told = 0; waiting = 0; fate = Finishes; pending = []; commits = run.commits + 1; writes = run.writes + count_now.told }) (ended_by run half one)) (sym same)
+            subst (λ one. ◌≡◌ {A = Running} (record run { manager = (ended_by run half one).manager; told = 0; waiting = 0; fate = ToTheEnd; pending = []; commits = run.commits + 1; writes = run.writes + count_now.told }) (ended_by run half one)) (sym same)
             (by back same)
           where
             by : (back : Bool) → is_back run half ≡ back
-                → ◌≡◌ {A = Running} (record run { manager = (ended_by run half back).manager; told = 0; waiting = 0; fate = Finishes; pending = []; commits = run.commits + 1; writes = run.writes + count_now.told }) (ended_by run half back)
+                → ◌≡◌ {A = Running} (record run { manager = (ended_by run half back).manager; told = 0; waiting = 0; fate = ToTheEnd; pending = []; commits = run.commits + 1; writes = run.writes + count_now.told }) (ended_by run half back)
             by true same = ap (λ n. record (ended_by run half true) { writes = n }) (ended-writes true same)
             by false same = ap (λ n. record (ended_by run half false) { writes = n }) (ended-writes false same)
 
@@ -392,10 +391,10 @@ module _ (Seen : Type 0) (run : Running) (half : IsHalfway run) (watch : Watchin
     line-same = go end ends-so
       where
         first-line : (fate : Fate) → IsFirst fate → (done : Done) → finished_line counted.commits fate done count_now.told ≡ accepted_line counted.commits done
-        first-line Finishes first done = refl
-        first-line (Returns most) first done = refl
-        first-line (Crashes after) first done = refl
-        first-line (Restarted after) first done = absurd first
+        first-line ToTheEnd first done = refl
+        first-line (BackAfter most) first done = refl
+        first-line (CrashAfter after) first done = refl
+        first-line (RestartedAfter after) first done = absurd first
 
         counts-same : half.some.one.counts ≡ (begun-holds run half).counts
         counts-same = half.some.same.counts ∙ ap (λ (one : HeldCommit). one.counts) (held-same run half)

@@ -16,10 +16,10 @@ use Rattle.replay.specs.declared.fate.Fate.TheVariants as fates
 use Rattle.replay.specs.Effects.{Effect}
 use Rattle.replay.specs.Run.{Progress}
 use Rattle.replay.specs.Carried.{IsAt}
-use Rattle.replay.specs.Crashing.{loses}
-use Rattle.replay.specs.Fates.{Breaks, IsCrash, IsToCrash, Loses, commit_act}
+use Rattle.replay.specs.Crashing.{memory_wanted}
+use Rattle.replay.specs.Fates.{AnswersBroken, AnswersLost, IsCrash, IsToCrash, commit_act}
 use Rattle.replay.specs.InFlight.{IsSeen}
-use Rattle.replay.specs.Running.{ComesTo, IsRun, Running, breaks, progress_of}
+use Rattle.replay.specs.Running.{ComesTo, IsRun, Running, sink_failed, progress_of}
 use Rattle.replay.specs.Unfinished.{StaysInStep, StaysUnfinished}
 
 or-none : (a b : Bool) → (a || b) ≡ false → (a ≡ false) × (b ≡ false)
@@ -57,7 +57,7 @@ in-step-cut slots inside run is same now count events_old events_new flight_old 
     (seen.on, seen.current)
 
 -- and where all of them are made no word is in flight
-pub in-step-done : (slots : ℕ) (inside run : Running) → IsRun inside → inside ≡ run → (now : Managed) (counted : Running) (told : ℕ) → counted ≡ record inside { manager = now; told = 0; waiting = 0; fate = fates.Finishes; pending = []; commits = inside.commits + 1 } → (events_old events_mid events_new : List Action) (flight_old flight_mid flight_new : Flight)
+pub in-step-done : (slots : ℕ) (inside run : Running) → IsRun inside → inside ≡ run → (now : Managed) (counted : Running) (told : ℕ) → counted ≡ record inside { manager = now; told = 0; waiting = 0; fate = fates.ToTheEnd; pending = []; commits = inside.commits + 1 } → (events_old events_mid events_new : List Action) (flight_old flight_mid flight_new : Flight)
     → (IsSeen slots events_old flight_old inside.manager → IsSeen slots events_mid flight_mid now) → events_new ≡ events_mid → flight_new ≡ [] → StaysInStep slots run (record counted { writes = counted.writes + told }) events_old events_new flight_old flight_new
 in-step-done slots inside run is same now counted told counted_is events_old events_mid events_new flight_old flight_mid flight_new stays kept none = λ whole at current.
     let seen = stays (record {
@@ -84,52 +84,52 @@ in-step-then slots old mid new events_old events_mid events_new flight_old fligh
     then whole there.0 there.1
 
 -- where it is marked whether the sink failed
-pub in-step-marked : (slots : ℕ) (old mid new : Running) (result : Result (Unit {0}) RunFault) (events_old events_new : List Action) (flight_old flight_new : Flight) → new ≡ record mid { broken = mid.broken || breaks result }
+pub in-step-marked : (slots : ℕ) (old mid new : Running) (result : Result (Unit {0}) RunFault) (events_old events_new : List Action) (flight_old flight_new : Flight) → new ≡ record mid { broken = mid.broken || sink_failed result }
     → (result ≢ Err fault.Sink → StaysInStep slots old mid events_old events_new flight_old flight_new) → StaysInStep slots old new events_old events_new flight_old flight_new
 in-step-marked slots old mid new result events_old events_new flight_old flight_new marked steps = λ whole at current.
-    let none = or-none mid.broken (breaks result) (sym (ap (λ (run : Running). run.broken) marked) ∙ whole) in
+    let none = or-none mid.broken (sink_failed result) (sym (ap (λ (run : Running). run.broken) marked) ∙ whole) in
     subst (λ (run : Running). IsAt slots events_new (progress_of slots run) × AreCurrent (live_now run.manager) flight_new) (sym marked)
     (steps (not-sink none.1) none.0 at current)
   where
-    not-sink : breaks result ≡ false → result ≢ Err fault.Sink
-    not-sink none = λ sink. let bad : true ≡ false = sym (ap breaks sink) ∙ none in absurd (cc)
+    not-sink : sink_failed result ≡ false → result ≢ Err fault.Sink
+    not-sink none = λ sink. let bad : true ≡ false = sym (ap sink_failed sink) ∙ none in absurd (cc)
 
 -- ---- whether a call may follow
 
 -- a mark of a lost manager comes of what carries out a commit that is to crash
-pub loses-so : (fate : Fate) (result : Result (Unit {0}) RunFault) (broken : Bool) → broken ≡ loses result
-    → IfErr result (λ why. (why ≡ fault.Sink) ⊎ ((why ≡ fault.Device) ⊎ ((why ≡ fault.Memory) × IsToCrash fate))) → Loses (commit_act fate) result broken
-loses-so fate (Ok done) broken is kind = λ lost. absurd (let bad : true ≡ false = sym lost ∙ is in cc)
-loses-so fate (Err why) broken is (inl sink) = λ lost. absurd (let bad : true ≡ false = sym lost ∙ is ∙ ap (λ one. loses (Err one)) sink in cc)
-loses-so fate (Err why) broken is (inr (inl device)) = λ lost. absurd (let bad : true ≡ false = sym lost ∙ is ∙ ap (λ one. loses (Err one)) device in cc)
-loses-so fate (Err why) broken is (inr (inr (memory, crashes))) = λ lost. (ap Err memory, crash fate crashes)
+pub memory_wanted-so : (fate : Fate) (result : Result (Unit {0}) RunFault) (broken : Bool) → broken ≡ memory_wanted result
+    → IfErr result (λ why. (why ≡ fault.Sink) ⊎ ((why ≡ fault.Device) ⊎ ((why ≡ fault.Memory) × IsToCrash fate))) → AnswersLost (commit_act fate) result broken
+memory_wanted-so fate (Ok done) broken is kind = λ lost. absurd (let bad : true ≡ false = sym lost ∙ is in cc)
+memory_wanted-so fate (Err why) broken is (inl sink) = λ lost. absurd (let bad : true ≡ false = sym lost ∙ is ∙ ap (λ one. memory_wanted (Err one)) sink in cc)
+memory_wanted-so fate (Err why) broken is (inr (inl device)) = λ lost. absurd (let bad : true ≡ false = sym lost ∙ is ∙ ap (λ one. memory_wanted (Err one)) device in cc)
+memory_wanted-so fate (Err why) broken is (inr (inr (memory, crashes))) = λ lost. (ap Err memory, crash fate crashes)
   where
     crash : (fate : Fate) → IsToCrash fate → IsCrash (commit_act fate)
-    crash fates.Finishes crashes = absurd crashes
-    crash (fates.Returns most) crashes = absurd crashes
-    crash (fates.Crashes after) crashes = tt
-    crash (fates.Restarted after) crashes = absurd crashes
+    crash fates.ToTheEnd crashes = absurd crashes
+    crash (fates.BackAfter most) crashes = absurd crashes
+    crash (fates.CrashAfter after) crashes = tt
+    crash (fates.RestartedAfter after) crashes = absurd crashes
 
 -- where the manager isn't lost
-pub loses-none : (act : Act) (result : Result (Unit {0}) RunFault) (broken : Bool) → broken ≡ false → Loses act result broken
-loses-none act result broken whole = λ lost. absurd (let bad : true ≡ false = sym lost ∙ whole in cc)
+pub memory_wanted-none : (act : Act) (result : Result (Unit {0}) RunFault) (broken : Bool) → broken ≡ false → AnswersLost act result broken
+memory_wanted-none act result broken whole = λ lost. absurd (let bad : true ≡ false = sym lost ∙ whole in cc)
 
 -- with the sink's failure marked, too
-pub breaks-marked : (act : Act) (result : Result (Unit {0}) RunFault) (mid now : Bool) → now ≡ (mid || breaks result) → Loses act result mid → Breaks act result now
-breaks-marked act (Ok done) false now is lost = is
-breaks-marked act (Ok done) true now is lost = absurd (let bad = (lost refl).0 in cc)
-breaks-marked act (Err fault.Sink) false now is lost = is
-breaks-marked act (Err fault.Sink) true now is lost = is
-breaks-marked act (Err fault.Device) false now is lost = is
-breaks-marked act (Err fault.Device) true now is lost = absurd (let bad = (lost refl).0 in cc)
-breaks-marked act (Err fault.Memory) false now is lost = λ broken. absurd (let bad : true ≡ false = sym broken ∙ is in cc)
-breaks-marked act (Err fault.Memory) true now is lost = λ broken. (lost refl).1
-breaks-marked act (Err fault.BatchFull) false now is lost = is
-breaks-marked act (Err fault.BatchFull) true now is lost = absurd (let bad = (lost refl).0 in cc)
-breaks-marked act (Err fault.ProbesFull) false now is lost = is
-breaks-marked act (Err fault.ProbesFull) true now is lost = absurd (let bad = (lost refl).0 in cc)
-breaks-marked act (Err (fault.Held left)) false now is lost = is
-breaks-marked act (Err (fault.Held left)) true now is lost = absurd (let bad = (lost refl).0 in cc)
+pub sink_failed-marked : (act : Act) (result : Result (Unit {0}) RunFault) (mid now : Bool) → now ≡ (mid || sink_failed result) → AnswersLost act result mid → AnswersBroken act result now
+sink_failed-marked act (Ok done) false now is lost = is
+sink_failed-marked act (Ok done) true now is lost = absurd (let bad = (lost refl).0 in cc)
+sink_failed-marked act (Err fault.Sink) false now is lost = is
+sink_failed-marked act (Err fault.Sink) true now is lost = is
+sink_failed-marked act (Err fault.Device) false now is lost = is
+sink_failed-marked act (Err fault.Device) true now is lost = absurd (let bad = (lost refl).0 in cc)
+sink_failed-marked act (Err fault.Memory) false now is lost = λ broken. absurd (let bad : true ≡ false = sym broken ∙ is in cc)
+sink_failed-marked act (Err fault.Memory) true now is lost = λ broken. (lost refl).1
+sink_failed-marked act (Err fault.BatchFull) false now is lost = is
+sink_failed-marked act (Err fault.BatchFull) true now is lost = absurd (let bad = (lost refl).0 in cc)
+sink_failed-marked act (Err fault.ProbesFull) false now is lost = is
+sink_failed-marked act (Err fault.ProbesFull) true now is lost = absurd (let bad = (lost refl).0 in cc)
+sink_failed-marked act (Err (fault.Held left)) false now is lost = is
+sink_failed-marked act (Err (fault.Held left)) true now is lost = absurd (let bad = (lost refl).0 in cc)
 
 -- ---- what else the mark leaves
 
@@ -138,12 +138,12 @@ or-false true = refl
 or-false false = refl
 
 -- where the sink didn't fail it marks nothing
-pub marked-kept : (result : Result (Unit {0}) RunFault) (mid new : Running) → new ≡ record mid { broken = mid.broken || breaks result } → breaks result ≡ false → new ≡ mid
+pub marked-kept : (result : Result (Unit {0}) RunFault) (mid new : Running) → new ≡ record mid { broken = mid.broken || sink_failed result } → sink_failed result ≡ false → new ≡ mid
 marked-kept result mid new is none =
     is ∙ ap (λ mark. record mid { broken = mid.broken || mark }) none ∙ ap (λ mark. record mid { broken = mark }) (or-false mid.broken)
 
 pub comes-marked : (result : Result (Unit {0}) RunFault) (slots : ℕ) (old : Running) (act : Act) (mid new : Running) (events_old events_new : List Action) (taken_old taken_new : Option (List ℕ))
-    → new ≡ record mid { broken = mid.broken || breaks result } → ComesTo slots old act mid result events_old events_new taken_old taken_new → ComesTo slots old act new result events_old events_new taken_old taken_new
+    → new ≡ record mid { broken = mid.broken || sink_failed result } → ComesTo slots old act mid result events_old events_new taken_old taken_new → ComesTo slots old act new result events_old events_new taken_old taken_new
 comes-marked (Ok done) slots old act mid new events_old events_new taken_old taken_new is comes =
     subst (λ (run : Running). ComesTo slots old act run (Ok done) events_old events_new taken_old taken_new) (sym (marked-kept (Ok done) mid new is refl)) comes
 comes-marked (Err fault.Sink) slots old act mid new events_old events_new taken_old taken_new is comes = comes
@@ -158,7 +158,7 @@ comes-marked (Err (fault.Held left)) slots old act mid new events_old events_new
     subst (λ (run : Running). ComesTo slots old act run (Err (fault.Held left)) events_old events_new taken_old taken_new) (sym (marked-kept (Err (fault.Held left)) mid new is refl)) comes
 
 pub stays-marked : (result : Result (Unit {0}) RunFault) (slots : ℕ) (before : Progress) (act : Act) (front : List Effect) (mid new : Running) (events_old events_new : List Action) (flight : Flight) (taken_old taken_new : Option (List ℕ))
-    → new ≡ record mid { broken = mid.broken || breaks result } → result ≡ Err fault.Device → StaysUnfinished slots before act front mid events_old events_new flight taken_old taken_new
+    → new ≡ record mid { broken = mid.broken || sink_failed result } → result ≡ Err fault.Device → StaysUnfinished slots before act front mid events_old events_new flight taken_old taken_new
     → StaysUnfinished slots before act front new events_old events_new flight taken_old taken_new
 stays-marked result slots before act front mid new events_old events_new flight taken_old taken_new is cut stays =
-    subst (λ (run : Running). StaysUnfinished slots before act front run events_old events_new flight taken_old taken_new) (sym (marked-kept result mid new is (ap breaks cut))) stays
+    subst (λ (run : Running). StaysUnfinished slots before act front run events_old events_new flight taken_old taken_new) (sym (marked-kept result mid new is (ap sink_failed cut))) stays

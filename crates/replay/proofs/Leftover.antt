@@ -15,7 +15,7 @@ use Rattle.replay.specs.declared.fate.Fate.TheVariants as fates
 use Rattle.replay.specs.Crashing.{IsGoneOnWith}
 use Rattle.replay.specs.Effects.{waiting_after}
 use Rattle.replay.specs.InFlight.{AreOf}
-use Rattle.replay.specs.Running.{Running, ComesTo, IsHalfway, IsRun, AreLeft, LeavesWords, breaks}
+use Rattle.replay.specs.Running.{Running, ComesTo, IsHalfway, IsRun, AreLeft, LeavesWords, sink_failed}
 
 -- no more words wait than a depth of writes has
 pub waiting-most : (depth waiting : ℕ) (actions : List Action) → waiting ≤ depth → waiting_after depth waiting actions ≤ depth
@@ -82,7 +82,7 @@ unbroken true none = absurd (cc)
 unbroken false none = refl
 
 -- whether the sink failed makes no difference
-pub words-marked : (mid new : Running) (result : Result (Unit {0}) RunFault) (flight_old flight_new : Flight) → new ≡ record mid { broken = mid.broken || breaks result } → LeavesWords mid result flight_old flight_new
+pub words-marked : (mid new : Running) (result : Result (Unit {0}) RunFault) (flight_old flight_new : Flight) → new ≡ record mid { broken = mid.broken || sink_failed result } → LeavesWords mid result flight_old flight_new
     → LeavesWords new result flight_old flight_new
 words-marked mid new (Ok done) flight_old flight_new is left = left
 words-marked mid new (Err fault.Sink) flight_old flight_new is left = tt
@@ -118,7 +118,7 @@ pub left-gone : (after : ℕ) (old new : Running) (flight flight_new : Flight) �
 left-gone after old new flight flight_new gone held left kept =
     subst (AreLeft new) (sym kept)
     (subst (λ (run : Running). AreLeft run flight) (sym gone.2)
-    (left-of (record old { manager = gone.0; fate = fates.Restarted after }) flight gone.1 (are-of-left old flight held left)))
+    (left-of (record old { manager = gone.0; fate = fates.RestartedAfter after }) flight gone.1 (are-of-left old flight held left)))
 
 -- whatever was in flight before, where it was left to the call
 pub words-from : (new : Running) (result : Result (Unit {0}) RunFault) (flight flight_old flight_new : Flight) → flight ≡ flight_old → LeavesWords new result flight flight_new → LeavesWords new result flight_old flight_new

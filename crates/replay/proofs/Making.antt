@@ -8,7 +8,7 @@ use Rattle.tcam_device.specs.declared.Action.TheVariants as action
 use Rattle.tcam_device.specs.Flight.{Flight, writes_in}
 use Rattle.tcam_device.specs.State.{State, state_after}
 use Rattle.tcam_device.proofs.Spans.{state_after-append}
-use Rattle.commit_writes.proofs.Actions.{writes_in-append}
+use Rattle.commit_writes.proofs.WritesIn.{writes_in-append}
 use Rattle.batch_order.specs.declared.Step.{Step}
 use Rattle.batch_order.specs.declared.Step.TheVariants.{Wrote, Drained, Waiting, Idle}
 use Rattle.batch_order.specs.CarriedOut.{HasRoomBothWays, HasRoomLeft}

@@ -20,8 +20,7 @@ use Rattle.commit_writes.specs.declared.Done.{Done}
 use Rattle.commit_writes.specs.Actions.{commit_actions, have_bits, with_drain}
 use Rattle.commit_writes.specs.Bits.{FieldBits, bits_left, bits_with, new_bits}
 use Rattle.commit_writes.specs.Routes.{IsRoute, prefix_lengths}
-use Rattle.commit_writes.proofs.Actions.{writes_in-append}
-use Rattle.commit_writes.proofs.Seen.{writes_of_commit}
+use Rattle.commit_writes.proofs.WritesIn.{writes_of_commit, writes_in-append}
 use Rattle.readback.specs.declared.Parts.{Parts}
 use Rattle.readback.specs.Tasks.{Task}
 use Rattle.readback.specs.Stage.{IsCommitAt, IsTwinSlot}
@@ -29,7 +28,7 @@ use Rattle.readback.specs.Going.{GoesOn, needs_drain, rest_insertions}
 use Rattle.batch_order.specs.declared.Placement.{Placement}
 use Rattle.batch_order.specs.Placing.{IsPlacedBy, IsRestPlacedBy}
 use Rattle.batch_order.specs.Managed.{HeldCommit, Holds, Managed, OnlyChangesRoutes}
-use Rattle.batch_order.specs.Restarted.{ArePartsOf, Resumes, in_use, rest_of}
+use Rattle.batch_order.specs.Restart.{ArePartsOf, Resumes, in_use, rest_of}
 use Rattle.replay.specs.declared.Family.{Family}
 use Rattle.replay.specs.declared.Family.TheVariants.{Route, Acl, Route6, Acl6}
 use Rattle.replay.specs.declared.fate.Fate.TheVariants as fates
@@ -203,7 +202,7 @@ module _ (slots : ℕ) (run : Running) (onward : IsOnward slots run) (is : IsRun
         writes = run.writes + (onward.after + length goes.made);
         told = 0;
         waiting = 0;
-        fate = fates.Finishes;
+        fate = fates.ToTheEnd;
       }
 
   rules-now : run.manager.rules ≡ begun.rules
@@ -285,8 +284,8 @@ module _ (slots : ℕ) (run : Running) (onward : IsOnward slots run) (is : IsRun
   pub all-step : HasEffects (setting_of run) began_first (commit_act run.fate) (carried (setting_of run) began_first ((firsts ++ onward.some.made) ++ onward.some.left) ++ Prints line_over ∷ []) (progress_of slots ended_over)
   all-step =
       subst (λ fate. HasEffects (setting_of run) began_first (commit_act fate) (carried (setting_of run) began_first ((firsts ++ onward.some.made) ++ onward.some.left) ++ Prints line_over ∷ []) (progress_of slots ended_over)) (sym onward.fate_is)
-      (subst (λ setting. HasEffects setting began_first (commit_act (fates.Restarted onward.after)) (carried setting began_first ((firsts ++ onward.some.made) ++ onward.some.left) ++ Prints line_over ∷ []) (progress_of slots ended_over)) (sym setting-first)
-      (subst (λ actions. HasEffects first_setting began_first (commit_act (fates.Restarted onward.after)) (carried first_setting began_first actions ++ Prints line_over ∷ []) (progress_of slots ended_over)) (sym all-over)
+      (subst (λ setting. HasEffects setting began_first (commit_act (fates.RestartedAfter onward.after)) (carried setting began_first ((firsts ++ onward.some.made) ++ onward.some.left) ++ Prints line_over ∷ []) (progress_of slots ended_over)) (sym setting-first)
+      (subst (λ actions. HasEffects first_setting began_first (commit_act (fates.RestartedAfter onward.after)) (carried first_setting began_first actions ++ Prints line_over ∷ []) (progress_of slots ended_over)) (sym all-over)
       (subst (λ (verdict : Verdict). Judged (Crashes onward.after) first_setting began_first verdict all_effects (progress_of slots ended_over)) (sym onward.accepted) (inr restarts))))
     where
       first_setting : Setting

@@ -67,10 +67,10 @@ resumes-then (Err (fault.Held left)) slots before act front mid new events event
 
 -- over its crash, by two managers
 pub carried-over : (result : Result (Unit {0}) RunFault) (slots after : ℕ) (before : Progress) (front : List Effect) (old mid over new : Running) (events events_mid events_new : List Action) (flight flight_new : Flight) (taken taken_mid taken_new : Option (List ℕ))
-    → old.fate ≡ fates.Crashes after → IsGoneOnWith after mid over → (goes : Continues slots before front mid events events_mid flight taken taken_mid)
+    → old.fate ≡ fates.CrashAfter after → IsGoneOnWith after mid over → (goes : Continues slots before front mid events events_mid flight taken taken_mid)
     → ResumesTo slots before (commit_act over.fate) (front ++ goes.more) new result events_mid events_new flight_new taken_mid taken_new → ResumesTo slots before (commit_act old.fate) front new result events events_new flight_new taken taken_new
 carried-over result slots after before front old mid over new events events_mid events_new flight flight_new taken taken_mid taken_new fate_is gone goes ends =
-    let now : over.fate ≡ fates.Restarted after = ap (λ (run : Running). run.fate) gone.2 in
+    let now : over.fate ≡ fates.RestartedAfter after = ap (λ (run : Running). run.fate) gone.2 in
     let same : commit_act over.fate ≡ commit_act old.fate = ap commit_act now ∙ sym (ap commit_act fate_is) in
     resumes-then result slots before (commit_act old.fate) front mid new events events_mid events_new flight flight_new taken taken_mid taken_new goes
     (subst (λ act. ResumesTo slots before act (front ++ goes.more) new result events_mid events_new flight_new taken_mid taken_new) same ends)
@@ -89,11 +89,11 @@ setting-lost old new (inl is) = ap setting_of is
 setting-lost old new (inr is) = ap setting_of is
 
 -- one that is still to crash
-pub fate-crashes : (fate : Fate) (after : ℕ) → crash_of fate ≡ Some after → fate ≡ fates.Crashes after
-fate-crashes fates.Finishes after is = absurd (cc)
-fate-crashes (fates.Returns most) after is = absurd (cc)
-fate-crashes (fates.Crashes limit) after is = ap fates.Crashes (some-injective limit after is)
+pub fate-crashes : (fate : Fate) (after : ℕ) → crash_of fate ≡ Some after → fate ≡ fates.CrashAfter after
+fate-crashes fates.ToTheEnd after is = absurd (cc)
+fate-crashes (fates.BackAfter most) after is = absurd (cc)
+fate-crashes (fates.CrashAfter limit) after is = ap fates.CrashAfter (some-injective limit after is)
   where
     some-injective : (x y : ℕ) → Some x ≡ Some y → x ≡ y
     some-injective x y same = cc
-fate-crashes (fates.Restarted limit) after is = absurd (cc)
+fate-crashes (fates.RestartedAfter limit) after is = absurd (cc)

@@ -9,7 +9,7 @@ use Rattle.tcam_device.specs.declared.Action.TheVariants.{Written, Drained}
 use Rattle.tcam_device.specs.Flight.{writes_in}
 use Rattle.tcam_device.specs.State.{State, apply, blank, replay, state_after}
 use Rattle.tcam_device.proofs.Spans.{state_after-append}
-use Rattle.commit_writes.proofs.Actions.{writes_in-append}
+use Rattle.commit_writes.proofs.WritesIn.{writes_in-append}
 use Rattle.batch_order.specs.Managed.{Managed}
 use Rattle.replay.specs.declared.watch.Count.{Count}
 use Rattle.replay.specs.Effects.{Effect, Acts, Prints, events_in, printed, traced, flushed, searched_after, waiting_after, effects_of}

@@ -3,7 +3,7 @@ use Rattle.std.proofs.Common.{◌≡◌, ℕ, ◌+◌, ◌-◌, ◌^◌, ◌<◌
 use Rattle.tcam_device.specs.declared.Action.{Action}
 use Rattle.tcam_device.specs.Flight.{writes_in}
 use Rattle.batch_order.specs.Managed.{Managed, HeldCommit, writes_due}
-use Rattle.commit_writes.proofs.Actions.{writes_in-append}
+use Rattle.commit_writes.proofs.WritesIn.{writes_in-append}
 use Rattle.replay.specs.declared.fate.Fate.{Fate}
 use Rattle.replay.specs.declared.fate.Fate.TheVariants as fates
 use Rattle.replay.specs.declared.watch.Count.{Count}
@@ -29,9 +29,9 @@ pub record EndsWith (run : Running) (now : Managed) (count : Count) (end : Ended
   pub same_slots : now.slots ≡ run.manager.slots
   pub few : count.told ≤ 2 ^ 40 - 1
   -- what it is before its batch is dropped, and then
-  pub closing : IsRun (record run { manager = now; told = 0; waiting = 0; fate = fates.Finishes })
+  pub closing : IsRun (record run { manager = now; told = 0; waiting = 0; fate = fates.ToTheEnd })
   pub ended_is : IsRun ended
-  pub counted : (counted : Running) → counted ≡ record run { manager = now; told = 0; waiting = 0; fate = fates.Finishes; pending = []; commits = run.commits + 1 }
+  pub counted : (counted : Running) → counted ≡ record run { manager = now; told = 0; waiting = 0; fate = fates.ToTheEnd; pending = []; commits = run.commits + 1 }
       → (◌≡◌ {A = Running} (record counted { writes = counted.writes + count.told }) ended) × (ended_line counted.commits run.fate end count.told ≡ line)
 
 -- its course to its end, and what making its actions comes to
@@ -59,10 +59,10 @@ pub record Rest (slots : ℕ) (before : Progress) (front : List Effect) (run : R
 
 -- one that crashes is no trial
 no-most : (fate : Fate) (limit : ℕ) → crash_of fate ≡ Some limit → most_of fate ≡ None
-no-most fates.Finishes limit is = absurd (cc)
-no-most (fates.Returns most) limit is = absurd (cc)
-no-most (fates.Crashes after) limit is = refl
-no-most (fates.Restarted after) limit is = absurd (cc)
+no-most fates.ToTheEnd limit is = absurd (cc)
+no-most (fates.BackAfter most) limit is = absurd (cc)
+no-most (fates.CrashAfter after) limit is = refl
+no-most (fates.RestartedAfter after) limit is = absurd (cc)
 
 -- it has no more writes than come before its crash
 abbrev pub HasNoCrash : Running → Type 0

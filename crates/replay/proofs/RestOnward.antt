@@ -10,7 +10,7 @@ use Rattle.tcam_device.specs.State.{State, Shows, state_after, on_device}
 use Rattle.tcam_device.proofs.Spans.{state_after-append}
 use Rattle.tcam_device.proofs.Wider.{lookup-padded, slots-after}
 use Rattle.commit_writes.specs.Bits.{FieldBits}
-use Rattle.commit_writes.proofs.Actions.{writes_in-append}
+use Rattle.commit_writes.proofs.WritesIn.{writes_in-append}
 use Rattle.batch_order.specs.Managed.{HeldCommit, Managed, OnlyChangesRoutes}
 use Rattle.replay.specs.declared.fate.Fate.{Fate}
 use Rattle.replay.specs.declared.fate.Fate.TheVariants as fates
@@ -33,11 +33,11 @@ use Rattle.replay.proofs.Rest.{EndsWith, Rest}
 use Rattle.replay.proofs.RouteSets.{routes_after}
 
 -- a run whose commit goes on isn't to be taken back
-straight : (fate : Fate) (after : ℕ) → fate ≡ fates.Restarted after → most_of fate ≡ None
-straight fates.Finishes after is = absurd (cc)
-straight (fates.Returns most) after is = absurd (cc)
-straight (fates.Crashes limit) after is = absurd (cc)
-straight (fates.Restarted limit) after is = refl
+straight : (fate : Fate) (after : ℕ) → fate ≡ fates.RestartedAfter after → most_of fate ≡ None
+straight fates.ToTheEnd after is = absurd (cc)
+straight (fates.BackAfter most) after is = absurd (cc)
+straight (fates.CrashAfter limit) after is = absurd (cc)
+straight (fates.RestartedAfter limit) after is = refl
 
 module _ (slots : ℕ) (run : Running) (onward : IsOnward slots run) (is : IsRun run) (inside : run.manager.slots ≤ slots) where
   none-most : most_of run.fate ≡ None
@@ -160,12 +160,12 @@ module _ (slots : ℕ) (run : Running) (onward : IsOnward slots run) (is : IsRun
       idle = ap (λ (manager : Managed). manager.held) now-same;
       same_slots = ap (λ (manager : Managed). manager.slots) now-same ∙ sym (ap (λ (manager : Managed). manager.slots) onward.some.now_is);
       few = (let few = (goes slots run onward is inside).few in let firsts = first-run_few slots run onward is inside in let number = number-whole in omega arith);
-      closing = subst (λ (manager : Managed). IsRun (record run { manager = manager; told = 0; waiting = 0; fate = fates.Finishes })) (sym now-same) (closed-run run.pending run.commits run.writes is.changes is.few);
+      closing = subst (λ (manager : Managed). IsRun (record run { manager = manager; told = 0; waiting = 0; fate = fates.ToTheEnd })) (sym now-same) (closed-run run.pending run.commits run.writes is.changes is.few);
       ended_is = (let few = (goes slots run onward is inside).few in let firsts = first-run_few slots run onward is inside in let before = is.few in
           closed-run [] (run.commits + 1) (run.writes + (onward.after + length (goes slots run onward is inside).made)) (λ version route. tt) (omega arith));
       counted = λ counted closed. (
         ap (λ (r : Running). record r { writes = r.writes + count.told }) closed
-            ∙ ap (λ (manager : Managed). record run { manager = manager; told = 0; waiting = 0; fate = fates.Finishes; pending = []; commits = run.commits + 1; writes = run.writes + count.told }) now-same
+            ∙ ap (λ (manager : Managed). record run { manager = manager; told = 0; waiting = 0; fate = fates.ToTheEnd; pending = []; commits = run.commits + 1; writes = run.writes + count.told }) now-same
             ∙ ap (λ n. record (ended_over slots run onward is inside) { writes = run.writes + n }) number-whole,
         line-over counted closed end all.ends,
       );
@@ -185,7 +185,7 @@ module _ (slots : ℕ) (run : Running) (onward : IsOnward slots run) (is : IsRun
           idle = λ none. (refl, refl, refl);
         }
 
-        line-over : (counted : Running) → counted ≡ record run { manager = now; told = 0; waiting = 0; fate = fates.Finishes; pending = []; commits = run.commits + 1 }
+        line-over : (counted : Running) → counted ≡ record run { manager = now; told = 0; waiting = 0; fate = fates.ToTheEnd; pending = []; commits = run.commits + 1 }
             → (end : Ended) → EndsBy (goes_back None all.held) run.manager all.held all.actions end now → ended_line counted.commits run.fate end count.told ≡ line_over slots run onward is inside
         line-over counted closed (ended.Finished done) ends =
             ap (λ fate. finished_line counted.commits fate done count.told) onward.fate_is

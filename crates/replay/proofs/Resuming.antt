@@ -6,7 +6,7 @@ use Rattle.tcam_device.specs.Flight.{writes_in}
 use Rattle.tcam_device.specs.State.{IsInUse, state_after, on_device}
 use Rattle.tcam_device.proofs.Spans.{state_after-append}
 use Rattle.tcam_device.proofs.Wider.{state_after-on_device}
-use Rattle.commit_writes.proofs.Actions.{writes_in-append}
+use Rattle.commit_writes.proofs.WritesIn.{writes_in-append}
 use Rattle.batch_order.specs.Managed.{Managed}
 use Rattle.replay.specs.declared.fate.Fate.{Fate}
 use Rattle.replay.specs.declared.fate.Fate.TheVariants as fates
@@ -29,11 +29,11 @@ in-back P [] b all = all
 in-back P (x ∷ a) b all = in-back P a b all.1
 
 -- only a trial is taken back
-returns-fate : (fate : Fate) (limit : ℕ) → most_of fate ≡ Some limit → fate ≡ fates.Returns limit
-returns-fate fates.Finishes limit is = absurd (cc)
-returns-fate (fates.Returns most) limit is = let same : most ≡ limit = cc in ap fates.Returns same
-returns-fate (fates.Crashes after) limit is = absurd (cc)
-returns-fate (fates.Restarted after) limit is = absurd (cc)
+returns-fate : (fate : Fate) (limit : ℕ) → most_of fate ≡ Some limit → fate ≡ fates.BackAfter limit
+returns-fate fates.ToTheEnd limit is = absurd (cc)
+returns-fate (fates.BackAfter most) limit is = let same : most ≡ limit = cc in ap fates.BackAfter same
+returns-fate (fates.CrashAfter after) limit is = absurd (cc)
+returns-fate (fates.RestartedAfter after) limit is = absurd (cc)
 
 module _ (slots : ℕ) (run : Running) (half : IsHalfway run) (is : IsRun run) (inside : run.manager.slots ≤ slots) where
   -- where the commit began
@@ -70,15 +70,15 @@ module _ (slots : ℕ) (run : Running) (half : IsHalfway run) (is : IsRun run) (
     module _ (effects : List Effect) (all : effects ≡ carried begun_setting began (whole_actions run half) ++ Prints (line run half) ∷ []) where
       forward-step : (fate : Fate) → IsFirst fate → (progress : Progress) (commits : Commits begun_setting began effects progress) → IsWithin (most_of fate) (length commits.made) → IsWithin (crash_of fate) (length commits.made)
           → HasEffects begun_setting began (commit_act fate) effects progress
-      forward-step fates.Finishes first progress commits most crash =
+      forward-step fates.ToTheEnd first progress commits most crash =
           subst (λ (verdict : Verdict). Judged Commits begun_setting began verdict effects progress) (sym half.accepted) commits
-      forward-step (fates.Returns limit) first progress commits most crash =
+      forward-step (fates.BackAfter limit) first progress commits most crash =
           subst (λ (verdict : Verdict). Judged (Tries limit) begun_setting began verdict effects progress) (sym half.accepted) (inl (commits, most))
-      forward-step (fates.Crashes after) first progress commits most crash =
+      forward-step (fates.CrashAfter after) first progress commits most crash =
           subst (λ (verdict : Verdict). Judged (Crashes after) begun_setting began verdict effects progress) (sym half.accepted) (inl (commits, crash))
-      forward-step (fates.Restarted after) first progress commits most crash = absurd first
+      forward-step (fates.RestartedAfter after) first progress commits most crash = absurd first
 
-      back-step : (limit : ℕ) (progress : Progress) → Returns begun_setting began limit effects progress → HasEffects begun_setting began (commit_act (fates.Returns limit)) effects progress
+      back-step : (limit : ℕ) (progress : Progress) → Returns begun_setting began limit effects progress → HasEffects begun_setting began (commit_act (fates.BackAfter limit)) effects progress
       back-step limit progress returns =
           subst (λ (verdict : Verdict). Judged (Tries limit) begun_setting began verdict effects progress) (sym half.accepted) (inr returns)
 

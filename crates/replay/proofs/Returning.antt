@@ -15,7 +15,7 @@ use Rattle.tcam_device.proofs.Kept.{slots-apply}
 use Rattle.tcam_device.proofs.Wider.{all_take, apply-padded, padded, slot-padded}
 use Rattle.commit_writes.specs.Actions.{back_from, up_to_writes}
 use Rattle.commit_writes.specs.Undo.{restoring, undo_writes}
-use Rattle.commit_writes.proofs.Actions.{writes_in-append, writes_of_map}
+use Rattle.commit_writes.proofs.WritesIn.{writes_of_map, writes_in-append}
 use Rattle.commit_writes.proofs.Undone.{length-undo_writes, undo_ends}
 use Rattle.replay.specs.Running.{left_in, rest_of, trial_left, turns_in}
 use Rattle.replay.proofs.Acting.{trial-goes, trial-stays}

@@ -23,8 +23,8 @@ use Rattle.replay.specs.declared.Family.TheVariants.{Route, Acl, Route6, Acl6}
 use Rattle.replay.specs.Effects.{Setting, Effect, Prints}
 use Rattle.replay.specs.Run.{Progress, Commits, Returns, OfFamily, actions_back, actions_for, carried, slots_in_use, after_segment}
 use Rattle.replay.specs.Text.{aborted_line, accepted_line}
-use Rattle.replay.specs.Crashing.{lost}
-use Rattle.replay.specs.declared.fate.Fate.TheVariants.{Finishes}
+use Rattle.replay.specs.Crashing.{after_loss}
+use Rattle.replay.specs.declared.fate.Fate.TheVariants.{ToTheEnd}
 use Rattle.replay.specs.Running.{Running, IsHalfway, IsOnward, IsRun, IsUnderWay, setting_of, progress_of, begun, routes_of, IsChangeOf, ShowsRules}
 use Rattle.replay.proofs.RouteSets.{routes_after, changes_more}
 use Rattle.tcam_device.proofs.Wider.{slots-after, state_after-on_device, Shows-padded, blank_shows}
@@ -45,7 +45,7 @@ begun-run slots mode placement family trace depth least most = record {
 }
 
 -- and one whose commit crashed where there was no memory to go on
-pub lost-run : (run : Running) → IsRun run → IsRun (lost run)
+pub lost-run : (run : Running) → IsRun run → IsRun (after_loss run)
 lost-run run is = record {
   changes = is.changes;
   routes = λ version route. tt;
@@ -154,7 +154,7 @@ run_after run made counts =
       writes = run.writes + counts.writes;
       told = 0;
       waiting = 0;
-      fate = Finishes;
+      fate = ToTheEnd;
     }
 
 -- the run after a trial that was taken back by these writes, there and back
@@ -167,7 +167,7 @@ run_returned run both =
       writes = run.writes + length both;
       told = 0;
       waiting = 0;
-      fate = Finishes;
+      fate = ToTheEnd;
     }
 
 -- the slots in use of a device are those of the manager

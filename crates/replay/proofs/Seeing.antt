@@ -9,7 +9,7 @@ use Rattle.tcam_device.specs.Flight.{Flight, writes_in}
 use Rattle.tcam_device.specs.State.{State, apply, blank, replay, on_device}
 use Rattle.tcam_device.proofs.Spans.{state_after-append}
 use Rattle.commit_writes.specs.InFlight.{ArePartOf, AreCurrent, ServesLive}
-use Rattle.commit_writes.proofs.Actions.{writes_in-append}
+use Rattle.commit_writes.proofs.WritesIn.{writes_in-append}
 use Rattle.commit_writes.proofs.Current.{are_current_part}
 use Rattle.batch_order.specs.declared.Step.{Step}
 use Rattle.batch_order.specs.declared.Step.TheVariants as step

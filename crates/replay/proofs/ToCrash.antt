@@ -8,7 +8,7 @@ use Rattle.tcam_device.specs.State.{IsInUse, on_device}
 use Rattle.tcam_device.proofs.Wider.{all_take}
 use Rattle.commit_writes.specs.Actions.{up_to_writes}
 use Rattle.commit_writes.specs.InFlight.{AreCurrent}
-use Rattle.commit_writes.proofs.Actions.{writes_in-append}
+use Rattle.commit_writes.proofs.WritesIn.{writes_in-append}
 use Rattle.batch_order.specs.Managed.{HeldCommit, Managed, live_now, writes_due}
 use Rattle.replay.specs.declared.RunFault.{RunFault}
 use Rattle.replay.specs.declared.RunFault.TheVariants as fault
@@ -59,7 +59,7 @@ before-then after first left more rest within parts was is enough =
 
 -- a run whose commit is to crash behind so many writes
 abbrev pub crashing : ℕ → Running → Running
-crashing after base = record base { fate = fates.Crashes after }
+crashing after base = record base { fate = fates.CrashAfter after }
 
 module _ (slots after : ℕ) (base : Running) (half : IsHalfway (crashing after base)) (is : IsRun (crashing after base)) (inside : base.manager.slots ≤ slots) (more : after < length half.holds.1.made) where
   abbrev run : Running
@@ -317,9 +317,9 @@ first-half after run is held = go (is.halfway held)
   where
     go : IsUnderWay (crashing after run) → IsHalfway (crashing after run)
     go (inl half) = half
-    go (inr (slots, within, onward)) = absurd (let bad : fates.Crashes after ≡ fates.Restarted onward.after = onward.fate_is in cc)
+    go (inr (slots, within, onward)) = absurd (let bad : fates.CrashAfter after ≡ fates.RestartedAfter onward.after = onward.fate_is in cc)
 
-pub to-stop : (after : ℕ) (run : Running) → IsRun run → IsSome run.manager.held → run.fate ≡ fates.Crashes after → HasMoreThan after run → IsToStop after run
+pub to-stop : (after : ℕ) (run : Running) → IsRun run → IsSome run.manager.held → run.fate ≡ fates.CrashAfter after → HasMoreThan after run → IsToStop after run
 to-stop after run is held fate_is more =
     let same : run ≡ crashing after run = ap (λ fate. record run { fate = fate }) fate_is in
     let is_crashing : IsRun (crashing after run) = subst IsRun same is in
@@ -327,14 +327,14 @@ to-stop after run is held fate_is more =
     record { same = same; is = is_crashing; half = half; more = more-made after run half more }
 
 -- few writes were told and are left
-pub few-due : (after : ℕ) (run : Running) → IsRun run → IsSome run.manager.held → run.fate ≡ fates.Crashes after → IfSome run.manager.held (λ held. run.told + length (writes_due held) ≤ 2 ^ 40)
+pub few-due : (after : ℕ) (run : Running) → IsRun run → IsSome run.manager.held → run.fate ≡ fates.CrashAfter after → IfSome run.manager.held (λ held. run.told + length (writes_due held) ≤ 2 ^ 40)
 few-due after run is held fate_is =
     let half = first-half after run (subst IsRun (ap (λ fate. record run { fate = fate }) fate_is) is) held in
     subst (λ held. IfSome held (λ (x : HeldCommit). run.told + length (writes_due x) ≤ 2 ^ 40)) (sym (held-one after run half))
     (subst (λ writes. run.told + length writes ≤ 2 ^ 40) (left-writes run.manager.state half.some.one)
     (subst (λ held. IfSome held (λ (x : HeldCommit). run.told + length (writes_in (left_of None run.manager.state x)) ≤ 2 ^ 40)) (held-one after run half) (few-left (crashing after run) half)))
 
-pub stop-at : (after : ℕ) (base now : Running) → base ≡ now → IsRun base → IsSome now.manager.held → now.fate ≡ fates.Crashes after → HasMoreThan after now → IsToStop after base
+pub stop-at : (after : ℕ) (base now : Running) → base ≡ now → IsRun base → IsSome now.manager.held → now.fate ≡ fates.CrashAfter after → HasMoreThan after now → IsToStop after base
 stop-at after base now same is held fate_is more =
     to-stop after base is (subst (λ (r : Running). IsSome r.manager.held) (sym same) held) (ap (λ (r : Running). r.fate) same ∙ fate_is) (subst (HasMoreThan after) (sym same) more)
 
@@ -350,13 +350,13 @@ comes-to slots after run stop more inside before front (inl stands) events_old e
     let start : Progress = began slots (crashing after run) half stop.is inside in
     let so : front ≡ so_far slots (crashing after run) half stop.is inside =
     first.front_is ∙ ap (λ (progress : Progress). effects_of (setting_of run) run.probes 0 0 progress.state half.some.made) first.before_is in
-    let fate_is : run.fate ≡ fates.Crashes after = ap (λ (r : Running). r.fate) stop.same in
+    let fate_is : run.fate ≡ fates.CrashAfter after = ap (λ (r : Running). r.fate) stop.same in
     subst (λ (new : Running). ComesToCrash slots before (commit_act run.fate) front new result events_old events_new flight_new old taken)
     (sym (ap (λ (r : Running). record r { manager = now; told = count.told; waiting = count.waiting }) stop.same))
     (subst (λ act. ComesToCrash slots before act front (record (crashing after run) { manager = now; told = count.told; waiting = count.waiting }) result events_old events_new flight_new old taken) (sym (ap commit_act fate_is))
-    (subst (λ progress. ComesToCrash slots progress (commit_act (fates.Crashes after)) front (record (crashing after run) { manager = now; told = count.told; waiting = count.waiting }) result events_old events_new flight_new old taken) (sym first.before_is)
-    (subst (λ effects. ComesToCrash slots start (commit_act (fates.Crashes after)) effects (record (crashing after run) { manager = now; told = count.told; waiting = count.waiting }) result events_old events_new flight_new old taken) (sym so)
+    (subst (λ progress. ComesToCrash slots progress (commit_act (fates.CrashAfter after)) front (record (crashing after run) { manager = now; told = count.told; waiting = count.waiting }) result events_old events_new flight_new old taken) (sym first.before_is)
+    (subst (λ effects. ComesToCrash slots start (commit_act (fates.CrashAfter after)) effects (record (crashing after run) { manager = now; told = count.told; waiting = count.waiting }) result events_old events_new flight_new old taken) (sym so)
     (comes slots after run half stop.is inside (more-made after run half more) events_old events_new flight flight_new at current result now count old taken makes current_new))))
 comes-to slots after run stop more inside before front (inr stands) events_old events_new flight flight_new at current result now count old taken makes current_new =
-    absurd (let fate_is : run.fate ≡ fates.Crashes after = ap (λ (r : Running). r.fate) stop.same in
-    let bad : fates.Crashes after ≡ fates.Restarted stands.onward.after = sym fate_is ∙ stands.onward.fate_is in cc)
+    absurd (let fate_is : run.fate ≡ fates.CrashAfter after = ap (λ (r : Running). r.fate) stop.same in
+    let bad : fates.CrashAfter after ≡ fates.RestartedAfter stands.onward.after = sym fate_is ∙ stands.onward.fate_is in cc)

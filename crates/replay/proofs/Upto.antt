@@ -8,7 +8,7 @@ use Rattle.tcam_device.specs.declared.Action.TheVariants.{Written, Drained}
 use Rattle.tcam_device.specs.State.{State}
 use Rattle.tcam_device.specs.Flight.{Flight, writes_in}
 use Rattle.commit_writes.specs.Actions.{up_to_writes}
-use Rattle.commit_writes.proofs.Actions.{writes_in-append, writes_of_map}
+use Rattle.commit_writes.proofs.WritesIn.{writes_of_map, writes_in-append}
 use Rattle.batch_order.specs.Managed.{HeldCommit, Managed, writes_due}
 use Rattle.replay.specs.declared.watch.Count.{Count}
 use Rattle.replay.specs.Fates.{IsBefore, IsUpTo, IsWithinCrash, crash_due}

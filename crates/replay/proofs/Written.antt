@@ -7,9 +7,8 @@ use Rattle.tcam_device.specs.Flight.{writes_in}
 use Rattle.tcam_device.specs.State.{state_after}
 use Rattle.commit_writes.specs.Actions.{have_bits, up_to_writes, with_drain}
 use Rattle.commit_writes.specs.Undo.{undo_writes}
-use Rattle.commit_writes.proofs.Actions.{writes_in-append, writes_of_map}
 use Rattle.commit_writes.specs.Bits.{bits_with, new_bits}
-use Rattle.commit_writes.proofs.Seen.{writes_of_commit}
+use Rattle.commit_writes.proofs.WritesIn.{writes_of_commit, writes_of_map, writes_in-append}
 use Rattle.replay.specs.Effects.{Setting, Prints, events_in, written, effects_of, flushed, waiting_after}
 use Rattle.readback.specs.Going.{needs_drain}
 use Rattle.replay.specs.Run.{Progress, actions_back, actions_before, actions_for, actions_over, carried, crash_state}

@@ -7,7 +7,7 @@ use Rattle.batch_order.specs.Managed.{Managed, fresh, live_now, writes_due}
 use Rattle.replay.specs.declared.Act.{Act}
 use Rattle.replay.specs.declared.RunFault.{RunFault}
 use Rattle.replay.specs.declared.RunFault.TheVariants as fault
-use Rattle.replay.specs.declared.fate.Fate.TheVariants.{Finishes, Crashes, Restarted}
+use Rattle.replay.specs.declared.fate.Fate.TheVariants.{ToTheEnd, CrashAfter, RestartedAfter}
 use Rattle.replay.specs.Effects.{Effect}
 use Rattle.replay.specs.Run.{Progress}
 use Rattle.replay.specs.Carried.{IsAt, Does}
@@ -20,7 +20,7 @@ HasMoreThan after run = IfSome run.manager.held (λ held. after < run.told + len
 
 -- A commit is where it crashes: so many writes were made, and it has more.
 pub record IsAtCrash (after : ℕ) (run : Running) : Type 0 where
-  pub fate_is : run.fate ≡ Crashes after
+  pub fate_is : run.fate ≡ CrashAfter after
   pub told_is : run.told ≡ after
   pub held : IsSome run.manager.held
   pub more : HasMoreThan after run
@@ -43,29 +43,29 @@ ComesToCrash device_slots before act front new (Err why) events_old events_new f
 -- another manager goes on with the commit
 abbrev pub IsGoneOnWith : ℕ → Running → Running → Type 0
 IsGoneOnWith after old new =
-    (manager : Managed) × IsSome manager.held × (new ≡ record old { manager = manager; fate = Restarted after })
+    (manager : Managed) × IsSome manager.held × (new ≡ record old { manager = manager; fate = RestartedAfter after })
 
 -- where there was no memory for that, nothing is left of the commit
-abbrev pub lost : Running → Running
-lost old =
+abbrev pub after_loss : Running → Running
+after_loss old =
     record old {
       manager = fresh old.manager.slots old.manager.mode old.manager.placement;
       told = 0;
       waiting = 0;
-      fate = Finishes;
+      fate = ToTheEnd;
       broken = true;
     }
 
 -- or all of it, and no call may follow either way
 abbrev pub IsLost : Running → Running → Type 0
-IsLost old new = (new ≡ lost old) ⊎ (new ≡ record old { broken = true })
+IsLost old new = (new ≡ after_loss old) ⊎ (new ≡ record old { broken = true })
 
 -- a manager was lost, by the answer of what carries out the commit
-abbrev pub loses : Result (Unit {0}) RunFault → Bool
-loses (Ok done) = false
-loses (Err fault.Sink) = false
-loses (Err fault.Device) = false
-loses (Err fault.Memory) = true
-loses (Err fault.BatchFull) = false
-loses (Err fault.ProbesFull) = false
-loses (Err (fault.Held left)) = false
+abbrev pub memory_wanted : Result (Unit {0}) RunFault → Bool
+memory_wanted (Ok done) = false
+memory_wanted (Err fault.Sink) = false
+memory_wanted (Err fault.Device) = false
+memory_wanted (Err fault.Memory) = true
+memory_wanted (Err fault.BatchFull) = false
+memory_wanted (Err fault.ProbesFull) = false
+memory_wanted (Err (fault.Held left)) = false

@@ -9,14 +9,14 @@ use Rattle.replay.specs.declared.Act.TheVariants.{Command, Probe, Packet, Commit
 use Rattle.replay.specs.declared.RunFault.{RunFault}
 use Rattle.replay.specs.declared.RunFault.TheVariants as fault
 use Rattle.replay.specs.declared.fate.Fate.{Fate}
-use Rattle.replay.specs.declared.fate.Fate.TheVariants.{Finishes, Returns, Crashes, Restarted}
+use Rattle.replay.specs.declared.fate.Fate.TheVariants.{ToTheEnd, BackAfter, CrashAfter, RestartedAfter}
 
 -- the act of a commit: a trial where it is taken back after so many writes, and a crash where its manager is dropped
 abbrev pub commit_act : Fate → Act
-commit_act Finishes = Commit
-commit_act (Returns most) = Trial most
-commit_act (Crashes after) = Crash after
-commit_act (Restarted after) = Crash after
+commit_act ToTheEnd = Commit
+commit_act (BackAfter most) = Trial most
+commit_act (CrashAfter after) = Crash after
+commit_act (RestartedAfter after) = Crash after
 
 -- an act that crashes
 abbrev pub IsCrash : Act → Type 0
@@ -29,31 +29,31 @@ IsCrash (Crash after) = Unit {0}
 
 -- after how many writes a commit is taken back where it has more, if it is
 abbrev pub most_of : Fate → Option ℕ
-most_of Finishes = None
-most_of (Returns most) = Some most
-most_of (Crashes after) = None
-most_of (Restarted after) = None
+most_of ToTheEnd = None
+most_of (BackAfter most) = Some most
+most_of (CrashAfter after) = None
+most_of (RestartedAfter after) = None
 
 -- after how many writes its manager is dropped where it has more, if it is still to be
 abbrev pub crash_of : Fate → Option ℕ
-crash_of Finishes = None
-crash_of (Returns most) = None
-crash_of (Crashes after) = Some after
-crash_of (Restarted after) = None
+crash_of ToTheEnd = None
+crash_of (BackAfter most) = None
+crash_of (CrashAfter after) = Some after
+crash_of (RestartedAfter after) = None
 
 -- it is still to crash
 abbrev pub IsToCrash : Fate → Type 0
-IsToCrash Finishes = ⊥
-IsToCrash (Returns most) = ⊥
-IsToCrash (Crashes after) = Unit {0}
-IsToCrash (Restarted after) = ⊥
+IsToCrash ToTheEnd = ⊥
+IsToCrash (BackAfter most) = ⊥
+IsToCrash (CrashAfter after) = Unit {0}
+IsToCrash (RestartedAfter after) = ⊥
 
 -- its manager is the one that was asked for it
 abbrev pub IsFirst : Fate → Type 0
-IsFirst Finishes = Unit {0}
-IsFirst (Returns most) = Unit {0}
-IsFirst (Crashes after) = Unit {0}
-IsFirst (Restarted after) = ⊥
+IsFirst ToTheEnd = Unit {0}
+IsFirst (BackAfter most) = Unit {0}
+IsFirst (CrashAfter after) = Unit {0}
+IsFirst (RestartedAfter after) = ⊥
 
 -- Where there are more writes than so many, what was made comes before a crash behind these, and so does what is left up
 -- to there: no drain that is due then is among it.
@@ -77,15 +77,15 @@ crash_due (Some after) told (Some held) = nat_le after told && nat_lt 0 (length 
 
 -- What an answer says of whether a call may follow: none may behind a failure of the sink, and perhaps none where a commit
 -- that crashed found no memory.
-abbrev pub Breaks : Act → Result (Unit {0}) RunFault → Bool → Type 0
-Breaks act (Ok done) broken = broken ≡ false
-Breaks act (Err fault.Sink) broken = broken ≡ true
-Breaks act (Err fault.Device) broken = broken ≡ false
-Breaks act (Err fault.Memory) broken = broken ≡ true → IsCrash act
-Breaks act (Err fault.BatchFull) broken = broken ≡ false
-Breaks act (Err fault.ProbesFull) broken = broken ≡ false
-Breaks act (Err (fault.Held left)) broken = broken ≡ false
+abbrev pub AnswersBroken : Act → Result (Unit {0}) RunFault → Bool → Type 0
+AnswersBroken act (Ok done) broken = broken ≡ false
+AnswersBroken act (Err fault.Sink) broken = broken ≡ true
+AnswersBroken act (Err fault.Device) broken = broken ≡ false
+AnswersBroken act (Err fault.Memory) broken = broken ≡ true → IsCrash act
+AnswersBroken act (Err fault.BatchFull) broken = broken ≡ false
+AnswersBroken act (Err fault.ProbesFull) broken = broken ≡ false
+AnswersBroken act (Err (fault.Held left)) broken = broken ≡ false
 
 -- before the sink's failure is remembered: the manager was lost
-abbrev pub Loses : Act → Result (Unit {0}) RunFault → Bool → Type 0
-Loses act result broken = broken ≡ true → (result ≡ Err fault.Memory) × IsCrash act
+abbrev pub AnswersLost : Act → Result (Unit {0}) RunFault → Bool → Type 0
+AnswersLost act result broken = broken ≡ true → (result ≡ Err fault.Memory) × IsCrash act

@@ -22,12 +22,12 @@ use Rattle.batch_order.specs.declared.Ready.{Ready}
 use Rattle.batch_order.specs.Managed.{Managed, HeldCommit, Holds, OnlyChangesRoutes, fresh, writes_due}
 use Rattle.batch_order.specs.Steps.{next_of}
 use Rattle.readback.specs.declared.Parts.{Parts}
-use Rattle.batch_order.specs.Restarted.{ArePartsOf, Resumes}
+use Rattle.batch_order.specs.Restart.{ArePartsOf, Resumes}
 use Rattle.replay.specs.declared.Act.{Act}
 use Rattle.replay.specs.declared.Act.TheVariants.{Command, Probe, Packet, Commit, Trial, Crash}
 use Rattle.replay.specs.declared.watch.Count.{Count}
 use Rattle.replay.specs.declared.fate.Fate.{Fate}
-use Rattle.replay.specs.declared.fate.Fate.TheVariants.{Finishes, Returns, Crashes, Restarted}
+use Rattle.replay.specs.declared.fate.Fate.TheVariants.{ToTheEnd, BackAfter, CrashAfter, RestartedAfter}
 use Rattle.replay.specs.declared.steps.Ended.{Ended}
 use Rattle.replay.specs.declared.steps.Ended.TheVariants as ended
 use Rattle.replay.specs.declared.Family.{Family}
@@ -112,7 +112,7 @@ begun slots mode placement family trace depth =
       refused = false;
       told = 0;
       waiting = 0;
-      fate = Finishes;
+      fate = ToTheEnd;
       broken = false;
     }
 
@@ -219,7 +219,7 @@ first_actions run begun made after = up_to_writes after (commit_actions begun.mo
 -- another manager held the rest by what the device showed, and some of it was made.
 pub record IsOnward (device_slots : ℕ) (run : Running) : Type 0 where
   pub after : ℕ
-  pub fate_is : run.fate ≡ Restarted after
+  pub fate_is : run.fate ≡ RestartedAfter after
   pub begun : Managed
   pub holds : HoldsPending (record run { manager = begun })
   pub accepted : verdict_of (record run { manager = begun }) ≡ Accepted
@@ -255,7 +255,7 @@ pub record IsRun (run : Running) : Type 0 where
   pub few : run.writes ≤ run.commits * (2 ^ 40 - 1)
   pub shows : ShowsRules run.manager
   pub halfway : IsSome run.manager.held → IsUnderWay run
-  pub idle : run.manager.held ≡ None → (run.told ≡ 0) × (run.waiting ≡ 0) × (run.fate ≡ Finishes)
+  pub idle : run.manager.held ≡ None → (run.told ≡ 0) × (run.waiting ≡ 0) × (run.fate ≡ ToTheEnd)
 
 -- a change in a script of the family: a route that is added is one of its version, and an access list takes any rule
 abbrev pub IsChangeOf : Family → Change → Type 0
@@ -328,14 +328,14 @@ AnswersHeld (Some held) result = result ≡ Err (Held (length (writes_due held))
 AnswersHeld None result = (left : ℕ) → result ≢ Err (Held left)
 
 -- the sink failed
-abbrev pub breaks : Result (Unit {0}) RunFault → Bool
-breaks (Ok done) = false
-breaks (Err Sink) = true
-breaks (Err Device) = false
-breaks (Err Memory) = false
-breaks (Err BatchFull) = false
-breaks (Err ProbesFull) = false
-breaks (Err (Held left)) = false
+abbrev pub sink_failed : Result (Unit {0}) RunFault → Bool
+sink_failed (Ok done) = false
+sink_failed (Err Sink) = true
+sink_failed (Err Device) = false
+sink_failed (Err Memory) = false
+sink_failed (Err BatchFull) = false
+sink_failed (Err ProbesFull) = false
+sink_failed (Err (Held left)) = false
 
 -- The text of an answer that an act isn't taken, in a script whose commits come to their end: that there is no room.
 abbrev pub limit_text : Result (Unit {0}) RunFault → Option (List ℕ)
@@ -384,10 +384,10 @@ EndsBy back begun held actions ended.Reverted now =
 
 -- the line of one that finished
 abbrev pub finished_line : ℕ → Fate → Done → ℕ → List ℕ
-finished_line commit Finishes done writes = accepted_line commit done
-finished_line commit (Returns most) done writes = accepted_line commit done
-finished_line commit (Crashes after) done writes = accepted_line commit done
-finished_line commit (Restarted after) done writes = restarted_line commit after writes
+finished_line commit ToTheEnd done writes = accepted_line commit done
+finished_line commit (BackAfter most) done writes = accepted_line commit done
+finished_line commit (CrashAfter after) done writes = accepted_line commit done
+finished_line commit (RestartedAfter after) done writes = restarted_line commit after writes
 
 -- its line, by its number, by what became of it, and by its writes
 abbrev pub ended_line : ℕ → Fate → Ended → ℕ → List ℕ

@@ -12,7 +12,7 @@ ghost use Rattle.replay.specs.Carried.{IsAt};
 ghost use Rattle.replay.specs.Fates.{IsToCrash, commit_act, crash_of};
 ghost use Rattle.replay.specs.Running.{AreLeft, LeavesWords, ended_line, progress_of, setting_of};
 ghost use Rattle.replay.specs.Unfinished.{IsUnfinished, ResumesTo, StaysInStep, TakesAtCrash};
-ghost use Rattle.replay.specs.Crashing.{ComesToCrash, HasMoreThan, IsAtCrash, IsGoneOnWith, IsLost, loses};
+ghost use Rattle.replay.specs.Crashing.{ComesToCrash, HasMoreThan, IsAtCrash, IsGoneOnWith, IsLost, memory_wanted};
 
 use crate::RunFault;
 use crate::fate::Fate;
@@ -48,7 +48,7 @@ impl Run {
             (D.events device.old) (D.events device.new) (D.flight device.new) (counted which (K.taken sink.old) (K.accepted sink.old)) (counted which (K.taken sink.new) (K.accepted sink.new)) }
         ensures kind { IfErr result (λ fault. (fault ≡ RunFault.Sink) ⊎ ((fault ≡ RunFault.Device) ⊎ ((fault ≡ RunFault.Memory) × IsToCrash self.old.fate))) }
         ensures idle { OnOk result (self.new.manager.held ≡ None) }
-        ensures broken { self.new.broken ≡ loses result }
+        ensures broken { self.new.broken ≡ memory_wanted result }
         ensures room { HasRoomBothWays self.new.manager.held (D.spare device.new) }
         ensures setting { setting_of self.new ≡ setting_of self.old }
         ensures commits { self.new.commits ≤ self.old.commits + 1 }
@@ -75,7 +75,7 @@ impl Run {
         ensures ahead { IfSome result (λ after. (crash_of self.now.fate ≡ Some after) × HasMoreThan after self.now) }
         ensures none { IsNone result → IfSome (crash_of self.now.fate) (λ after. ¬ (HasMoreThan after self.now)) }
     {
-        let Fate::Crashes(after) = self.fate else {
+        let Fate::CrashAfter(after) = self.fate else {
             return None;
         };
         let left = self.manager.left()?;
@@ -95,7 +95,7 @@ impl Run {
     ) -> Result<(), RunFault>
         requires slots { self.old.manager.slots ≤ D.slot_count device.old }
         requires in_flight { AreLeft self.old (D.flight device.old) }
-        requires crashes { self.old.fate ≡ Fate.Crashes after }
+        requires crashes { self.old.fate ≡ Fate.CrashAfter after }
         requires held { IsSome self.old.manager.held }
         requires more { HasMoreThan after self.old }
         requires room { HasRoomBothWays self.old.manager.held (D.spare device.old) }
@@ -166,12 +166,12 @@ impl Run {
         ) {
             Ok(manager) => {
                 self.manager = manager;
-                self.fate = Fate::Restarted(after);
+                self.fate = Fate::RestartedAfter(after);
                 Ok(())
             }
             Err((RestartFault::Memory, _)) => {
                 self.count = NOTHING;
-                self.fate = Fate::Finishes;
+                self.fate = Fate::ToTheEnd;
                 self.broken = true;
                 Err(AllocError)
             }
@@ -211,7 +211,7 @@ impl Run {
         };
         let count = self.count;
         self.count = NOTHING;
-        self.fate = Fate::Finishes;
+        self.fate = Fate::ToTheEnd;
         self.count_commit();
         self.writes += count.told;
         match self.watch.search_all(&count, sink, device) {
@@ -247,8 +247,8 @@ fn write_ended<K: Sink>(
 {
     match ended {
         Ended::Finished(done) => match fate {
-            Fate::Restarted(after) => write_restarted(sink, commit, after, writes),
-            Fate::Finishes | Fate::Returns(_) | Fate::Crashes(_) => write_accepted(
+            Fate::RestartedAfter(after) => write_restarted(sink, commit, after, writes),
+            Fate::ToTheEnd | Fate::BackAfter(_) | Fate::CrashAfter(_) => write_accepted(
                 sink, commit, done,
             ),
         },

@@ -7,13 +7,13 @@ ghost use Rattle.replay.specs.Fates.{most_of};
 #[derive(Clone, Copy, Debug, PartialEq, Eq)]
 pub(crate) enum Fate {
     /// It finishes.
-    Finishes,
+    ToTheEnd,
     /// It is taken back right after so many writes, where it has more.
-    Returns(u32),
+    BackAfter(u32),
     /// Its manager is dropped right after so many writes, where it has more, and another one goes on.
-    Crashes(u32),
+    CrashAfter(u32),
     /// Another manager goes on with it, behind so many writes.
-    Restarted(u32),
+    RestartedAfter(u32),
 }
 
 impl Fate {
@@ -22,8 +22,8 @@ impl Fate {
         ensures { result ≡ most_of self }
     {
         match self {
-            Fate::Returns(most) => Some(most),
-            Fate::Finishes | Fate::Crashes(_) | Fate::Restarted(_) => None,
+            Fate::BackAfter(most) => Some(most),
+            Fate::ToTheEnd | Fate::CrashAfter(_) | Fate::RestartedAfter(_) => None,
         }
     }
 }

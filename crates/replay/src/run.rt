@@ -14,9 +14,9 @@ ghost use Rattle.replay.specs.Run.{Progress, ending};
 ghost use Rattle.replay.specs.Script.{limit_fault};
 ghost use Rattle.replay.specs.Outside.{Leaves, WritesLine};
 ghost use Rattle.replay.specs.Carried.{IsAt};
-ghost use Rattle.replay.specs.Crashing.{loses};
-ghost use Rattle.replay.specs.Fates.{Breaks, IsCrash, IsFirst, IsToCrash, Loses, commit_act};
-ghost use Rattle.replay.specs.Running.{AnswersHeld, AreLeft, ComesTo, IsUntouched, LeavesWords, breaks, begun, limit_text, progress_of, setting_of, IsActOf, IsChangeOf};
+ghost use Rattle.replay.specs.Crashing.{memory_wanted};
+ghost use Rattle.replay.specs.Fates.{AnswersBroken, AnswersLost, IsCrash, IsFirst, IsToCrash, commit_act};
+ghost use Rattle.replay.specs.Running.{AnswersHeld, AreLeft, ComesTo, IsUntouched, LeavesWords, sink_failed, begun, limit_text, progress_of, setting_of, IsActOf, IsChangeOf};
 ghost use Rattle.replay.specs.Unfinished.{IsUnfinished, ResumesTo, StaysInStep, StaysUnfinished};
 
 use crate::fate::Fate;
@@ -87,7 +87,7 @@ impl Run {
             writes: 0,
             refused: false,
             count: NOTHING,
-            fate: Fate::Finishes,
+            fate: Fate::ToTheEnd,
             broken: false,
         })
     }
@@ -166,7 +166,7 @@ impl Run {
         ensures unfinished { (which : Bool) → result ≡ Err RunFault.Device → IsAt (D.slot_count device.old) (D.events device.old) (progress_of (D.slot_count device.old) self.old)
             → StaysUnfinished (D.slot_count device.old) (progress_of (D.slot_count device.old) self.old) act.now [] self.new
             (D.events device.old) (D.events device.new) (D.flight device.new) (counted which (K.taken sink.old) (K.accepted sink.old)) (counted which (K.taken sink.new) (K.accepted sink.new)) }
-        ensures broken { Breaks act.now result self.new.broken }
+        ensures broken { AnswersBroken act.now result self.new.broken }
         ensures room { HasRoomBothWays self.old.manager.held (D.spare device.old) → HasRoomBothWays self.new.manager.held (D.spare device.new) }
         ensures setting { setting_of self.new ≡ setting_of self.old }
         ensures commits { self.new.commits ≤ self.old.commits + 1 }
@@ -211,7 +211,7 @@ impl Run {
             (D.events device.old) (D.events device.new) (counted which (K.taken sink.old) (K.accepted sink.old)) (counted which (K.taken sink.new) (K.accepted sink.new)) }
         ensures kind { IfErr result (λ fault. (fault ≡ RunFault.Sink) ⊎ ((fault ≡ RunFault.Device) ⊎ ((fault ≡ RunFault.Memory) × IsToCrash self.old.fate))) }
         ensures idle { OnOk result (self.new.manager.held ≡ None) }
-        ensures broken { self.new.broken ≡ (loses result || breaks result) }
+        ensures broken { self.new.broken ≡ (memory_wanted result || sink_failed result) }
         ensures room { HasRoomBothWays self.new.manager.held (D.spare device.new) }
         ensures setting { setting_of self.new ≡ setting_of self.old }
         ensures commits { self.new.commits ≤ self.old.commits + 1 }
@@ -229,7 +229,7 @@ impl Run {
 
     // Remembers whether the sink failed.
     fn mark(&mut self, outcome: &Result<(), RunFault>)
-        ensures { self.new ≡ record self.old { broken = self.old.broken || breaks outcome.now } }
+        ensures { self.new ≡ record self.old { broken = self.old.broken || sink_failed outcome.now } }
     {
         let failed = matches!(outcome, Err(RunFault::Sink));
         self.broken = self.broken || failed;
@@ -257,7 +257,7 @@ impl Run {
         ensures unfinished { (which : Bool) → result ≡ Err RunFault.Device → IsAt (D.slot_count device.old) (D.events device.old) (progress_of (D.slot_count device.old) self.old)
             → StaysUnfinished (D.slot_count device.old) (progress_of (D.slot_count device.old) self.old) act.now [] self.new
             (D.events device.old) (D.events device.new) (D.flight device.new) (counted which (K.taken sink.old) (K.accepted sink.old)) (counted which (K.taken sink.new) (K.accepted sink.new)) }
-        ensures broken { Loses act.now result self.new.broken }
+        ensures broken { AnswersLost act.now result self.new.broken }
         ensures room { HasRoomBothWays self.new.manager.held (D.spare device.new) }
         ensures setting { setting_of self.new ≡ setting_of self.old }
         ensures commits { self.new.commits ≤ self.old.commits + 1 }
@@ -269,9 +269,9 @@ impl Run {
             Act::Command(command) => self.push(command),
             Act::Probe(key) => self.probe(key),
             Act::Packet(key) => self.packet(&key, sink, device),
-            Act::Commit => self.commit(Fate::Finishes, sink, device),
-            Act::Trial(most) => self.commit(Fate::Returns(most), sink, device),
-            Act::Crash(after) => self.commit(Fate::Crashes(after), sink, device),
+            Act::Commit => self.commit(Fate::ToTheEnd, sink, device),
+            Act::Trial(most) => self.commit(Fate::BackAfter(most), sink, device),
+            Act::Crash(after) => self.commit(Fate::CrashAfter(after), sink, device),
         }
     }
 
@@ -350,7 +350,7 @@ impl Run {
         ensures unfinished { (which : Bool) → result ≡ Err RunFault.Device → IsAt (D.slot_count device.old) (D.events device.old) (progress_of (D.slot_count device.old) self.old)
             → StaysUnfinished (D.slot_count device.old) (progress_of (D.slot_count device.old) self.old) (commit_act fate) [] self.new
             (D.events device.old) (D.events device.new) (D.flight device.new) (counted which (K.taken sink.old) (K.accepted sink.old)) (counted which (K.taken sink.new) (K.accepted sink.new)) }
-        ensures broken { Loses (commit_act fate) result self.new.broken }
+        ensures broken { AnswersLost (commit_act fate) result self.new.broken }
         ensures room { HasRoomBothWays self.new.manager.held (D.spare device.new) }
         ensures setting { setting_of self.new ≡ setting_of self.old }
         ensures commits { self.new.commits ≤ self.old.commits + 1 }

@@ -1,9 +1,8 @@
 // Parts that come back from restarts that fail, and with which the next one goes on.
-use crate::scarce::Scarce;
 use crate::shown::{LONG, SHORT, SHORT_RANK, SLOTS, WIDE, parts_of, put_short, refusal};
 use batch_order::{AbortFault, Done, Mode, Placement, RestartFault};
 use driven_device::{Driven, RestartedFault, Results, batch, results, routed_packets};
-use memory_tcam::MemTcam;
+use memory_tcam::{MemTcam, ScarceTcam};
 use readback::Parts;
 use rule_store::Batch;
 use std::alloc::Global;
@@ -68,9 +67,7 @@ fn fails_by_memory(
     parts: Parts,
     changes: &Batch,
 ) -> Result<Parts, Fail> {
-    let device = Scarce {
-        device: with_short(rt, alloc)?,
-    };
+    let device = ScarceTcam::new(with_short(rt, alloc)?, 0);
     let fault = RestartedFault::Restart(RestartFault::Memory);
     Ok(fails(rt, alloc, SLOTS, parts, changes, device, fault))
 }

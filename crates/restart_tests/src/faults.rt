@@ -1,7 +1,5 @@
 // What a restart answers of devices that show no stage of a commit, a fault at a time, and of two that show one.
-use crate::shown::{
-    LONG, SHORT, SHORT_RANK, WIDE, answer, long, make, parts_of, put_short, refused, short,
-};
+use crate::shown::{LONG, SHORT, SHORT_RANK, WIDE, answer, long, make, parts_of, put_short, short};
 use batch_order::{Field, Mode, RestartFault};
 use driven_device::{ANY_PORT, Change, RestartedFault, batch};
 use memory_tcam::MemTcam;
@@ -59,7 +57,10 @@ fn refused_batch(rt: HostRuntime) -> Result<(), Fail> {
     let gone = Change::NoRoute(0x0a00_0000, 8);
     let absent = Rejection::Unsound(BatchFault::Absent(SHORT_RANK));
     let found = answer_of(&rt, rt.alloc(), &[LONG], &[gone], &[])?;
-    assert_eq!(rt; found, refused(RestartFault::Refused(absent)));
+    assert_eq!(rt;
+        found,
+        Some(RestartedFault::Restart(RestartFault::Refused(absent)))
+    );
     Ok(())
 }
 

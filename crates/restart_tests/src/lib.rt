@@ -9,8 +9,6 @@ mod faults;
 #[cfg(test)]
 mod going_on;
 #[cfg(test)]
-mod scarce;
-#[cfg(test)]
 mod shown;
 #[cfg(test)]
 mod stopped;

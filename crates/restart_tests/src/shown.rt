@@ -1,5 +1,5 @@
 // What a manager leaves of itself, devices that hold entries of routes, and what a restart answers over them.
-use batch_order::{Mode, Placement, RestartFault};
+use batch_order::{Mode, Placement};
 use driven_device::{Change, Driven, RestartedFault, batch};
 use memory_tcam::MemTcam;
 use readback::Parts;
@@ -137,9 +137,4 @@ pub(crate) fn answer<D: ReadBack + Drop>(
         Some(refused) => Some(refused.0),
         None => None,
     }
-}
-
-/// A fault of `Manager::restart`.
-pub(crate) fn refused(fault: RestartFault) -> Option<RestartedFault> {
-    Some(RestartedFault::Restart(fault))
 }

@@ -1,13 +1,12 @@
 -- What actions of a commit under way leave of the manager.
 use Rattle.std.proofs.Common.{◌≡◌, ℕ, List, [], ◌∷◌, ◌++◌, map, Option, Some, None, IsSome, IfSome, refl, sym, ap, ◌∙◌, subst, append_assoc}
-use Rattle.rule_model.specs.declared.Rule.{Rule}
 use Rattle.tcam_device.specs.declared.Write.{Write}
 use Rattle.tcam_device.specs.declared.Action.{Action}
 use Rattle.tcam_device.specs.declared.Action.TheVariants.{Written, Drained}
-use Rattle.tcam_device.specs.State.{State, apply, replay}
+use Rattle.tcam_device.specs.State.{apply, replay}
 use Rattle.tcam_device.specs.Flight.{writes_in}
 use Rattle.tcam_device.specs.Hitless.{ShowsOldOrNew}
-use Rattle.commit_writes.proofs.Actions.{writes_in-append, writes_of_map}
+use Rattle.commit_writes.proofs.WritesIn.{writes_of_map, writes_in-append}
 use Rattle.batch_order.specs.Managed.{HeldCommit, Managed, Serves, actions_due, writes_due}
 use Rattle.batch_order.specs.CarriedOut.{StopsAt, StopsBy, acted, acted_by, actions_left, ahead, ahead_of, back_by, forward_by, writes_left}
 use Rattle.batch_order.specs.declared.Unfinished.{Unfinished}

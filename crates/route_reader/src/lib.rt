@@ -121,6 +121,7 @@ mod tests {
     use super::*;
     use packet_keys::FrameFault;
     use rule_model::Key;
+    use std::process::Abort;
     use std::test::Fail;
 
     /// A line of these bytes.
@@ -153,11 +154,24 @@ mod tests {
         }
     }
 
+    /// Each line reads as told.
+    fn read_as(
+        rt: &impl Abort,
+        version: IpVersion,
+        rows: &[(&[u8], Result<Option<RouteCommand>, WordFault>)],
+    ) {
+        for (text, answer) in rows {
+            assert!(rt; text.len() <= LINE_BYTES);
+            assert_eq!(rt; read_route(&line_of(text), version), *answer, "{text:?}");
+        }
+    }
+
+    /// Each change of a route, with blanks and with the greatest numbers.
     #[test]
-    fn lines_and_their_commands(rt: HostRuntime) -> Result<(), Fail> {
+    fn changes_of_routes(rt: HostRuntime) -> Result<(), Fail> {
         let ten = Prefix::v4(0x0a00_0000, 8)?;
         let host = Prefix::v4(0xffff_ffff, 32)?;
-        let table: [(&[u8], Result<Option<RouteCommand>, WordFault>); 73] = [
+        let table: [(&[u8], Result<Option<RouteCommand>, WordFault>); 8] = [
             (
                 b"route add 10.0.0.0/8 7",
                 Ok(Some(RouteCommand::Add(ten, 7))),
@@ -187,6 +201,15 @@ mod tests {
                 b"  route del 0.0.0.0/0 \r",
                 Ok(Some(RouteCommand::Del(Prefix::any()))),
             ),
+        ];
+        read_as(&rt, IpVersion::V4, &table);
+        Ok(())
+    }
+
+    /// The commands that lists have too.
+    #[test]
+    fn commands_of_all_scripts(rt: HostRuntime) -> Result<(), Fail> {
+        let table: [(&[u8], Result<Option<RouteCommand>, WordFault>); 9] = [
             (
                 b"packet 10.1.2.3 10.1.2.4 tcp 1234 80",
                 Ok(Some(RouteCommand::Common(CommonCommand::Packet(web_key())))),
@@ -223,6 +246,15 @@ mod tests {
                 b"\tcrash 4294967295 ",
                 Ok(Some(RouteCommand::Common(CommonCommand::Crash(4294967295)))),
             ),
+        ];
+        read_as(&rt, IpVersion::V4, &table);
+        Ok(())
+    }
+
+    /// Blank lines and comments, and words that are none.
+    #[test]
+    fn no_commands(rt: HostRuntime) -> Result<(), Fail> {
+        let table: [(&[u8], Result<Option<RouteCommand>, WordFault>); 13] = [
             (b"", Ok(None)),
             (b" \t\r", Ok(None)),
             (b"# route add", Ok(None)),
@@ -233,6 +265,18 @@ mod tests {
             (b"acl del 7", Err(WordFault::UnknownCommand)),
             (b"Commit", Err(WordFault::UnknownCommand)),
             (b"commits", Err(WordFault::UnknownCommand)),
+            (b"Trial 1", Err(WordFault::UnknownCommand)),
+            (b"trials 1", Err(WordFault::UnknownCommand)),
+            (b"Crash 1", Err(WordFault::UnknownCommand)),
+        ];
+        read_as(&rt, IpVersion::V4, &table);
+        Ok(())
+    }
+
+    /// Too few words, or too many: this is told before what is wrong with one.
+    #[test]
+    fn numbers_of_words(rt: HostRuntime) -> Result<(), Fail> {
+        let table: [(&[u8], Result<Option<RouteCommand>, WordFault>); 13] = [
             (b"route add 10.0.0.0/8", Err(WordFault::WordCount)),
             (b"route add 10.0.0.1/8 x 7", Err(WordFault::WordCount)),
             (b"route set 10.0.0.0/8", Err(WordFault::WordCount)),
@@ -247,16 +291,17 @@ mod tests {
             (b"commit #", Err(WordFault::WordCount)),
             (b"trial", Err(WordFault::WordCount)),
             (b"trial 1 2", Err(WordFault::WordCount)),
-            (b"Trial 1", Err(WordFault::UnknownCommand)),
-            (b"trials 1", Err(WordFault::UnknownCommand)),
-            (b"trial x", Err(WordFault::BadCount)),
-            (b"trial 01", Err(WordFault::BadCount)),
-            (b"trial 4294967296", Err(WordFault::BadCount)),
             (b"crash", Err(WordFault::WordCount)),
             (b"crash 1 2", Err(WordFault::WordCount)),
-            (b"Crash 1", Err(WordFault::UnknownCommand)),
-            (b"crash x", Err(WordFault::BadCount)),
-            (b"crash 4294967296", Err(WordFault::BadCount)),
+        ];
+        read_as(&rt, IpVersion::V4, &table);
+        Ok(())
+    }
+
+    /// Prefixes that are written wrong, and those with bits past their length, which are told before what stands behind.
+    #[test]
+    fn prefixes_that_are_none(rt: HostRuntime) -> Result<(), Fail> {
+        let table: [(&[u8], Result<Option<RouteCommand>, WordFault>); 13] = [
             (b"route add 10.0.0.0/33 7", Err(WordFault::BadPrefix)),
             (b"route add 010.0.0.0/8 7", Err(WordFault::BadPrefix)),
             (b"route add 10.0.0.0 7", Err(WordFault::BadPrefix)),
@@ -270,6 +315,24 @@ mod tests {
             (b"route add 10.0.0.1/8 x", Err(WordFault::HostBits)),
             (b"route set 10.0.0.1/8 x", Err(WordFault::HostBits)),
             (b"route del 10.0.0.1/8", Err(WordFault::HostBits)),
+        ];
+        read_as(&rt, IpVersion::V4, &table);
+        assert_eq!(rt;
+            WordFault::HostBits.to_string(rt.alloc())?.as_str(),
+            "host bits"
+        );
+        Ok(())
+    }
+
+    /// Numbers, addresses, protocols, ports and frames.
+    #[test]
+    fn words_that_are_wrong(rt: HostRuntime) -> Result<(), Fail> {
+        let table: [(&[u8], Result<Option<RouteCommand>, WordFault>); 17] = [
+            (b"trial x", Err(WordFault::BadCount)),
+            (b"trial 01", Err(WordFault::BadCount)),
+            (b"trial 4294967296", Err(WordFault::BadCount)),
+            (b"crash x", Err(WordFault::BadCount)),
+            (b"crash 4294967296", Err(WordFault::BadCount)),
             (
                 b"route add 10.0.0.0/8 4294967296",
                 Err(WordFault::BadResult),
@@ -301,18 +364,7 @@ mod tests {
                 Err(WordFault::Frame(FrameFault::Short)),
             ),
         ];
-        for (text, answer) in table {
-            assert!(rt; text.len() <= LINE_BYTES);
-            assert_eq!(rt;
-                read_route(&line_of(text), IpVersion::V4),
-                answer,
-                "{text:?}"
-            );
-        }
-        assert_eq!(rt;
-            WordFault::HostBits.to_string(rt.alloc())?.as_str(),
-            "host bits"
-        );
+        read_as(&rt, IpVersion::V4, &table);
         Ok(())
     }
 
@@ -368,14 +420,7 @@ mod tests {
             (b"frame 4500", Err(WordFault::Frame(FrameFault::Version))),
             (b"frame 6000", Err(WordFault::Frame(FrameFault::Short))),
         ];
-        for (text, answer) in table {
-            assert!(rt; text.len() <= LINE_BYTES);
-            assert_eq!(rt;
-                read_route(&line_of(text), IpVersion::V6),
-                answer,
-                "{text:?}"
-            );
-        }
+        read_as(&rt, IpVersion::V6, &table);
         Ok(())
     }
 }

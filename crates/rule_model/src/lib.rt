@@ -26,6 +26,7 @@ mod laws;
 mod priorities;
 #[cfg(test)]
 mod tests;
+mod text;
 
 ghost use Rattle.std.specs.Prelude.{ℕ, ◌≡◌, ◌≢◌, ◌<◌, ◌≤◌, ◌^◌, ◌%◌, ◌-◌, ◌*◌, Some, None, Ok, Err, ◌↔◌, IsNone, IfSome, IfOk, IsTrue, not, nat_eq};
 ghost use Rattle.std.specs.Ordering.{nat_cmp};

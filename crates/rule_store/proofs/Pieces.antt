@@ -1,16 +1,14 @@
 -- How many pieces a rule has, and how many of them the rule that it replaces has too.
 use Rattle.std.proofs.Common.{◌≡◌, ℕ, ◌+◌, ◌-◌, ◌*◌, ◌≤◌, ◌&&◌, length, refl, arith}
 use Rattle.std.specs.List.{list_any}
-use Rattle.std.proofs.lemmas.List.Sums.{count_by-le-length}
 use Rattle.rule_model.specs.declared.Rule.{Rule}
 use Rattle.rule_model.specs.PortRange.{PortRange, same_range, cover, cover_size}
 use Rattle.rule_model.specs.Piece.{same_piece, piece_of, cover_pieces}
 use Rattle.rule_model.proofs.Pairs.{any_products}
 use Rattle.rule_model.proofs.CoverPieces.{length-cover_pieces}
-use Rattle.rule_model.proofs.CoverSize.{cover-size}
 use Rattle.rule_store.specs.declared.Mode.{Mode}
 use Rattle.rule_store.specs.declared.Mode.TheVariants.{Cover, Bits}
-use Rattle.rule_store.specs.Common.{same_ends, common_size, kept_size}
+use Rattle.rule_store.specs.Common.{same_ends, kept_size}
 use Rattle.rule_store.specs.Verdict.{entries_needed, pieces_of, has_piece, fresh_pieces}
 use Rattle.rule_store.proofs.Counts.{count_by-left, count_by-products}
 

@@ -67,12 +67,12 @@ impl Command {
 #[derive(Clone, Copy, Debug, PartialEq, Eq, Error)]
 pub enum BatchFault {
     /// An earlier command of the batch names it, and the two are no removal and then an addition.
-    #[error("named twice")]
+    #[error("priority {0} is named twice")]
     Twice(Rank),
     /// It is to be added, and the set has it.
-    #[error("taken")]
+    #[error("priority {0} is taken")]
     Taken(Rank),
     /// It is to be changed or removed, and the set doesn't have it.
-    #[error("absent")]
+    #[error("priority {0} is absent")]
     Absent(Rank),
 }

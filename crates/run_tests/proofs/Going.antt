@@ -6,7 +6,7 @@ use Rattle.batch_order.specs.Managed.{HeldCommit}
 use Rattle.replay.specs.declared.Act.{Act}
 use Rattle.replay.specs.declared.RunFault.{RunFault}
 use Rattle.replay.specs.declared.RunFault.TheVariants.{BatchFull, ProbesFull, Sink, Device, Memory, Held}
-use Rattle.replay.specs.Fates.{Breaks}
+use Rattle.replay.specs.Fates.{AnswersBroken}
 use Rattle.replay.specs.Running.{Running, AreLeft, ComesTo, IsUntouched, LeavesWords}
 
 -- none, where no commit is unfinished
@@ -34,14 +34,14 @@ words_left slots old new act (Err (Held more)) events_old events_new taken_old t
     same-left old new flight_old flight_new comes.run leaves left
 
 -- no call may follow a failure of the sink, or want of memory at a crash
-pub whole_left : (act : Act) (result : Result (Unit {0}) RunFault) (broken : Bool) → Breaks act result broken → result ≢ Err Sink → result ≢ Err Memory → broken ≡ false
-whole_left act (Ok done) broken breaks sound kept = breaks
-whole_left act (Err Sink) broken breaks sound kept = absurd (sound refl)
-whole_left act (Err Device) broken breaks sound kept = breaks
-whole_left act (Err Memory) broken breaks sound kept = absurd (kept refl)
-whole_left act (Err BatchFull) broken breaks sound kept = breaks
-whole_left act (Err ProbesFull) broken breaks sound kept = breaks
-whole_left act (Err (Held more)) broken breaks sound kept = breaks
+pub whole_left : (act : Act) (result : Result (Unit {0}) RunFault) (broken : Bool) → AnswersBroken act result broken → result ≢ Err Sink → result ≢ Err Memory → broken ≡ false
+whole_left act (Ok done) broken broke sound kept = broke
+whole_left act (Err Sink) broken broke sound kept = absurd (sound refl)
+whole_left act (Err Device) broken broke sound kept = broke
+whole_left act (Err Memory) broken broke sound kept = absurd (kept refl)
+whole_left act (Err BatchFull) broken broke sound kept = broke
+whole_left act (Err ProbesFull) broken broke sound kept = broke
+whole_left act (Err (Held more)) broken broke sound kept = broke
 
 -- what comes of want of memory, by whether the manager was lost
 abbrev WantsBy : Bool → Type 0 → Type 0 → Type 0

@@ -6,10 +6,8 @@
 #[cfg(test)]
 mod crashed;
 #[cfg(test)]
+mod ended;
+#[cfg(test)]
 mod resumed;
 #[cfg(test)]
-mod scarce;
-#[cfg(test)]
 mod stuck;
-#[cfg(test)]
-mod tried;

@@ -161,21 +161,6 @@ pub(crate) fn commit<D: ReadBack>(
     is_cut(&outcome)
 }
 
-/// Tries the pending batch, which is taken back where it has more than one write, and tells whether the device cut that.
-pub(crate) fn try_out<D: ReadBack>(
-    run: &mut Run,
-    sink: &mut MemSink,
-    device: &mut D,
-) -> Result<bool, Fail>
-    requires going { CanGoOn run.old (D.slot_count device.old) (D.spare device.old) (D.events device.old) (D.flight device.old) }
-    requires few { run.old.commits < 100 }
-    ensures going { OnOk result (CanGoOn run.new (D.slot_count device.new) (D.spare device.new) (D.events device.new) (D.flight device.new)) }
-    ensures few { run.new.commits ≤ run.old.commits + 1 }
-{
-    let outcome = apply(run, &Act::Trial(1), sink, device);
-    is_cut(&outcome)
-}
-
 /// Goes on with the commit that is unfinished, if one is, to its end.
 pub(crate) fn finish<D: ReadBack>(
     run: &mut Run,
@@ -253,7 +238,7 @@ fn run_of(alloc: Global, script: &Script) -> Result<Run, Fail>
 }
 
 /// A sink with room for a report.
-fn empty_sink(alloc: Global) -> Result<MemSink, Fail> {
+pub(crate) fn empty_sink(alloc: Global) -> Result<MemSink, Fail> {
     let mut sink = MemSink::new(alloc)?;
     sink.reserve(4096)?;
     Ok(sink)

@@ -1,6 +1,5 @@
 -- A commit that crashes does up to then what any commit does.
-use Rattle.std.proofs.Common.{◌≡◌, ℕ, zero, suc, ◌+◌, inl, inr, Bool, List, [], ◌∷◌, ◌++◌, length, refl, sym, ap, ◌∙◌, subst, append_assoc}
-use Rattle.std.specs.List.{AllByRecursion}
+use Rattle.std.proofs.Common.{◌≡◌, ℕ, zero, suc, ◌+◌, List, [], ◌∷◌, ◌++◌, length, refl, sym, ap, ◌∙◌, subst, append_assoc}
 use Rattle.rule_store.specs.Verdict.{Accepted, verdict}
 use Rattle.tcam_device.specs.declared.Write.{Write}
 use Rattle.tcam_device.specs.declared.Action.{Action}
@@ -9,9 +8,9 @@ use Rattle.tcam_device.specs.Flight.{writes_in}
 use Rattle.tcam_device.specs.State.{state_after}
 use Rattle.commit_writes.specs.Actions.{up_to_writes}
 use Rattle.replay.specs.declared.Act.{Act}
-use Rattle.replay.specs.declared.Act.TheVariants.{Commit, Crash}
+use Rattle.replay.specs.declared.Act.TheVariants.{Commit}
 use Rattle.replay.specs.Effects.{Setting, Effect, Prints, effects_of, flushed, waiting_after}
-use Rattle.replay.specs.Run.{Progress, Commits, CrashesIn, HasEffects, IsCutBeforeCrash, Judged, StopsAtCrash, actions_before, actions_for, after_segment, carried}
+use Rattle.replay.specs.Run.{Progress, Commits, CrashesIn, HasEffects, IsCutBeforeCrash, Judged, StopsAtCrash, actions_before, actions_for, after_segment}
 use Rattle.replay.specs.Text.{accepted_line}
 use Rattle.replay.proofs.Effects.{effects-append}
 

@@ -1,5 +1,5 @@
 -- How a run ends, by the acts that were carried out before.
-use Rattle.std.proofs.Common.{◌≡◌, inl, inr, ℕ, ◌∷◌, ◌++◌, Bool, true, false, Option, None, Err, List, [], refl, ap, sym, ◌∙◌, subst, append-nil}
+use Rattle.std.proofs.Common.{◌≡◌, inl, inr, ℕ, ◌∷◌, ◌++◌, Bool, true, false, Option, None, Err, List, [], refl, sym, ◌∙◌, subst}
 use Rattle.std.specs.Io.KnownBytes.{Appends}
 use Rattle.std.proofs.KnownBytes.{Appends-trans}
 use Rattle.tcam_device.specs.declared.Action.{Action}

@@ -107,8 +107,8 @@ CrashesNowhere script = AllByRecursion (λ act. IsCrash act → ⊥) (acts_of sc
 -- acts. Memory is wanting only before a commit's first write, or where it crashes: so in a script without crashes want of
 -- memory leaves no commit half made. A commit prints its line after its last write: so a line that fails leaves none half
 -- made where no write has a line of its own. A device write that fails each time may, and so may the line of a write, or
--- a crash: the writes then end within a commit, where each key has the answer of the set before it or of the one after it
--- (`answers` of IsHitlessRun), and nothing more can be said.
+-- a crash that finds no memory: the writes then end within a commit, where each key has the answer of the set before it or
+-- of the one after it (`answers` of IsHitlessRun), and nothing more can be said.
 abbrev pub EndsAs : State → Setting → List Bool → Script → Script → Status → List Write → Type 0
 EndsAs state setting backs script came Done writes = EndsAtLast state (sets_of setting backs script) writes
 EndsAs state setting backs script came Refused writes = EndsAtLast state (sets_of setting backs script) writes

@@ -9,7 +9,7 @@ use Rattle.rule_model.specs.declared.Field.{Field}
 use Rattle.rule_model.specs.declared.Field.TheVariants.{Src, Dst}
 use Rattle.tcam_device.specs.declared.Write.{Write}
 use Rattle.tcam_device.specs.declared.Write.TheVariants.{Slot, Table}
-use Rattle.tcam_device.specs.State.{State, IsState, apply, blank, replay, state_after, table_of}
+use Rattle.tcam_device.specs.State.{State, apply, blank, replay, state_after, table_of}
 use Rattle.tcam_device.proofs.States.{IsState-blank}
 
 -- no write changes the size of a table

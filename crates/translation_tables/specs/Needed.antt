@@ -9,12 +9,7 @@ use Rattle.rule_store.specs.declared.Command.TheVariants.{Add, Set, Del}
 use Rattle.rule_store.specs.Batch.{additions}
 use Rattle.rule_store.specs.Verdict.{coded_ranges}
 use Rattle.range_bits.specs.LiveRanges.{LiveRanges, bit_of, with_ranges}
-use Rattle.commit_writes.specs.Bits.{FieldBits}
-
--- the live ranges of a field
-abbrev pub ranges_in : Field → FieldBits → LiveRanges
-ranges_in Src bits = bits.src
-ranges_in Dst bits = bits.dst
+use Rattle.commit_writes.specs.Bits.{FieldBits, ranges_in}
 
 -- those of some ranges that have no bit
 abbrev pub without_bits : LiveRanges → List PortRange → List PortRange

@@ -9,9 +9,9 @@ ghost use Rattle.rule_store.specs.Batch.{additions};
 ghost use Rattle.range_bits.specs.LiveRanges.{kept_ranges, with_ranges};
 ghost use Rattle.range_bits.specs.FieldMap.{live_count};
 ghost use Rattle.commit_writes.specs.Actions.{have_bits};
-ghost use Rattle.commit_writes.specs.Bits.{bits_left, new_bits, no_bits, with_bits};
+ghost use Rattle.commit_writes.specs.Bits.{bits_left, new_bits, no_bits, with_bits, ranges_in};
 ghost use Rattle.translation_tables.specs.Needed as needed;
-ghost use Rattle.translation_tables.specs.Needed.{ranges_in, ranges_needed, ranges_without, with_needed};
+ghost use Rattle.translation_tables.specs.Needed.{ranges_needed, ranges_without, with_needed};
 
 use range_bits::{BitMap, FIELD_BITS};
 use rule_model::{Field, Piece, Ports, Rule};

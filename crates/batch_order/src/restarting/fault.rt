@@ -1,7 +1,7 @@
 //! Why no manager is rebuilt.
 
 ghost use Rattle.std.specs.Prelude.{◌≡◌};
-ghost use Rattle.batch_order.specs.Restarted as restarted;
+ghost use Rattle.batch_order.specs.Restart as restarted;
 
 use crate::Field;
 use readback::{Rejection, StageFault};
@@ -15,10 +15,10 @@ pub enum RestartFault {
     #[error("the batch is refused: {0}")]
     Refused(Rejection),
     /// The bits that were handed in are not those of the set's port ranges.
-    #[error("other port ranges have bits than those of the rules")]
+    #[error("other {0} port ranges have bits than those of the rules")]
     BitsDiffer(Field),
     /// A bit of a table's word at this port doesn't say whether the port is in the bit's range.
-    #[error("the table's word at port {port} is wrong")]
+    #[error("the {field} table's word at port {port} is wrong")]
     Word { field: Field, port: u16 },
     /// The slot holds an entry that is none of the commit's, or isn't in use.
     #[error("slot {slot} holds an entry of no rule")]
@@ -30,7 +30,7 @@ pub enum RestartFault {
     #[error("slot {slot} holds an entry once more")]
     Twin { slot: u32 },
     /// An entry of this rule is missing, or a task of it is done before an earlier one.
-    #[error("a rule is carried out in part")]
+    #[error("the rule of priority {priority} is carried out in part")]
     Gap { priority: Rank },
     /// Want of memory.
     #[error("out of memory")]

@@ -7,7 +7,7 @@ ghost use Rattle.commit_writes.specs.Bits as live_bits;
 ghost use Rattle.readback.specs.Fault.{AreSetBits};
 ghost use Rattle.batch_order.specs.CarriedOut.{GoesForward, HasRoomBothWays, HasRoomLeft};
 ghost use Rattle.batch_order.specs.Managed.{HasBlankTables, IsOn, Serves};
-ghost use Rattle.batch_order.specs.Restarted.{AnswersRestart, ArePartsOf, bits_in};
+ghost use Rattle.batch_order.specs.Restart.{AnswersRestart, ArePartsOf, bits_in};
 
 use crate::Placement;
 use crate::manager::Manager;

@@ -9,12 +9,12 @@ ghost use Rattle.commit_writes.specs.PlannedBatch.{IsIdOf, IsRewriteOf};
 ghost use Rattle.batch_order.specs.Entries.{AddsIds, HaveIds};
 ghost use Rattle.batch_order.specs.Placing.{aims_from};
 ghost use Rattle.batch_order.specs.Planning.{AreAllPlanned, ArePlannedSince, IsPlannable};
-ghost use Rattle.batch_order.specs.Restarting.{planned_twin};
+ghost use Rattle.batch_order.specs.Standing.{planned_twin};
 
 use crate::Placement;
 use crate::entries::LiveEntries;
 use crate::insertions::plan_more;
-use crate::parts::{Parts, ids_of, rewrites};
+use crate::parts::{CommitParts, ids_of, rewrites};
 use crate::plan::{Plan, plan_changes};
 use crate::planned_writes::PlannedWrite;
 use batch_pieces::Ranked;
@@ -31,7 +31,7 @@ pub(crate) fn parts_left(
     alloc: Global,
     live: &LiveEntries,
     shown: &Shown,
-) -> Result<Parts, AllocError>
+) -> Result<CommitParts, AllocError>
     requires encodable { AllByRecursion (λ ranked. IsEncodable ranked.piece) shown.now.rewritten.items }
     requires rewritten { HaveIds live.now.live (drop (shown.now.stage.done - length shown.now.inserted.items) shown.now.rewritten.items) }
     requires erased { HaveIds live.now.live (drop (shown.now.stage.done - length shown.now.inserted.items - length shown.now.rewritten.items) shown.now.erased.items) }
@@ -47,7 +47,7 @@ pub(crate) fn parts_left(
     let rewritten = pieces_behind(alloc, &shown.rewritten, done)?;
     let done = done.saturating_sub(shown.rewritten.len());
     let erased = pieces_behind(alloc, &shown.erased, done)?;
-    Ok(Parts {
+    Ok(CommitParts {
         inserted,
         rewrites: rewrites(alloc, live, &rewritten)?,
         erased: ids_of(alloc, live, &erased)?,
@@ -83,7 +83,7 @@ pub(crate) fn plan_rest<D: Writable>(
     mode: Mode,
     rules: &Store,
     made: u32,
-    parts: &Parts,
+    parts: &CommitParts,
     live: &mut LiveEntries,
     arrangement: &mut Arrangement,
     plan: &mut Plan,

@@ -12,15 +12,15 @@ ghost use Rattle.readback.specs.Stage.{Finds};
 ghost use Rattle.readback.specs.Tasks.{commit_pieces, known_pieces};
 ghost use Rattle.batch_order.specs.CarriedOut.{HasRoomBothWays, HasRoomLeft};
 ghost use Rattle.batch_order.specs.Kept.{IsManaged, bits_of, mode_of, tables_of};
-ghost use Rattle.batch_order.specs.Restarted.{Resumes, bits_in};
+ghost use Rattle.batch_order.specs.Restart.{Resumes, bits_in};
 ghost use Rattle.batch_order.specs.Managed.{HasBlankTables};
-ghost use Rattle.batch_order.specs.Restarting.{managed_by};
+ghost use Rattle.batch_order.specs.Standing.{managed_by};
 ghost use Rattle.batch_order.specs.Stopped.{IsPlannedOn, IsReadAgain, IsStopped, held_from};
 
 use crate::Placement;
 use crate::entries::LiveEntries;
 use crate::held::Held;
-use crate::parts::Parts as Changes;
+use crate::parts::CommitParts;
 use crate::plan::{Plan, erase_all};
 use crate::restarting::rest::{parts_left, plan_rest, plan_twin};
 use crate::restarting::standing::{Standing, arrangement_with_twin, standing_in};
@@ -163,7 +163,7 @@ fn hold(
 struct Rest {
     plan: Plan,
     bits: Option<FieldBits>,
-    left: Changes,
+    left: CommitParts,
     ids: Vec<u32>,
 }
 

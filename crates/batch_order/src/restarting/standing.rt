@@ -2,7 +2,7 @@
 
 ghost use Rattle.std.specs.Prelude.{◌≡◌, ◌<◌, ◌≤◌, ◌∷◌, [], true, IfOk, IfSome, Some, length, slice_set};
 ghost use Rattle.slot_order.specs.Order as order;
-ghost use Rattle.batch_order.specs.Restarting.{AreEncodable, AreStanding, HasPieceOf, IsWithTwin, without_twin};
+ghost use Rattle.batch_order.specs.Standing.{AreEncodable, AreStanding, HasPieceOf, IsWithTwin, without_twin};
 
 use crate::entries::LiveEntries;
 use batch_pieces::Ranked;

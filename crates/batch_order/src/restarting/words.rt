@@ -5,7 +5,7 @@ ghost use Rattle.rule_store.specs.declared.Mode.TheVariants as modes;
 ghost use Rattle.tcam_device.specs.State.{replay};
 ghost use Rattle.commit_writes.specs.Bits as live_bits;
 ghost use Rattle.batch_order.specs.Kept.{bits_of, mode_of, tables_of};
-ghost use Rattle.batch_order.specs.Restarted.{bits_in};
+ghost use Rattle.batch_order.specs.Restart.{bits_in};
 
 use crate::Field;
 use crate::translation::Translation;

@@ -3,10 +3,10 @@ use Rattle.std.proofs.lemmas.List.{length-append, take_all}
 use Rattle.std.proofs.lemmas.List.Sums.{fold-append}
 use Rattle.tcam_device.specs.declared.Write.{Write}
 use Rattle.tcam_device.specs.State.{State, apply, state_after}
+use Rattle.commit_writes.specs.Undo.{restorings}
 use Rattle.batch_order.specs.declared.planned_writes.PlannedWrite.{PlannedWrite}
 use Rattle.batch_order.specs.Kept.{settled_state}
 use Rattle.batch_order.specs.Planning.{as_write, as_writes}
-use Rattle.batch_order.specs.Restoring.{restorings}
 use Rattle.batch_order.specs.Undoing.{TellOf}
 use Rattle.batch_order.proofs.Meant.{as_append}
 use Rattle.batch_order.proofs.Restored.{restorings-more}

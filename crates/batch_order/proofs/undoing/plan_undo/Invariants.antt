@@ -3,9 +3,9 @@ use Rattle.std.specs.Prelude.{vec_capacity}
 use Rattle.tcam_device.specs.State.{state_after}
 use Rattle.commit_writes.specs.declared.Rewrite.{Rewrite}
 use Rattle.commit_writes.specs.Planned.{IdEntries}
+use Rattle.commit_writes.specs.Undo.{restorings}
 use Rattle.batch_order.specs.Kept.{settled_state}
 use Rattle.batch_order.specs.Planning.{as_writes}
-use Rattle.batch_order.specs.Restoring.{restorings}
 use Rattle.batch_order.specs.Undoing.{TellOf}
 use Rattle.batch_order.proofs.undoing.plan_undo.Given as goal
 

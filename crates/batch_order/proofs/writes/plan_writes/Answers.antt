@@ -4,10 +4,10 @@ use Rattle.overlap_index.specs.declared.LivePiece.{LivePiece}
 use Rattle.overlap_index.specs.Live.{is_live}
 use Rattle.rule_store.specs.Verdict.{entries_of}
 use Rattle.rule_store.specs.declared.Mode.{Mode}
+use Rattle.commit_writes.specs.Undo.{restorings}
 use Rattle.batch_order.specs.declared.planned_writes.PlannedWrite.{PlannedWrite}
 use Rattle.batch_order.specs.Kept.{settled_state}
 use Rattle.batch_order.specs.Planning.{IsWithin, as_writes}
-use Rattle.batch_order.specs.Restoring.{restorings}
 use Rattle.batch_order.proofs.Cleared.{all_stand}
 use Rattle.batch_order.proofs.Leading.{changed_stand, still_changed, still_live}
 use Rattle.batch_order.proofs.Refused.{adds_first, kept_back}

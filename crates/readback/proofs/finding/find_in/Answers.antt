@@ -1,6 +1,5 @@
 use Rattle.std.proofs.Common.{inl, inr, sym, refl, subst}
 use Rattle.readback.specs.Fault.{IsOneTooMany}
-use Rattle.readback.specs.Places.{IsBehindLower}
 use Rattle.readback.proofs.SortedSlots.{crossed_there, missing_there, early_there, sorted}
 use Rattle.readback.proofs.finding.find_in.Goals as goal
 

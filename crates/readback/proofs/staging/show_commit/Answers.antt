@@ -1,26 +1,11 @@
-use Rattle.std.proofs.Common.{sym, ◌∙◌, subst}
+use Rattle.std.proofs.Common.{◌∙◌}
 use Rattle.std.proofs.lemmas.Result.{err_from_is_err_and}
-use Rattle.readback.specs.Fault.{AreSetBits}
-use Rattle.readback.proofs.StageFound.{differ_answers, maps_are, is_read, old_by, inserted_by, rewritten_by, erased_by, new_word_found, shown_tell, shown_are, all_encodable, can_be_made, is_a_state}
+use Rattle.readback.proofs.StageFound.{old_by, inserted_by, rewritten_by, erased_by, new_word_found, shown_tell, shown_are, all_encodable, can_be_made, is_a_state}
 use Rattle.readback.proofs.staging.show_commit.Goals as goal
-
-pub returns-in_err-check_maps-clause-stage : goal.returns-in_err-check_maps-clause-stage
-returns-in_err-check_maps-clause-stage g c =
-    let p = err_from_is_err_and c.from_residual.result c.from_residual.ensures.1 in
-    rw (p.1, p.2) (differ_answers _ _ _ _ _ _ _ c.in_err-check_maps.ensures.differ)
-
-pub live_meanwhile-live-requires-clause-are : goal.live_meanwhile-live-requires-clause-are
-live_meanwhile-live-requires-clause-are g c =
-    subst (AreSetBits c.args.mode c.args.parts.now.rules.rules) (sym (maps_are c.of_maps-bits.result c.args.parts.now.src c.args.parts.now.dst c.of_maps-bits.ensures.src c.of_maps-bits.ensures.dst)) c.in_ok-check_maps.ensures.are
 
 pub commit_of-requires : goal.commit_of-requires
 commit_of-requires g c =
-    let maps = c.in_ok-check_maps.ensures in
-    let words = c.in_ok-check_words.ensures in
-    let live = c.live_meanwhile-live in
-    let read = is_read c.args.slots c.args.mode c.args.parts.now.src c.args.parts.now.dst c.args.parts.now.rules.rules c.args.batch.now (g.D.Writable.slot_count c.args.device.now) (g.D.Writable.journal c.args.device.now)
-    live.result c.of_maps-bits.result c.requires.accepted c.right_rules.ensures.is_set c.right_rules.ensures.right c.changes_rules.ensures maps.src maps.dst maps.are
-    c.of_maps-bits.ensures.src c.of_maps-bits.ensures.dst words.right words.short live.ensures.coded live.ensures.during in
+    let read = c.in_ok-live.ensures.read in
     record {
       is_set = read.can.is_set;
       sound = read.can.sound;
@@ -32,64 +17,25 @@ commit_of-requires g c =
 
 pub returns-in_err-check_new_words-clause-stage : goal.returns-in_err-check_new_words-clause-stage
 returns-in_err-check_new_words-clause-stage g c =
-    let maps = c.in_ok-check_maps.ensures in
-    let words = c.in_ok-check_words.ensures in
-    let live = c.live_meanwhile-live in
-    let read = is_read c.args.slots c.args.mode c.args.parts.now.src c.args.parts.now.dst c.args.parts.now.rules.rules c.args.batch.now (g.D.Writable.slot_count c.args.device.now) (g.D.Writable.journal c.args.device.now)
-    live.result c.of_maps-bits.result c.requires.accepted c.right_rules.ensures.is_set c.right_rules.ensures.right c.changes_rules.ensures maps.src maps.dst maps.are
-    c.of_maps-bits.ensures.src c.of_maps-bits.ensures.dst words.right words.short live.ensures.coded live.ensures.during in
     let p = err_from_is_err_and c.from_residual-in_err-check_new_words.result c.from_residual-in_err-check_new_words.ensures.1 in
-    rw (p.1, p.2) (new_word_found _ _ _ _ _ _ _ read c.in-Ok.commit c.deref.result.now c.in-Ok.ensures (c.deref.ensures.value ∙ c.in-Ok-read_slots.ensures.slots)
+    rw (p.1, p.2) (new_word_found _ _ _ _ _ _ _ c.in_ok-live.ensures.read c.in-Ok.commit c.deref.result.now c.in-Ok.ensures (c.deref.ensures.value ∙ c.in-Ok-read_slots.ensures.slots)
     c.args.slots c.in_err-check_new_words.field-0.0 c.in_err-check_new_words.ensures.wrong)
 
 pub returns-clause-stage : goal.returns-clause-stage
 returns-clause-stage g c =
-    let maps = c.in_ok-check_maps.ensures in
-    let words = c.in_ok-check_words.ensures in
-    let live = c.live_meanwhile-live in
-    let read = is_read c.args.slots c.args.mode c.args.parts.now.src c.args.parts.now.dst c.args.parts.now.rules.rules c.args.batch.now (g.D.Writable.slot_count c.args.device.now) (g.D.Writable.journal c.args.device.now)
-    live.result c.of_maps-bits.result c.requires.accepted c.right_rules.ensures.is_set c.right_rules.ensures.right c.changes_rules.ensures maps.src maps.dst maps.are
-    c.of_maps-bits.ensures.src c.of_maps-bits.ensures.dst words.right words.short live.ensures.coded live.ensures.during in
-    shown_tell _ _ _ _ _ _ _ read c.in-Ok.commit c.in-Ok-read_slots.held.items c.in-Ok.ensures c.in-Ok-read_slots.ensures.slots c.args.slots c.show_in.result
+    shown_tell _ _ _ _ _ _ _ c.in_ok-live.ensures.read c.in-Ok.commit c.in-Ok-read_slots.held.items c.in-Ok.ensures c.in-Ok-read_slots.ensures.slots c.args.slots c.show_in.result
     (rw c.deref.ensures.value at c.in_ok-check_new_words.ensures.right) (rw c.deref-2.ensures.value at c.show_in.ensures.found) (rw c.deref-2.ensures.value at c.show_in.ensures.fault)
 
 pub returns-clause-shown : goal.returns-clause-shown
 returns-clause-shown g c =
-    let maps = c.in_ok-check_maps.ensures in
-    let words = c.in_ok-check_words.ensures in
-    let live = c.live_meanwhile-live in
-    let read = is_read c.args.slots c.args.mode c.args.parts.now.src c.args.parts.now.dst c.args.parts.now.rules.rules c.args.batch.now (g.D.Writable.slot_count c.args.device.now) (g.D.Writable.journal c.args.device.now)
-    live.result c.of_maps-bits.result c.requires.accepted c.right_rules.ensures.is_set c.right_rules.ensures.right c.changes_rules.ensures maps.src maps.dst maps.are
-    c.of_maps-bits.ensures.src c.of_maps-bits.ensures.dst words.right words.short live.ensures.coded live.ensures.during in
-    shown_are _ _ _ _ _ _ _ read c.in-Ok.commit c.in-Ok-read_slots.held.items c.in-Ok.ensures c.in-Ok-read_slots.ensures.slots c.show_in.result
+    shown_are _ _ _ _ _ _ _ c.in_ok-live.ensures.read c.in-Ok.commit c.in-Ok-read_slots.held.items c.in-Ok.ensures c.in-Ok-read_slots.ensures.slots c.show_in.result
     (rw c.deref-2.ensures.value at c.show_in.ensures.shown)
 
 pub returns-clause-encodable : goal.returns-clause-encodable
-returns-clause-encodable g c =
-    let maps = c.in_ok-check_maps.ensures in
-    let words = c.in_ok-check_words.ensures in
-    let live = c.live_meanwhile-live in
-    let read = is_read c.args.slots c.args.mode c.args.parts.now.src c.args.parts.now.dst c.args.parts.now.rules.rules c.args.batch.now (g.D.Writable.slot_count c.args.device.now) (g.D.Writable.journal c.args.device.now)
-    live.result c.of_maps-bits.result c.requires.accepted c.right_rules.ensures.is_set c.right_rules.ensures.right c.changes_rules.ensures maps.src maps.dst maps.are
-    c.of_maps-bits.ensures.src c.of_maps-bits.ensures.dst words.right words.short live.ensures.coded live.ensures.during in
-    all_encodable _ _ _ _ _ _ _ read c.show_in.result
+returns-clause-encodable g c = all_encodable _ _ _ _ _ _ _ c.in_ok-live.ensures.read c.show_in.result
 
 pub returns-clause-can : goal.returns-clause-can
-returns-clause-can g c =
-    let maps = c.in_ok-check_maps.ensures in
-    let words = c.in_ok-check_words.ensures in
-    let live = c.live_meanwhile-live in
-    let read = is_read c.args.slots c.args.mode c.args.parts.now.src c.args.parts.now.dst c.args.parts.now.rules.rules c.args.batch.now (g.D.Writable.slot_count c.args.device.now) (g.D.Writable.journal c.args.device.now)
-    live.result c.of_maps-bits.result c.requires.accepted c.right_rules.ensures.is_set c.right_rules.ensures.right c.changes_rules.ensures maps.src maps.dst maps.are
-    c.of_maps-bits.ensures.src c.of_maps-bits.ensures.dst words.right words.short live.ensures.coded live.ensures.during in
-    can_be_made _ _ _ _ _ _ _ read c.show_in.result
+returns-clause-can g c = can_be_made _ _ _ _ _ _ _ c.in_ok-live.ensures.read c.show_in.result
 
 pub returns-clause-is_state : goal.returns-clause-is_state
-returns-clause-is_state g c =
-    let maps = c.in_ok-check_maps.ensures in
-    let words = c.in_ok-check_words.ensures in
-    let live = c.live_meanwhile-live in
-    let read = is_read c.args.slots c.args.mode c.args.parts.now.src c.args.parts.now.dst c.args.parts.now.rules.rules c.args.batch.now (g.D.Writable.slot_count c.args.device.now) (g.D.Writable.journal c.args.device.now)
-    live.result c.of_maps-bits.result c.requires.accepted c.right_rules.ensures.is_set c.right_rules.ensures.right c.changes_rules.ensures maps.src maps.dst maps.are
-    c.of_maps-bits.ensures.src c.of_maps-bits.ensures.dst words.right words.short live.ensures.coded live.ensures.during in
-    is_a_state _ _ _ _ _ _ _ read c.show_in.result
+returns-clause-is_state g c = is_a_state _ _ _ _ _ _ _ c.in_ok-live.ensures.read c.show_in.result

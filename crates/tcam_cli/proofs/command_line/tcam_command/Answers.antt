@@ -1,7 +1,7 @@
 use Rattle.std.proofs.Common.{◌≡◌, ◌∙◌, ap, ap₂, true, codes}
 use Rattle.clap.specs.Words.{App, app_of, with_subcommand, new_app}
 use Rattle.clap.specs.Simple.{app_of_fields, on_top}
-use Rattle.tcam_cli.specs.CommandLine.{acl_command, route_command, tcam_command, tcam_top}
+use Rattle.tcam_cli.specs.CommandLine.{route_command, tcam_command, tcam_top}
 use Rattle.tcam_cli.proofs.command_line.tcam_command.Goals as goal
 
 abbrev versioned : App → App

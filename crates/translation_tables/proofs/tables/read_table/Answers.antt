@@ -1,4 +1,4 @@
-use Rattle.std.proofs.Common.{◌≡◌, ℕ, arith}
+use Rattle.std.proofs.Common.{arith}
 use Rattle.tcam_device.specs.State.{replay, table_of}
 use Rattle.translation_tables.proofs.ReadBack.{table_size, next_word, all_words, one_more_short}
 use Rattle.translation_tables.proofs.tables.read_table.Goals as goal

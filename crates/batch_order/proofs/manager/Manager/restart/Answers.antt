@@ -5,8 +5,8 @@ use Rattle.tcam_device.specs.State.{State, replay}
 use Rattle.readback.specs.declared.Parts.{Parts}
 use Rattle.batch_order.specs.declared.Placement.{Placement}
 use Rattle.batch_order.specs.Managed.{Managed, Serves}
-use Rattle.batch_order.specs.Restarted.{IsRestartFault, Resumes}
-use Rattle.batch_order.specs.Restarting.{managed_by}
+use Rattle.batch_order.specs.Restart.{IsRestartFault, Resumes}
+use Rattle.batch_order.specs.Standing.{managed_by}
 use Rattle.batch_order.proofs.RestartFaults.{memory_answers, stage_answers}
 use Rattle.batch_order.proofs.manager.Manager.restart.Goals as goal
 

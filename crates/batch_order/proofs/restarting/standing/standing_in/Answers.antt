@@ -6,7 +6,7 @@ use Rattle.ternary_word.specs.Entry.{RankedPiece, entry_for}
 use Rattle.overlap_index.specs.declared.LivePiece.{LivePiece}
 use Rattle.commit_writes.specs.Planned.{entry_at}
 use Rattle.batch_order.specs.Entries.{Entries}
-use Rattle.batch_order.specs.Restarting.{AreStanding, without_twin}
+use Rattle.batch_order.specs.Standing.{AreStanding, without_twin}
 use Rattle.batch_order.proofs.Placed.{placed_more, placed_over}
 use Rattle.batch_order.proofs.Twinned.{of_all}
 use Rattle.batch_order.proofs.restarting.standing.standing_in.Goals.{in-Some+in_ok-id, in_default}

@@ -1,6 +1,6 @@
 use Rattle.std.proofs.Common.{◌≡◌, ℕ, ◌≤◌, None, length}
 use Rattle.slot_order.specs.Order.{slot}
-use Rattle.batch_order.specs.Restarting.{AreStanding, without_twin}
+use Rattle.batch_order.specs.Standing.{AreStanding, without_twin}
 use Rattle.batch_order.proofs.restarting.standing.standing_in.Given as goal
 
 -- the first slots have ids for their pieces, and the others are empty

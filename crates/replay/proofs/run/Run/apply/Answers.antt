@@ -1,7 +1,7 @@
 -- What an act comes to, once it is marked whether the sink failed.
 use Rattle.std.proofs.Common.{ap}
 use Rattle.replay.specs.Running.{Running}
-use Rattle.replay.proofs.InStep.{breaks-marked, comes-marked, in-step-marked, stays-marked}
+use Rattle.replay.proofs.InStep.{sink_failed-marked, comes-marked, in-step-marked, stays-marked}
 use Rattle.replay.proofs.Leftover.{words-marked}
 use Rattle.replay.proofs.run.Run.apply.Goals as goal
 
@@ -15,7 +15,7 @@ returns-clause-unfinished g c = λ which cut at.
 
 pub returns-clause-broken : goal.returns-clause-broken
 returns-clause-broken g c =
-    breaks-marked c.args.act.now c.perform-result.result c.perform-result.new.self.broken c.mark.new.self.broken (ap (λ (run : Running). run.broken) c.mark.ensures) c.perform-result.ensures.broken
+    sink_failed-marked c.args.act.now c.perform-result.result c.perform-result.new.self.broken c.mark.new.self.broken (ap (λ (run : Running). run.broken) c.mark.ensures) c.perform-result.ensures.broken
 
 pub returns-clause-in_flight : goal.returns-clause-in_flight
 returns-clause-in_flight g c = words-marked c.perform-result.new.self _ c.perform-result.result _ _ c.mark.ensures c.perform-result.ensures.in_flight

@@ -3,7 +3,7 @@ use Rattle.std.proofs.Common.{◌≡◌, None, rules, sym, ap, subst, ◌∙◌}
 use Rattle.replay.specs.Running.{Running}
 use Rattle.replay.specs.Unfinished.{StaysInStep}
 use Rattle.replay.proofs.Exits.{refused-acts, taken-acts, taken-run, taken-stays}
-use Rattle.replay.proofs.InStep.{in-step-kept, in-step-taken, loses-so}
+use Rattle.replay.proofs.InStep.{in-step-kept, in-step-taken, memory_wanted-so}
 use Rattle.replay.proofs.Leaving.{leaves-line, line-counted, no-write}
 use Rattle.replay.proofs.Leftover.{left-taken, words-from, words-kept}
 use Rattle.replay.proofs.run.Run.commit.Goals as goal
@@ -48,7 +48,7 @@ pub returns-in-Err-clause-in_flight : goal.returns-in-Err-clause-in_flight
 returns-in-Err-clause-in_flight g c = words-kept c.refuse.new.self c.refuse.result (g.D.Writable.flight c.args.device.now) (g.D.Writable.flight c.prepare.new.device) c.prepare.ensures.flight c.requires.none_in_flight (no-write c.refuse.result c.refuse.ensures.kind)
 
 pub returns-in-Ok-clause-broken : goal.returns-in-Ok-clause-broken
-returns-in-Ok-clause-broken g c = loses-so c.args.fate c.carry_out.result c.carry_out.new.self.broken c.carry_out.ensures.broken c.carry_out.ensures.kind
+returns-in-Ok-clause-broken g c = memory_wanted-so c.args.fate c.carry_out.result c.carry_out.new.self.broken c.carry_out.ensures.broken c.carry_out.ensures.kind
 
 pub returns-in-Ok-clause-in_step : goal.returns-in-Ok-clause-in_step
 returns-in-Ok-clause-in_step g c = λ not_sink.

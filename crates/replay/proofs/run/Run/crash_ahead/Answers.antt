@@ -6,5 +6,5 @@ use Rattle.replay.proofs.run.Run.crash_ahead.Goals as goal
 pub overflow_add-self-inside : goal.overflow_add-self-inside
 overflow_add-self-inside c =
     let few : c.self.inside.count.told + c.in_ok-left.left ≤ 2 ^ 40 =
-    few-told c.in-Crashes.after _ c.args.self.now c.self.view_is c.self.invariant c.requires.held c.in-Crashes.is c.in_ok-left.left (cc) in
+    few-told c.in-CrashAfter.after _ c.args.self.now c.self.view_is c.self.invariant c.requires.held c.in-CrashAfter.is c.in_ok-left.left (cc) in
     search rules

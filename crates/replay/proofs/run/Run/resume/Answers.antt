@@ -1,7 +1,7 @@
 -- What the rest of the commit comes to, once it is marked whether the sink failed.
 use Rattle.std.proofs.Common.{rules, ◌≡◌, None, refl, ap, ◌∙◌}
 use Rattle.std.specs.Prelude.{◌||◌}
-use Rattle.replay.specs.Running.{Running, breaks}
+use Rattle.replay.specs.Running.{Running, sink_failed}
 use Rattle.replay.proofs.RestOf.{never-idle}
 use Rattle.replay.proofs.Exits.{marked-resumes}
 use Rattle.replay.proofs.InStep.{in-step-kept, in-step-marked}
@@ -26,7 +26,7 @@ returns-then-is_none-clause-in_flight g c = none-of-left c.args.self.now (g.D.Wr
 
 pub returns-clause-broken : goal.returns-clause-broken
 returns-clause-broken g c =
-    ap (λ (run : Running). run.broken) c.mark.ensures ∙ ap (λ lost. lost || breaks c.carry_out-result.result) c.carry_out-result.ensures.broken
+    ap (λ (run : Running). run.broken) c.mark.ensures ∙ ap (λ lost. lost || sink_failed c.carry_out-result.result) c.carry_out-result.ensures.broken
 
 pub returns-clause-in_step : goal.returns-clause-in_step
 returns-clause-in_step g c =

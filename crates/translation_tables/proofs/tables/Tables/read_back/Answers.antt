@@ -1,5 +1,5 @@
-use Rattle.std.proofs.Common.{◌≡◌, ℕ, List, [], ap, sym, ◌∙◌, subst, refl, length}
-use Rattle.tcam_device.specs.State.{State, IsState, replay}
+use Rattle.std.proofs.Common.{◌≡◌, ℕ, List, [], ap, ◌∙◌, refl, length}
+use Rattle.tcam_device.specs.State.{State, replay}
 use Rattle.rule_model.specs.declared.Field.TheVariants.{Src, Dst}
 use Rattle.translation_tables.proofs.ReadBack.{table_size}
 use Rattle.translation_tables.proofs.tables.Tables.read_back.Goals as goal

@@ -1,11 +1,10 @@
 -- The pieces that stand in a device, and what is left of its commit.
-use Rattle.std.specs.Prelude.{◌≡◌, ℕ, ◌+◌, ◌-◌, ◌<◌, ◌≤◌, IfSome, Option, Some, None, List, ◌++◌, [], ◌∷◌, Contains, drop, length, option_map, slice_set}
-use Rattle.std.specs.List.{AllByRecursion}
+use Rattle.std.specs.Prelude.{◌≡◌, ℕ, ◌<◌, ◌≤◌, IfSome, Option, Some, None, List, [], ◌∷◌, Contains, length, option_map, slice_set}
 use Rattle.slot_order.specs.Order.{slot}
 use Rattle.slot_pool.specs.Arrangement.{Slots}
 use Rattle.ternary_word.specs.Entry.{RankedPiece, IsEncodable, entry_for}
 use Rattle.overlap_index.specs.declared.LivePiece.{LivePiece}
-use Rattle.commit_writes.specs.Planned.{IdEntries, entry_at}
+use Rattle.commit_writes.specs.Planned.{entry_at}
 use Rattle.commit_writes.specs.PlannedBatch.{IsIdOf}
 use Rattle.move_planner.specs.declared.Move.TheVariants.{Erase}
 use Rattle.batch_order.specs.declared.planned_writes.PlannedWrite.{PlannedWrite}

@@ -1,5 +1,5 @@
 -- Writes with a drain among them serve live ranges all the way, where the states that they pass do.
-use Rattle.std.proofs.Common.{◌≡◌, ℕ, suc, if◌then◌else◌, ◌+◌, ◌≤◌, Bool, true, false, List, [], ◌∷◌, ◌++◌, length, map, take, drop, ◌⊎◌, inl, inr, refl, sym, ◌∙◌, ap, subst, arith}
+use Rattle.std.proofs.Common.{◌≡◌, ℕ, suc, ◌+◌, ◌≤◌, Bool, true, false, List, [], ◌∷◌, ◌++◌, length, map, take, drop, ◌⊎◌, inl, inr, refl, sym, ◌∙◌, ap, subst, arith}
 use Rattle.std.proofs.lemmas.List.{append-nil, take-take, length-take}
 use Rattle.std.proofs.lemmas.List.Sums.{count_by-le-length}
 use Rattle.std.proofs.Math.Seq.{take-add, take-length}
@@ -14,16 +14,20 @@ use Rattle.commit_writes.specs.Actions.{with_drain}
 use Rattle.commit_writes.specs.Bits.{FieldBits}
 use Rattle.commit_writes.specs.InFlight.{ArePartOf, ServesLive, ServingTo, LeadsTo}
 use Rattle.commit_writes.specs.Segments.{live_behind}
-use Rattle.commit_writes.proofs.Actions.{same_part, writes_of_map, writes_in-append}
+use Rattle.commit_writes.proofs.Current.{current_part}
+use Rattle.commit_writes.proofs.WritesIn.{writes_of_map, writes_in-append}
 
-part_of_part : (least less more : FieldBits) → ArePartOf least less → ArePartOf less more → ArePartOf least more
+abbrev pub same_part : (bits : FieldBits) → ArePartOf bits bits
+same_part bits = record { src = λ bit range live. live; dst = λ bit range live. live }
+
+pub part_of_part : (least less more : FieldBits) → ArePartOf least less → ArePartOf less more → ArePartOf least more
 part_of_part least less more inner outer = record {
   src = λ bit range live. outer.src bit range (inner.src bit range live);
   dst = λ bit range live. outer.dst bit range (inner.dst bit range live);
 }
 
 -- some writes serve the same ranges after each of them, and what follows serves on
-serving_on : (bits last : FieldBits) (state : State) (writes : List Write) (rest : List Action)
+pub serving_on : (bits last : FieldBits) (state : State) (writes : List Write) (rest : List Action)
     → ((n : ℕ) → n ≤ length writes → ServesLive bits (state_after state (take n writes)))
     → ServingTo bits (state_after state writes) rest last → ServingTo bits state (map Written writes ++ rest) last
 serving_on bits last state [] rest each on = on
@@ -31,7 +35,7 @@ serving_on bits last state (write ∷ writes) rest each on =
     (each 0 (omega arith), (bits, same_part bits, serving_on bits last (apply state write) writes rest (λ n below. each (suc n) (omega arith)) on))
 
 -- with nothing behind them they serve these to the end
-serving_all : (bits : FieldBits) (state : State) (writes : List Write)
+pub serving_all : (bits : FieldBits) (state : State) (writes : List Write)
     → ((n : ℕ) → n ≤ length writes → ServesLive bits (state_after state (take n writes)))
     → ServingTo bits state (map Written writes) bits
 serving_all bits state writes each =
@@ -45,8 +49,18 @@ serving_less bits less last state (Written write ∷ actions) part on =
     (on.0, (on.1.0, on.1.1, serving_less on.1.0 less last (apply state write) actions part on.1.2))
 serving_less bits less last state (Drained ∷ actions) part on = (on.0, (on.1.0, serving_less on.1.0 less last state actions part on.1.1))
 
+-- where the same ranges are live in both, a state serves both
+pub serves_same : (some others : FieldBits) (state : State) → ArePartOf some others → ArePartOf others some → ServesLive others state → ServesLive some state
+serves_same some others state part back serves = record {
+  src_words = serves.src_words;
+  dst_words = serves.dst_words;
+  src_right = λ bit range live. serves.src_right bit range (part.src bit range live);
+  dst_right = λ bit range live. serves.dst_right bit range (part.dst bit range live);
+  tested = λ at entry held key a b first second. serves.tested at entry held key a b (current_part others some key a back first) (current_part others some key b back second);
+}
+
 -- the first of some writes
-front_of_writes : (front back : List Action) (writes : List Write) → map Written writes ≡ front ++ back
+pub front_of_writes : (front back : List Action) (writes : List Write) → map Written writes ≡ front ++ back
     → (n : ℕ) × (n ≤ length writes) × (front ≡ map Written (take n writes))
 front_of_writes [] back writes is = (0, omega arith, refl)
 front_of_writes (action ∷ front) back [] is = absurd (cc)
@@ -58,7 +72,7 @@ front_of_writes (action ∷ front) back (write ∷ writes) is =
     (suc w.0, omega arith, ap (λ a. a ∷ front) (sym head) ∙ ap (λ xs. Written write ∷ xs) w.2)
 
 -- of writes with a drain among them: either the first before it, or all before it and the first behind it
-front_of_drained : (front back : List Action) (a b : List Write) → map Written a ++ Drained ∷ map Written b ≡ front ++ back
+pub front_of_drained : (front back : List Action) (a b : List Write) → map Written a ++ Drained ∷ map Written b ≡ front ++ back
     → ((n : ℕ) × (n ≤ length a) × (front ≡ map Written (take n a)))
     ⊎ ((n : ℕ) × (n ≤ length b) × (front ≡ map Written a ++ Drained ∷ map Written (take n b)))
 front_of_drained [] back a b is = inl (0, omega arith, refl)
@@ -76,11 +90,11 @@ front_of_drained (action ∷ front) back (write ∷ a) b is =
     ]
 
 -- the ranges that are live behind writes alone, and behind a drain among them
-live_writes : (before meanwhile : FieldBits) (writes : List Write) → live_behind before meanwhile (map Written writes) ≡ before
+pub live_writes : (before meanwhile : FieldBits) (writes : List Write) → live_behind before meanwhile (map Written writes) ≡ before
 live_writes before meanwhile [] = refl
 live_writes before meanwhile (write ∷ writes) = live_writes before meanwhile writes
 
-live_drained : (before meanwhile : FieldBits) (writes : List Write) (rest : List Action) → live_behind before meanwhile (map Written writes ++ Drained ∷ rest) ≡ meanwhile
+pub live_drained : (before meanwhile : FieldBits) (writes : List Write) (rest : List Action) → live_behind before meanwhile (map Written writes ++ Drained ∷ rest) ≡ meanwhile
 live_drained before meanwhile [] rest = refl
 live_drained before meanwhile (write ∷ writes) rest = live_drained before meanwhile writes rest
 
@@ -102,13 +116,13 @@ module _ (before meanwhile : FieldBits) (drains : Bool) (state : State) (made : 
   abbrev back_part : List Write
   back_part = drop count made
 
-  in_front : (n : ℕ) → n ≤ length front_part → ServesLive before (state_after state (take n front_part))
+  pub in_front : (n : ℕ) → n ≤ length front_part → ServesLive before (state_after state (take n front_part))
   in_front n below =
       let size = length-take count made in
       let few : n ≤ count = omega arith in
       subst (λ ws. ServesLive before (state_after state ws)) (sym (take-take n count made few)) (passed.early n few)
 
-  behind : (n : ℕ) → ServesLive meanwhile (state_after (state_after state front_part) (take n back_part))
+  pub behind : (n : ℕ) → ServesLive meanwhile (state_after (state_after state front_part) (take n back_part))
   behind n =
       let whole : state_after state (take (count + n) made) ≡ state_after (state_after state front_part) (take n back_part) =
       ap (state_after state) (take-add count n made) ∙ state_after-append state front_part (take n back_part) in
@@ -181,46 +195,3 @@ module _ (before meanwhile : FieldBits) (drains : Bool) (state : State) (made : 
       )
       go true some =
           subst (λ ws. LeadsTo before state (map Written front_part ++ Drained ∷ map Written ws) meanwhile) (take-length back_part) (lead_over_drain (length back_part))
-
--- Some ranges that are told by what stands behind the first of some writes are live there: those that are live meanwhile only once the
--- drain is made, where one is due.
-module _ (bits before meanwhile : FieldBits) (drains : Bool) (state : State) (made : List Write) (stands : State → Bool) (inner : ArePartOf bits before) (outer : ArePartOf bits meanwhile)
-    (part : drains ≡ false → ArePartOf meanwhile before) (none : drains ≡ true → (n : ℕ) → n ≤ table_writes made → stands (state_after state (take n made)) ≡ false) where
-  abbrev Lives : List Action → Type 0
-  Lives front = ArePartOf (if stands (state_after state (writes_in front)) then meanwhile else bits) (live_behind before meanwhile front)
-
-  either : (b : Bool) (others : FieldBits) → ArePartOf meanwhile others → ArePartOf bits others → ArePartOf (if b then meanwhile else bits) others
-  either true others some less = some
-  either false others some less = less
-
-  -- before a drain
-  at_first : (n : ℕ) (writes : List Write) (front : List Action) → front ≡ map Written (take n writes)
-      → ArePartOf (if stands (state_after state (take n writes)) then meanwhile else bits) before → Lives front
-  at_first n writes front is lives =
-      subst Lives (sym is)
-      (subst (λ ws. ArePartOf (if stands (state_after state ws) then meanwhile else bits) (live_behind before meanwhile (map Written (take n writes)))) (sym (writes_of_map (take n writes)))
-      (subst (ArePartOf (if stands (state_after state (take n writes)) then meanwhile else bits)) (sym (live_writes before meanwhile (take n writes))) lives))
-
-  pub front_lives : (front back : List Action) → with_drain drains made ≡ front ++ back → Lives front
-  front_lives front back parts = go drains refl parts
-    where
-      count : ℕ
-      count = table_writes made
-
-      go : (due : Bool) → drains ≡ due → with_drain due made ≡ front ++ back → Lives front
-      go false undue is =
-          let w = front_of_writes front back made is in
-          at_first w.0 made front w.2 (either (stands (state_after state (take w.0 made))) before (part undue) inner)
-      go true due is = elim (front_of_drained front back (take count made) (drop count made) is) [
-        | inl w ↦
-            let size = length-take count made in
-            let short = w.1 in
-            let few : w.0 ≤ count = omega arith in
-            let same : stands (state_after state (take w.0 (take count made))) ≡ false = ap (λ ws. stands (state_after state ws)) (take-take w.0 count made few) ∙ none due w.0 few in
-            at_first w.0 (take count made) front w.2 (subst (λ b. ArePartOf (if b then meanwhile else bits) before) (sym same) inner)
-        | inr w ↦
-            subst Lives (sym w.2)
-            (subst (ArePartOf (if stands (state_after state (writes_in (map Written (take count made) ++ Drained ∷ map Written (take w.0 (drop count made))))) then meanwhile else bits))
-            (sym (live_drained before meanwhile (take count made) (map Written (take w.0 (drop count made)))))
-            (either (stands (state_after state (writes_in (map Written (take count made) ++ Drained ∷ map Written (take w.0 (drop count made)))))) meanwhile (same_part meanwhile) outer))
-      ]
