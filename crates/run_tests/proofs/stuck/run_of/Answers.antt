@@ -1,5 +1,0 @@
-use Rattle.run_tests.proofs.Starting.{begun_going}
-use Rattle.run_tests.proofs.stuck.run_of.Goals as goal
-
-pub returns-clause-going : goal.returns-clause-going
-returns-clause-going c = rw c.in_ok-new.ensures (begun_going _ _ _ _ _ _)
