@@ -17,12 +17,10 @@ use Rattle.batch_order.specs.declared.held.Held.{Held}
 use Rattle.batch_order.specs.declared.translation.Translation.{Translation}
 use Rattle.batch_order.specs.Entries.{Entries}
 use Rattle.batch_order.specs.Kept.{IsManaged, held_of, held_writes, left_of, most_made, settled_state, turned_at}
-use Rattle.batch_order.specs.Managed.{HeldCommit, Managed, live_now, writes_due}
-use Rattle.batch_order.specs.Passed.{WayBackFrom}
+use Rattle.batch_order.specs.Managed.{HeldCommit, Managed, live_now, writes_due, room_both_ways, room_needed}
+use Rattle.batch_order.specs.Passed.{WayBackFrom, HasWayBack}
 use Rattle.batch_order.specs.Steps.{Aborts, TurnsBack, TurnsPrepared}
 use Rattle.batch_order.specs.CarriedOut.{HasRoomBothWays, HasRoomLeft}
-use Rattle.batch_order.specs.Passed.{HasWayBack}
-use Rattle.batch_order.specs.Managed.{room_both_ways, room_needed}
 use Rattle.batch_order.proofs.Carried.{held_size, view_of}
 use Rattle.batch_order.proofs.Drains.{writes_left_are}
 use Rattle.batch_order.proofs.OnWay.{managed_at}

@@ -4,8 +4,8 @@ use Rattle.std.proofs.lemmas.List.{length-drop}
 use Rattle.rule_model.specs.declared.Rule.{Rule}
 use Rattle.rule_store.specs.declared.Mode.{Mode}
 use Rattle.rule_store.specs.Verdict.{entries_of}
-use Rattle.ternary_word.specs.Entry.{RankedPiece}
-use Rattle.move_planner.specs.declared.Aim.{Aim}
+use Rattle.rule_model.specs.Entry.{RankedPiece}
+use Rattle.placement.specs.declared.Aim.{Aim}
 use Rattle.batch_order.specs.declared.Placement.{Placement}
 use Rattle.batch_order.specs.Placing.{aim_of, aims_from, aims_of}
 

@@ -11,7 +11,7 @@ use Rattle.rule_store.specs.declared.Mode.{Mode}
 use Rattle.rule_store.specs.Batch.{additions, removes, set_after}
 use Rattle.rule_store.specs.Store.{StoredRules}
 use Rattle.rule_store.specs.Verdict.{replaced_rule}
-use Rattle.ternary_word.specs.Entry.{RankedPiece}
+use Rattle.rule_model.specs.Entry.{RankedPiece}
 use Rattle.tcam_device.specs.State.{State, IsInUse, Shows, on_device}
 use Rattle.tcam_device.specs.Hitless.{ShowsOldOrNew}
 use Rattle.tcam_device.proofs.Wider.{Shows-padded, all_take, state_after-on_device}

@@ -15,7 +15,7 @@ use Rattle.commit_writes.specs.Bits.{FieldBits, new_bits}
 use Rattle.rule_model.specs.declared.Field.TheVariants.{Src, Dst}
 use Rattle.rule_store.specs.Batch.{set_after}
 use Rattle.tcam_device.specs.Insertion.{is_table_write}
-use Rattle.batch_pieces.specs.Changes.{during_of}
+use Rattle.commit_writes.specs.Changes.{during_of}
 use Rattle.batch_order.specs.declared.Placement.{Placement}
 use Rattle.batch_order.specs.declared.Step.TheVariants as step
 use Rattle.batch_order.specs.Managed.{HeldCommit, Managed}
@@ -146,10 +146,6 @@ module _ (translation : Option Translation) (rules : StoredRules) (kept : Entrie
             in_use = subst (IsInUse (length slots)) one (restoring_in_use (length slots) (state_after begun (take k writes)) last.0
                 (all_at (IsInUse (length slots)) writes k last.0 managed.carried.in_use (inside k is) (get_or_from_slice_get writes k last.0 last.0 last.1.read)));
           }
-
-  -- with none left none is
-  pub none_back : held.made ≡ 0 → next_of (Some (held_of translation slots rules.rules kept.entries held)) ≡ None
-  none_back none = back_next translation rules kept slots held undone turned ∙ ap (λ n. slice_get (undo_writes begun (take n writes)) 0) none
 
   -- each write has one
   pub undo_size : length held.undo.items ≡ length held.writes.items

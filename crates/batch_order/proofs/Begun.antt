@@ -11,8 +11,8 @@ use Rattle.rule_model.specs.Rule.{HasConditions}
 use Rattle.rule_model.specs.RuleSet.{IsRuleSet}
 use Rattle.rule_store.specs.declared.Mode.{Mode}
 use Rattle.rule_store.specs.Store.{StoredRules}
-use Rattle.overlap_index.proofs.Live.{apart_none}
-use Rattle.move_planner.specs.Insertion.{free_slots}
+use Rattle.placement.proofs.Live.{apart_none}
+use Rattle.placement.specs.Insertion.{free_slots}
 use Rattle.tcam_device.specs.State.{IsState, blank}
 use Rattle.tcam_device.proofs.States.{IsState-blank}
 use Rattle.tcam_device.proofs.Wider.{empty_slot}

@@ -1,22 +1,21 @@
 -- Carrying out a commit: the writes that are left, and the new rules put in at its end.
 use Rattle.std.proofs.Common.{◌≡◌, ℕ, ◌+◌, ◌-◌, ◌<◌, ◌≤◌, List, [], ◌∷◌, ◌++◌, length, take, drop, slice_get, replicate, Option, Some, None, refl, sym, ap, ap₂, subst, ◌∙◌, arith, length-drop, length-set, get_or, add-one, zero, suc}
 use Rattle.std.specs.List.{AllByRecursion}
-use Rattle.std.proofs.lemmas.List.{set-append_left, length-map, length-replicate, replicate-append-replicate}
+use Rattle.std.proofs.lemmas.List.{set-append_left, length-map, length-replicate, replicate-append-replicate, take_all}
 use Rattle.std.proofs.Math.Seq.{drop-cons}
 use Rattle.std.proofs.lemmas.List.Sums.{fold-append}
-use Rattle.std.proofs.lemmas.List.{take_all}
 use Rattle.slot_pool.specs.Arrangement.{Slots}
 use Rattle.rule_model.specs.declared.Rule.{Rule}
 use Rattle.rule_model.specs.RuleSet.{IsRuleSet}
 use Rattle.rule_model.specs.Rule.{HasConditions}
 use Rattle.rule_model.specs.declared.Field.TheVariants.{Src, Dst}
-use Rattle.ternary_word.specs.declared.Entry.{Entry}
+use Rattle.rule_model.specs.declared.words.Entry.{Entry}
 use Rattle.rule_store.specs.declared.Mode.{Mode}
 use Rattle.commit_writes.specs.Serving.{AreBitsOf}
 use Rattle.rule_store.specs.Store.{StoredRules}
 use Rattle.rule_store.specs.Batch.{set_after}
 use Rattle.rule_store.proofs.After.{set_after-set}
-use Rattle.overlap_index.specs.declared.LivePiece.{LivePiece}
+use Rattle.placement.specs.declared.LivePiece.{LivePiece}
 use Rattle.tcam_device.specs.declared.Write.{Write}
 use Rattle.tcam_device.specs.declared.Write.TheVariants.{Slot, Table}
 use Rattle.tcam_device.specs.declared.Action.{Action}

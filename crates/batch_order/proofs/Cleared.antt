@@ -7,16 +7,15 @@ use Rattle.slot_order.specs.Order.{slot}
 use Rattle.slot_order.proofs.Lists.{contains_cases, contains_none, in_filter}
 use Rattle.slot_order.proofs.Writes.{slot_same, slot_other, slot_inside}
 use Rattle.slot_pool.specs.Arrangement.{Slots}
-use Rattle.overlap_index.specs.declared.LivePiece.{LivePiece}
-use Rattle.overlap_index.specs.Live.{is_live, is_above, without_id}
-use Rattle.overlap_index.proofs.Above.{above_is, is_above_from}
-use Rattle.overlap_index.proofs.Live.{apart_filter}
-use Rattle.move_planner.specs.Insertion.{free_slots}
+use Rattle.placement.specs.declared.LivePiece.{LivePiece}
+use Rattle.placement.specs.Live.{is_live, is_above, without_id}
+use Rattle.placement.proofs.Above.{above_is, is_above_from}
+use Rattle.placement.proofs.Live.{apart_filter}
+use Rattle.placement.specs.Insertion.{free_slots}
 use Rattle.move_planner.proofs.Shifted.{free_erase}
 use Rattle.commit_writes.specs.PlannedBatch.{home_slot, erased_live, erased_slots}
 use Rattle.batch_order.specs.Entries.{Entries}
-use Rattle.batch_order.specs.Planning.{IsSettled}
-use Rattle.batch_order.specs.Planning.{IsStanding}
+use Rattle.batch_order.specs.Planning.{IsSettled, IsStanding}
 use Rattle.commit_writes.proofs.Rewrites.{home_is}
 use Rattle.batch_order.proofs.Ids.{gone, length_without}
 use Rattle.batch_order.proofs.Standing.{stands_at}

@@ -79,15 +79,6 @@ due_first true left write (OneTable one more is word) due =
       word = λ still. ap is_table_write (sym same) ∙ word;
     }
 
--- no write is due where all were made, or where the drain is next
-pub none_due : (awaits : Bool) (left : List Write) → AreTablesFirst left → due_write (with_drain awaits left) ≡ None → is_drain_next (with_drain awaits left) ≡ false → (awaits ≡ false) × (left ≡ [])
-none_due false [] first none next = (refl, refl)
-none_due false (one ∷ more) first none next = absurd (cc)
-none_due true left (NoTable all) none next = let clash : true ≡ false = ap is_drain_next (sym (drained_next left all)) ∙ next in absurd (cc)
-none_due true left (OneTable one more is word) none next =
-    let shape : with_drain true left ≡ Written one ∷ with_drain true more = ap (with_drain true) is ∙ drained_later one more word in
-    let clash : Some one ≡ None = ap due_write (sym shape) ∙ none in absurd (cc)
-
 not_drained : (writes : List Write) → is_drain_next (map Written writes) ≡ false
 not_drained [] = refl
 not_drained (write ∷ writes) = refl

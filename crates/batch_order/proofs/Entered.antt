@@ -4,11 +4,11 @@ use Rattle.std.proofs.lemmas.Bool.{false_from_ne_true}
 use Rattle.std.proofs.lemmas.List.{take-append-drop}
 use Rattle.slot_order.specs.Order.{slot}
 use Rattle.slot_pool.specs.Arrangement.{Slots}
-use Rattle.ternary_word.specs.declared.Entry.{Entry}
-use Rattle.ternary_word.specs.Entry.{RankedPiece}
-use Rattle.overlap_index.specs.declared.LivePiece.{LivePiece}
-use Rattle.overlap_index.specs.Live.{is_live, without_id}
-use Rattle.overlap_index.proofs.Above.{is_live_from}
+use Rattle.rule_model.specs.declared.words.Entry.{Entry}
+use Rattle.rule_model.specs.Entry.{RankedPiece}
+use Rattle.placement.specs.declared.LivePiece.{LivePiece}
+use Rattle.placement.specs.Live.{is_live, without_id}
+use Rattle.placement.proofs.Above.{is_live_from}
 use Rattle.commit_writes.specs.Planned.{AreEntriesOf, contents}
 use Rattle.batch_order.specs.Entries.{KeepEntries}
 use Rattle.batch_order.proofs.Ids.{gone}

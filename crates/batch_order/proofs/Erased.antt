@@ -1,10 +1,10 @@
 -- Live ids of which some are live no more.
 use Rattle.std.proofs.Common.{◌≡◌, ℕ, Option, List, [], ◌∷◌, ◌++◌, None, Contains, IsTrue, set, subst}
 use Rattle.std.proofs.lemmas.List.Sums.{fold-append}
-use Rattle.ternary_word.specs.declared.Entry.{Entry}
-use Rattle.overlap_index.specs.declared.LivePiece.{LivePiece}
-use Rattle.overlap_index.specs.Live.{is_live, without_id}
-use Rattle.overlap_index.proofs.Above.{live_is, is_live_from}
+use Rattle.rule_model.specs.declared.words.Entry.{Entry}
+use Rattle.placement.specs.declared.LivePiece.{LivePiece}
+use Rattle.placement.specs.Live.{is_live, without_id}
+use Rattle.placement.proofs.Above.{live_is, is_live_from}
 use Rattle.commit_writes.specs.PlannedBatch.{erased_live}
 use Rattle.commit_writes.proofs.Erases.{in_erased, erased_in}
 use Rattle.batch_order.specs.Entries.{KeepEntries}

@@ -8,7 +8,7 @@ use Rattle.rule_store.proofs.Counts.{count_by-cons}
 use Rattle.slot_order.specs.Order.{slot}
 use Rattle.slot_order.proofs.Lists.{contains_cases, contains_head, contains_tail, contains_none}
 use Rattle.slot_pool.specs.Arrangement.{Slots}
-use Rattle.move_planner.specs.Insertion.{free_slots}
+use Rattle.placement.specs.Insertion.{free_slots}
 use Rattle.commit_writes.proofs.Filters.{all_members}
 
 abbrev pub ids_in : Slots → List ℕ

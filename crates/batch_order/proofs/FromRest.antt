@@ -30,7 +30,7 @@ use Rattle.commit_writes.proofs.TableWrites.{bit_writes-tables}
 use Rattle.readback.specs.Laws.{HasUnused}
 use Rattle.readback.specs.Stage.{IsStage}
 use Rattle.readback.proofs.Stages.{segments_pass}
-use Rattle.planned_rests.proofs.Stopped.{unplaced}
+use Rattle.readback.proofs.Stopped.{unplaced}
 use Rattle.batch_order.specs.declared.translation.Translation.{Translation}
 use Rattle.batch_order.specs.Entries.{Entries}
 use Rattle.batch_order.specs.Kept.{AreWordsFirst, IsManaged, bits_of, mode_of, settled_state, tables_of}

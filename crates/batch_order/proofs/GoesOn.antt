@@ -11,8 +11,8 @@ use Rattle.rule_store.specs.declared.Mode.TheVariants.{Cover}
 use Rattle.rule_store.specs.declared.Command.{Command}
 use Rattle.rule_store.specs.Batch.{set_after}
 use Rattle.rule_store.specs.Store.{StoredRules}
-use Rattle.ternary_word.specs.Entry.{RankedPiece}
-use Rattle.overlap_index.specs.declared.LivePiece.{LivePiece}
+use Rattle.rule_model.specs.Entry.{RankedPiece}
+use Rattle.placement.specs.declared.LivePiece.{LivePiece}
 use Rattle.tcam_device.specs.declared.Write.{Write}
 use Rattle.tcam_device.specs.State.{State, IsInUse, IsState, state_after, on_device}
 use Rattle.tcam_device.specs.Insertion.{is_table_write, table_writes}
@@ -33,20 +33,20 @@ use Rattle.commit_writes.proofs.ServedTables.{IsBitsStart, bits_after, words_don
 use Rattle.commit_writes.proofs.SlotWrites.{AreToSlots, LeavesTables, no_table}
 use Rattle.commit_writes.proofs.TableWrites.{all_tables, bit_writes-tables}
 use Rattle.rule_store.proofs.Counts.{count_by-append}
-use Rattle.batch_pieces.specs.Changes.{during_of}
+use Rattle.commit_writes.specs.Changes.{during_of}
 use Rattle.readback.specs.declared.staging.Shown.{Shown}
 use Rattle.readback.specs.Going.{GoesOn, needs_drain, twin_writes}
 use Rattle.readback.specs.Tasks.{CommitPieces, Task, commit_pieces, stands_in}
 use Rattle.readback.proofs.Begun.{begun, change_of}
-use Rattle.planned_rests.specs.Ending.{LeadsOn}
-use Rattle.planned_rests.specs.PlannedRest.{rest_words, restart_writes}
-use Rattle.planned_rests.specs.Restart.{IsPlannedRestart}
-use Rattle.planned_rests.specs.Serving.{stopped_ranges}
-use Rattle.planned_rests.proofs.AtRest.{restarts_lead_on}
-use Rattle.planned_rests.proofs.Restart.{restarts_go_on, to_slots}
-use Rattle.planned_rests.proofs.Same.{stage_on, twin_on}
-use Rattle.planned_rests.proofs.Served.{passed}
-use Rattle.planned_rests.proofs.Serving.{some_stand}
+use Rattle.readback.specs.Ending.{LeadsOn}
+use Rattle.readback.specs.PlannedRest.{rest_words, restart_writes}
+use Rattle.readback.specs.Restart.{IsPlannedRestart}
+use Rattle.readback.specs.Serving.{stopped_ranges}
+use Rattle.readback.proofs.AtRest.{restarts_lead_on}
+use Rattle.readback.proofs.Restart.{restarts_go_on, to_slots}
+use Rattle.readback.proofs.Same.{stage_on, twin_on}
+use Rattle.readback.proofs.Served.{passed}
+use Rattle.readback.proofs.Serving.{some_stand}
 use Rattle.batch_order.specs.declared.Placement.{Placement}
 use Rattle.batch_order.specs.declared.held.Held.{Held}
 use Rattle.batch_order.specs.declared.restarting.resuming.Rest.{Rest}

@@ -24,17 +24,16 @@ use Rattle.commit_writes.specs.PlannedBatch.{IsPlannedSegment, erased_slots, rew
 use Rattle.commit_writes.proofs.BatchRules.{right_after}
 use Rattle.commit_writes.proofs.SlotWrites.{no_table}
 use Rattle.commit_writes.proofs.Undone.{length-undo_writes}
-use Rattle.batch_pieces.specs.Changes.{during_of}
+use Rattle.commit_writes.specs.Changes.{during_of}
 use Rattle.batch_order.specs.declared.held.Held.{Held}
 use Rattle.batch_order.specs.declared.translation.Translation.{Translation}
-use Rattle.batch_order.specs.declared.Ready.{Ready}
 use Rattle.batch_order.specs.declared.Placement.{Placement}
 use Rattle.batch_order.specs.Entries.{AddsIds, Entries}
 use Rattle.batch_order.specs.Planning.{as_writes}
 use Rattle.batch_order.proofs.Refused.{adds_first, adds_last}
 use Rattle.batch_order.specs.Kept.{IsManaged, IsArranged, bits_of, changed_by, held_of, held_writes, mode_of, settled_state, tables_of, translation_after}
 use Rattle.batch_order.specs.Kept as kept
-use Rattle.batch_order.specs.Managed.{CanRestart, HeldCommit, Holds, commit_of, ready_of, room_both_ways}
+use Rattle.batch_order.specs.Managed.{CanRestart, HeldCommit, Holds, commit_of, room_both_ways}
 use Rattle.batch_order.proofs.FromRest.{BeginsAtRest, answers_all, begin, restarts_all, serves_first, serves_then, words_come_first}
 use Rattle.batch_order.proofs.Judged.{idle_count}
 use Rattle.batch_order.proofs.Unchanged.{arranged_same}
@@ -179,16 +178,14 @@ module _ (placement : Placement) (translation : Option Translation) (rules rules
       }
 
   -- the view of such a manager
-  pub holds_plan : (ready : Ready) → ready ≡ ready_of held.counts → Holds (view_of placement translation rules old slots None) batch ready (view_of placement translation rules' new slots (Some held))
-  holds_plan ready counts =
+  pub holds_plan : Holds (view_of placement translation rules old slots None) batch held.counts (view_of placement translation rules' new slots (Some held))
+  holds_plan =
       let plan = holds.plan in
       record {
         made = writes;
-        counts = held.counts;
         new_is = ap₂ (λ (r : List Rule) (s : State). record { slots = length slots; mode = mode; placement = placement; rules = r; bits = bits; state = s; held = Some (held_of translation slots rules'.rules new.entries held) }) holds.same
             (ap (λ (n : ℕ). state_after begun (take n writes)) holds.made ∙ same_begun)
             ∙ ap (λ (h : HeldCommit). record { slots = length slots; mode = mode; placement = placement; rules = rules.rules; bits = bits; state = before; held = Some h }) commit_is;
-        ready_is = counts;
         in_use = plan.in_use;
         few = few_planned placement translation rules old new slots middle batch held.rewrites.items held.erased.items writes held.counts plan;
         segment = λ device_slots wide. (made_by device_slots).segment;

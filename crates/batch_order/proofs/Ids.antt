@@ -6,11 +6,11 @@ use Rattle.std.proofs.lemmas.Bool.{false_from_ne_true, eqb-true, eq-eqb}
 use Rattle.std.proofs.lemmas.Bool.Decides.{eqb_tells}
 use Rattle.std.proofs.lemmas.List.{length-append}
 use Rattle.std.proofs.lemmas.List.Folds.{list_any-append}
-use Rattle.ternary_word.specs.declared.Entry.{Entry}
-use Rattle.overlap_index.specs.declared.LivePiece.{LivePiece}
+use Rattle.rule_model.specs.declared.words.Entry.{Entry}
+use Rattle.placement.specs.declared.LivePiece.{LivePiece}
 use Rattle.slot_order.proofs.Lists.{contains_head, contains_tail, all_append, any_is, any_from, in_filter}
-use Rattle.overlap_index.specs.Live.{AreApart, is_live, without_id}
-use Rattle.overlap_index.proofs.Live.{all_apart, apart_more, apart_filter}
+use Rattle.placement.specs.Live.{AreApart, is_live, without_id}
+use Rattle.placement.proofs.Live.{all_apart, apart_more, apart_filter}
 use Rattle.batch_order.specs.Entries.{AreKept, AreAll}
 
 -- the front of a list of which all members pass

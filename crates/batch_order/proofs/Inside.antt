@@ -2,22 +2,23 @@
 use Rattle.std.proofs.Common.{ℕ, List, [], ◌∷◌, length, map}
 use Rattle.std.specs.List.{AllByRecursion}
 use Rattle.slot_order.specs.Order.{Ordered}
-use Rattle.slot_order.proofs.Whole.{IsWhole}
-use Rattle.slot_order.proofs.Inside.{AllInside, whole_inside}
+use Rattle.slot_moves.proofs.Whole.{IsWhole}
+use Rattle.slot_order.proofs.Inside.{AllInside}
+use Rattle.slot_moves.proofs.InsideMoves.{whole_inside}
 use Rattle.slot_pool.specs.Arrangement.{Slots}
-use Rattle.overlap_index.specs.Live.{LivePieces, is_above}
-use Rattle.overlap_index.proofs.Above.{rank_in}
-use Rattle.move_planner.specs.declared.Aim.{Aim}
-use Rattle.move_planner.specs.declared.Move.{Move}
-use Rattle.move_planner.specs.declared.Move.TheVariants.{Put, Erase}
-use Rattle.move_planner.specs.Placement.{IsPlacement}
-use Rattle.move_planner.specs.Insertion.{IsLive, IsOther}
-use Rattle.move_planner.specs.Steps.{IsReady}
-use Rattle.move_planner.proofs.Chain.{write_of, Reads}
-use Rattle.move_planner.proofs.Planned.{plan}
-use Rattle.move_planner.proofs.Planner.{Related, ranked_reads}
-use Rattle.move_planner.proofs.Orders.{ranked}
-use Rattle.move_planner.proofs.Readied.{ready_ordered}
+use Rattle.placement.specs.Live.{LivePieces, is_above}
+use Rattle.placement.proofs.Above.{rank_in}
+use Rattle.placement.specs.declared.Aim.{Aim}
+use Rattle.placement.specs.declared.Move.{Move}
+use Rattle.placement.specs.declared.Move.TheVariants.{Put, Erase}
+use Rattle.placement.specs.Placement.{IsPlacement}
+use Rattle.placement.specs.Insertion.{IsLive, IsOther}
+use Rattle.placement.specs.Ready.{IsReady}
+use Rattle.placement.proofs.Chain.{write_of, Reads}
+use Rattle.placement.proofs.Planned.{plan}
+use Rattle.placement.proofs.Planner.{Related, ranked_reads}
+use Rattle.placement.proofs.Orders.{ranked}
+use Rattle.placement.proofs.Readied.{ready_ordered}
 use Rattle.batch_order.specs.Planning.{IsInside}
 
 from_writes : (size : ℕ) (moves : List Move) → AllInside size (map write_of moves) → AllByRecursion (IsInside size) moves

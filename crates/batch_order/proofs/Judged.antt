@@ -14,18 +14,18 @@ use Rattle.rule_store.specs.Verdict.{Verdict, Accepted, OutOfBits, OutOfSlots, b
 use Rattle.rule_store.specs.Store.{StoredRules}
 use Rattle.slot_pool.specs.Arrangement.{Slots}
 use Rattle.range_bits.specs.FieldMap.{live_count}
-use Rattle.move_planner.specs.Insertion.{free_slots}
+use Rattle.placement.specs.Insertion.{free_slots}
 use Rattle.commit_writes.specs.Bits.{FieldBits, bits_with, ranges_in}
 use Rattle.commit_writes.specs.Serving.{AreRangesOf, HaveFreeBits}
-use Rattle.translation_tables.specs.Needed.{AreLive, ranges_needed, with_needed}
-use Rattle.translation_tables.proofs.RulesBits.{are_live, live_count-coded, with_needed-new, without_bits-new}
+use Rattle.commit_writes.specs.Needed.{AreLive, ranges_needed, with_needed}
+use Rattle.commit_writes.proofs.RulesBits.{are_live, live_count-coded, with_needed-new, without_bits-new}
 use Rattle.batch_order.specs.declared.held.Held.{Held}
 use Rattle.batch_order.specs.declared.translation.Translation.{Translation}
-use Rattle.batch_order.specs.declared.Refusal.{Refusal}
-use Rattle.batch_order.specs.declared.Refusal.TheVariants as refusal
+use Rattle.readback.specs.declared.Rejection.{Rejection}
+use Rattle.readback.specs.declared.Rejection.TheVariants as rejection
+use Rattle.readback.specs.Judged.{judgement}
 use Rattle.batch_order.specs.Entries.{Entries}
 use Rattle.batch_order.specs.Kept.{IsManaged, bits_of, held_of, mode_of, needed_by}
-use Rattle.batch_order.specs.Managed.{Answers}
 use Rattle.batch_order.proofs.Numbered.{arranged_few, arranged_number}
 
 sound_by : (fault : Option BatchFault) (room : Verdict) → fault ≡ None → verdict_by fault room ≡ room
@@ -104,10 +104,10 @@ abbrev pub Fits : Field → FieldBits → List Command → Type 0
 Fits field bits batch = live_count (ranges_in field bits) + length (ranges_needed field bits batch) ≤ field_bits
 
 -- or it is refused for want of bits
-abbrev pub IsShort : Field → FieldBits → List Command → Refusal → Type 0
+abbrev pub IsShort : Field → FieldBits → List Command → Rejection → Type 0
 IsShort field bits batch told =
     (field_bits < live_count (ranges_in field bits) + length (ranges_needed field bits batch))
-    × (told ≡ refusal.Bits field (length (ranges_needed field bits batch)) (field_bits - live_count (ranges_in field bits)))
+    × (told ≡ rejection.Bits field (length (ranges_needed field bits batch)) (field_bits - live_count (ranges_in field bits)))
 
 module _ (field : Field) (rules : List Rule) (batch : List Command) (bits : FieldBits) (table : List ℕ) (are : AreRangesOf (coded_ranges field rules) (ranges_in field bits) table) where
   lives : AreLive (ranges_in field bits) (coded_ranges field rules)
@@ -126,32 +126,32 @@ module _ (field : Field) (rules : List Rule) (batch : List Command) (bits : Fiel
   pub field_fits : length (coded_ranges field rules) + length (new_ranges field rules batch) ≤ field_bits → Fits field bits batch
   field_fits fits = (let live = number in let new = needed in omega arith)
 
-  pub short_field : (rest : Verdict) (told : Refusal) → IsShort field bits batch told → Answers (bits_verdict field rules batch rest) (Err told)
+  pub short_field : (rest : Verdict) (told : Rejection) → IsShort field bits batch told → judgement (bits_verdict field rules batch rest) ≡ Err told
   short_field rest told short =
       let over = short.0 in
       let live = number in
       let new = needed in
       let is = bits_short field rules batch rest (omega arith) in
-      subst (λ (v : Verdict). Answers v (Err told)) (sym is)
-      (ap Err (short.1 ∙ ap (λ (n : ℕ). refusal.Bits field n (field_bits - live_count (ranges_in field bits))) new
-      ∙ ap (λ (n : ℕ). refusal.Bits field (length (new_ranges field rules batch)) (field_bits - n)) live))
+      ap judgement is
+      ∙ ap Err (sym (short.1 ∙ ap (λ (n : ℕ). rejection.Bits field n (field_bits - live_count (ranges_in field bits))) new
+      ∙ ap (λ (n : ℕ). rejection.Bits field (length (new_ranges field rules batch)) (field_bits - n)) live))
 
 -- the answers of the checks of a batch by bits
 module _ (slots : ℕ) (rules : List Rule) (batch : List Command) (bits : FieldBits) (src dst : List ℕ) (sound : batch_fault rules batch ≡ None)
     (sources : AreRangesOf (coded_ranges Src rules) bits.src src) (destinations : AreRangesOf (coded_ranges Dst rules) bits.dst dst) where
-  pub src_short : (told : Refusal) → IsShort Src bits batch told → Answers (verdict slots Bits rules batch) (Err told)
+  pub src_short : (told : Rejection) → IsShort Src bits batch told → judgement (verdict slots Bits rules batch) ≡ Err told
   src_short told short =
-      subst (λ (v : Verdict). Answers v (Err told)) (sym (verdict_room slots Bits rules batch sound))
-      (short_field Src rules batch bits src sources (bits_verdict Dst rules batch (slots_verdict slots Bits rules batch)) told short)
+      ap judgement (verdict_room slots Bits rules batch sound)
+      ∙ short_field Src rules batch bits src sources (bits_verdict Dst rules batch (slots_verdict slots Bits rules batch)) told short
 
   src_fit : Fits Src bits batch → verdict slots Bits rules batch ≡ bits_verdict Dst rules batch (slots_verdict slots Bits rules batch)
   src_fit fits =
       verdict_room slots Bits rules batch sound
       ∙ bits_fit Src rules batch (bits_verdict Dst rules batch (slots_verdict slots Bits rules batch)) (fits_field Src rules batch bits src sources fits)
 
-  pub dst_short : Fits Src bits batch → (told : Refusal) → IsShort Dst bits batch told → Answers (verdict slots Bits rules batch) (Err told)
+  pub dst_short : Fits Src bits batch → (told : Rejection) → IsShort Dst bits batch told → judgement (verdict slots Bits rules batch) ≡ Err told
   dst_short fits told short =
-      subst (λ (v : Verdict). Answers v (Err told)) (sym (src_fit fits)) (short_field Dst rules batch bits dst destinations (slots_verdict slots Bits rules batch) told short)
+      ap judgement (src_fit fits) ∙ short_field Dst rules batch bits dst destinations (slots_verdict slots Bits rules batch) told short
 
   pub both_fit : Fits Src bits batch → Fits Dst bits batch → verdict slots Bits rules batch ≡ slots_verdict slots Bits rules batch
   both_fit fits enough = src_fit fits ∙ bits_fit Dst rules batch (slots_verdict slots Bits rules batch) (fits_field Dst rules batch bits dst destinations enough)
@@ -186,10 +186,9 @@ module _ (translation : Option Translation) (rules : StoredRules) (kept : Entrie
 
   -- the answer of an idle manager whose free slots are too few
   pub short_answer : free_slots slots < entries_added (mode_of translation) rules.rules batch
-      → Answers (slots_verdict (length slots) (mode_of translation) rules.rules batch) (Err (refusal.Slots (entries_added (mode_of translation) rules.rules batch) (free_slots slots)))
+      → judgement (slots_verdict (length slots) (mode_of translation) rules.rules batch) ≡ Err (rejection.Slots (entries_added (mode_of translation) rules.rules batch) (free_slots slots))
   short_answer short =
-      let is = slots_short (length slots) (mode_of translation) rules.rules batch (free_slots slots) (idle_count translation rules kept slots idle) short in
-      subst (λ v. Answers v (Err (refusal.Slots (entries_added (mode_of translation) rules.rules batch) (free_slots slots)))) (sym is) refl
+      ap judgement (slots_short (length slots) (mode_of translation) rules.rules batch (free_slots slots) (idle_count translation rules kept slots idle) short)
 
   -- and of one that has enough
   pub enough_slots : entries_added (mode_of translation) rules.rules batch ≤ free_slots slots → slots_verdict (length slots) (mode_of translation) rules.rules batch ≡ Accepted
@@ -197,10 +196,10 @@ module _ (translation : Option Translation) (rules : StoredRules) (kept : Entrie
 
 -- the answers of a manager that keeps a translation, by the checks of its fields
 module _ (kept : Translation) (rules : StoredRules) (entries : Entries) (slots : Slots) (held : Option Held) (batch : List Command) (managed : IsManaged (Some kept) rules entries slots held) (sound : batch_fault rules.rules batch ≡ None) where
-  pub src_answer : (told : Refusal) → IsShort Src kept.bits batch told → Answers (verdict (length slots) Bits rules.rules batch) (Err told)
+  pub src_answer : (told : Rejection) → IsShort Src kept.bits batch told → judgement (verdict (length slots) Bits rules.rules batch) ≡ Err told
   src_answer told short = src_short (length slots) rules.rules batch kept.bits kept.tables.src kept.tables.dst sound managed.translated.0 managed.translated.1 told short
 
-  pub dst_answer : Fits Src kept.bits batch → (told : Refusal) → IsShort Dst kept.bits batch told → Answers (verdict (length slots) Bits rules.rules batch) (Err told)
+  pub dst_answer : Fits Src kept.bits batch → (told : Rejection) → IsShort Dst kept.bits batch told → judgement (verdict (length slots) Bits rules.rules batch) ≡ Err told
   dst_answer fits told short = dst_short (length slots) rules.rules batch kept.bits kept.tables.src kept.tables.dst sound managed.translated.0 managed.translated.1 fits told short
 
   pub bits_answer : Fits Src kept.bits batch → Fits Dst kept.bits batch → verdict (length slots) Bits rules.rules batch ≡ slots_verdict (length slots) Bits rules.rules batch

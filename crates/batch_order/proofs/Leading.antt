@@ -11,10 +11,10 @@ use Rattle.rule_store.specs.declared.Mode.TheVariants.{Cover, Bits}
 use Rattle.rule_store.specs.declared.Command.{Command}
 use Rattle.rule_store.specs.Batch.{set_after}
 use Rattle.rule_store.specs.Store.{StoredRules}
-use Rattle.ternary_word.specs.Entry.{RankedPiece}
-use Rattle.overlap_index.specs.declared.LivePiece.{LivePiece}
-use Rattle.overlap_index.specs.Live.{AreApart, is_live}
-use Rattle.move_planner.specs.Insertion.{free_slots}
+use Rattle.rule_model.specs.Entry.{RankedPiece}
+use Rattle.placement.specs.declared.LivePiece.{LivePiece}
+use Rattle.placement.specs.Live.{AreApart, is_live}
+use Rattle.placement.specs.Insertion.{free_slots}
 use Rattle.tcam_device.specs.declared.Write.{Write}
 use Rattle.tcam_device.specs.State.{State, IsState, state_after, on_device}
 use Rattle.tcam_device.proofs.Spans.{state_after-append}
@@ -34,7 +34,7 @@ use Rattle.commit_writes.proofs.NoBits.{bit_writes-none}
 use Rattle.commit_writes.proofs.ServedTables.{bits_after}
 use Rattle.commit_writes.proofs.SlotWrites.{AreToSlots, LeavesTables, batch_slots}
 use Rattle.commit_writes.proofs.WholeSegment.{batch_segment}
-use Rattle.batch_pieces.specs.Changes.{coded_by}
+use Rattle.commit_writes.specs.Changes.{coded_by}
 use Rattle.batch_order.specs.declared.translation.Translation.{Translation}
 use Rattle.batch_order.specs.declared.Placement.{Placement}
 use Rattle.batch_order.specs.Entries.{Entries}

@@ -11,8 +11,8 @@ use Rattle.range_bits.specs.LiveRanges.{LiveRanges, no_ranges, range_at}
 use Rattle.tcam_device.specs.State.{State}
 use Rattle.commit_writes.specs.Bits.{FieldBits, no_bits}
 use Rattle.commit_writes.specs.Serving.{AreRangesOf, AreBitsOf}
-use Rattle.translation_tables.specs.Needed.{AreLive}
-use Rattle.translation_tables.proofs.SetRanges.{are_by}
+use Rattle.commit_writes.specs.Needed.{AreLive}
+use Rattle.commit_writes.proofs.SetRanges.{are_by}
 use Rattle.readback.specs.Fault.{AreSetBits}
 use Rattle.readback.proofs.SetBits.{both_set}
 

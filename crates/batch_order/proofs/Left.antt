@@ -16,7 +16,7 @@ use Rattle.commit_writes.specs.Actions.{have_bits, with_drain}
 use Rattle.commit_writes.specs.Bits.{new_bits}
 use Rattle.commit_writes.specs.Undo.{restoring, undo_writes}
 use Rattle.commit_writes.proofs.Actions.{undo-append}
-use Rattle.batch_pieces.specs.Changes.{during_of}
+use Rattle.commit_writes.specs.Changes.{during_of}
 use Rattle.batch_order.specs.declared.Placement.{Placement}
 use Rattle.batch_order.specs.declared.Step.{Step}
 use Rattle.batch_order.specs.declared.Step.TheVariants as step

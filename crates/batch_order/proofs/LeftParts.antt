@@ -5,7 +5,7 @@ use Rattle.std.specs.List.{AllByRecursion, filter_map}
 use Rattle.std.proofs.lemmas.List.{drop-map}
 use Rattle.std.proofs.Math.Seq.{drop-append_seam}
 use Rattle.rule_model.proofs.Pairs.{pairs_tail}
-use Rattle.ternary_word.specs.Entry.{RankedPiece}
+use Rattle.rule_model.specs.Entry.{RankedPiece}
 use Rattle.readback.specs.Going.{inserted_by, rewritten_by, erased_by}
 use Rattle.readback.specs.Tasks.{CommitPieces, Task, Insert, Rewrite, Erase, tasks_of}
 use Rattle.readback.proofs.Parted.{all_inserts, all_rewrites, all_erases}

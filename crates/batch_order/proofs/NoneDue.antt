@@ -14,7 +14,7 @@ use Rattle.rule_model.specs.declared.Field.TheVariants.{Src, Dst}
 use Rattle.rule_model.specs.PortRange.{PortRange, is_bit_set, range_holds}
 use Rattle.range_bits.specs.LiveRanges.{LiveRanges, bit_for, newly_live, range_at, with_bit, word_for}
 use Rattle.range_bits.proofs.Words.{with_bit-on}
-use Rattle.ternary_word.specs.Entry.{RankedPiece}
+use Rattle.rule_model.specs.Entry.{RankedPiece}
 use Rattle.tcam_device.specs.State.{State, IsState}
 use Rattle.tcam_device.specs.Order.{IsTranslated}
 use Rattle.commit_writes.specs.Bits.{FieldBits, new_bits}

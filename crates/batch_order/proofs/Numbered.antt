@@ -12,16 +12,16 @@ use Rattle.std.proofs.lemmas.Map.Made.{length-from_same_keys, length-le_from_is_
 use Rattle.std.proofs.lemmas.Slice.Zip.{AllZip-long}
 use Rattle.slot_order.proofs.Lists.{contains_head, contains_tail, in_map, map_in}
 use Rattle.slot_pool.specs.Arrangement.{Slots}
-use Rattle.overlap_index.specs.declared.LivePiece.{LivePiece}
-use Rattle.overlap_index.specs.Live.{AreApart}
-use Rattle.overlap_index.proofs.Above.{piece_in, piece_is}
+use Rattle.placement.specs.declared.LivePiece.{LivePiece}
+use Rattle.placement.specs.Live.{AreApart}
+use Rattle.placement.proofs.Above.{piece_in, piece_is}
 use Rattle.rule_model.specs.declared.Piece.{Piece}
 use Rattle.rule_model.specs.declared.Rule.{Rule}
 use Rattle.rule_model.proofs.Pairs.{pairs_head, pairs_tail}
 use Rattle.rule_model.specs.RuleSet.{IsRuleSet}
 use Rattle.rule_store.specs.declared.Mode.{Mode}
 use Rattle.rule_store.specs.Verdict.{entries_of}
-use Rattle.ternary_word.specs.Entry.{RankedPiece}
+use Rattle.rule_model.specs.Entry.{RankedPiece}
 use Rattle.commit_writes.specs.Bits.{FieldBits}
 use Rattle.commit_writes.specs.Shape.{set_pieces}
 use Rattle.commit_writes.specs.Planned.{IdEntries, AreEntriesOf}

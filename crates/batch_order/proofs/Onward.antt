@@ -1,23 +1,19 @@
 -- How far a commit has come while it is carried out, forward or back.
-use Rattle.std.proofs.Common.{◌≡◌, ℕ, suc, ◌+◌, false, List, [], ◌∷◌, ◌++◌, length, map, drop, Some, None, Option, IsSome, IsTrue, refl, sym, ap, ap₂, subst, ◌∙◌, append-nil, append_assoc, arith}
-use Rattle.std.proofs.lemmas.List.{length-append}
+use Rattle.std.proofs.Common.{◌≡◌, ℕ, ◌+◌, List, [], ◌∷◌, ◌++◌, map, drop, Some, None, Option, refl, sym, ap, ap₂, subst, ◌∙◌, append-nil, append_assoc}
 use Rattle.std.proofs.lemmas.List.Sums.{fold-append}
-use Rattle.rule_model.specs.declared.Rule.{Rule}
 use Rattle.tcam_device.specs.declared.Write.{Write}
 use Rattle.tcam_device.specs.declared.Action.{Action}
 use Rattle.tcam_device.specs.declared.Action.TheVariants.{Written, Drained}
 use Rattle.tcam_device.specs.State.{State, apply, state_after}
 use Rattle.tcam_device.specs.Flight.{writes_in}
 use Rattle.tcam_device.specs.Insertion.{is_table_write}
-use Rattle.commit_writes.specs.declared.Done.{Done}
-use Rattle.commit_writes.specs.Bits.{FieldBits}
 use Rattle.commit_writes.specs.Undo.{restoring}
 use Rattle.commit_writes.proofs.WritesIn.{writes_of_map, writes_in-append}
 use Rattle.batch_order.specs.declared.Step.{Step}
 use Rattle.batch_order.specs.declared.Step.TheVariants as step
-use Rattle.batch_order.specs.Managed.{Managed, HeldCommit, actions_due, writes_due}
-use Rattle.batch_order.specs.Steps.{Steps, actions_of, awaits_drain, current_back, is_drain_next, next_of}
-use Rattle.batch_order.specs.CarriedOut.{GoesForward, Reverts, StopsAt, acted, acted_by, actions_left, ahead, ahead_of, back_by, done_of, finished_of, forward_by, writes_left}
+use Rattle.batch_order.specs.Managed.{Managed, HeldCommit, actions_due}
+use Rattle.batch_order.specs.Steps.{Steps, actions_of, current_back}
+use Rattle.batch_order.specs.CarriedOut.{Reverts, acted, acted_by, actions_left, ahead, ahead_of, back_by, forward_by}
 use Rattle.batch_order.proofs.Stepped.{HasStepped, stepped, written_on, drained_on, written_back}
 
 -- what is left, forward and back
@@ -26,14 +22,6 @@ due_on held turned = ap (λ (t : Option ℕ). elim t [ None ↦ held.actions | S
 
 due_back : (held : HeldCommit) (undone : ℕ) → held.turned ≡ Some undone → actions_due held ≡ map Written held.undo
 due_back held undone turned = ap (λ (t : Option ℕ). elim t [ None ↦ held.actions | Some undone ↦ map Written held.undo ]) turned
-
--- its writes are those that are due
-pub due_writes : (held : HeldCommit) → writes_in (actions_due held) ≡ writes_due held
-due_writes held = go held.turned
-  where
-    go : (turned : Option ℕ) → writes_in (elim turned [ None ↦ held.actions | Some undone ↦ map Written held.undo ]) ≡ (elim turned [ None ↦ writes_in held.actions | Some undone ↦ held.undo ])
-    go None = refl
-    go (Some undone) = writes_of_map held.undo
 
 -- an action as the manager makes it
 acted_forward : (now : Managed) (one : HeldCommit) (action : Action) → now.held ≡ Some one → one.turned ≡ None → acted_by now action ≡ forward_by now one action
@@ -168,122 +156,6 @@ acts_on old now new words (Some held) made did action is was acts steps =
       acted_is = more.acted_is ∙ (ap (λ (m : Managed). acted_by m action) was.acted_is ∙ sym (fold-append acted_by old made (action ∷ [])));
     }
 
--- where it stops
-stopped : (old now : Managed) (held : HeldCommit) (made : List Action) (before after : List Write) → old.held ≡ Some held → IsPart old held made now → after ≡ before ++ writes_in made
-    → StopsAt old now before after (length (writes_left now.held))
-stopped old now held made before after is was journal = record {
-  held = held;
-  under_way = is;
-  made = made;
-  rest = actions_due was.one;
-  parts = was.parts;
-  rest_is = ap actions_left was.under_way;
-  left_is = refl;
-  new_is = was.acted_is;
-  state_is = ap (λ (m : Managed). m.state) was.now_is;
-  journal = journal;
-}
-
-pub stops : (old now : Managed) (held : Option HeldCommit) (made : List Action) (before after : List Write) → old.held ≡ held → Onward old held made now
-    → IsSome (next_of now.held) → after ≡ before ++ writes_in made → StopsAt old now before after (length (writes_left now.held))
-stops old now None made before after is was some journal =
-    let none : now.held ≡ None = ap (λ (m : Managed). m.held) was.1 ∙ is in
-    absurd (let clash : IsSome (next_of None) = subst (λ (h : Option HeldCommit). IsSome (next_of h)) none some in cc)
-stops old now (Some held) made before after is was some journal = stopped old now held made before after is was journal
-
--- where it waits
-pub record IsWaiting (old now new : Managed) (before after : List Write) (words waiting : ℕ) : Type 0 where
-  pub stays : new ≡ now
-  pub at : StopsAt old now before after (length (writes_left now.held))
-  pub next : IsTrue (awaits_drain now.held)
-  pub flying : waiting ≡ words
-  pub some : words ≡ 0 → ⊥
-
-pub waiting : (old now new : Managed) (words count : ℕ) (held : Option HeldCommit) (made : List Action) (before after : List Write) → old.held ≡ held → Onward old held made now
-    → Steps now words now.held (step.Waiting count) new → after ≡ before ++ writes_in made → IsWaiting old now new before after words count
-waiting old now new words count None made before after is was steps journal =
-    let none : now.held ≡ None = ap (λ (m : Managed). m.held) was.1 ∙ is in
-    let idle : Steps now words None (step.Waiting count) new = subst (λ (h : Option HeldCommit). Steps now words h (step.Waiting count) new) none steps in
-    absurd (let clash = idle.0 in cc)
-waiting old now new words count (Some held) made before after is was steps journal = go (over now new words was.one (step.Waiting count) was.under_way steps)
-  where
-    go : HasStepped now words was.one (step.Waiting count) new → IsWaiting old now new before after words count
-    go (HasStepped.End turned actions did new_is) = absurd (let clash = did in cc)
-    go (HasStepped.On write actions turned rest did new_is) = absurd (let clash = did in cc)
-    go (HasStepped.Drain actions turned rest did new_is) = absurd (let clash = did in cc)
-    go (HasStepped.Wait actions more turned rest flying did new_is) = record {
-      stays = new_is;
-      at = stopped old now held made before after is was journal;
-      next =
-          ap awaits_drain was.under_way ∙ ap (λ (t : Option ℕ). elim t [ None ↦ is_drain_next was.one.actions | Some undone ↦ false ]) turned ∙ ap is_drain_next rest;
-      flying = (let same : count ≡ suc more = cc in same ∙ sym flying);
-      some = λ none. absurd (let clash : suc more ≡ 0 = sym flying ∙ none in cc);
-    }
-    go (HasStepped.Back undone write undo turned rest did new_is) = absurd (let clash = did in cc)
-    go (HasStepped.Revert undone turned rest did new_is) = absurd (let clash = did in cc)
-
--- where it ends: all actions were made
-pub record HasEnded (old new : Managed) (held : Option HeldCommit) (made : List Action) (done : Done) : Type 0 where
-  pub forward : GoesForward held
-  pub all : made ≡ actions_left held
-  pub writes : writes_in made ≡ writes_left held
-  pub done_is : done ≡ done_of held
-  pub new_is : new ≡ finished_of held old
-  pub idle : new.held ≡ None
-
-pub ended : (old now new : Managed) (words : ℕ) (done : Done) (held : Option HeldCommit) (made : List Action) → old.held ≡ held → Onward old held made now
-    → Steps now words now.held (step.Finished done) new → HasEnded old new held made done
-ended old now new words done None made is was steps =
-    let none : now.held ≡ None = ap (λ (m : Managed). m.held) was.1 ∙ is in
-    let idle : Steps now words None (step.Finished done) new = subst (λ (h : Option HeldCommit). Steps now words h (step.Finished done) new) none steps in
-    absurd (let clash = idle.0 in cc)
-ended old now new words done (Some held) made is was steps = go (over now new words was.one (step.Finished done) was.under_way steps)
-  where
-    go : HasStepped now words was.one (step.Finished done) new → HasEnded old new (Some held) made done
-    go (HasStepped.End turned actions did new_is) =
-        let all : made ≡ actions_due held = sym (append-nil made) ∙ ap (λ xs. made ++ xs) (sym (due_on was.one turned ∙ actions)) ∙ was.parts in
-        let writes : writes_in made ≡ writes_due held = ap writes_in all ∙ due_writes held in
-        record {
-          forward = sym was.turned ∙ turned;
-          all = all;
-          writes = writes;
-          done_is = (let same : done ≡ was.one.counts = cc in same ∙ was.counts);
-          new_is =
-              new_is ∙ ap (λ (m : Managed). record m { rules = was.one.rules; bits = was.one.bits; held = None }) was.now_is
-              ∙ ap₂ (λ (r : List Rule) (b : FieldBits). record old { rules = r; bits = b; state = state_after old.state (writes_in made); held = None }) was.rules was.bits
-              ∙ ap (λ (ws : List Write). record old { rules = held.rules; bits = held.bits; state = state_after old.state ws; held = None }) writes;
-          idle = ap (λ (m : Managed). m.held) new_is;
-        }
-    go (HasStepped.On write actions turned rest did new_is) = absurd (let clash = did in cc)
-    go (HasStepped.Drain actions turned rest did new_is) = absurd (let clash = did in cc)
-    go (HasStepped.Wait actions more turned rest flying did new_is) = absurd (let clash = did in cc)
-    go (HasStepped.Back undone write undo turned rest did new_is) = absurd (let clash = did in cc)
-    go (HasStepped.Revert undone turned rest did new_is) = absurd (let clash = did in cc)
-
--- where none was under way
-pub idled : (old now new : Managed) (words : ℕ) (held : Option HeldCommit) (made : List Action) → old.held ≡ held → Onward old held made now
-    → Steps now words now.held step.Idle new → HasEnded old new held made (record { writes = 0; words = 0; most = 0; span = 0 })
-idled old now new words None made is was steps =
-    let none : now.held ≡ None = ap (λ (m : Managed). m.held) was.1 ∙ is in
-    let idle : Steps now words None step.Idle new = subst (λ (h : Option HeldCommit). Steps now words h step.Idle new) none steps in
-    record {
-      forward = tt;
-      all = was.0;
-      writes = ap writes_in was.0;
-      done_is = refl;
-      new_is = idle.1 ∙ was.1 ∙ ap (λ (h : Option HeldCommit). record old { held = h }) is;
-      idle = ap (λ (m : Managed). m.held) (idle.1 ∙ was.1) ∙ is;
-    }
-idled old now new words (Some held) made is was steps = go (over now new words was.one step.Idle was.under_way steps)
-  where
-    go : HasStepped now words was.one step.Idle new → HasEnded old new (Some held) made (record { writes = 0; words = 0; most = 0; span = 0 })
-    go (HasStepped.End turned actions did new_is) = absurd (let clash = did in cc)
-    go (HasStepped.On write actions turned rest did new_is) = absurd (let clash = did in cc)
-    go (HasStepped.Drain actions turned rest did new_is) = absurd (let clash = did in cc)
-    go (HasStepped.Wait actions more turned rest flying did new_is) = absurd (let clash = did in cc)
-    go (HasStepped.Back undone write undo turned rest did new_is) = absurd (let clash = did in cc)
-    go (HasStepped.Revert undone turned rest did new_is) = absurd (let clash = did in cc)
-
 -- where it was taken back: all undo writes were made
 pub record HasReverted (old new : Managed) (made : List Action) (before after : List Write) (undone : ℕ) : Type 0 where
   pub reverts : Reverts old new before after undone
@@ -335,20 +207,6 @@ same old now (Some held) made is was = record {
   rules = ap (λ (m : Managed). m.rules) was.now_is;
   ahead = ap ahead was.now_is ∙ was.rules ∙ ap (λ (h : Option HeldCommit). ahead_of h old.rules) (sym is);
 }
-
--- what was made is what is left no more
-pub counted_left : (old now : Managed) (held : Option HeldCommit) (made : List Action) → old.held ≡ held → Onward old held made now
-    → length made + length (actions_left now.held) ≡ length (actions_left old.held)
-counted_left old now None made is was =
-    let none : length made ≡ 0 = ap length was.0 in
-    let left : length (actions_left now.held) ≡ length (actions_left old.held) = ap (λ (m : Managed). length (actions_left m.held)) was.1 in
-    omega arith
-counted_left old now (Some held) made is was =
-    let left : length (actions_left now.held) ≡ length (actions_due was.one) = ap (λ (h : Option HeldCommit). length (actions_left h)) was.under_way in
-    let all : length (actions_left old.held) ≡ length (actions_due held) = ap (λ (h : Option HeldCommit). length (actions_left h)) is in
-    let parts : length (made ++ actions_due was.one) ≡ length (actions_due held) = ap length was.parts in
-    let sum : length (made ++ actions_due was.one) ≡ length made + length (actions_due was.one) = length-append made (actions_due was.one) in
-    omega arith
 
 -- what was made and what is left are what was due
 pub made_and_left : (old now : Managed) (held : Option HeldCommit) (made : List Action) → old.held ≡ held → Onward old held made now

@@ -17,12 +17,12 @@ use Rattle.rule_store.specs.declared.Mode.TheVariants.{Cover, Bits}
 use Rattle.rule_store.specs.declared.Command.{Command}
 use Rattle.rule_store.specs.declared.Command.TheVariants.{Add}
 use Rattle.range_bits.specs.LiveRanges.{LiveRanges, bit_for, word_for, newly_live}
-use Rattle.ternary_word.specs.declared.Entry.{Entry}
-use Rattle.overlap_index.specs.declared.LivePiece.{LivePiece}
-use Rattle.overlap_index.proofs.Above.{live_is}
-use Rattle.move_planner.specs.declared.Aim.{Aim}
-use Rattle.move_planner.specs.declared.Move.{Move}
-use Rattle.move_planner.specs.Placement.{Above, first_lower, last_upper, next_slot, gap_start, IsPlacement, straight_in, uncross, into_gap, push_down, push_up}
+use Rattle.rule_model.specs.declared.words.Entry.{Entry}
+use Rattle.placement.specs.declared.LivePiece.{LivePiece}
+use Rattle.placement.proofs.Above.{live_is}
+use Rattle.placement.specs.declared.Aim.{Aim}
+use Rattle.placement.specs.declared.Move.{Move}
+use Rattle.placement.specs.Placement.{Above, first_lower, last_upper, next_slot, gap_start, IsPlacement, straight_in, uncross, into_gap, push_down, push_up}
 use Rattle.tcam_device.specs.declared.Write.{Write}
 use Rattle.tcam_device.specs.declared.Write.TheVariants.{Slot}
 use Rattle.tcam_device.specs.State.{State}

@@ -7,10 +7,10 @@ use Rattle.slot_order.specs.Order.{slot}
 use Rattle.slot_order.proofs.Lists.{contains_cases, contains_head, contains_none}
 use Rattle.slot_order.proofs.Writes.{slot_same, slot_other}
 use Rattle.slot_pool.specs.Arrangement.{Slots}
-use Rattle.ternary_word.specs.Entry.{RankedPiece, entry_for}
-use Rattle.overlap_index.specs.declared.LivePiece.{LivePiece}
-use Rattle.overlap_index.specs.Live.{is_live}
-use Rattle.overlap_index.proofs.Above.{is_live_from}
+use Rattle.rule_model.specs.Entry.{RankedPiece, entry_for}
+use Rattle.placement.specs.declared.LivePiece.{LivePiece}
+use Rattle.placement.specs.Live.{is_live}
+use Rattle.placement.proofs.Above.{is_live_from}
 use Rattle.commit_writes.specs.Planned.{IdEntries, entry_at}
 use Rattle.batch_order.specs.Entries.{Entries}
 use Rattle.batch_order.specs.Standing.{AreStanding, StandsFor}

@@ -11,11 +11,11 @@ use Rattle.rule_model.specs.declared.Rule.{Rule}
 use Rattle.rule_store.specs.declared.Mode.{Mode}
 use Rattle.rule_store.specs.declared.Command.{Command}
 use Rattle.rule_store.proofs.Counts.{count_by-append}
-use Rattle.ternary_word.specs.Entry.{RankedPiece, IsEncodable}
-use Rattle.overlap_index.specs.declared.LivePiece.{LivePiece}
-use Rattle.overlap_index.specs.Live.{is_live}
-use Rattle.move_planner.specs.declared.Aim.{Aim}
-use Rattle.move_planner.specs.Insertion.{free_slots}
+use Rattle.rule_model.specs.Entry.{RankedPiece, IsEncodable}
+use Rattle.placement.specs.declared.LivePiece.{LivePiece}
+use Rattle.placement.specs.Live.{is_live}
+use Rattle.placement.specs.declared.Aim.{Aim}
+use Rattle.placement.specs.Insertion.{free_slots}
 use Rattle.tcam_device.specs.declared.Write.{Write}
 use Rattle.tcam_device.specs.Insertion.{is_table_write, table_writes}
 use Rattle.tcam_device.specs.State.{State, IsState, on_device}
@@ -30,7 +30,7 @@ use Rattle.commit_writes.proofs.SetPieces.{AreOnce}
 use Rattle.commit_writes.proofs.SlotWrites.{AreToSlots, batch_slots, no_table}
 use Rattle.commit_writes.proofs.TableWrites.{all_tables, bit_writes-tables, tables_in_use}
 use Rattle.commit_writes.proofs.Wider.{all_front, all_back}
-use Rattle.batch_pieces.specs.Changes.{coded_by, during_of}
+use Rattle.commit_writes.specs.Changes.{coded_by, during_of}
 use Rattle.readback.specs.declared.staging.Shown.{Shown}
 use Rattle.readback.specs.Going.{erased_by, inserted_by, rewritten_by, twin_writes}
 use Rattle.readback.specs.Laws.{CanCommit}
@@ -38,8 +38,8 @@ use Rattle.readback.specs.Stage.{IsCommitAt, IsTwinSlot}
 use Rattle.readback.specs.Tasks.{CommitPieces, Task, changes_result, commit_pieces}
 use Rattle.readback.proofs.Begun.{change_of}
 use Rattle.readback.proofs.SetBits.{bits_meanwhile, cover_meanwhile, dst_fits, src_fits}
-use Rattle.planned_rests.specs.PlannedRest.{rest_words}
-use Rattle.planned_rests.proofs.Narrow.{stages_narrow}
+use Rattle.readback.specs.PlannedRest.{rest_words}
+use Rattle.readback.proofs.Narrow.{stages_narrow}
 use Rattle.batch_order.specs.declared.Placement.{Placement}
 use Rattle.batch_order.specs.declared.plan.Plan.{Plan}
 use Rattle.batch_order.specs.declared.planned_writes.PlannedWrite.{PlannedWrite}

@@ -4,7 +4,7 @@ use Rattle.slot_pool.specs.Arrangement.{Slots}
 use Rattle.rule_model.specs.declared.Rule.{Rule}
 use Rattle.rule_store.specs.declared.Mode.{Mode}
 use Rattle.rule_store.specs.declared.Command.{Command}
-use Rattle.overlap_index.specs.Live.{AreApart}
+use Rattle.placement.specs.Live.{AreApart}
 use Rattle.tcam_device.specs.State.{State}
 use Rattle.commit_writes.specs.Bits.{FieldBits}
 use Rattle.readback.specs.declared.staging.Shown.{Shown}

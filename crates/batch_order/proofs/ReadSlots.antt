@@ -7,12 +7,12 @@ use Rattle.slot_pool.specs.Arrangement.{Slots}
 use Rattle.rule_model.specs.declared.Rule.{Rule}
 use Rattle.rule_store.specs.declared.Mode.{Mode}
 use Rattle.rule_store.specs.declared.Command.{Command}
-use Rattle.ternary_word.specs.declared.Entry.{Entry}
-use Rattle.ternary_word.specs.Entry.{RankedPiece, entry_of, entry_for, same_match}
-use Rattle.overlap_index.specs.declared.LivePiece.{LivePiece}
-use Rattle.overlap_index.specs.Live.{AreApart, is_live}
-use Rattle.overlap_index.proofs.Above.{is_live_from, same_one}
-use Rattle.move_planner.specs.Insertion.{IsLive}
+use Rattle.rule_model.specs.declared.words.Entry.{Entry}
+use Rattle.rule_model.specs.Entry.{RankedPiece, entry_of, entry_for, same_match}
+use Rattle.placement.specs.declared.LivePiece.{LivePiece}
+use Rattle.placement.specs.Live.{AreApart, is_live}
+use Rattle.placement.proofs.Above.{is_live_from, same_one}
+use Rattle.placement.specs.Insertion.{IsLive}
 use Rattle.tcam_device.specs.State.{State, state_after}
 use Rattle.tcam_device.specs.Order.{IsTwin}
 use Rattle.commit_writes.specs.Bits.{FieldBits}
@@ -25,8 +25,8 @@ use Rattle.readback.specs.Tasks.{CommitPieces, commit_pieces, known_pieces}
 use Rattle.readback.proofs.Begun.{begun, change_of}
 use Rattle.readback.proofs.Facts.{ArePieces, IsSame}
 use Rattle.readback.proofs.Pieces.{pieces_are}
-use Rattle.planned_rests.specs.Standing.{AreReadIds}
-use Rattle.planned_rests.proofs.Rest.{slot_contents}
+use Rattle.readback.specs.Standing.{AreReadIds}
+use Rattle.readback.proofs.PlannedRests.{slot_contents}
 use Rattle.batch_order.specs.Entries.{Entries, HasId}
 use Rattle.batch_order.specs.Restart.{in_use}
 use Rattle.batch_order.specs.Standing.{AreStanding, HasPieceOf, StandsFor, without_twin}

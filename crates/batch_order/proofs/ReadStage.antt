@@ -14,9 +14,9 @@ use Rattle.rule_store.specs.declared.Mode.{Mode}
 use Rattle.rule_store.specs.declared.Command.{Command}
 use Rattle.rule_store.specs.Batch.{set_after}
 use Rattle.rule_store.specs.Verdict.{entries_of}
-use Rattle.ternary_word.specs.declared.Entry.{Entry}
-use Rattle.ternary_word.specs.Entry.{RankedPiece, entry_for, same_match}
-use Rattle.overlap_index.specs.Live.{AreApart}
+use Rattle.rule_model.specs.declared.words.Entry.{Entry}
+use Rattle.rule_model.specs.Entry.{RankedPiece, entry_for, same_match}
+use Rattle.placement.specs.Live.{AreApart}
 use Rattle.tcam_device.specs.State.{State, IsState, on_device}
 use Rattle.tcam_device.proofs.One.{same_match-same}
 use Rattle.commit_writes.specs.Bits.{FieldBits, bits_with}
@@ -37,10 +37,10 @@ use Rattle.readback.proofs.Parted.{all_inserts, put_by}
 use Rattle.readback.proofs.Pieces.{pieces_lead}
 use Rattle.readback.proofs.Rest.{untwinned_by}
 use Rattle.readback.proofs.Shows.{InOrder, LeadTo}
-use Rattle.planned_rests.specs.Standing.{HaveStandingIds}
-use Rattle.planned_rests.proofs.Narrow.{stages_narrow}
-use Rattle.planned_rests.proofs.ReadIds.{stages_have_ids}
-use Rattle.planned_rests.proofs.Same.{stage_on, twin_on}
+use Rattle.readback.specs.Standing.{HaveStandingIds}
+use Rattle.readback.proofs.Narrow.{stages_narrow}
+use Rattle.readback.proofs.ReadIds.{stages_have_ids}
+use Rattle.readback.proofs.Same.{stage_on, twin_on}
 use Rattle.batch_order.specs.Entries.{Entries, HasId}
 use Rattle.batch_order.specs.Restart.{in_use}
 use Rattle.batch_order.specs.Standing.{AreStanding, StandsFor, without_twin}

@@ -9,18 +9,18 @@ use Rattle.slot_pool.specs.Arrangement.{Slots}
 use Rattle.rule_model.specs.declared.Rule.{Rule}
 use Rattle.rule_store.specs.declared.Mode.{Mode}
 use Rattle.rule_store.specs.declared.Command.{Command}
-use Rattle.ternary_word.specs.declared.Entry.{Entry}
-use Rattle.ternary_word.specs.Entry.{RankedPiece, entry_for}
-use Rattle.overlap_index.specs.declared.LivePiece.{LivePiece}
-use Rattle.overlap_index.specs.Live.{AreApart, is_live}
-use Rattle.overlap_index.proofs.Above.{is_live_from}
-use Rattle.move_planner.specs.Insertion.{IsLive}
+use Rattle.rule_model.specs.declared.words.Entry.{Entry}
+use Rattle.rule_model.specs.Entry.{RankedPiece, entry_for}
+use Rattle.placement.specs.declared.LivePiece.{LivePiece}
+use Rattle.placement.specs.Live.{AreApart, is_live}
+use Rattle.placement.proofs.Above.{is_live_from}
+use Rattle.placement.specs.Insertion.{IsLive}
 use Rattle.tcam_device.specs.State.{State}
 use Rattle.commit_writes.specs.Bits.{FieldBits}
 use Rattle.commit_writes.specs.Planned.{contents, entry_at, held_entry}
 use Rattle.commit_writes.specs.PlannedBatch.{IsIdOf}
 use Rattle.readback.specs.declared.staging.Shown.{Shown}
-use Rattle.planned_rests.proofs.Rest.{slot_contents}
+use Rattle.readback.proofs.PlannedRests.{slot_contents}
 use Rattle.batch_order.specs.Entries.{Entries}
 use Rattle.batch_order.specs.Restart.{in_use}
 use Rattle.batch_order.specs.Standing.{AreStanding, IsWithTwin, without_twin}

@@ -8,9 +8,9 @@ use Rattle.rule_model.specs.declared.Rule.{Rule}
 use Rattle.rule_model.specs.RuleSet.{IsRuleSet}
 use Rattle.rule_model.specs.Rule.{HasConditions}
 use Rattle.rule_store.specs.Store.{StoredRules}
-use Rattle.overlap_index.specs.declared.LivePiece.{LivePiece}
-use Rattle.overlap_index.specs.Live.{is_live}
-use Rattle.ternary_word.specs.declared.Entry.{Entry}
+use Rattle.placement.specs.declared.LivePiece.{LivePiece}
+use Rattle.placement.specs.Live.{is_live}
+use Rattle.rule_model.specs.declared.words.Entry.{Entry}
 use Rattle.commit_writes.specs.Serving.{AreBitsOf}
 use Rattle.commit_writes.specs.Planned.{with_slots}
 use Rattle.batch_order.specs.declared.Placement.{Placement}

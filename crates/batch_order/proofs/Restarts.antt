@@ -11,12 +11,12 @@ use Rattle.rule_store.specs.declared.Mode.TheVariants.{Cover, Bits}
 use Rattle.rule_store.specs.declared.Command.{Command}
 use Rattle.rule_store.specs.Store.{StoredRules}
 use Rattle.rule_store.specs.Verdict.{Accepted, verdict}
-use Rattle.ternary_word.specs.Entry.{RankedPiece, IsEncodable}
-use Rattle.overlap_index.specs.Live.{AreApart}
+use Rattle.rule_model.specs.Entry.{RankedPiece, IsEncodable}
+use Rattle.placement.specs.Live.{AreApart}
 use Rattle.tcam_device.specs.State.{State, IsState}
 use Rattle.commit_writes.specs.Actions.{have_bits}
 use Rattle.commit_writes.specs.Bits.{FieldBits, bits_with, new_bits}
-use Rattle.batch_pieces.specs.Changes.{during_of}
+use Rattle.commit_writes.specs.Changes.{during_of}
 use Rattle.readback.specs.declared.Parts.{Parts}
 use Rattle.readback.specs.declared.staging.Shown.{Shown}
 use Rattle.readback.specs.Found.{IsShown}
@@ -29,9 +29,8 @@ use Rattle.batch_order.specs.declared.restarting.resuming.Rest.{Rest}
 use Rattle.batch_order.specs.declared.translation.Translation.{Translation}
 use Rattle.batch_order.specs.Entries.{Entries}
 use Rattle.batch_order.specs.Kept.{IsManaged, bits_of, held_of, mode_of, tables_of}
-use Rattle.batch_order.specs.Managed.{room_both_ways, room_needed}
+use Rattle.batch_order.specs.Managed.{room_both_ways, room_needed, HasBlankTables}
 use Rattle.batch_order.specs.Restart.{Resumes, bits_in}
-use Rattle.batch_order.specs.Managed.{HasBlankTables}
 use Rattle.batch_order.specs.Standing.{AreEncodable, AreStanding, IsWithTwin, managed_by, without_twin}
 use Rattle.batch_order.specs.Stopped.{IsAsFound, IsPlannedOn, IsReadAgain, IsStopped, held_from}
 use Rattle.batch_order.proofs.GoesOn.{IsResumed, held_by, managed_on}

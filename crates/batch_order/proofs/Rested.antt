@@ -5,7 +5,7 @@ use Rattle.slot_pool.specs.Arrangement.{Slots}
 use Rattle.rule_model.specs.declared.Rule.{Rule}
 use Rattle.rule_store.specs.declared.Mode.{Mode}
 use Rattle.rule_store.specs.declared.Command.{Command}
-use Rattle.move_planner.specs.declared.Aim.{Aim}
+use Rattle.placement.specs.declared.Aim.{Aim}
 use Rattle.tcam_device.specs.declared.Write.{Write}
 use Rattle.tcam_device.specs.State.{State, IsState, state_after, on_device}
 use Rattle.commit_writes.specs.declared.Rewrite.{Rewrite}
@@ -16,10 +16,10 @@ use Rattle.readback.specs.Going.{erased_by, inserted_by, rewritten_by, twin_writ
 use Rattle.readback.specs.Laws.{CanCommit}
 use Rattle.readback.specs.Stage.{IsCommitAt, IsTwinSlot}
 use Rattle.readback.specs.Tasks.{Task, commit_pieces}
-use Rattle.planned_rests.specs.PlannedRest.{rest_words, restart_writes}
-use Rattle.planned_rests.specs.Restart.{IsPlannedRestart}
-use Rattle.planned_rests.specs.Standing.{AreReadIds}
-use Rattle.planned_rests.proofs.ReadIds.{stages_have_ids}
+use Rattle.readback.specs.PlannedRest.{rest_words, restart_writes}
+use Rattle.readback.specs.Restart.{IsPlannedRestart}
+use Rattle.readback.specs.Standing.{AreReadIds}
+use Rattle.readback.proofs.ReadIds.{stages_have_ids}
 use Rattle.batch_order.specs.declared.plan.Plan.{Plan}
 use Rattle.batch_order.specs.Entries.{Entries}
 use Rattle.batch_order.specs.Planning.{AreAllPlanned, as_writes, planned_moves}

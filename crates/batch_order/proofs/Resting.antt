@@ -12,7 +12,7 @@ use Rattle.rule_store.specs.declared.Mode.{Mode}
 use Rattle.rule_store.specs.Batch.{set_after}
 use Rattle.rule_store.specs.Store.{StoredRules}
 use Rattle.rule_store.specs.Verdict.{coded_ranges, pieces_of}
-use Rattle.ternary_word.specs.Entry.{RankedPiece}
+use Rattle.rule_model.specs.Entry.{RankedPiece}
 use Rattle.range_bits.proofs.Given.{kept_ranges-parts}
 use Rattle.tcam_device.specs.declared.Write.{Write}
 use Rattle.tcam_device.specs.State.{State, IsInUse, state_after, on_device}
@@ -31,7 +31,7 @@ use Rattle.commit_writes.proofs.LiveBits.{chosen_live, tests_live}
 use Rattle.commit_writes.proofs.LiveRanges.{translated, live_meanwhile, same_ranges}
 use Rattle.commit_writes.proofs.ServedTables.{IsBitsStart}
 use Rattle.commit_writes.proofs.SetPieces.{set_served}
-use Rattle.batch_pieces.specs.Changes.{during_of}
+use Rattle.commit_writes.specs.Changes.{during_of}
 use Rattle.batch_order.specs.declared.Placement.{Placement}
 use Rattle.batch_order.specs.declared.held.Held.{Held}
 use Rattle.batch_order.specs.declared.translation.Translation.{Translation}

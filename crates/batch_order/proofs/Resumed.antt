@@ -20,7 +20,7 @@ use Rattle.commit_writes.specs.Planned.{Planned}
 use Rattle.commit_writes.specs.PlannedBatch.{AreNumbersOf}
 use Rattle.commit_writes.specs.Routes.{IsRoute, prefix_lengths}
 use Rattle.commit_writes.proofs.TableWords.{bit_writes-few}
-use Rattle.batch_pieces.specs.Changes.{during_of}
+use Rattle.commit_writes.specs.Changes.{during_of}
 use Rattle.readback.specs.declared.Parts.{Parts}
 use Rattle.readback.specs.declared.staging.Shown.{Shown}
 use Rattle.readback.specs.Fault.{AreSetBits}
@@ -29,9 +29,9 @@ use Rattle.readback.specs.Laws.{CanCommit}
 use Rattle.readback.specs.Stage.{IsCommitAt}
 use Rattle.readback.specs.Tasks.{Task}
 use Rattle.readback.proofs.Begun.{no_bits_live}
-use Rattle.planned_rests.specs.PlannedRest.{restart_writes}
-use Rattle.planned_rests.proofs.Counts.{restarts_counted, restarts_uncrossed}
-use Rattle.planned_rests.proofs.Narrow.{stages_narrow}
+use Rattle.readback.specs.PlannedRest.{restart_writes}
+use Rattle.readback.proofs.Counts.{restarts_counted, restarts_uncrossed}
+use Rattle.readback.proofs.Narrow.{stages_narrow}
 use Rattle.batch_order.specs.declared.Placement.{Placement}
 use Rattle.batch_order.specs.declared.held.Held.{Held}
 use Rattle.batch_order.specs.declared.restarting.resuming.Rest.{Rest}

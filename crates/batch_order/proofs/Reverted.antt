@@ -27,9 +27,6 @@ pub record IsReverted (kept kept' : Entries) (held : Held) : Type 0 where
 
 module _ (translation : Option Translation) (rules : StoredRules) (kept kept' : Entries) (slots : Slots) (held : Held) (managed : IsManaged translation rules kept slots (Some held))
     (way : IsPrepared translation rules kept slots held.ids.items (held_writes kept.entries held) (as_writes kept.entries held.rewrites.items held.undo.items)) (reverted : IsReverted kept kept' held) where
-  first : Entries
-  first = record kept { live = way.before }
-
   idle : IsManaged translation rules (record kept { live = way.before }) slots None
   idle = record { right = managed.right; is_set = managed.is_set; tables = managed.tables; translated = managed.translated; carried = way.old }
 

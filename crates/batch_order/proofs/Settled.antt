@@ -9,16 +9,16 @@ use Rattle.std.proofs.lemmas.List.Elements.{filter-append}
 use Rattle.std.proofs.lemmas.List.Folds.{list_any-append}
 use Rattle.slot_order.proofs.Lists.{contains_head, contains_tail, contains_cases, contains_none, map_in}
 use Rattle.slot_pool.specs.Arrangement.{Slots}
-use Rattle.overlap_index.specs.declared.LivePiece.{LivePiece}
-use Rattle.overlap_index.specs.Live.{AreApart, is_live, is_above, without_id}
-use Rattle.overlap_index.proofs.Live.{apart_more, all_apart}
-use Rattle.move_planner.specs.declared.Move.{Move}
-use Rattle.move_planner.proofs.Chain.{write_of, after_moves-applied}
+use Rattle.placement.specs.declared.LivePiece.{LivePiece}
+use Rattle.placement.specs.Live.{AreApart, is_live, is_above, without_id}
+use Rattle.placement.proofs.Live.{apart_more, all_apart}
+use Rattle.placement.specs.declared.Move.{Move}
+use Rattle.placement.proofs.Chain.{write_of, after_moves-applied}
 use Rattle.slot_order.proofs.Inside.{length-applied}
 use Rattle.std.proofs.Math.Seq.{drop-append_seam, take-append_seam}
-use Rattle.overlap_index.proofs.Above.{above_is, is_above_from, live_is, is_live_from}
-use Rattle.move_planner.specs.Placement.{IsInOrder, after_moves}
-use Rattle.move_planner.specs.Insertion.{IsLive, IsOther, StandOnce, free_slots}
+use Rattle.placement.proofs.Above.{above_is, is_above_from, live_is, is_live_from}
+use Rattle.placement.specs.Placement.{IsInOrder, after_moves}
+use Rattle.placement.specs.Insertion.{IsLive, IsOther, StandOnce, free_slots}
 use Rattle.batch_order.specs.Entries.{Entries, AreLast}
 use Rattle.batch_order.specs.Planning.{IsSettled, IsLastLive}
 

@@ -8,7 +8,7 @@ use Rattle.slot_order.proofs.Lists.{contains_head, contains_tail}
 use Rattle.slot_order.proofs.Writes.{slot_other, slot_inside}
 use Rattle.slot_pool.specs.Arrangement.{Slots, home_of, passes}
 use Rattle.slot_pool.proofs.Places.{find_range_none, first_slot_is}
-use Rattle.overlap_index.proofs.Live.{all_apart}
+use Rattle.placement.proofs.Live.{all_apart}
 use Rattle.tcam_device.specs.declared.Write.{Write}
 use Rattle.commit_writes.specs.PlannedBatch.{home_slot, erased_slots}
 use Rattle.batch_order.specs.Planning.{IsStanding}

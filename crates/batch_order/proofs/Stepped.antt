@@ -174,24 +174,6 @@ both_after old words (Some held) made new spare spare' under steps room used = g
         subst (λ (m : Managed). HasRoomBothWays m.held spare') (sym is) (omega arith)
     go (Revert undone turned rest did is) = subst (λ (m : Managed). HasRoomBothWays m.held spare') (sym is) tt
 
--- where a write is due there is room for it
-pub room_due : (held : Option HeldCommit) (write : Write) (spare : ℕ) → next_of held ≡ Some write → HasRoomLeft held spare → 1 ≤ spare
-room_due None write spare next room = absurd (cc)
-room_due (Some held) write spare next room = go held.turned refl
-  where
-    forward : (actions : List Action) → held.actions ≡ actions → due_write actions ≡ Some write → length held.actions ≤ spare → 1 ≤ spare
-    forward [] is due enough = absurd (cc)
-    forward (Written one ∷ actions) is due enough = let size : length held.actions ≡ suc (length actions) = ap length is in omega arith
-    forward (Drained ∷ actions) is due enough = absurd (cc)
-
-    back : (undo : List Write) → held.undo ≡ undo → slice_get undo 0 ≡ Some write → length held.undo ≤ spare → 1 ≤ spare
-    back [] is due enough = absurd (cc)
-    back (one ∷ undo) is due enough = let size : length held.undo ≡ suc (length undo) = ap length is in omega arith
-
-    go : (turned : Option ℕ) → held.turned ≡ turned → 1 ≤ spare
-    go None is = let size = needed_on held is in forward held.actions refl (sym (next_on held is) ∙ next) (omega arith)
-    go (Some undone) is = let size = needed_back held undone is in back held.undo refl (sym (next_back held undone is) ∙ next) (omega arith)
-
 -- the drain comes where no write is due
 pub none_drained : (old : Managed) (words : ℕ) (held : Option HeldCommit) (new : Managed) → Steps old words held step.Drained new → next_of held ≡ None
 none_drained old words None new steps = refl

@@ -11,10 +11,10 @@ use Rattle.rule_store.specs.Batch.{additions}
 use Rattle.rule_store.specs.Store.{StoredRules}
 use Rattle.rule_store.specs.Verdict.{entries_added, entries_of}
 use Rattle.rule_store.proofs.Counts.{count_by-append}
-use Rattle.ternary_word.specs.Entry.{RankedPiece}
-use Rattle.overlap_index.specs.declared.LivePiece.{LivePiece}
-use Rattle.overlap_index.specs.Live.{AreApart, is_live}
-use Rattle.overlap_index.proofs.Above.{is_live_from}
+use Rattle.rule_model.specs.Entry.{RankedPiece}
+use Rattle.placement.specs.declared.LivePiece.{LivePiece}
+use Rattle.placement.specs.Live.{AreApart, is_live}
+use Rattle.placement.proofs.Above.{is_live_from}
 use Rattle.tcam_device.specs.declared.Write.{Write}
 use Rattle.tcam_device.specs.State.{State, IsInUse, IsState, state_after}
 use Rattle.tcam_device.specs.Insertion.{is_table_write, table_writes}
@@ -33,15 +33,14 @@ use Rattle.commit_writes.proofs.ServedTables.{IsBitsStart, tables_serve, words_d
 use Rattle.commit_writes.proofs.SlotWrites.{batch_slots, no_table}
 use Rattle.commit_writes.proofs.TableWrites.{all_tables, bit_writes-tables}
 use Rattle.commit_writes.proofs.Zips.{zip_right}
-use Rattle.batch_pieces.specs.Changes.{coded_by, during_of}
+use Rattle.commit_writes.specs.Changes.{coded_by, during_of}
 use Rattle.batch_order.specs.declared.Placement.{Placement}
 use Rattle.batch_order.specs.declared.plan.Plan.{Plan}
 use Rattle.batch_order.specs.declared.planned_writes.PlannedWrite.{PlannedWrite}
 use Rattle.batch_order.specs.declared.planned_writes.PlannedWrite.TheVariants.{Tabled}
 use Rattle.batch_order.specs.declared.translation.Translation.{Translation}
-use Rattle.batch_order.specs.Entries.{Entries, KeepEntries}
+use Rattle.batch_order.specs.Entries.{Entries, KeepEntries, HasId, HaveIds}
 use Rattle.batch_order.specs.Planning.{IsSettled, IsPlannable, IsWithin, ArePlannedSince, as_write, as_writes, planned_moves}
-use Rattle.batch_order.specs.Entries.{HasId, HaveIds}
 use Rattle.batch_order.specs.Kept.{IsManaged, bits_of, mode_of, settled_state, tables_of}
 use Rattle.batch_order.specs.Placing.{aims_of, words_of}
 use Rattle.batch_order.proofs.Numbered.{arranged_number}

@@ -6,7 +6,7 @@ use Rattle.rule_model.specs.declared.Rule.{Rule}
 use Rattle.rule_model.specs.declared.Field.TheVariants.{Src, Dst}
 use Rattle.rule_store.specs.declared.Mode.{Mode}
 use Rattle.rule_store.specs.declared.Mode.TheVariants.{Cover, Bits}
-use Rattle.ternary_word.specs.declared.Entry.{Entry}
+use Rattle.rule_model.specs.declared.words.Entry.{Entry}
 use Rattle.tcam_device.specs.declared.Write.{Write}
 use Rattle.tcam_device.specs.declared.Write.TheVariants.{Slot, Table}
 use Rattle.tcam_device.specs.State.{State, IsState, apply, state_after}
@@ -16,7 +16,7 @@ use Rattle.commit_writes.specs.Serving.{AreBitsOf, AreRangesOf, AreServing}
 use Rattle.commit_writes.specs.Planned.{with_slots}
 use Rattle.commit_writes.proofs.SlotWrites.{AreToSlots, LeavesTables, tables_left}
 use Rattle.rule_store.specs.Verdict.{coded_ranges}
-use Rattle.batch_pieces.specs.Changes.{coded_by, during_of}
+use Rattle.commit_writes.specs.Changes.{coded_by, during_of}
 use Rattle.batch_order.specs.declared.translation.Translation.{Translation}
 use Rattle.batch_order.specs.Kept.{bits_of, mode_of, settled_state, tables_of, translated_by}
 

@@ -5,9 +5,9 @@ use Rattle.std.specs.List.{AllByRecursion, AllZip, IsDistinct}
 use Rattle.std.proofs.lemmas.List.{get_or_default, map-append}
 use Rattle.std.proofs.lemmas.List.Elements.{Contains-push}
 use Rattle.slot_order.proofs.Lists.{contains_cases, contains_none, AllByRecursion-member}
-use Rattle.overlap_index.proofs.Live.{all_apart}
+use Rattle.placement.proofs.Live.{all_apart}
 use Rattle.tcam_device.proofs.Wider.{all_take}
-use Rattle.batch_pieces.proofs.Walked.{take_next}
+use Rattle.commit_writes.proofs.Walked.{take_next}
 
 -- what holds of all holds at a place
 pub all_at : {A : Type 0} (P : A → Type 0) (xs : List A) (place : ℕ) (x : A) → AllByRecursion P xs → place < length xs → get_or xs place x ≡ x → P x

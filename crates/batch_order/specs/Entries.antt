@@ -1,10 +1,10 @@
 -- The entries that are live, each under an id.
 use Rattle.std.specs.Prelude.{◌≡◌, ℕ, ◌+◌, ◌<◌, ◌≤◌, IsTrue, IsFalse, Option, List, Contains, ◌++◌, ◌-◌, length, map, drop, nat_eq}
 use Rattle.std.specs.List.{AllByRecursion, IsDistinct}
-use Rattle.ternary_word.specs.declared.Entry.{Entry}
-use Rattle.ternary_word.specs.Entry.{RankedPiece}
-use Rattle.overlap_index.specs.declared.LivePiece.{LivePiece}
-use Rattle.overlap_index.specs.Live.{AreApart, is_live}
+use Rattle.rule_model.specs.declared.words.Entry.{Entry}
+use Rattle.rule_model.specs.Entry.{RankedPiece}
+use Rattle.placement.specs.declared.LivePiece.{LivePiece}
+use Rattle.placement.specs.Live.{AreApart, is_live}
 use Rattle.commit_writes.specs.Planned.{entry_at}
 
 -- the live ids with their pieces, the number that ids are below, and the entry of each id

@@ -1,15 +1,13 @@
 -- What a manager keeps, and how it judges a batch.
-use Rattle.std.specs.Prelude.{◌≡◌, ℕ, ◌+◌, ◌≤◌, ◌^◌, ◌⊎◌, Bool, true, false, Result, Err, IsOk, Option, Some, None, List, [], length, map, take}
+use Rattle.std.specs.Prelude.{◌≡◌, ℕ, ◌+◌, ◌≤◌, ◌^◌, ◌⊎◌, Bool, true, false, Result, Ok, Err, IsOk, Option, Some, None, List, [], length, map, take}
 use Rattle.std.specs.List.{AllByRecursion, list_any}
 use Rattle.rule_model.specs.declared.Rule.{Rule}
 use Rattle.rule_model.specs.declared.IpVersion.{IpVersion}
 use Rattle.rule_store.specs.declared.Mode.{Mode}
 use Rattle.rule_store.specs.declared.Mode.TheVariants.{Cover}
 use Rattle.rule_store.specs.declared.Command.{Command}
-use Rattle.rule_store.specs.declared.BatchFault.{BatchFault}
-use Rattle.rule_store.specs.declared.BatchFault.TheVariants.{Twice, Taken, Absent}
 use Rattle.rule_store.specs.Batch.{additions, set_after}
-use Rattle.rule_store.specs.Verdict.{Verdict, Accepted, Unsound, OutOfBits, OutOfSlots, verdict}
+use Rattle.rule_store.specs.Verdict.{verdict}
 use Rattle.tcam_device.specs.declared.Write.{Write}
 use Rattle.tcam_device.specs.declared.Action.{Action}
 use Rattle.tcam_device.specs.declared.Action.TheVariants.{Written}
@@ -24,13 +22,14 @@ use Rattle.commit_writes.specs.Actions.{commit_actions}
 use Rattle.commit_writes.specs.Routes.{IsRoute, prefix_lengths}
 use Rattle.commit_writes.specs.Segments.{MayBegin}
 use Rattle.commit_writes.specs.Shape.{inserted_pieces}
+use Rattle.readback.specs.declared.Rejection.{Rejection}
+use Rattle.readback.specs.Judged.{judgement}
 use Rattle.readback.specs.Fault.{AreSetBits}
 use Rattle.readback.specs.Stage.{IsStage}
 use Rattle.readback.specs.Tasks.{stands_in}
 use Rattle.batch_order.specs.declared.Placement.{Placement}
 use Rattle.batch_order.specs.declared.Refusal.{Refusal}
 use Rattle.batch_order.specs.declared.Refusal.TheVariants as refusal
-use Rattle.batch_order.specs.declared.Ready.{Ready}
 use Rattle.batch_order.specs.Placing.{IsPlacedBy}
 
 -- A commit under way.
@@ -102,28 +101,15 @@ room_both_ways held =
       | Some undone ↦ length held.undo
     ]
 
--- the fault of a batch as a refusal
-abbrev pub refusal_of : BatchFault → Refusal
-refusal_of (Twice priority) = refusal.Twice priority
-refusal_of (Taken priority) = refusal.Taken priority
-refusal_of (Absent priority) = refusal.Absent priority
-
--- what an idle manager answers by the verdict: an accepted batch may want memory, and nothing else
-abbrev pub Answers : Verdict → Result Ready Refusal → Type 0
-Answers Accepted result = IsOk result ⊎ (result ≡ Err refusal.Memory)
-Answers (Unsound fault) result = result ≡ Err (refusal_of fault)
-Answers (OutOfBits field needed free) result = result ≡ Err (refusal.Bits field needed free)
-Answers (OutOfSlots needed free) result = result ≡ Err (refusal.Slots needed free)
+-- what an idle manager answers by the judgement: an accepted batch may want memory, and nothing else
+abbrev pub Answers : Result (Unit {0}) Rejection → Result Done Refusal → Type 0
+Answers (Ok done) result = IsOk result ⊎ (result ≡ Err refusal.Memory)
+Answers (Err rejection) result = result ≡ Err (refusal.Rejected rejection)
 
 -- what a manager answers to a batch: busy where a commit is under way, forward or back, and else by the verdict
-abbrev pub Judges : Managed → Option HeldCommit → List Command → Result Ready Refusal → Type 0
+abbrev pub Judges : Managed → Option HeldCommit → List Command → Result Done Refusal → Type 0
 Judges manager (Some held) batch result = result ≡ Err (refusal.Busy (length (writes_due held)))
-Judges manager None batch result = Answers (verdict manager.slots manager.mode manager.rules batch) result
-
--- the numbers before the first write
-abbrev pub ready_of : Done → Ready
-ready_of counts =
-    record { writes = counts.writes; words = counts.words; most = counts.most; span = counts.span }
+Judges manager None batch result = Answers (judgement (verdict manager.slots manager.mode manager.rules batch)) result
 
 -- the batch changes routes: each rule that it adds is a route of this version
 abbrev pub OnlyChangesRoutes : IpVersion → List Command → Type 0
@@ -159,11 +145,9 @@ pub record CanRestart (slots : ℕ) (mode : Mode) (bits : FieldBits) (rules : Li
   pub plain : mode ≡ Cover → (n : ℕ) → HasBlankTables (state_after state (take n made))
 
 -- A batch is taken: its actions are held, and their writes are its segment on a device with so many slots or more.
-pub record Holds (old : Managed) (batch : List Command) (ready : Ready) (new : Managed) : Type 0 where
+pub record Holds (old : Managed) (batch : List Command) (counts : Done) (new : Managed) : Type 0 where
   pub made : List Write
-  pub counts : Done
   pub new_is : new ≡ record old { held = Some (commit_of old batch made counts) }
-  pub ready_is : ready ≡ ready_of counts
   pub in_use : AllByRecursion (IsInUse old.slots) made
   pub few : length made ≤ 2 ^ 39
   -- hitless after every write, of the commit's shape, and within the bounds on insertions

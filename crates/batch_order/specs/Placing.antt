@@ -6,10 +6,10 @@ use Rattle.rule_store.specs.declared.Mode.{Mode}
 use Rattle.rule_store.specs.declared.Command.{Command}
 use Rattle.rule_store.specs.Store.{rules_above}
 use Rattle.rule_store.specs.Verdict.{entries_of}
-use Rattle.ternary_word.specs.Entry.{RankedPiece}
-use Rattle.overlap_index.specs.declared.LivePiece.{LivePiece}
-use Rattle.move_planner.specs.declared.Aim.{Aim}
-use Rattle.move_planner.specs.declared.Aim.TheVariants as aim
+use Rattle.rule_model.specs.Entry.{RankedPiece}
+use Rattle.placement.specs.declared.LivePiece.{LivePiece}
+use Rattle.placement.specs.declared.Aim.{Aim}
+use Rattle.placement.specs.declared.Aim.TheVariants as aim
 use Rattle.tcam_device.specs.declared.Write.{Write}
 use Rattle.tcam_device.specs.State.{State, state_after}
 use Rattle.commit_writes.specs.declared.Rewrite.{Rewrite}
@@ -18,8 +18,8 @@ use Rattle.commit_writes.specs.Shape.{bit_writes, inserted_pieces}
 use Rattle.commit_writes.specs.Planned.{IdEntries, Planned, contents}
 use Rattle.commit_writes.specs.PlannedBatch.{IsPlannedBatch, batch_writes}
 use Rattle.readback.specs.Tasks.{Task}
-use Rattle.planned_rests.specs.PlannedRest.{restart_writes}
-use Rattle.planned_rests.specs.Restart.{IsPlannedRestart}
+use Rattle.readback.specs.PlannedRest.{restart_writes}
+use Rattle.readback.specs.Restart.{IsPlannedRestart}
 use Rattle.batch_order.specs.declared.Placement.{Placement}
 use Rattle.batch_order.specs.declared.Placement.TheVariants.{Middle, Rank}
 

@@ -2,13 +2,13 @@
 use Rattle.std.specs.Prelude.{◌≡◌, ℕ, ◌+◌, ◌<◌, ◌≤◌, IsTrue, IsSome, Some, List, ◌++◌, length, flat_map, fold, map, max, option_map, slice_get}
 use Rattle.std.specs.List.{AllByRecursion}
 use Rattle.slot_pool.specs.Arrangement.{Slots, home_of}
-use Rattle.ternary_word.specs.Entry.{RankedPiece, entry_for}
-use Rattle.overlap_index.specs.Live.{AreApart, is_live, is_above}
-use Rattle.move_planner.specs.declared.Aim.{Aim}
-use Rattle.move_planner.specs.declared.Move.{Move}
-use Rattle.move_planner.specs.declared.Move.TheVariants.{Put, Erase}
-use Rattle.move_planner.specs.Placement.{IsPlacement, IsInOrder, after_moves, span_of}
-use Rattle.move_planner.specs.Insertion.{IsLive, IsOther, StandOnce, free_slots}
+use Rattle.rule_model.specs.Entry.{RankedPiece, entry_for}
+use Rattle.placement.specs.Live.{AreApart, is_live, is_above}
+use Rattle.placement.specs.declared.Aim.{Aim}
+use Rattle.placement.specs.declared.Move.{Move}
+use Rattle.placement.specs.declared.Move.TheVariants.{Put, Erase}
+use Rattle.placement.specs.Placement.{IsPlacement, IsInOrder, after_moves, span_of}
+use Rattle.placement.specs.Insertion.{IsLive, IsOther, StandOnce, free_slots}
 use Rattle.tcam_device.specs.declared.Write.{Write}
 use Rattle.tcam_device.specs.declared.Write.TheVariants.{Slot}
 use Rattle.tcam_device.specs.State.{IsInUse}

@@ -16,8 +16,7 @@ use Rattle.commit_writes.specs.Bits.{FieldBits, bits_with, bits_left, new_bits}
 use Rattle.commit_writes.specs.Routes.{IsRoute, prefix_lengths}
 use Rattle.commit_writes.specs.Shape.{inserted_pieces}
 use Rattle.readback.specs.declared.Parts.{Parts}
-use Rattle.readback.specs.declared.StageFault.{StageFault}
-use Rattle.readback.specs.declared.StageFault.TheVariants as stage
+use Rattle.readback.specs.declared.StageFault.TheVariants.{Memory}
 use Rattle.readback.specs.Judged.{judgement}
 use Rattle.readback.specs.Tasks.{Task, stands_in}
 use Rattle.readback.specs.Stage.{IsCommitAt, IsStage, IsTwinSlot}
@@ -25,7 +24,7 @@ use Rattle.readback.specs.Fault.{AreSetBits, IsFaultOf}
 use Rattle.readback.specs.Going.{needs_drain, rest_insertions, GoesOn, AreRestCounts}
 use Rattle.batch_order.specs.declared.Placement.{Placement}
 use Rattle.batch_order.specs.declared.restarting.fault.RestartFault.{RestartFault}
-use Rattle.batch_order.specs.declared.restarting.fault.RestartFault.TheVariants.{Refused, BitsDiffer, Word, Foreign, Crossed, Twin, Gap, Memory}
+use Rattle.batch_order.specs.declared.restarting.fault.RestartFault.TheVariants.{Refused, Stage}
 use Rattle.batch_order.specs.Managed.{Managed, HeldCommit, OnlyChangesRoutes}
 use Rattle.batch_order.specs.Placing.{IsRestPlacedBy}
 
@@ -95,22 +94,11 @@ pub record Resumes (slots : ℕ) (mode : Mode) (placement : Placement) (parts : 
   pub uncrossed : (version : IpVersion) → AllByRecursion (IsRoute version) parts.rules.rules → OnlyChangesRoutes version batch
       → IsUncrossed (prefix_lengths version) (rest_insertions goes_on.shape)
 
--- a fault of a stage as one of a restart
-abbrev pub restart_fault : StageFault → RestartFault
-restart_fault (stage.BitsDiffer field) = BitsDiffer field
-restart_fault (stage.Word field port) = Word field port
-restart_fault (stage.Foreign slot) = Foreign slot
-restart_fault (stage.Crossed slot) = Crossed slot
-restart_fault (stage.Twin slot) = Twin slot
-restart_fault (stage.Gap priority) = Gap priority
-restart_fault stage.Memory = Memory
-
--- where a fault of a restart may come: a refusal exactly as the verdict, and the others only where it accepts and they apply
+-- where a fault of a restart may come: a refusal exactly as the verdict, and a stage's only where it accepts and that one applies
 abbrev pub IsRestartFault : ℕ → Mode → Parts → List Command → State → RestartFault → Type 0
 IsRestartFault slots mode parts batch state (Refused rejection) = judgement (verdict slots mode parts.rules.rules batch) ≡ Err rejection
-IsRestartFault slots mode parts batch state fault =
-    (verdict slots mode parts.rules.rules batch ≡ Accepted)
-    × ((of_stage : StageFault) × (fault ≡ restart_fault of_stage) × IsFaultOf slots mode (bits_in parts) parts.rules.rules batch state of_stage)
+IsRestartFault slots mode parts batch state (Stage fault) =
+    (verdict slots mode parts.rules.rules batch ≡ Accepted) × IsFaultOf slots mode (bits_in parts) parts.rules.rules batch state fault
 
 -- What a restart answers: a manager that goes on; or a fault that applies, with the parts as they came: the refusal where the
 -- verdict is one, and for a stage of the set's bits none but want of memory.
@@ -120,4 +108,4 @@ AnswersRestart slots mode placement parts batch device_slots state (Ok manager) 
 AnswersRestart slots mode placement parts batch device_slots state (Err (fault, back)) =
     (back ≡ parts) × IsRestartFault slots mode parts batch state fault
     × (verdict slots mode parts.rules.rules batch ≡ Accepted → AreSetBits mode parts.rules.rules (bits_in parts)
-    → IsStage slots mode (bits_in parts) parts.rules.rules batch state → fault ≡ Memory)
+    → IsStage slots mode (bits_in parts) parts.rules.rules batch state → fault ≡ Stage Memory)

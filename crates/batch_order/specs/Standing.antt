@@ -2,11 +2,11 @@
 use Rattle.std.specs.Prelude.{◌≡◌, ℕ, ◌<◌, ◌≤◌, IfSome, Option, Some, None, List, [], ◌∷◌, Contains, length, option_map, slice_set}
 use Rattle.slot_order.specs.Order.{slot}
 use Rattle.slot_pool.specs.Arrangement.{Slots}
-use Rattle.ternary_word.specs.Entry.{RankedPiece, IsEncodable, entry_for}
-use Rattle.overlap_index.specs.declared.LivePiece.{LivePiece}
+use Rattle.rule_model.specs.Entry.{RankedPiece, IsEncodable, entry_for}
+use Rattle.placement.specs.declared.LivePiece.{LivePiece}
 use Rattle.commit_writes.specs.Planned.{entry_at}
 use Rattle.commit_writes.specs.PlannedBatch.{IsIdOf}
-use Rattle.move_planner.specs.declared.Move.TheVariants.{Erase}
+use Rattle.placement.specs.declared.Move.TheVariants.{Erase}
 use Rattle.batch_order.specs.declared.planned_writes.PlannedWrite.{PlannedWrite}
 use Rattle.batch_order.specs.declared.planned_writes.PlannedWrite.TheVariants.{Moved}
 use Rattle.batch_order.specs.declared.Placement.{Placement}

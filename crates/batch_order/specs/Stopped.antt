@@ -8,22 +8,22 @@ use Rattle.rule_model.specs.declared.Rule.{Rule}
 use Rattle.rule_store.specs.declared.Mode.{Mode}
 use Rattle.rule_store.specs.declared.Command.{Command}
 use Rattle.rule_store.specs.Verdict.{Accepted, entries_of, verdict}
-use Rattle.ternary_word.specs.Entry.{IsEncodable}
-use Rattle.overlap_index.specs.Live.{is_live}
-use Rattle.move_planner.specs.Insertion.{IsLive}
+use Rattle.rule_model.specs.Entry.{IsEncodable}
+use Rattle.placement.specs.Live.{is_live}
+use Rattle.placement.specs.Insertion.{IsLive}
 use Rattle.tcam_device.specs.State.{State, IsState, state_after}
 use Rattle.commit_writes.specs.declared.Done.{Done}
 use Rattle.commit_writes.specs.Bits.{FieldBits, bits_with}
 use Rattle.commit_writes.specs.Planned.{contents, live_after, slots_after}
 use Rattle.commit_writes.specs.PlannedBatch.{AreNumbersOf, erased_slots}
-use Rattle.batch_pieces.specs.Changes.{coded_by, during_of}
+use Rattle.commit_writes.specs.Changes.{coded_by, during_of}
 use Rattle.readback.specs.declared.staging.Shown.{Shown}
 use Rattle.readback.specs.Found.{IsShown}
 use Rattle.readback.specs.Going.{twin_writes}
 use Rattle.readback.specs.Laws.{CanCommit}
 use Rattle.readback.specs.Stage.{Finds, IsCommitAt}
 use Rattle.readback.specs.Tasks.{Task, commit_pieces, known_pieces}
-use Rattle.planned_rests.specs.Standing.{AreReadIds}
+use Rattle.readback.specs.Standing.{AreReadIds}
 use Rattle.batch_order.specs.declared.Placement.{Placement}
 use Rattle.batch_order.specs.declared.held.Held.{Held}
 use Rattle.batch_order.specs.declared.plan.Plan.{Plan}

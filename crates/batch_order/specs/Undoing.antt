@@ -2,7 +2,7 @@
 use Rattle.std.specs.Prelude.{◌≡◌, ℕ, ◌<◌, Option, Some, None, List, length, get_or}
 use Rattle.slot_order.specs.Order.{slot}
 use Rattle.slot_pool.specs.Arrangement.{Slots}
-use Rattle.ternary_word.specs.declared.Entry.{Entry}
+use Rattle.rule_model.specs.declared.words.Entry.{Entry}
 use Rattle.tcam_device.specs.declared.Write.TheVariants.{Slot}
 use Rattle.tcam_device.specs.State.{State, apply}
 use Rattle.commit_writes.specs.declared.Rewrite.{Rewrite}

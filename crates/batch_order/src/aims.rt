@@ -5,8 +5,8 @@ ghost use Rattle.rule_store.specs.Verdict.{entries_of};
 ghost use Rattle.batch_order.specs.Placing as placing;
 
 use crate::Placement;
-use batch_pieces::Ranked;
-use move_planner::Aim;
+use commit_writes::Ranked;
+use placement::Aim;
 use rule_store::{Mode, Store};
 
 /// The aim of a piece that a commit inserts into a set behind so many others of its pieces. `all` counts the entries of

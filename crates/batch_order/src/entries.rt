@@ -2,20 +2,19 @@
 
 ghost use Rattle.std.specs.Prelude.{◌≡◌, ◌<◌, ◌≤◌, ◌+◌, ◌∷◌, ◌++◌, ℕ, IsTrue, IsFalse, IsNone, IsOk, IfSome, IfOk, OnOk, OnErr, Some, None, Contains, length, nat_eq, replicate, slice_set, slice_index_or, vec_capacity};
 ghost use Rattle.std.specs.List.{AllByRecursion, IsDistinct};
-ghost use Rattle.ternary_word.specs.Entry as words;
-ghost use Rattle.ternary_word.specs.Entry.{IsEncodable};
-ghost use Rattle.overlap_index.specs.declared.LivePiece.{LivePiece};
-ghost use Rattle.overlap_index.specs.Live.{AreApart, is_live, without_id};
+ghost use Rattle.rule_model.specs.Entry as words;
+ghost use Rattle.rule_model.specs.Entry.{IsEncodable};
+ghost use Rattle.placement.specs.declared.LivePiece.{LivePiece};
+ghost use Rattle.placement.specs.Live.{AreApart, is_live, without_id};
 ghost use Rattle.commit_writes.specs.Planned.{entry_at};
 ghost use Rattle.commit_writes.specs.PlannedBatch.{rewritten_entries, erased_live};
 ghost use Rattle.batch_order.specs.Entries.{AreAll, KeepEntries};
 
 use commit_writes::Rewrite;
 use overlap_index::Index;
-use rule_model::{Piece, Rank};
+use rule_model::{Entry, Piece, Rank, entry_of};
 use std::alloc::{AllocError, Global};
 use std::marker::Model;
-use ternary_word::{Entry, entry_of};
 
 /// The live entries, each under an id below the number of slots, and which of them overlap.
 #[derive(Drop)]

@@ -5,10 +5,9 @@ ghost use Rattle.batch_order.specs.Kept.{drains_at, left_of, one_less, turned_at
 
 use crate::planned_writes::PlannedWrite;
 use crate::{AbortFault, Done};
-use commit_writes::Rewrite;
+use commit_writes::{FieldBits, Rewrite};
 use rule_store::Batch;
 use slot_pool::Arrangement;
-use translation_tables::FieldBits;
 
 /// A commit under way: its planned writes and how many of them were made, its numbers, and what is to be done once its
 /// writes are made: the batch that takes the rules to the new set, the ids that get another entry, the ids that go, by

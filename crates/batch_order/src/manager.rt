@@ -9,8 +9,9 @@ ghost use Rattle.tcam_device.specs.Flight.{writes_in};
 ghost use Rattle.tcam_device.specs.Hitless.{ShowsOldOrNew};
 ghost use Rattle.rule_store.specs.Verdict.{entries_of, slots_verdict, verdict, Accepted};
 ghost use Rattle.rule_store.specs.Batch.{ChangesRules, batch_fault, set_after};
-ghost use Rattle.batch_pieces.specs.Changes.{coded_by, during_of};
-ghost use Rattle.batch_order.specs.Managed.{Managed, Judges, Answers, Holds, IsOn, Serves, fresh, live_now, writes_due};
+ghost use Rattle.commit_writes.specs.Changes.{coded_by, during_of};
+ghost use Rattle.readback.specs.Judged.{judgement};
+ghost use Rattle.batch_order.specs.Managed.{Managed, Judges, Holds, IsOn, Serves, fresh, live_now, writes_due};
 ghost use Rattle.batch_order.specs.Steps.{Aborts, IsAllMade, KeepsCurrent, ServesNow, Steps, actions_of, awaits_drain, next_of};
 ghost use Rattle.batch_order.specs.Turning.{IsHeldRight};
 ghost use Rattle.batch_order.specs.Passed.{GoesBackFrom, WayBackFrom};
@@ -22,19 +23,19 @@ ghost use Rattle.batch_order.specs.CarriedOut.{GoesForward, HasRoomBothWays, Has
 use crate::entries::LiveEntries;
 use crate::held::Held;
 use crate::parts::parts_of;
-use crate::plan::{Plan, erase_all, ready};
+use crate::plan::{Plan, erase_all};
 use crate::planned_writes::PlannedWrite;
 use crate::translation::{
     Translation, blank_translation, check_field, encoding, gives_bits, plan_words,
 };
 use crate::writes::plan_writes;
-use crate::{AbortFault, Done, Field, Placement, Ready, Refusal, Step, Unfinished, refusal_of};
+use crate::{AbortFault, Done, Field, Placement, Refusal, Rejection, Step, Unfinished};
+use commit_writes::FieldBits;
 use rule_store::{Batch, Command, Mode, Store};
 use slot_pool::Arrangement;
 use std::alloc::{AllocError, Global};
 use std::marker::Model;
 use tcam_device::{DeviceFault, Writable, Write};
-use translation_tables::FieldBits;
 
 /// The numbers where no commit is under way.
 const NOTHING_DONE: Done = Done {
@@ -80,9 +81,10 @@ impl Model for Manager {
 }
 
 impl Manager {
-    /// A manager of a blank device with so many slots in use, 1 to 4,096, and no rules. By `Cover` a rule takes an entry
-    /// for each pair of blocks of its port ranges; by `Bits` it takes one, and each range that isn't one block takes a bit
-    /// of its field's translation table. Each insertion aims where the placement says. It fails only for want of memory.
+    /// A manager of a blank device with so many slots in use, 1 to 4,096, and no rules. By `Cover` a rule takes an
+    /// entry for each pair of blocks of its port ranges; by `Bits` it takes one, and each range that isn't one block
+    /// takes a bit of its field's translation table. Each insertion aims where the placement says. It fails only for
+    /// want of memory.
     ///
     /// From here on nobody else may write the device: what is promised of it holds of one that the manager's writes
     /// alone have changed.
@@ -140,27 +142,27 @@ impl Manager {
         }
     }
 
-    /// Judges a batch of changes to the rules, over a device with at least the slots in use. Where the batch is
-    /// taken, all of its writes are planned, its insertions by the placement, and all memory for them is taken, the
-    /// device's too: then nothing can fail for memory until the commit has finished. The device is reserved for twice the
-    /// writes and a drain, so that what is made can be undone. The answer has the numbers of the writes. Words in flight
-    /// stay as they are.
+    /// Judges a batch of changes to the rules, over a device with at least the slots in use. Where the batch is taken,
+    /// all of its writes are planned, its insertions by the placement, and all memory for them is taken, the device's
+    /// too: then nothing can fail for memory until the commit has finished. The device is reserved for twice the writes
+    /// and a drain, so that what is made can be undone. The answer has the numbers of the writes. Words in flight stay
+    /// as they are.
     ///
     /// Refusals are tried in this order. `Busy` comes exactly while a commit is under way, with the writes that are
-    /// left. Else the rule lists alone decide: `Twice`, `Taken` and `Absent` by the first command that the set doesn't
-    /// take; by bits `Bits`, of the source field before the destination's, where the additions have more new ranges that
-    /// aren't one block than bits are free; `Slots` where they need more entries than slots are free. `Memory` comes
+    /// left. Else the rule lists alone decide (`Rejected`, by [`Rejection`]): `Unsound` by the first command that the set
+    /// doesn't take; by bits `Bits`, of the source field before the destination's, where the additions have more new ranges
+    /// that aren't one block than bits are free; `Slots` where they need more entries than slots are free. `Memory` comes
     /// last. A refusal writes nothing, and leaves rules, manager, and the device's journal as they were.
     ///
     /// Whatever it answers, each key is answered, by the device's journal, as before: as the rules of the set do, and with
     /// a commit under way already as its old ones or its new ones do.
-    pub fn prepare<D: Writable>(&mut self, batch: &Batch, device: &mut D) -> Result<Ready, Refusal>
+    pub fn prepare<D: Writable>(&mut self, batch: &Batch, device: &mut D) -> Result<Done, Refusal>
         requires slots { self.old.slots ≤ D.slot_count device.old }
         ensures judged { Judges self.old self.old.held batch.now result }
-        ensures ready { IfOk result (λ ready. Holds self.old batch.now ready self.new) }
+        ensures ready { IfOk result (λ counts. Holds self.old batch.now counts self.new) }
         ensures refused { OnErr result (self.new ≡ self.old) }
         ensures reserved { OnOk result (HasRoomBothWays self.new.held (D.spare device.new)) }
-        ensures enough { IfOk result (λ ready. ready.writes ≤ D.spare device.new) }
+        ensures enough { IfOk result (λ counts. counts.writes ≤ D.spare device.new) }
         ensures room { HasRoomLeft self.old.held (D.spare device.old) → HasRoomLeft self.new.held (D.spare device.new) }
         ensures both_ways { HasRoomBothWays self.old.held (D.spare device.old) → HasRoomBothWays self.new.held (D.spare device.new) }
         ensures forward { GoesForward self.old.held → GoesForward self.new.held }
@@ -181,25 +183,25 @@ impl Manager {
         }
         match self.rules.check(batch) {
             Ok(()) => {}
-            Err(fault) => return Err(refusal_of(fault)),
+            Err(fault) => return Err(Refusal::Rejected(Rejection::Unsound(fault))),
         }
         match self.check_room(batch) {
             Ok(()) => {}
-            Err(refusal) => return Err(refusal),
+            Err(rejection) => return Err(Refusal::Rejected(rejection)),
         }
         batch.changes_rules();
         match self.plan(batch, device) {
-            Ok(ready) => Ok(ready),
+            Ok(counts) => Ok(counts),
             Err(AllocError) => Err(Refusal::Memory),
         }
     }
 
     /// Whether the batch's new port ranges fit the free bits, and its entries the free slots.
-    fn check_room(&self, batch: &Batch) -> Result<(), Refusal>
+    fn check_room(&self, batch: &Batch) -> Result<(), Rejection>
         requires idle { self.now.held ≡ None }
         requires sound { batch_fault self.now.rules batch.now ≡ None }
         ensures fits { OnOk result (verdict self.now.slots self.now.mode self.now.rules batch.now ≡ Accepted) }
-        ensures short { IfErr result (λ refusal. Answers (verdict self.now.slots self.now.mode self.now.rules batch.now) (Err refusal)) }
+        ensures short { IfErr result (λ rejection. judgement (verdict self.now.slots self.now.mode self.now.rules batch.now) ≡ Err rejection) }
     {
         match &self.translation {
             None => self.check_slots(batch),
@@ -217,33 +219,33 @@ impl Manager {
     }
 
     /// Whether the entries that the batch adds fit the free slots.
-    fn check_slots(&self, batch: &Batch) -> Result<(), Refusal>
+    fn check_slots(&self, batch: &Batch) -> Result<(), Rejection>
         requires idle { self.now.held ≡ None }
         requires sound { batch_fault self.now.rules batch.now ≡ None }
         ensures fits { OnOk result (slots_verdict self.now.slots self.now.mode self.now.rules batch.now ≡ Accepted) }
-        ensures short { IfErr result (λ refusal. Answers (slots_verdict self.now.slots self.now.mode self.now.rules batch.now) (Err refusal)) }
+        ensures short { IfErr result (λ rejection. judgement (slots_verdict self.now.slots self.now.mode self.now.rules batch.now) ≡ Err rejection) }
     {
         // A batch has 4,096 commands at most, so the number fits.
         let _commands = batch.len();
         let need = self.rules.entries_added(encoding(&self.translation), batch) as u32;
         let free = self.arrangement.free_count();
         if need > free {
-            return Err(Refusal::Slots { need, free });
+            return Err(Rejection::Slots { need, free });
         }
         Ok(())
     }
 
     /// Plans the commit of a batch that is taken, on a copy of the arrangement, and reserves the device for it. On
     /// want of memory all is as it was.
-    fn plan<D: Writable>(&mut self, batch: &Batch, device: &mut D) -> Result<Ready, AllocError>
+    fn plan<D: Writable>(&mut self, batch: &Batch, device: &mut D) -> Result<Done, AllocError>
         requires idle { self.old.held ≡ None }
         requires sound { batch_fault self.old.rules batch.now ≡ None }
         requires fits { verdict self.old.slots self.old.mode self.old.rules batch.now ≡ Accepted }
         requires changes { AllByRecursion ChangesRules batch.now }
-        ensures ready { IfOk result (λ ready. Holds self.old batch.now ready self.new) }
+        ensures ready { IfOk result (λ counts. Holds self.old batch.now counts self.new) }
         ensures refused { OnErr result (self.new ≡ self.old) }
         ensures reserved { OnOk result (HasRoomBothWays self.new.held (D.spare device.new)) }
-        ensures enough { IfOk result (λ ready. ready.writes ≤ D.spare device.new) }
+        ensures enough { IfOk result (λ counts. counts.writes ≤ D.spare device.new) }
         ensures spare { D.spare device.old ≤ D.spare device.new }
         ensures journal { D.journal device.new ≡ D.journal device.old }
         ensures events { D.events device.new ≡ D.events device.old }
@@ -288,7 +290,7 @@ impl Manager {
             ids: planned.ids,
             arrangement,
         });
-        Ok(ready(&counts))
+        Ok(counts)
     }
 
     /// Gives the batch's new port ranges their bits, and plans the words of the tables that differ by them. Answers the
@@ -308,20 +310,20 @@ impl Manager {
         plan_words(self.alloc, &self.translation, batch, plan)
     }
 
-    /// Makes the next write of the commit under way, over the device that `prepare` or `restart` reserved, with room for
-    /// what is left. Where the commit gives new bits, a drain is next once the words of the tables are written: while
-    /// words are in flight the answer is `Waiting` with their number, and nothing changes; with none in flight it drains.
-    /// With nothing left the rules become the new set, and the answer is `Finished`. With no commit under way the answer
-    /// is `Idle`, and nothing changes. It takes no memory.
+    /// Makes the next write of the commit under way, over the device that `prepare` or `restart` reserved, with room
+    /// for what is left. Where the commit gives new bits, a drain is next once the words of the tables are written:
+    /// while words are in flight the answer is `Waiting` with their number, and nothing changes; with none in flight it
+    /// drains. With nothing left the rules become the new set, and the answer is `Finished`. With no commit under way
+    /// the answer is `Idle`, and nothing changes. It takes no memory.
     ///
     /// The words in flight stay as they are, and unless it drains those that were current are so still: each answers as
     /// its key's word by the tables would.
     ///
-    /// After it, also after a failure, each key is answered, by the device's journal, as the rules do, and while a commit
-    /// is under way as the old ones or the new ones do.
+    /// After it, also after a failure, each key is answered, by the device's journal, as the rules do, and while a
+    /// commit is under way as the old ones or the new ones do.
     ///
-    /// A failure comes exactly where a write is due and the device's count of failures rose. It changes nothing, and the
-    /// same write is next again. It does no harm where the hardware has made that write all the same: each key is
+    /// A failure comes exactly where a write is due and the device's count of failures rose. It changes nothing, and
+    /// the same write is next again. It does no harm where the hardware has made that write all the same: each key is
     /// answered as the old rules or the new ones do then too, and made twice the write leaves what it leaves once
     /// (`tcam_device::twice_as_once`).
     pub fn step<D: Writable>(&mut self, device: &mut D) -> Result<Step, DeviceFault>
@@ -368,19 +370,20 @@ impl Manager {
         }
     }
 
-    /// Turns the plan that is held round: from now on `step` and `carry_out` undo the writes that were made, the last one
-    /// first, each by writing what its slot or table word held before it, and without a drain. With the last of them the
-    /// rules are the old ones, and no plan is held. The answer is how many undo writes there are: none where no write was
-    /// made. The way back passes no state but those that the commit passed, so each key is answered as the old rules or the
-    /// new ones do all along. It writes nothing and takes no memory, and over a device that `prepare` reserved there is
-    /// room for the way back.
+    /// Turns the plan that is held round: from now on `step` and `carry_out` undo the writes that were made, the last
+    /// one first, each by writing what its slot or table word held before it, and without a drain. With the last of
+    /// them the rules are the old ones, and no plan is held. The answer is how many undo writes there are: none where
+    /// no write was made. The way back passes no state but those that the commit passed, so each key is answered as the
+    /// old rules or the new ones do all along. It writes nothing and takes no memory, and over a device that `prepare`
+    /// reserved there is room for the way back.
     ///
     /// The writes that are undone are those that were answered Ok. Where the last `step` answered a failure and the
-    /// hardware may have made that write all the same, make it first (`step` until it is answered Ok): no undo write goes
-    /// to its slot. Over a device whose failed write did nothing, as `Writable` has it, `abort` may come at once.
+    /// hardware may have made that write all the same, make it first (`step` until it is answered Ok): no undo write
+    /// goes to its slot. Over a device whose failed write did nothing, as `Writable` has it, `abort` may come at once.
     ///
-    /// `Idle` comes exactly where no plan is held, `Restarted` exactly where a restart made the one that is held, and else
-    /// `Back` exactly where the plan is turned round already, with the undo writes that are left. Nothing changes then.
+    /// `Idle` comes exactly where no plan is held, `Restarted` exactly where a restart made the one that is held, and
+    /// else `Back` exactly where the plan is turned round already, with the undo writes that are left. Nothing changes
+    /// then.
     pub fn abort(&mut self) -> Result<u64, AbortFault>
         ensures aborts { Aborts self.old self.old.held result self.new }
         ensures way_back { (begun : State) → WayBackFrom begun self.old → WayBackFrom begun self.new }
@@ -397,26 +400,27 @@ impl Manager {
         }
     }
 
-    /// Makes all writes that are left of the commit under way, in their order, over the device that `prepare` or `restart`
-    /// reserved, each tried up to `tries` times, at least once: 1 tries none again. With the last of them the rules become
-    /// the new set, and the answer has the numbers of the commit. With no commit under way they are all 0, and nothing
-    /// changes. It takes no memory.
+    /// Makes all writes that are left of the commit under way, in their order, over the device that `prepare` or
+    /// `restart` reserved, each tried up to `tries` times, at least once: 1 tries none again. With the last of them the
+    /// rules become the new set, and the answer has the numbers of the commit. With no commit under way they are all 0,
+    /// and nothing changes. It takes no memory.
     ///
-    /// `Stuck` comes where one write has failed `tries` times, and the device's count of failures rose by that, or stands
-    /// at its last value. The writes before it were made, and it is the next: so `carry_out` may be called again. Until
-    /// the commit has finished no other batch is taken, and nothing else may be written. Where that write surely wasn't
-    /// made the commit may be turned round (`abort`). A device that takes no write back either is blanked, and gets a new
-    /// manager.
+    /// `Stuck` comes where one write has failed `tries` times, and the device's count of failures rose by that, or
+    /// stands at its last value. The writes before it were made, and it is the next: so `carry_out` may be called
+    /// again. Until the commit has finished no other batch is taken, and nothing else may be written. Where that write
+    /// surely wasn't made the commit may be turned round (`abort`). A device that takes no write back either is
+    /// blanked, and gets a new manager.
     ///
     /// `Waiting` comes exactly where the drain is next and words are in flight, with their number: what came before was
-    /// made, and once they have been searched the call is made again. `Reverted` comes where the commit was turned round:
-    /// its undo writes were made, and the rules are the old ones.
+    /// made, and once they have been searched the call is made again. `Reverted` comes where the commit was turned
+    /// round: its undo writes were made, and the rules are the old ones.
     ///
     /// Wherever it stops, what was done to the device and what is left are together what was left before, and a commit
     /// that `prepare` planned and that is still under way can be taken back through the states that it passed.
     ///
-    /// Each key is answered, by the device's journal, as the old rules or the new ones do before the first write and after
-    /// each, also where the write that failed was made all the same; and once the commit has finished as the new ones do.
+    /// Each key is answered, by the device's journal, as the old rules or the new ones do before the first write and
+    /// after each, also where the write that failed was made all the same; and once the commit has finished as the new
+    /// ones do.
     pub fn carry_out<D: Writable>(&mut self, device: &mut D, tries: u32) -> Result<Done, Unfinished>
         requires slots { self.old.slots ≤ D.slot_count device.old }
         requires room { HasRoomLeft self.old.held (D.spare device.old) }
@@ -425,7 +429,7 @@ impl Manager {
         ensures was_forward { OnOk result (GoesForward self.old.held) }
         ensures forward { GoesForward self.old.held → GoesForward self.new.held }
         ensures finished { OnOk result (self.new ≡ finished self.old) }
-        ensures rules { OnOk result ((was : Managed) → (batch : List Command) → (ready : Ready) → Holds was batch ready self.old → self.new.rules ≡ set_after was.rules batch) }
+        ensures rules { OnOk result ((was : Managed) → (batch : List Command) → (counts : Done) → Holds was batch counts self.old → self.new.rules ≡ set_after was.rules batch) }
         ensures journal { OnOk result (D.journal device.new ≡ D.journal device.old ++ writes_left self.old.held) }
         ensures events { OnOk result (D.events device.new ≡ D.events device.old ++ actions_left self.old.held) }
         ensures events_left { D.events device.new ++ actions_left self.new.held ≡ D.events device.old ++ actions_left self.old.held }

@@ -5,19 +5,17 @@ ghost use Rattle.std.specs.List.{AllByRecursion, AllZip};
 ghost use Rattle.rule_model.specs.Rule.{HasConditions};
 ghost use Rattle.rule_model.specs.RuleSet.{IsRuleSet};
 ghost use Rattle.rule_store.specs.Batch.{ChangesRules, batch_fault};
-ghost use Rattle.ternary_word.specs.Entry.{IsEncodable};
+ghost use Rattle.rule_model.specs.Entry.{IsEncodable};
 ghost use Rattle.commit_writes.specs.Shape.{erased_pieces, inserted_pieces, rewritten_pieces, set_pieces};
 ghost use Rattle.commit_writes.specs.PlannedBatch.{IsIdOf, IsRewriteOf};
-ghost use Rattle.batch_pieces.specs.Changes.{coded_by, during_of};
+ghost use Rattle.commit_writes.specs.Changes.{coded_by, during_of};
 ghost use Rattle.batch_order.specs.Entries.{HasId, HaveIds};
 
 use crate::entries::LiveEntries;
-use batch_pieces::{Ranked, batch_pieces};
-use commit_writes::Rewrite;
+use commit_writes::{FieldBits, Ranked, Rewrite, batch_pieces};
+use rule_model::entry_of;
 use rule_store::{Batch, Store};
 use std::alloc::{AllocError, Global};
-use ternary_word::entry_of;
-use translation_tables::FieldBits;
 
 /// What a commit does: the pieces that it inserts, the new entry of each id whose piece gets a result, both by falling
 /// priority, and the ids of the pieces that go, by rising priority.

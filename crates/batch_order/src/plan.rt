@@ -5,21 +5,20 @@ ghost use Rattle.std.specs.List.{AllByRecursion, IsDistinct};
 ghost use Rattle.commit_writes.specs.declared.Rewrite.{Rewrite};
 ghost use Rattle.commit_writes.specs.Planned.{IdEntries};
 ghost use Rattle.commit_writes.specs.PlannedBatch.{erase_write, erased_slots, rewrite_write};
-ghost use Rattle.batch_order.specs.Managed.{ready_of};
 ghost use Rattle.batch_order.specs.Planning.{IsStanding, IsWithin, as_writes};
 
+use crate::Done;
 use crate::parts::CommitParts;
 use crate::planned_writes::PlannedWrite;
-use crate::{Done, Ready};
-use commit_writes::Rewrite;
-use move_planner::{Insert, Move};
+use commit_writes::{Rewrite, TableWord};
+use move_planner::Insert;
+use placement::Move;
 use slot_pool::Arrangement;
 use std::alloc::{AllocError, Global};
 use tcam_device::Writable;
-use translation_tables::TableWord;
 
-/// The writes of a commit still to make, how many of them are words of the tables, the writes of its longest insertion, and
-/// the greatest span of one.
+/// The writes of a commit still to make, how many of them are words of the tables, the writes of its longest insertion,
+/// and the greatest span of one.
 #[derive(Drop)]
 pub(crate) struct Plan {
     pub(crate) writes: Vec<PlannedWrite>,
@@ -67,7 +66,7 @@ impl Plan {
         self.span = self.span.max(insert.span);
     }
 
-    /// The numbers of a commit of which no write was made yet.
+    /// The numbers of a commit of which no write was made yet, which are those after its last.
     pub(crate) fn counts(&self) -> Done
         ensures writes { result.writes ≡ length self.now.writes.items }
         ensures words { result.words ≡ self.now.words }
@@ -91,18 +90,6 @@ fn push_all(words: &[TableWord], writes: &mut Vec<PlannedWrite>) -> Result<(), A
         writes.push(PlannedWrite::Tabled(*word))?;
     }
     Ok(())
-}
-
-/// The numbers of a commit before its first write, which are those after its last.
-pub(crate) fn ready(counts: &Done) -> Ready
-    ensures { result ≡ ready_of counts.now }
-{
-    Ready {
-        writes: counts.writes,
-        words: counts.words,
-        most: counts.most,
-        span: counts.span,
-    }
 }
 
 /// Plans the writes behind the insertions, the new entries before the erases, and reserves the device for all.

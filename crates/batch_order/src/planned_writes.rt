@@ -4,11 +4,10 @@ ghost use Rattle.std.specs.Prelude.{◌≡◌, option_map, slice_get};
 ghost use Rattle.batch_order.specs.Planning.{as_write};
 
 use crate::entries::LiveEntries;
-use commit_writes::Rewrite;
-use move_planner::Move;
+use commit_writes::{Rewrite, TableWord};
+use placement::Move;
+use rule_model::Entry;
 use tcam_device::Write;
-use ternary_word::Entry;
-use translation_tables::TableWord;
 
 /// A write of a plan.
 #[derive(Clone, Copy)]

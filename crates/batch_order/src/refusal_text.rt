@@ -2,8 +2,8 @@
 
 ghost use Rattle.std.specs.Prelude.{◌≡◌};
 
-use crate::Refusal;
 use crate::rule_name::RuleName;
+use crate::{BatchFault, Refusal, Rejection};
 use rule_model::{IpVersion, Rank};
 use std::fmt;
 
@@ -15,7 +15,8 @@ pub struct RefusalText {
 }
 
 impl Refusal {
-    /// Its text where the routes of the set are of this version. A priority alone doesn't tell of which version they are.
+    /// Its text where the routes of the set are of this version. A priority alone doesn't tell of which version they
+    /// are.
     pub fn for_version(self, version: IpVersion) -> RefusalText
         ensures refusal { result.refusal ≡ self }
         ensures version { result.version ≡ version }
@@ -38,19 +39,28 @@ impl RefusalText {
             version: self.version,
         }
     }
+
+    /// The text of a batch's fault.
+    fn fmt_fault<W: fmt::Write>(
+        &self,
+        fault: BatchFault,
+        f: &mut fmt::Formatter<W>,
+    ) -> fmt::Result {
+        match fault {
+            BatchFault::Twice(priority) => write!(f, "rule {} is named twice", self.name(priority)),
+            BatchFault::Taken(priority) => write!(f, "rule {} is taken", self.name(priority)),
+            BatchFault::Absent(priority) => write!(f, "rule {} is absent", self.name(priority)),
+        }
+    }
 }
 
 impl fmt::Display for RefusalText {
     fn fmt<W: fmt::Write>(&self, f: &mut fmt::Formatter<W>) -> fmt::Result {
         match self.refusal {
             Refusal::Busy { left } => write!(f, "a plan is held with {left} writes to make"),
-            Refusal::Twice(priority) => write!(f, "rule {} is named twice", self.name(priority)),
-            Refusal::Taken(priority) => write!(f, "rule {} is taken", self.name(priority)),
-            Refusal::Absent(priority) => write!(f, "rule {} is absent", self.name(priority)),
-            Refusal::Bits { field, need, free } => {
-                write!(f, "{need} {field} bits needed and {free} free")
-            }
-            Refusal::Slots { need, free } => write!(f, "{need} slots needed and {free} free"),
+            Refusal::Rejected(Rejection::Unsound(fault)) => self.fmt_fault(fault, f),
+            // Bits and slots name no rule.
+            Refusal::Rejected(rejection) => rejection.fmt(f),
             Refusal::Memory => write!(f, "out of memory"),
         }
     }

@@ -1,5 +1,5 @@
-//! What a step does of the commit under way: the next write, the drain, or the end, and all of it back once the commit is
-//! turned round.
+//! What a step does of the commit under way: the next write, the drain, or the end, and all of it back once the commit
+//! is turned round.
 
 ghost use Rattle.std.specs.Prelude.{◌≡◌, ◌+◌, ◌++◌, [], ℕ, true, false, Some, None, IfSome, IsSome, IsTrue, length};
 ghost use Rattle.tcam_device.specs.State.{IsInUse};
@@ -145,8 +145,8 @@ impl Manager {
         self.pass_drain()
     }
 
-    /// Whether the drain is next: a commit is under way, forward, and the next `step` drains, or waits while words are in
-    /// flight. Where it is, no write is due.
+    /// Whether the drain is next: a commit is under way, forward, and the next `step` drains, or waits while words are
+    /// in flight. Where it is, no write is due.
     pub fn drains_next(&self) -> bool
         ensures { result ≡ awaits_drain self.now.held }
     {

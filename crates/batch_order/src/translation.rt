@@ -9,17 +9,17 @@ ghost use Rattle.commit_writes.specs.Actions.{have_bits};
 ghost use Rattle.commit_writes.specs.Bits.{new_bits, no_bits, ranges_in};
 ghost use Rattle.commit_writes.specs.Planned.{IdEntries};
 ghost use Rattle.commit_writes.specs.Shape.{bit_writes};
-ghost use Rattle.translation_tables.specs.Needed.{ranges_needed};
-ghost use Rattle.batch_pieces.specs.Changes.{coded_by, during_of};
+ghost use Rattle.commit_writes.specs.Needed.{ranges_needed};
+ghost use Rattle.commit_writes.specs.Changes.{coded_by, during_of};
 ghost use Rattle.batch_order.specs.Kept.{bits_of, mode_of, needed_by, tables_of, translated_by};
 ghost use Rattle.batch_order.specs.Planning.{as_write, as_writes};
 
 use crate::plan::Plan;
 use crate::planned_writes::PlannedWrite;
-use crate::{Field, Refusal};
+use crate::{Field, Rejection};
+use commit_writes::{FieldBits, Tables};
 use rule_store::{Batch, Mode, Store};
 use std::alloc::{AllocError, Global};
-use translation_tables::{FieldBits, Tables};
 
 /// The live port ranges by their bits, and both translation tables as they stand in the device.
 #[derive(Drop)]
@@ -68,21 +68,21 @@ pub(crate) fn gives_bits(translation: &Option<Translation>, during: &Option<Fiel
 }
 
 /// Whether the new ranges that a batch adds in a field fit its free bits.
-pub(crate) fn check_field(bits: &FieldBits, field: Field, batch: &Batch) -> Result<(), Refusal>
+pub(crate) fn check_field(bits: &FieldBits, field: Field, batch: &Batch) -> Result<(), Rejection>
     ensures fits { OnOk result (live_count (ranges_in field bits.now) + length (ranges_needed field bits.now batch.now) ≤ field_bits) }
-    ensures short { IfErr result (λ refusal. (field_bits < live_count (ranges_in field bits.now) + length (ranges_needed field bits.now batch.now))
-        × (refusal ≡ Refusal.Bits field (length (ranges_needed field bits.now batch.now)) (field_bits - live_count (ranges_in field bits.now)))) }
+    ensures short { IfErr result (λ rejection. (field_bits < live_count (ranges_in field bits.now) + length (ranges_needed field bits.now batch.now))
+        × (rejection ≡ Rejection.Bits field (length (ranges_needed field bits.now batch.now)) (field_bits - live_count (ranges_in field bits.now)))) }
 {
     let need = bits.needed(field, batch);
     let free = bits.free(field);
     if need > free {
-        return Err(Refusal::Bits { field, need, free });
+        return Err(Rejection::Bits { field, need, free });
     }
     Ok(())
 }
 
-/// Gives a batch's new port ranges their bits, for which as many are free, and plans the words of the tables that differ
-/// by them. Answers the live ranges while the commit is made, none by covers.
+/// Gives a batch's new port ranges their bits, for which as many are free, and plans the words of the tables that
+/// differ by them. Answers the live ranges while the commit is made, none by covers.
 pub(crate) fn plan_words(
     alloc: Global,
     translation: &Option<Translation>,
@@ -113,8 +113,8 @@ pub(crate) fn plan_words(
     Ok(Some(bits))
 }
 
-/// The writes of a commit are made, and its rules are the set's: the tables are those after the writes, and bits that no
-/// rule needs are given up.
+/// The writes of a commit are made, and its rules are the set's: the tables are those after the writes, and bits that
+/// no rule needs are given up.
 pub(crate) fn translate(
     translation: &mut Option<Translation>,
     bits: &Option<FieldBits>,

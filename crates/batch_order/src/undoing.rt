@@ -1,7 +1,7 @@
 //! The writes that take a plan back, planned before its first write goes out.
 //!
-//! What a slot holds was put there by a planned write, or stood there before the commit, as a move would have put it: so
-//! what restores it is such a write again, of a few bytes.
+//! What a slot holds was put there by a planned write, or stood there before the commit, as a move would have put it:
+//! so what restores it is such a write again, of a few bytes.
 
 ghost use Rattle.std.specs.Prelude.{◌≡◌, true, ◌<◌, IfOk, OnOk, None, Some, List, length, get_or, slice_set};
 ghost use Rattle.std.specs.List.{AllByRecursion};
@@ -15,10 +15,10 @@ ghost use Rattle.batch_order.specs.Undoing.{AreRestoring, Each, IsPut, Replaces,
 
 use crate::planned_writes::PlannedWrite;
 use crate::translation::Translation;
-use move_planner::Move;
+use commit_writes::{TableWord, Tables};
+use placement::Move;
 use slot_pool::Arrangement;
 use std::alloc::{AllocError, Global};
-use translation_tables::{TableWord, Tables};
 
 /// What restores each write of a plan, in the plan's order: the write that puts back what its slot or table word holds
 /// before it.

@@ -3,8 +3,8 @@
 ghost use Rattle.std.specs.Prelude.{◌≡◌, ◌+◌, ◌*◌, ◌≤◌, IsTrue, IfOk, OnOk, OnErr, length};
 ghost use Rattle.std.specs.List.{AllByRecursion};
 ghost use Rattle.rule_store.specs.Verdict.{entries_of};
-ghost use Rattle.ternary_word.specs.Entry.{IsEncodable};
-ghost use Rattle.overlap_index.specs.Live.{is_live};
+ghost use Rattle.rule_model.specs.Entry.{IsEncodable};
+ghost use Rattle.placement.specs.Live.{is_live};
 ghost use Rattle.batch_order.specs.Entries.{AddsIds, KeepEntries};
 ghost use Rattle.batch_order.specs.Kept.{mode_of};
 ghost use Rattle.batch_order.specs.Placing.{aims_of};

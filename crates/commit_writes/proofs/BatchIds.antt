@@ -1,10 +1,10 @@
 -- The ids of a planned batch: which piece each stands for, before and after some of the new results.
 use Rattle.std.proofs.Common.{◌≡◌, Some, List, Contains, inl, inr, ◌⊎◌, refl, sym, ◌∙◌, subst, ap}
 use Rattle.slot_order.proofs.Writes.{slot_inside}
-use Rattle.ternary_word.specs.Entry.{RankedPiece, entry_for}
-use Rattle.overlap_index.specs.declared.LivePiece.{LivePiece}
-use Rattle.overlap_index.proofs.Above.{piece_in, piece_is, live_is}
-use Rattle.move_planner.specs.Insertion.{IsLive}
+use Rattle.rule_model.specs.Entry.{RankedPiece, entry_for}
+use Rattle.placement.specs.declared.LivePiece.{LivePiece}
+use Rattle.placement.proofs.Above.{piece_in, piece_is, live_is}
+use Rattle.placement.specs.Insertion.{IsLive}
 use Rattle.tcam_device.specs.State.{State}
 use Rattle.commit_writes.specs.declared.Rewrite.{Rewrite}
 use Rattle.commit_writes.specs.Planned.{IdEntries, entry_at}

@@ -8,19 +8,19 @@ use Rattle.std.proofs.lemmas.List.Elements.{Contains-append_left}
 use Rattle.std.proofs.lemmas.Slice.Zip.{AllZip-long}
 use Rattle.slot_order.specs.Order.{Ordered, slot}
 use Rattle.slot_order.proofs.Lists.{contains_take, in_map, map_in}
-use Rattle.slot_order.proofs.Once.{AllOnce}
+use Rattle.slot_moves.proofs.Once.{AllOnce}
 use Rattle.slot_order.proofs.Writes.{slot_inside}
 use Rattle.slot_order.proofs.Images as images
 use Rattle.slot_pool.specs.Arrangement.{Slots}
 use Rattle.rule_model.specs.declared.Rule.{Rule}
 use Rattle.rule_store.specs.declared.Mode.{Mode}
 use Rattle.rule_store.specs.declared.Command.{Command}
-use Rattle.ternary_word.specs.Entry.{RankedPiece}
-use Rattle.overlap_index.specs.declared.LivePiece.{LivePiece}
-use Rattle.overlap_index.proofs.Above.{live_is, is_live_from}
-use Rattle.overlap_index.proofs.Live.{all_apart_from}
-use Rattle.move_planner.specs.Insertion.{IsLive}
-use Rattle.move_planner.proofs.Chain.{AllKnown}
+use Rattle.rule_model.specs.Entry.{RankedPiece}
+use Rattle.placement.specs.declared.LivePiece.{LivePiece}
+use Rattle.placement.proofs.Above.{live_is, is_live_from}
+use Rattle.placement.proofs.Live.{all_apart_from}
+use Rattle.placement.specs.Insertion.{IsLive}
+use Rattle.placement.proofs.Chain.{AllKnown}
 use Rattle.tcam_device.specs.declared.Write.{Write}
 use Rattle.tcam_device.specs.State.{State, state_after}
 use Rattle.tcam_device.specs.Order.{IsOrdered, StandsOnce}

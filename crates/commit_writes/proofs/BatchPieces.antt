@@ -9,7 +9,7 @@ use Rattle.rule_store.specs.declared.Command.{Command}
 use Rattle.rule_store.specs.Batch.{removes, additions, set_after}
 use Rattle.rule_store.specs.Verdict.{pieces_of, has_piece, replaced_rule, added_pieces, added_pieces_over}
 use Rattle.rule_store.proofs.Members.{IsKept, set_after-member}
-use Rattle.ternary_word.specs.Entry.{RankedPiece}
+use Rattle.rule_model.specs.Entry.{RankedPiece}
 use Rattle.tcam_device.specs.State.{State}
 use Rattle.rule_store.proofs.Additions.{new_rules, additions_set}
 use Rattle.commit_writes.specs.Bits.{FieldBits}

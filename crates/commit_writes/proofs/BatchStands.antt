@@ -10,10 +10,10 @@ use Rattle.slot_pool.specs.Arrangement.{Slots}
 use Rattle.rule_model.specs.declared.Rule.{Rule}
 use Rattle.rule_store.specs.declared.Command.{Command}
 use Rattle.rule_store.specs.declared.Mode.{Mode}
-use Rattle.ternary_word.specs.Entry.{RankedPiece, entry_for, entry_of, same_match}
-use Rattle.overlap_index.specs.declared.LivePiece.{LivePiece}
-use Rattle.overlap_index.proofs.Above.{is_live_from}
-use Rattle.move_planner.specs.Insertion.{IsLive}
+use Rattle.rule_model.specs.Entry.{RankedPiece, entry_for, entry_of, same_match}
+use Rattle.placement.specs.declared.LivePiece.{LivePiece}
+use Rattle.placement.proofs.Above.{is_live_from}
+use Rattle.placement.specs.Insertion.{IsLive}
 use Rattle.tcam_device.specs.declared.Write.{Write}
 use Rattle.tcam_device.specs.declared.Write.TheVariants.{Slot}
 use Rattle.tcam_device.specs.State.{State, apply, state_after}

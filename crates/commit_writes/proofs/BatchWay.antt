@@ -4,14 +4,14 @@ use Rattle.std.specs.Prelude.{◌↔◌}
 use Rattle.std.proofs.lemmas.List.Elements.{Contains-append_left, Contains-append_right, Contains-append_cases}
 use Rattle.std.proofs.lemmas.Slice.Zip.{AllZip-long}
 use Rattle.slot_order.proofs.Lists.{contains_none, contains_take, in_map}
-use Rattle.slot_order.proofs.Between.{adding}
+use Rattle.slot_moves.proofs.Between.{adding}
 use Rattle.slot_pool.specs.Arrangement.{Slots}
 use Rattle.rule_model.specs.declared.Rule.{Rule}
 use Rattle.rule_store.specs.declared.Mode.{Mode}
 use Rattle.rule_store.specs.declared.Command.{Command}
 use Rattle.rule_store.specs.Batch.{set_after}
-use Rattle.ternary_word.specs.Entry.{RankedPiece}
-use Rattle.overlap_index.specs.declared.LivePiece.{LivePiece}
+use Rattle.rule_model.specs.Entry.{RankedPiece}
+use Rattle.placement.specs.declared.LivePiece.{LivePiece}
 use Rattle.tcam_device.specs.State.{State}
 use Rattle.commit_writes.specs.declared.Rewrite.{Rewrite}
 use Rattle.commit_writes.specs.Bits.{FieldBits}

@@ -4,20 +4,21 @@ use Rattle.std.specs.List.{AllByRecursion}
 use Rattle.std.proofs.lemmas.Bool.{false_from_ne_true}
 use Rattle.std.proofs.lemmas.List.{take-map, take-append-le, length-map}
 use Rattle.slot_order.specs.Order.{slot, Ordered}
-use Rattle.slot_order.specs.Moves.{applied, Along, BoundsMemberChains}
-use Rattle.slot_order.proofs.Chains.{Along_push}
-use Rattle.slot_order.proofs.Copies.{AtMostOneTwice, whole_copies}
-use Rattle.slot_order.proofs.Whole.{IsWhole, WholeKeeps, whole_keeps, whole_once}
+use Rattle.slot_order.specs.Chains.{applied, Along, BoundsMemberChains}
+use Rattle.slot_moves.proofs.Chains.{Along_push}
+use Rattle.slot_moves.proofs.Copies.{AtMostOneTwice, whole_copies}
+use Rattle.slot_moves.proofs.Whole.{IsWhole, WholeKeeps, whole_keeps, whole_once}
 use Rattle.slot_order.proofs.Images.{entries}
 use Rattle.slot_order.proofs.Lists.{all_append}
-use Rattle.slot_order.proofs.Inside.{AllInside, whole_inside}
-use Rattle.slot_order.proofs.Once.{AllOnce}
-use Rattle.slot_order.proofs.Turns.{Plus}
+use Rattle.slot_order.proofs.Inside.{AllInside}
+use Rattle.slot_moves.proofs.InsideMoves.{whole_inside}
+use Rattle.slot_moves.proofs.Once.{AllOnce}
+use Rattle.slot_moves.proofs.Turns.{Plus}
 use Rattle.slot_order.proofs.Walks.{Along_prefix, Along_weaker, applied_append}
 use Rattle.slot_order.proofs.Writes.{slot_same}
 use Rattle.slot_pool.specs.Arrangement.{Slots}
-use Rattle.ternary_word.specs.declared.Entry.{Entry}
-use Rattle.ternary_word.specs.Entry.{RankedPiece, same_match}
+use Rattle.rule_model.specs.declared.words.Entry.{Entry}
+use Rattle.rule_model.specs.Entry.{RankedPiece, same_match}
 use Rattle.tcam_device.specs.declared.Write.{Write}
 use Rattle.tcam_device.specs.declared.Write.TheVariants.{Slot}
 use Rattle.tcam_device.specs.State.{State, state_after}
@@ -25,12 +26,12 @@ use Rattle.tcam_device.specs.Order.{IsOrdered, HasOneTwin}
 use Rattle.tcam_device.specs.Insertion.{insertions, IsCrossingSpan}
 use Rattle.tcam_device.proofs.Lookups.{HitAsPieces}
 use Rattle.tcam_device.proofs.One.{slot_write, one_run}
-use Rattle.move_planner.specs.declared.Aim.{Aim}
-use Rattle.move_planner.specs.declared.Move.{Move}
-use Rattle.move_planner.specs.declared.Move.TheVariants.{Put, Erase}
-use Rattle.move_planner.specs.Placement.{Above, after_moves, gap_start, gap_end, span_of, IsPlacement}
-use Rattle.move_planner.proofs.Chain.{write_of, after_moves-applied, Reads, AllKnown, floor_is, ceiling_is}
-use Rattle.move_planner.proofs.Planned.{plan}
+use Rattle.placement.specs.declared.Aim.{Aim}
+use Rattle.placement.specs.declared.Move.{Move}
+use Rattle.placement.specs.declared.Move.TheVariants.{Put, Erase}
+use Rattle.placement.specs.Placement.{Above, after_moves, gap_start, gap_end, span_of, IsPlacement}
+use Rattle.placement.proofs.Chain.{write_of, after_moves-applied, Reads, AllKnown, floor_is, ceiling_is}
+use Rattle.placement.proofs.Planned.{plan}
 use Rattle.commit_writes.specs.Planned.{IdEntries, entry_at, write_for}
 use Rattle.commit_writes.proofs.Mirror.{Pieces, entry_by, over, rank, MatchApart, ordered_state, After, state_applied}
 use Rattle.commit_writes.proofs.Crossing.{span_is}

@@ -2,12 +2,12 @@
 use Rattle.std.proofs.Common.{◌≡◌, ℕ, ◌+◌, ◌*◌, ◌≤◌, max, List, [], ◌∷◌, ◌++◌, length, map, fold, Contains, arith, inl, refl, sym, ◌∙◌, subst, ap, ap₂, append_assoc, append-nil}
 use Rattle.std.specs.Prelude.{flat_map}
 use Rattle.std.specs.List.{AllZip}
-use Rattle.slot_order.specs.Moves.{BoundsMemberChains}
-use Rattle.slot_order.proofs.Count.{image_bound}
+use Rattle.slot_order.specs.Chains.{BoundsMemberChains}
+use Rattle.slot_moves.proofs.Count.{image_bound}
 use Rattle.rule_model.specs.Piece.{PiecesOverlap}
-use Rattle.ternary_word.specs.Entry.{RankedPiece}
-use Rattle.overlap_index.specs.declared.LivePiece.{LivePiece}
-use Rattle.move_planner.specs.Insertion.{IsLive}
+use Rattle.rule_model.specs.Entry.{RankedPiece}
+use Rattle.placement.specs.declared.LivePiece.{LivePiece}
+use Rattle.placement.specs.Insertion.{IsLive}
 use Rattle.tcam_device.specs.declared.Write.{Write}
 use Rattle.tcam_device.specs.State.{State, state_after}
 use Rattle.tcam_device.specs.Insertion.{Insertion, insertions, IsCrossingSpan, IsGreatestSpan, IsWithinTightBound, IsUncrossed}

@@ -2,17 +2,17 @@
 use Rattle.std.proofs.Common.{◌≡◌, ℕ, ◌+◌, ◌-◌, ◌<◌, ◌≤◌, IsTrue, Some, option_map, arith, inl, inr, refl, sym, ◌∙◌, subst, ap}
 use Rattle.std.proofs.lemmas.Bool.{cases_lt}
 use Rattle.slot_order.specs.Order.{slot}
-use Rattle.slot_order.specs.Moves.{IsFloor, IsCeiling}
+use Rattle.slot_moves.specs.Moves.{IsFloor, IsCeiling}
 use Rattle.slot_order.proofs.Images.{entries, slot_entries, StandsFor, stands_for}
 use Rattle.slot_order.proofs.Writes.{slot_inside}
 use Rattle.slot_pool.specs.Arrangement.{Slots}
-use Rattle.ternary_word.specs.declared.Entry.{Entry}
-use Rattle.ternary_word.specs.Entry.{RankedPiece}
+use Rattle.rule_model.specs.declared.words.Entry.{Entry}
+use Rattle.rule_model.specs.Entry.{RankedPiece}
 use Rattle.tcam_device.specs.State.{State}
 use Rattle.tcam_device.specs.Insertion.{IsCrossingSpan, HoldsUpper, HoldsLower, ShareKey}
 use Rattle.tcam_device.proofs.Lookups.{HitAsPieces}
-use Rattle.move_planner.specs.Placement.{Above, gap_start, gap_end, span_of}
-use Rattle.move_planner.proofs.Chain.{Reads, AllKnown, floor_is, ceiling_is}
+use Rattle.placement.specs.Placement.{Above, gap_start, gap_end, span_of}
+use Rattle.placement.proofs.Chain.{Reads, AllKnown, floor_is, ceiling_is}
 use Rattle.commit_writes.proofs.Mirror.{Pieces, entry_by, over, rank}
 
 -- the crossing span of the new entry

@@ -6,9 +6,9 @@ use Rattle.slot_order.specs.Order.{slot, first_hit}
 use Rattle.slot_order.proofs.Lists.{all_append}
 use Rattle.rule_model.specs.declared.Key.{Key}
 use Rattle.rule_model.specs.Key.{IsKey}
-use Rattle.ternary_word.specs.declared.Word.{Word}
-use Rattle.ternary_word.specs.declared.Entry.{Entry}
-use Rattle.ternary_word.specs.Entry.{hits}
+use Rattle.rule_model.specs.declared.words.Word.{Word}
+use Rattle.rule_model.specs.declared.words.Entry.{Entry}
+use Rattle.rule_model.specs.Entry.{hits}
 use Rattle.tcam_device.specs.State.{State, hits_key, lookup, search_word, told}
 use Rattle.commit_writes.specs.Bits.{FieldBits}
 use Rattle.tcam_device.specs.Flight.{Flight, word_answer, with_word, searched_by}

@@ -12,7 +12,7 @@ use Rattle.rule_store.specs.Batch.{removes, with_result_after, set_after}
 use Rattle.rule_store.specs.Verdict.{pieces_of, added_pieces}
 use Rattle.rule_store.proofs.Members.{set_after-member}
 use Rattle.rule_store.proofs.Additions.{new_rules, new_rules-member}
-use Rattle.ternary_word.specs.Entry.{RankedPiece}
+use Rattle.rule_model.specs.Entry.{RankedPiece}
 use Rattle.commit_writes.specs.Bits.{FieldBits, with_bits}
 use Rattle.commit_writes.specs.Shape.{set_pieces, inserted_pieces}
 use Rattle.commit_writes.specs.Commit.{ReplacesNone}

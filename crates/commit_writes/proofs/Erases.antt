@@ -5,15 +5,15 @@ use Rattle.std.specs.List.{IsDistinct}
 use Rattle.std.proofs.lemmas.Bool.{cases_eq, eqb-true, eq-eqb, false_from_ne_true}
 use Rattle.std.proofs.lemmas.List.{map-set}
 use Rattle.slot_order.specs.Order.{slot, Ordered}
-use Rattle.slot_order.proofs.Once.{AllOnce}
+use Rattle.slot_moves.proofs.Once.{AllOnce}
 use Rattle.slot_order.proofs.Lists.{contains_head, contains_tail, contains_cases, contains_none, in_filter, filter_in}
 use Rattle.slot_order.proofs.Writes.{slot_same, slot_other, slot_inside, erase_keeps}
 use Rattle.slot_pool.specs.Arrangement.{Slots}
-use Rattle.overlap_index.specs.declared.LivePiece.{LivePiece}
-use Rattle.overlap_index.specs.Live.{without_id}
-use Rattle.overlap_index.proofs.Above.{live_is, is_live_from}
-use Rattle.overlap_index.proofs.Live.{all_apart}
-use Rattle.move_planner.specs.Insertion.{IsLive}
+use Rattle.placement.specs.declared.LivePiece.{LivePiece}
+use Rattle.placement.specs.Live.{without_id}
+use Rattle.placement.proofs.Above.{live_is, is_live_from}
+use Rattle.placement.proofs.Live.{all_apart}
+use Rattle.placement.specs.Insertion.{IsLive}
 use Rattle.tcam_device.specs.State.{State, state_after}
 use Rattle.commit_writes.specs.Planned.{IdEntries, held_entry, contents, with_slots}
 use Rattle.commit_writes.specs.PlannedBatch.{home_slot, erase_write, erased_slots, erased_live}

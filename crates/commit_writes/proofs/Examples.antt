@@ -5,7 +5,7 @@ use Rattle.rule_model.specs.declared.Field.TheVariants.{Dst}
 use Rattle.rule_model.specs.AddressBlock.{any_address}
 use Rattle.rule_model.specs.PortRange.{PortRange, any_port}
 use Rattle.rule_model.specs.Rank.{list_rank}
-use Rattle.ternary_word.specs.Entry.{RankedPiece}
+use Rattle.rule_model.specs.Entry.{RankedPiece}
 use Rattle.rule_store.specs.declared.Mode.TheVariants.{Cover, Bits}
 use Rattle.rule_store.specs.declared.Command.{Command}
 use Rattle.rule_store.specs.declared.Command.TheVariants.{Add, Set, Del}

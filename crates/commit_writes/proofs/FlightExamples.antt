@@ -11,7 +11,7 @@ use Rattle.rule_model.specs.RuleSet.{answer}
 use Rattle.rule_store.specs.declared.Mode.TheVariants.{Bits}
 use Rattle.rule_store.specs.declared.Command.{Command}
 use Rattle.rule_store.specs.declared.Command.TheVariants.{Add}
-use Rattle.ternary_word.specs.Entry.{RankedPiece, entry_for}
+use Rattle.rule_model.specs.Entry.{RankedPiece, entry_for}
 use Rattle.range_bits.specs.LiveRanges.{bit_of}
 use Rattle.tcam_device.specs.declared.Write.{Write}
 use Rattle.tcam_device.specs.declared.Write.TheVariants.{Slot, Table}

@@ -16,7 +16,7 @@ use Rattle.rule_store.specs.declared.Mode.{Mode}
 use Rattle.rule_store.specs.declared.Command.{Command}
 use Rattle.rule_store.specs.Batch.{additions, set_after}
 use Rattle.rule_store.proofs.Counts.{count_by-append}
-use Rattle.ternary_word.specs.Entry.{RankedPiece}
+use Rattle.rule_model.specs.Entry.{RankedPiece}
 use Rattle.tcam_device.specs.declared.Write.{Write}
 use Rattle.tcam_device.specs.State.{State, IsState, IsInUse, Shows, lookup, state_after}
 use Rattle.tcam_device.specs.Order.{IsOrdered, StandsOnce, HasOneTwin}

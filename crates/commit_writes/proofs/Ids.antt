@@ -10,14 +10,14 @@ use Rattle.rule_model.specs.Rule.{route_rule, AreConditions}
 use Rattle.rule_model.specs.Piece.{PiecesOverlap, whole_piece, pieces_meet}
 use Rattle.rule_model.proofs.CommonKeys.{pieces_meet-is}
 use Rattle.rule_model.proofs.Covers.{held_from, held_low, held_high}
-use Rattle.ternary_word.specs.declared.Entry.{Entry}
-use Rattle.ternary_word.specs.Entry.{RankedPiece, entry_for, same_match}
-use Rattle.ternary_word.proofs.Apart.{SameParts, same_match-parts}
-use Rattle.overlap_index.specs.declared.LivePiece.{LivePiece}
-use Rattle.overlap_index.specs.Live.{is_above}
-use Rattle.overlap_index.proofs.Above.{IsOver, above_is, is_above_from, piece_in, piece_is, live_is}
-use Rattle.move_planner.specs.Insertion.{IsLive}
-use Rattle.move_planner.proofs.Chain.{Reads}
+use Rattle.rule_model.specs.declared.words.Entry.{Entry}
+use Rattle.rule_model.specs.Entry.{RankedPiece, entry_for, same_match}
+use Rattle.rule_model.proofs.ApartEntries.{SameParts, same_match-parts}
+use Rattle.placement.specs.declared.LivePiece.{LivePiece}
+use Rattle.placement.specs.Live.{is_above}
+use Rattle.placement.proofs.Above.{IsOver, above_is, is_above_from, piece_in, piece_is, live_is}
+use Rattle.placement.specs.Insertion.{IsLive}
+use Rattle.placement.proofs.Chain.{Reads}
 use Rattle.tcam_device.specs.State.{State}
 use Rattle.tcam_device.specs.Order.{IsTranslated}
 use Rattle.commit_writes.specs.Planned.{IdEntries, entry_at, AreEntriesOf, AreNested, IsServedBy}

@@ -13,7 +13,7 @@ use Rattle.rule_store.specs.declared.Mode.TheVariants.{Cover, Bits}
 use Rattle.rule_store.specs.declared.Command.{Command}
 use Rattle.rule_store.specs.Batch.{additions, set_after}
 use Rattle.rule_store.specs.Verdict.{coded_ranges, new_ranges}
-use Rattle.ternary_word.specs.Entry.{RankedPiece}
+use Rattle.rule_model.specs.Entry.{RankedPiece}
 use Rattle.range_bits.specs.LiveRanges.{LiveRanges, range_at, bit_of, with_ranges, kept_ranges}
 use Rattle.range_bits.proofs.Changes.{IsFieldMap-kept_ranges}
 use Rattle.range_bits.proofs.Given.{AreGiven, bit_of-same, bit_of-with_ranges, kept_ranges-parts}

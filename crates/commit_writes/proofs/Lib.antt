@@ -66,3 +66,14 @@ pub mod Actions
 pub mod Seen
 pub mod AtRest
 mod FlightExamples
+pub mod Coded
+pub mod Kept
+pub mod NewRanges
+pub mod NoWords
+pub mod RulesBits
+pub mod Used
+pub mod SetRanges
+pub mod ReadBack
+pub mod Walked
+pub mod Named
+pub mod Changed

@@ -8,9 +8,9 @@ use Rattle.rule_model.specs.AddressBlock.{block_holds}
 use Rattle.rule_model.specs.PortRange.{PortRange, range_holds}
 use Rattle.rule_model.specs.Rule.{proto_holds}
 use Rattle.rule_model.specs.Piece.{piece_matches}
-use Rattle.ternary_word.specs.declared.Word.{Word}
-use Rattle.ternary_word.specs.Entry.{RankedPiece, entry_for, hits, port_tested}
-use Rattle.ternary_word.proofs.Exact.{hits-entry_of}
+use Rattle.rule_model.specs.declared.words.Word.{Word}
+use Rattle.rule_model.specs.Entry.{RankedPiece, entry_for, hits, port_tested}
+use Rattle.rule_model.proofs.Exact.{hits-entry_of}
 use Rattle.range_bits.specs.LiveRanges.{LiveRanges, range_at}
 use Rattle.range_bits.proofs.Given.{bit_of-is}
 use Rattle.tcam_device.specs.State.{State}

@@ -6,11 +6,11 @@ use Rattle.std.proofs.lemmas.List.Elements.{All-contains, Contains-append_left, 
 use Rattle.slot_order.proofs.Lists.{contains_cases, contains_none, AllByRecursion-member, in_map, map_in}
 use Rattle.slot_pool.specs.Arrangement.{Slots}
 use Rattle.rule_model.proofs.Pairs.{pairs_head, pairs_tail}
-use Rattle.ternary_word.specs.Entry.{RankedPiece, entry_for}
-use Rattle.overlap_index.specs.declared.LivePiece.{LivePiece}
-use Rattle.overlap_index.specs.Live.{AreApart}
-use Rattle.overlap_index.proofs.Live.{apart_more}
-use Rattle.move_planner.specs.Placement.{after_moves}
+use Rattle.rule_model.specs.Entry.{RankedPiece, entry_for}
+use Rattle.placement.specs.declared.LivePiece.{LivePiece}
+use Rattle.placement.specs.Live.{AreApart}
+use Rattle.placement.proofs.Live.{apart_more}
+use Rattle.placement.specs.Placement.{after_moves}
 use Rattle.tcam_device.specs.State.{State}
 use Rattle.commit_writes.specs.Planned.{IdEntries, Planned, ArePlanned, IsServedBy, IsPlannedRow, entry_at, ranked_of, live_after}
 use Rattle.commit_writes.proofs.Ids.{AreOfPieces}

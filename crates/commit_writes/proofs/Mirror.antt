@@ -3,21 +3,21 @@ use Rattle.std.proofs.Common.{◌≡◌, ℕ, ◌≤◌, true, Option, Some, opt
 use Rattle.std.specs.Prelude.{length, slice_index, ◌↔◌}
 use Rattle.std.proofs.lemmas.List.{map-set}
 use Rattle.slot_order.specs.Order.{slot, Ordered}
-use Rattle.slot_order.specs.Moves.{applied}
+use Rattle.slot_order.specs.Chains.{applied}
 use Rattle.slot_order.proofs.Images.{entries, slot_entries, stands_for}
-use Rattle.slot_order.proofs.Once.{AllOnce}
+use Rattle.slot_moves.proofs.Once.{AllOnce}
 use Rattle.slot_pool.specs.Arrangement.{Slots}
 use Rattle.rule_model.specs.Piece.{PiecesOverlap, piece_matches}
-use Rattle.ternary_word.specs.declared.Entry.{Entry}
-use Rattle.ternary_word.specs.Entry.{RankedPiece, entry_for, same_match, hits}
-use Rattle.ternary_word.specs.Word.{word_of}
-use Rattle.ternary_word.proofs.Exact.{hits-entry_of}
+use Rattle.rule_model.specs.declared.words.Entry.{Entry}
+use Rattle.rule_model.specs.Entry.{RankedPiece, entry_for, same_match, hits}
+use Rattle.rule_model.specs.Word.{word_of}
+use Rattle.rule_model.proofs.Exact.{hits-entry_of}
 use Rattle.tcam_device.specs.State.{State, IsState, apply, state_after}
 use Rattle.tcam_device.specs.Order.{IsOrdered, StandsAt, StandsOnce}
 use Rattle.tcam_device.proofs.Lookups.{HitAsPieces}
 use Rattle.tcam_device.proofs.Shown.{hit_as_pieces}
 use Rattle.tcam_device.proofs.One.{slot_write, same_match-same}
-use Rattle.move_planner.proofs.Chain.{AllKnown}
+use Rattle.placement.proofs.Chain.{AllKnown}
 use Rattle.commit_writes.specs.Planned.{IsServedBy}
 
 -- the pieces of some ids

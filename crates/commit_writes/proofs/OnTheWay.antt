@@ -2,15 +2,15 @@
 use Rattle.std.proofs.Common.{◌≡◌, ◌≤◌, List, Option, None, Some, Contains, IsTrue, inl, inr, ◌⊎◌, option_map, refl, sym, ◌∙◌, subst, ap, arith}
 use Rattle.slot_order.specs.Order.{first_hit, IsBest, Distinct}
 use Rattle.slot_order.proofs.Rules.{best_best}
-use Rattle.slot_order.proofs.OnTheWay.{HasPartner, on_the_way_best}
+use Rattle.slot_moves.proofs.OnTheWay.{HasPartner, on_the_way_best}
 use Rattle.rule_model.specs.declared.Key.{Key}
 use Rattle.rule_model.specs.declared.Rule.{Rule}
 use Rattle.rule_model.specs.Key.{IsKey}
 use Rattle.rule_model.specs.Rule.{rule_matches}
 use Rattle.rule_model.specs.RuleSet.{answer, best_rule}
 use Rattle.rule_model.specs.Piece.{piece_matches}
-use Rattle.ternary_word.specs.declared.Entry.{Entry}
-use Rattle.ternary_word.specs.Entry.{RankedPiece, entry_for}
+use Rattle.rule_model.specs.declared.words.Entry.{Entry}
+use Rattle.rule_model.specs.Entry.{RankedPiece, entry_for}
 use Rattle.tcam_device.specs.State.{State, hits_key, told, lookup}
 use Rattle.tcam_device.specs.Order.{IsOrdered}
 use Rattle.tcam_device.proofs.Lookups.{HitAsPieces, EntriesOf, hits_valid, lookup_best}

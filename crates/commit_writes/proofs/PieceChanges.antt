@@ -14,7 +14,7 @@ use Rattle.rule_store.specs.declared.Command.{Command}
 use Rattle.rule_store.specs.Batch.{named_priority, removes, additions, with_result_after, set_after}
 use Rattle.rule_store.specs.Verdict.{pieces_of, has_piece, replaced_rule, added_pieces, added_pieces_over}
 use Rattle.rule_store.proofs.Members.{set_after-member}
-use Rattle.ternary_word.specs.Entry.{RankedPiece}
+use Rattle.rule_model.specs.Entry.{RankedPiece}
 use Rattle.rule_store.proofs.PieceTests.{has_piece-from}
 use Rattle.rule_store.proofs.Additions.{new_rules, new_rules-member, member-new_rules, additions_distinct}
 use Rattle.rule_store.proofs.RulesAt.{cases_rule_at, rule_at-member}

@@ -4,11 +4,11 @@ use Rattle.std.specs.Prelude.{unwrap_or}
 use Rattle.std.proofs.lemmas.Bool.{cases_eq}
 use Rattle.std.proofs.lemmas.List.{length-set}
 use Rattle.slot_order.specs.Order.{slot}
-use Rattle.slot_order.proofs.Once.{AllOnce}
+use Rattle.slot_moves.proofs.Once.{AllOnce}
 use Rattle.slot_order.proofs.Lists.{contains_head, contains_tail, contains_cases, contains_none}
 use Rattle.slot_pool.specs.Arrangement.{Slots}
 use Rattle.slot_pool.proofs.LeastSlots.{home_first}
-use Rattle.ternary_word.specs.declared.Entry.{Entry}
+use Rattle.rule_model.specs.declared.words.Entry.{Entry}
 use Rattle.tcam_device.specs.State.{State, state_after}
 use Rattle.commit_writes.specs.declared.Rewrite.{Rewrite}
 use Rattle.commit_writes.specs.Planned.{IdEntries, entry_at, held_entry, contents, with_slots}

@@ -3,7 +3,7 @@
 use Rattle.std.proofs.Common.{◌≡◌, ℕ, ◌<◌, List, [], ◌∷◌, ◌++◌, length, IsTrue, Contains, inl, inr, refl, sym, ap, subst, ◌∙◌, arith}
 use Rattle.std.specs.List.{AllByRecursion}
 use Rattle.std.proofs.lemmas.List.Elements.{Contains-append_cases, Contains-append_left, Contains-append_right}
-use Rattle.slot_order.specs.Moves.{IsChain, BoundsMemberChains}
+use Rattle.slot_order.specs.Chains.{IsChain, BoundsMemberChains}
 use Rattle.slot_order.proofs.Lists.{contains_head, contains_tail, contains_cases, contains_none, AllByRecursion-member}
 use Rattle.rule_model.specs.declared.Key.{Key}
 use Rattle.rule_model.specs.declared.Rule.{Rule}
@@ -23,7 +23,7 @@ use Rattle.rule_store.specs.declared.Mode.{Mode}
 use Rattle.rule_store.specs.declared.Command.{Command}
 use Rattle.rule_store.specs.Batch.{additions}
 use Rattle.rule_store.specs.Verdict.{pieces_of, added_pieces}
-use Rattle.ternary_word.specs.Entry.{RankedPiece}
+use Rattle.rule_model.specs.Entry.{RankedPiece}
 use Rattle.rule_store.proofs.Additions.{new_rules, new_rules-member}
 use Rattle.commit_writes.specs.Bits.{FieldBits, with_bits}
 use Rattle.commit_writes.specs.Shape.{set_pieces, inserted_pieces}

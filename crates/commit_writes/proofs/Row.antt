@@ -8,21 +8,21 @@ use Rattle.std.proofs.lemmas.List.{take-append-le, length-map}
 use Rattle.std.proofs.Math.Seq.{take-append-add}
 use Rattle.std.proofs.lemmas.List.Elements.{Contains-append_left, Contains-append_right, Contains-append_cases}
 use Rattle.slot_order.specs.Order.{slot, Ordered}
-use Rattle.slot_order.specs.Moves.{BoundsMemberChains}
+use Rattle.slot_order.specs.Chains.{BoundsMemberChains}
 use Rattle.slot_order.proofs.Images.{entries}
-use Rattle.slot_order.proofs.Once.{AllOnce}
+use Rattle.slot_moves.proofs.Once.{AllOnce}
 use Rattle.slot_order.proofs.Lists.{contains_head, contains_tail, contains_cases, contains_none}
-use Rattle.slot_order.proofs.Sets.{Ordered_same}
-use Rattle.slot_order.proofs.Turns.{Plus}
+use Rattle.slot_moves.proofs.Sets.{Ordered_same}
+use Rattle.slot_moves.proofs.Turns.{Plus}
 use Rattle.slot_order.proofs.Writes.{slot_inside}
 use Rattle.slot_pool.specs.Arrangement.{Slots}
-use Rattle.ternary_word.specs.Entry.{RankedPiece}
-use Rattle.overlap_index.specs.declared.LivePiece.{LivePiece}
-use Rattle.overlap_index.specs.Live.{is_above}
-use Rattle.overlap_index.proofs.Above.{live_is, is_live_from}
-use Rattle.move_planner.specs.Placement.{Above, after_moves, gap_start, gap_end, span_of}
-use Rattle.move_planner.specs.Insertion.{IsLive}
-use Rattle.move_planner.proofs.Chain.{Reads, AllKnown, floor_is, ceiling_is}
+use Rattle.rule_model.specs.Entry.{RankedPiece}
+use Rattle.placement.specs.declared.LivePiece.{LivePiece}
+use Rattle.placement.specs.Live.{is_above}
+use Rattle.placement.proofs.Above.{live_is, is_live_from}
+use Rattle.placement.specs.Placement.{Above, after_moves, gap_start, gap_end, span_of}
+use Rattle.placement.specs.Insertion.{IsLive}
+use Rattle.placement.proofs.Chain.{Reads, AllKnown, floor_is, ceiling_is}
 use Rattle.tcam_device.specs.declared.Write.{Write}
 use Rattle.tcam_device.specs.State.{State, state_after}
 use Rattle.tcam_device.specs.Order.{IsOrdered, StandsOnce, HasOneTwin}

@@ -12,7 +12,7 @@ use Rattle.rule_model.specs.RuleSet.{Answer}
 use Rattle.rule_store.specs.declared.Mode.{Mode}
 use Rattle.rule_store.specs.declared.Command.{Command}
 use Rattle.rule_store.specs.Batch.{set_after}
-use Rattle.ternary_word.specs.declared.Word.{Word}
+use Rattle.rule_model.specs.declared.words.Word.{Word}
 use Rattle.tcam_device.specs.declared.Write.{Write}
 use Rattle.tcam_device.specs.State.{State, apply, state_after}
 use Rattle.tcam_device.specs.Hitless.{ShowsOldOrNew}

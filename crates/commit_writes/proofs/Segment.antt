@@ -4,15 +4,15 @@ use Rattle.std.specs.List.{AllByRecursion, AllZip}
 use Rattle.std.proofs.Math.Nat.{mul-le-mul}
 use Rattle.std.specs.Prelude.{flat_map}
 use Rattle.std.proofs.lemmas.List.{length-map}
-use Rattle.slot_order.specs.Moves.{BoundsMemberChains}
+use Rattle.slot_order.specs.Chains.{BoundsMemberChains}
 use Rattle.slot_order.proofs.Lists.{contains_head, contains_tail}
 use Rattle.slot_pool.specs.Arrangement.{Slots}
-use Rattle.ternary_word.specs.Entry.{RankedPiece, entry_for}
-use Rattle.overlap_index.specs.declared.LivePiece.{LivePiece}
+use Rattle.rule_model.specs.Entry.{RankedPiece, entry_for}
+use Rattle.placement.specs.declared.LivePiece.{LivePiece}
 use Rattle.tcam_device.specs.State.{State}
 use Rattle.tcam_device.specs.Insertion.{Insertion, insertions, longest_insertion, IsGreatestSpan, IsWithinTightBound, IsUncrossed}
 use Rattle.commit_writes.specs.Planned.{IdEntries, Planned, planned_writes, live_after, ranked_of, write_for, slots_after, longest_planned, greatest_planned, AreNested, BoundsPieceChains, IsPlannedRow}
-use Rattle.move_planner.specs.Insertion.{IsLive}
+use Rattle.placement.specs.Insertion.{IsLive}
 use Rattle.commit_writes.proofs.Mirror.{entry_by, over, rank}
 use Rattle.commit_writes.proofs.Fits.{standing_bound}
 use Rattle.commit_writes.proofs.InUse.{planned_spans, slots_kept}

@@ -15,7 +15,7 @@ use Rattle.rule_model.proofs.Parts.{IsBitless, same_piece-self, same_piece-is}
 use Rattle.rule_store.specs.declared.Mode.{Mode}
 use Rattle.rule_store.specs.Verdict.{pieces_of}
 use Rattle.rule_store.proofs.Sets.{falls-at}
-use Rattle.ternary_word.specs.Entry.{RankedPiece}
+use Rattle.rule_model.specs.Entry.{RankedPiece}
 use Rattle.tcam_device.specs.State.{State}
 use Rattle.tcam_device.proofs.Shown.{ArePiecesOf}
 use Rattle.commit_writes.specs.Bits.{FieldBits, with_bits}

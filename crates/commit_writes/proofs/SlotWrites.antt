@@ -5,8 +5,8 @@ use Rattle.std.specs.List.{AllByRecursion}
 use Rattle.slot_order.proofs.Lists.{all_append}
 use Rattle.slot_pool.specs.Arrangement.{Slots}
 use Rattle.rule_store.proofs.Counts.{count_by-cons}
-use Rattle.move_planner.specs.declared.Move.{Move}
-use Rattle.move_planner.specs.declared.Move.TheVariants.{Put, Erase}
+use Rattle.placement.specs.declared.Move.{Move}
+use Rattle.placement.specs.declared.Move.TheVariants.{Put, Erase}
 use Rattle.tcam_device.specs.declared.Write.{Write}
 use Rattle.tcam_device.specs.declared.Write.TheVariants.{Slot, Table}
 use Rattle.tcam_device.specs.State.{State, apply, state_after}

@@ -6,12 +6,12 @@ use Rattle.slot_order.specs.Order.{Ordered}
 use Rattle.slot_order.proofs.Images.{entries}
 use Rattle.slot_order.proofs.Lists.{AllByRecursion-member, map_in}
 use Rattle.slot_pool.specs.Arrangement.{Slots}
-use Rattle.ternary_word.specs.Entry.{RankedPiece, entry_for}
+use Rattle.rule_model.specs.Entry.{RankedPiece, entry_for}
 use Rattle.tcam_device.specs.Order.{IsOrdered}
-use Rattle.overlap_index.specs.declared.LivePiece.{LivePiece}
-use Rattle.overlap_index.specs.Live.{is_above}
-use Rattle.move_planner.specs.Insertion.{IsLive}
-use Rattle.move_planner.proofs.Chain.{Reads, AllKnown}
+use Rattle.placement.specs.declared.LivePiece.{LivePiece}
+use Rattle.placement.specs.Live.{is_above}
+use Rattle.placement.specs.Insertion.{IsLive}
+use Rattle.placement.proofs.Chain.{Reads, AllKnown}
 use Rattle.tcam_device.specs.State.{State}
 use Rattle.tcam_device.specs.Insertion.{insertions}
 use Rattle.commit_writes.specs.Planned.{IdEntries, Planned, IsServedBy, IsPlannedRow, AreArranged, entry_at, contents, planned_writes, live_after, ranked_of}

@@ -1,12 +1,12 @@
 -- A device that mirrors an arrangement in which at most one id stands twice has at most one twin.
 use Rattle.std.proofs.Common.{◌≡◌, ℕ, ◌<◌, true, Option, Some, List, inl, inr, ◌⊎◌, sym, ◌∙◌, subst, ap, arith}
 use Rattle.slot_order.specs.Order.{slot}
-use Rattle.slot_order.proofs.Copies.{AtMostOneTwice}
+use Rattle.slot_moves.proofs.Copies.{AtMostOneTwice}
 use Rattle.slot_order.proofs.Images.{entries, slot_entries, stands_for}
 use Rattle.slot_pool.specs.Arrangement.{Slots}
-use Rattle.ternary_word.specs.declared.Entry.{Entry}
-use Rattle.ternary_word.specs.Entry.{RankedPiece, same_match}
-use Rattle.move_planner.proofs.Chain.{AllKnown}
+use Rattle.rule_model.specs.declared.words.Entry.{Entry}
+use Rattle.rule_model.specs.Entry.{RankedPiece, same_match}
+use Rattle.placement.proofs.Chain.{AllKnown}
 use Rattle.tcam_device.specs.Order.{AreAlike, HasOneTwin}
 use Rattle.commit_writes.proofs.Mirror.{entry_by, MatchApart}
 

@@ -1,17 +1,14 @@
 -- What the words of some new bits do to a translation table: at each port it gets the word that has these bits by their ranges.
 use Rattle.std.proofs.Common.{◌≡◌, ℕ, suc, ◌+◌, ◌<◌, ◌≤◌, ◌==◌, Bool, true, false, cond, None, Some, List, [], ◌∷◌, length, set, ◌⊎◌, inl, inr, refl, ap, sym, ◌∙◌, subst, arith, eqb-true}
-use Rattle.std.specs.Prelude.{slice_index, All, AllPairs}
+use Rattle.std.specs.Prelude.{slice_index}
 use Rattle.std.specs.List.{AllByRecursion, filter_map, enumerate_from, cons_option}
 use Rattle.std.proofs.lemmas.Bool.{cases_eq}
 use Rattle.std.proofs.lemmas.List.{length-set, get_or-set_same, get_or-set_other}
-use Rattle.std.proofs.lemmas.List.Elements.{All-cons}
-use Rattle.std.proofs.lemmas.List.Kept.{AllPairs-cons}
-use Rattle.rule_model.proofs.Pairs.{pairs_none}
 use Rattle.rule_model.specs.declared.Field.{Field}
 use Rattle.rule_model.specs.declared.Field.TheVariants.{Src, Dst}
 use Rattle.range_bits.specs.LiveRanges.{LiveRanges, word_for}
 use Rattle.tcam_device.specs.declared.Write.{Write}
-use Rattle.tcam_device.specs.declared.Write.TheVariants.{Slot, Table}
+use Rattle.tcam_device.specs.declared.Write.TheVariants.{Table}
 use Rattle.tcam_device.specs.State.{State, apply, state_after, table_of}
 use Rattle.commit_writes.specs.Shape.{word_write, field_writes}
 
@@ -179,34 +176,6 @@ field_written field live state = record {
     all : IsAfterWords field (λ now. AreWrittenBelow live (table_of field state) now (length (table_of field state))) state (state_after state (field_writes field live (table_of field state)))
     all = words_from field live (table_of field state) 0 (table_of field state) state ((omega arith), λ k inside. ap (slice_index (table_of field state)) (omega arith))
         record { size = refl; written = λ port less. absurd (omega arith); to_come = λ port past. refl }
-
--- the port of a table write
-abbrev pub port_written : Write → ℕ
-port_written (Slot at entry) = 0
-port_written (Table field port word) = port
-
--- the writes are of rising ports from the first on, so none is written twice
-ports_rise : (field : Field) (live : LiveRanges) (first : ℕ) (words : List ℕ) → AllPairs (λ write later. port_written write < port_written later) (later_writes field live first words)
-    × All (λ write. first ≤ port_written write) (later_writes field live first words)
-ports_rise field live first [] = (pairs_none (λ write later. port_written write < port_written later), λ k d inside. absurd (omega arith))
-ports_rise field live first (word ∷ words) = one (word_for live first word == word) (ports_rise field live (first + 1) words)
-  where
-    rest : List Write
-    rest = later_writes field live (first + 1) words
-
-    write : Write
-    write = Table field first (word_for live first word)
-
-    one : (same : Bool) → AllPairs (λ write later. port_written write < port_written later) rest × All (λ write. first + 1 ≤ port_written write) rest
-        → AllPairs (λ write later. port_written write < port_written later) (cons_option (cond same None (Some write)) rest) × All (λ write. first ≤ port_written write) (cons_option (cond same None (Some write)) rest)
-    one true later = (later.0, λ k d inside. let past = later.1 k d inside in omega arith)
-    one false later = (
-      AllPairs-cons (λ write later. port_written write < port_written later) write rest (λ k d inside. let past = later.1 k d inside in omega arith) later.0,
-      All-cons (λ write. first ≤ port_written write) write rest (omega arith) (λ k d inside. let past = later.1 k d inside in omega arith),
-    )
-
-pub field_writes-rise : (field : Field) (live : LiveRanges) (table : List ℕ) → AllPairs (λ write later. port_written write < port_written later) (field_writes field live table)
-field_writes-rise field live table = (ports_rise field live 0 table).0
 
 writes_few : (field : Field) (live : LiveRanges) (first : ℕ) (words : List ℕ) → length (later_writes field live first words) ≤ length words
 writes_few field live first [] = omega arith

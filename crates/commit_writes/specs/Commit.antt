@@ -5,7 +5,7 @@ use Rattle.rule_model.specs.RuleSet.{BoundsChains}
 use Rattle.rule_store.specs.declared.Mode.{Mode}
 use Rattle.rule_store.specs.declared.Command.{Command}
 use Rattle.rule_store.specs.Batch.{removes, additions, set_after}
-use Rattle.ternary_word.specs.Entry.{RankedPiece}
+use Rattle.rule_model.specs.Entry.{RankedPiece}
 use Rattle.tcam_device.specs.declared.Write.{Write}
 use Rattle.tcam_device.specs.State.{State, state_after}
 use Rattle.tcam_device.specs.Order.{IsOrdered, ServesBits, StandsOnce, HasOneTwin}

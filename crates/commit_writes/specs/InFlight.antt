@@ -7,10 +7,10 @@ use Rattle.rule_model.specs.declared.Rule.{Rule}
 use Rattle.rule_model.specs.Key.{IsKey}
 use Rattle.rule_model.specs.PortRange.{PortRange, is_bit_set, range_holds}
 use Rattle.rule_model.specs.RuleSet.{Answer, answer}
-use Rattle.ternary_word.specs.declared.Word.{Word}
-use Rattle.ternary_word.specs.declared.Entry.{Entry}
-use Rattle.ternary_word.specs.Word.{word_of}
-use Rattle.ternary_word.specs.Entry.{hits}
+use Rattle.rule_model.specs.declared.words.Word.{Word}
+use Rattle.rule_model.specs.declared.words.Entry.{Entry}
+use Rattle.rule_model.specs.Word.{word_of}
+use Rattle.rule_model.specs.Entry.{hits}
 use Rattle.range_bits.specs.LiveRanges.{LiveRanges, range_at}
 use Rattle.tcam_device.specs.State.{State, apply, state_after, lookup}
 use Rattle.tcam_device.specs.Order.{IsTranslated}

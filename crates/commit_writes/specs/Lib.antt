@@ -9,3 +9,6 @@ pub mod Undo
 pub mod InFlight
 pub mod Actions
 pub mod Segments
+pub mod Needed
+pub mod Words
+pub mod Changes

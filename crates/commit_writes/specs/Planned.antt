@@ -1,19 +1,19 @@
 -- Insertions as they are planned, over ids in slots, and what they mean on the device.
 use Rattle.std.specs.Prelude.{◌≡◌, ℕ, ◌<◌, ◌≤◌, IsFalse, Option, Some, None, List, [], ◌∷◌, ◌++◌, Contains, AllPairs, length, map, flat_map, fold, max, slice_index_or}
 use Rattle.std.specs.List.{AllByRecursion}
-use Rattle.slot_order.specs.Moves.{BoundsMemberChains}
+use Rattle.slot_order.specs.Chains.{BoundsMemberChains}
 use Rattle.slot_pool.specs.Arrangement.{Slots}
 use Rattle.rule_model.specs.Rule.{AreConditions}
 use Rattle.rule_model.specs.Piece.{PiecesOverlap}
-use Rattle.ternary_word.specs.declared.Entry.{Entry}
-use Rattle.ternary_word.specs.Entry.{RankedPiece, IsEncodable, entry_for}
-use Rattle.overlap_index.specs.declared.LivePiece.{LivePiece}
-use Rattle.overlap_index.specs.Live.{AreApart, is_live, is_above}
-use Rattle.move_planner.specs.declared.Aim.{Aim}
-use Rattle.move_planner.specs.declared.Move.{Move}
-use Rattle.move_planner.specs.declared.Move.TheVariants.{Put, Erase}
-use Rattle.move_planner.specs.Placement.{IsPlacement, IsInOrder, after_moves, span_of}
-use Rattle.move_planner.specs.Insertion.{IsLive, StandOnce}
+use Rattle.rule_model.specs.declared.words.Entry.{Entry}
+use Rattle.rule_model.specs.Entry.{RankedPiece, IsEncodable, entry_for}
+use Rattle.placement.specs.declared.LivePiece.{LivePiece}
+use Rattle.placement.specs.Live.{AreApart, is_live, is_above}
+use Rattle.placement.specs.declared.Aim.{Aim}
+use Rattle.placement.specs.declared.Move.{Move}
+use Rattle.placement.specs.declared.Move.TheVariants.{Put, Erase}
+use Rattle.placement.specs.Placement.{IsPlacement, IsInOrder, after_moves, span_of}
+use Rattle.placement.specs.Insertion.{IsLive, StandOnce}
 use Rattle.tcam_device.specs.declared.Write.{Write}
 use Rattle.tcam_device.specs.declared.Write.TheVariants.{Slot}
 use Rattle.tcam_device.specs.State.{State, IsState}

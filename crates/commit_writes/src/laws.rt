@@ -45,8 +45,8 @@ pub fn rests_on_wider_devices()
     ensures { RestsOnWiderDevices }
 {}
 
-/// While a commit is taken back each key has the old or the new set's answer after every write, and in the end the device
-/// is as it was.
+/// While a commit is taken back each key has the old or the new set's answer after every write, and in the end the
+/// device is as it was.
 pub fn returns_are_hitless()
     ensures { ReturnsAreHitless }
 {}

@@ -10,14 +10,20 @@ use std::alloc::Global;
 /// Commits one after the other, over a memory of so many slots. Of each it is said how many writes it has.
 #[derive(Drop)]
 pub struct Example {
+    /// What it is called in the report.
     pub name: &'static str,
+    /// The slots of its memory, 1 to 4,096, all in use.
     pub slots: u32,
+    /// How port ranges are tested.
     pub mode: Mode,
+    /// The batches, a commit each.
     pub batches: Vec<Batch>,
+    /// The writes of each commit, in the same order.
     pub writes: Vec<u64>,
 }
 
 impl Example {
+    /// An example of this name over a memory of so many slots, 1 to 4,096, with no commit yet. It takes no memory.
     pub fn new(alloc: Global, name: &'static str, slots: u32, mode: Mode) -> Example {
         Example {
             name,

@@ -44,19 +44,22 @@ pub fn line_of(alloc: Global, name: &str, numbers: &[u128]) -> Result<String> {
     Ok(line)
 }
 
-/// The number at a place, where it fits what is wanted.
+/// The number at a place, from 0. It fails where there are no more than so many.
 pub fn wide(numbers: &[u128], at: usize) -> Result<u128> {
     Ok(*numbers.get(at).context("a number is missing")?)
 }
 
+/// The same as a byte, and it fails where the number is past 255.
 pub fn byte(numbers: &[u128], at: usize) -> Result<u8> {
     Ok(u8::try_from(wide(numbers, at)?)?)
 }
 
+/// The same in 16 bits, and it fails where the number is past 65,535.
 pub fn short(numbers: &[u128], at: usize) -> Result<u16> {
     Ok(u16::try_from(wide(numbers, at)?)?)
 }
 
+/// The same in 32 bits, and it fails where the number is past 4,294,967,295.
 pub fn long(numbers: &[u128], at: usize) -> Result<u32> {
     Ok(u32::try_from(wide(numbers, at)?)?)
 }

@@ -10,6 +10,12 @@
 //! result by the old rules or by the new ones, and after the last one by the new ones. These results are looked up in
 //! plain lists of rules, by no call of the manager. In the end a line is left out of the memory's file, and the restart
 //! must be refused.
+//!
+//! # Decided
+//! - **The memory is hardware that writes lines**: no contract can say what a file holds, so a device that answers
+//!   `read_slot` out of one couldn't be shown to be one that can be read back. Behind the crash the file is read, and
+//!   each of its writes is made again on a blank `Shadowed` with a file of its own. A driver of real hardware does the
+//!   same, with what the slots hold in place of the lines.
 #![tactic(auto)]
 
 mod answers;

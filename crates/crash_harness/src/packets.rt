@@ -8,8 +8,11 @@ use std::alloc::Global;
 /// A packet with its results by two sets.
 #[derive(Clone, Copy)]
 pub struct Packet {
+    /// Its header fields.
     pub key: Key,
+    /// Its result by the old set, None where no rule matches.
     pub old: Option<u32>,
+    /// Its result by the new set, likewise.
     pub new: Option<u32>,
 }
 

@@ -5,13 +5,12 @@ ghost use Rattle.std.specs.Prelude.{◌≡◌, ◌≤◌};
 use crate::lines::{byte, is_whole, line_of, long, name_of, numbers_of, short, wide};
 use anyhow::{Result, bail, ensure};
 use memory_tcam::Shadowed;
-use rule_model::Rank;
+use rule_model::{Entry, LANES, Rank, Word};
 use std::alloc::Global;
 use std::fs;
 use std::fs::File;
 use std::io::Write as _;
 use tcam_device::{Device, DeviceFault, Field, Hardware, Write};
-use ternary_word::{Entry, LANES, Word};
 
 /// The memory of a driver: it writes, and who reads the file behind a crash sees what was made. A line that isn't whole
 /// was not: the write that it was for is made again.

@@ -34,10 +34,13 @@ pub const ANY_PORT: (u16, u16) = (0, 65_535);
 /// Why a row makes no batch.
 #[derive(Clone, Copy, Debug, PartialEq, Eq, Error)]
 pub enum ChangeFault {
+    /// Its prefix is none.
     #[error("no prefix: {0}")]
     Prefix(PrefixFault),
+    /// The first of some ports is above the last.
     #[error("no port range")]
     Ports,
+    /// The batch doesn't take its command.
     #[error("the batch takes no more: {0}")]
     Batch(PushFault),
 }

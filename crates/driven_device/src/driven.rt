@@ -4,8 +4,7 @@ ghost use Rattle.tcam_device.specs.State.{blank_table, replay, table_of};
 ghost use Rattle.batch_order.specs.Managed.{HasBlankTables};
 
 use batch_order::{
-    AbortFault, Done, Field, Manager, Mode, Placement, Ready, Refusal, RestartFault, Step,
-    Unfinished,
+    AbortFault, Done, Field, Manager, Mode, Placement, Refusal, RestartFault, Step, Unfinished,
 };
 use readback::Parts;
 use rule_model::{Key, Rank};
@@ -21,6 +20,7 @@ pub enum SetUpFault {
     /// A manager has 1 to 4,096 slots.
     #[error("a device of {0} slots isn't driven")]
     Slots(u32),
+    /// There is no memory for a manager.
     #[error("want of memory")]
     Memory,
 }
@@ -34,6 +34,7 @@ pub enum RestartedFault {
     /// By covers the tables are blank.
     #[error("a table has words")]
     Tables,
+    /// `Manager::restart` is refused, as it says.
     #[error("no restart: {0}")]
     Restart(RestartFault),
 }
@@ -86,18 +87,19 @@ impl<D: Device + Drop> Driven<D> {
 }
 
 impl<D: ReadBack + Drop> Driven<D> {
-    /// What the manager leaves of itself: the rules of its set and their live port ranges, of the old set while a commit
-    /// is under way. The device is given up.
+    /// What the manager leaves of itself: the rules of its set and their live port ranges, of the old set while a
+    /// commit is under way. The device is given up.
     pub fn into_parts(self) -> Parts {
         self.manager.into_parts()
     }
 
-    /// Goes on with a batch's commit that was stopped, over the device as it was left: by what the old set's manager left
-    /// of itself, and with the slots in use and the encoding that it had. The manager holds what is left of the commit.
+    /// Goes on with a batch's commit that was stopped, over the device as it was left: by what the old set's manager
+    /// left of itself, and with the slots in use and the encoding that it had. The manager holds what is left of the
+    /// commit.
     ///
-    /// It fails with `Slots` where a manager can't have so many slots or the device hasn't them, then with `Tables` where
-    /// by covers a table isn't blank, and else as `Manager::restart` does. The parts come back as they were, and the device
-    /// is given up.
+    /// It fails with `Slots` where a manager can't have so many slots or the device hasn't them, then with `Tables`
+    /// where by covers a table isn't blank, and else as `Manager::restart` does. The parts come back as they were, and
+    /// the device is given up.
     pub fn restart(
         alloc: Global,
         slots: u32,
@@ -121,8 +123,8 @@ impl<D: ReadBack + Drop> Driven<D> {
         }
     }
 
-    /// Drops the manager, and goes on with the commit of a batch by what it leaves of itself, over its device, as `restart`
-    /// does. Where this fails parts and device are given up.
+    /// Drops the manager, and goes on with the commit of a batch by what it leaves of itself, over its device, as
+    /// `restart` does. Where this fails parts and device are given up.
     pub fn restarted(
         self,
         alloc: Global,
@@ -157,10 +159,12 @@ fn is_blank<D: ReadBack>(device: &D, field: Field) -> bool
 }
 
 impl<D: Device> Driven<D> {
+    /// The manager, to be asked.
     pub fn manager(&self) -> &Manager {
         &self.manager
     }
 
+    /// The device, to be looked at.
     pub fn device(&self) -> &D {
         &self.device
     }
@@ -181,20 +185,28 @@ impl<D: Device> Driven<D> {
         }
     }
 
-    pub fn prepare(&mut self, batch: &Batch) -> Result<Ready, Refusal> {
+    /// Judges a batch and plans its commit, by `Manager::prepare` over the device: a refusal is of that call, and
+    /// leaves both as they were.
+    pub fn prepare(&mut self, batch: &Batch) -> Result<Done, Refusal> {
         self.manager.prepare(batch, &mut self.device)
     }
 
+    /// Makes the next write of the commit under way, or what else is due, by `Manager::step`: it fails where the write
+    /// does, which stays the next one.
     pub fn step(&mut self) -> Result<Step, DeviceFault> {
         self.manager.step(&mut self.device)
     }
 
+    /// Makes all that is left, each write tried up to `tries` times, at least once, by `Manager::carry_out`: it stops
+    /// as that call does, and the rest stays held.
     pub fn carry_out(&mut self, tries: u32) -> Result<Done, Unfinished>
         requires { 1 ≤ tries }
     {
         self.manager.carry_out(&mut self.device, tries)
     }
 
+    /// Turns the commit under way round, by `Manager::abort`, and answers how many writes undo it. It is refused as
+    /// that call is, and nothing changes then.
     pub fn abort(&mut self) -> Result<u64, AbortFault> {
         self.manager.abort()
     }

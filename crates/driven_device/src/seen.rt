@@ -1,6 +1,6 @@
 //! What a step did, in a word, and what packets get behind it.
 use crate::Driven;
-use batch_order::{Done, Field, Ready, Step};
+use batch_order::{Field, Step};
 use rule_model::Key;
 use tcam_device::{Device, Write};
 
@@ -52,14 +52,4 @@ pub fn results_by_rules<D: Device>(driven: &Driven<D>, packets: &[Key; 3]) -> Re
         driven.result_by_rules(b),
         driven.result_by_rules(c),
     ]
-}
-
-/// The numbers of a plan, as those of a commit that was made.
-pub fn numbers_of(ready: &Ready) -> Done {
-    Done {
-        writes: ready.writes,
-        words: ready.words,
-        most: ready.most,
-        span: ready.span,
-    }
 }

@@ -1,9 +1,9 @@
 -- What one step over eight slots tells of a look-up.
 use Rattle.std.proofs.Common.{◌≡◌, ℕ, ◌+◌, ◌<◌, ◌≤◌, true, false, List, Option, Some, None, length, sym, ◌∙◌, arith}
 use Rattle.slot_order.specs.Order.{slot}
-use Rattle.ternary_word.specs.declared.Word.{Word}
-use Rattle.ternary_word.specs.declared.Entry.{Entry}
-use Rattle.ternary_word.specs.Entry.{slot_hits, first_hitting}
+use Rattle.rule_model.specs.declared.words.Word.{Word}
+use Rattle.rule_model.specs.declared.words.Entry.{Entry}
+use Rattle.rule_model.specs.Entry.{slot_hits, first_hitting}
 use Rattle.lane_lookup.specs.Columns.{Lane, row_hits, AreColumns}
 use Rattle.lane_lookup.proofs.Rows.{rows_hit}
 use Rattle.eight_lanes.proofs.Lanes.{none_further}

@@ -6,9 +6,9 @@ use Rattle.std.proofs.lemmas.Bool.{cases_eq}
 use Rattle.std.proofs.lemmas.List.{get_or-set_same, get_or-set_other}
 use Rattle.slot_order.specs.Order.{slot}
 use Rattle.slot_order.proofs.Writes.{slot_same, slot_other}
-use Rattle.ternary_word.specs.declared.Word.{Word}
-use Rattle.ternary_word.specs.declared.Entry.{Entry}
-use Rattle.ternary_word.specs.Entry.{slot_hits, lanes_match}
+use Rattle.rule_model.specs.declared.words.Word.{Word}
+use Rattle.rule_model.specs.declared.words.Entry.{Entry}
+use Rattle.rule_model.specs.Entry.{slot_hits, lanes_match}
 use Rattle.lane_lookup.specs.Columns.{Lane, lanes_agree, row_hits, HasSize, HasPlace, with_row, HoldRow, IsRow, AreColumns}
 
 -- lanes that hold an entry's row agree with the words that the entry hits

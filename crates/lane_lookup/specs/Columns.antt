@@ -2,8 +2,8 @@
 use Rattle.std.specs.Prelude.{◌≡◌, ℕ, ◌<◌, ◌≤◌, Bool, true, false, ◌==◌, ◌&&◌, ◌||◌, not, if◌then◌else◌, Option, Some, None, List, [], ◌∷◌, length, replicate, slice_index, slice_set, bit_and, bit_xor, ◌+◌}
 use Rattle.std.specs.List.{AllByRecursion}
 use Rattle.slot_order.specs.Order.{slot}
-use Rattle.ternary_word.specs.declared.Word.{Word}
-use Rattle.ternary_word.specs.declared.Entry.{Entry}
+use Rattle.rule_model.specs.declared.words.Word.{Word}
+use Rattle.rule_model.specs.declared.words.Entry.{Entry}
 
 -- One lane of every slot: the values, the masks, and whether some mask was ever other than 0.
 pub record Lane : Type 0 where

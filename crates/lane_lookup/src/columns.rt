@@ -2,14 +2,14 @@
 ghost use Rattle.std.specs.Prelude.{◌≡◌, ℕ, ◌<◌, ◌≤◌, None, false, length, replicate, slice_set, vec_capacity, IfOk};
 ghost use Rattle.std.specs.List.{AllByRecursion};
 ghost use Rattle.slot_order.specs.Order as order;
-ghost use Rattle.ternary_word.specs.Entry.{first_hitting, slot_hits};
+ghost use Rattle.rule_model.specs.Entry.{first_hitting, slot_hits};
 ghost use Rattle.lane_lookup.specs.Columns.{HasPlace, blank_lane, used_from, with_row};
 
 use crate::column::Column;
 use crate::eight::try_eight;
+use rule_model::{Entry, LANES, Word, hits};
 use std::alloc::{AllocError, Global};
 use std::marker::Model;
-use ternary_word::{Entry, LANES, Word, hits};
 
 /// Slots of entries, seen as the list of them.
 #[derive(Drop)]
@@ -22,7 +22,7 @@ pub struct Columns {
 
 impl Model for Columns {
     ghost use Rattle.std.specs.Prelude.{List, Option, vec_capacity};
-    ghost use Rattle.ternary_word.specs.declared.Entry.{Entry};
+    ghost use Rattle.rule_model.specs.declared.words.Entry.{Entry};
     ghost use Rattle.lane_lookup.specs.Columns.{AreColumns, AreUsed};
 
     ghost Value = { List (Option Entry) };

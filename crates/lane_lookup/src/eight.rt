@@ -5,7 +5,7 @@ ghost use Rattle.lane_lookup.specs.Columns.{HasSize, IsZeroUnlessUsed, row_hits,
 
 use crate::column::Column;
 use eight_lanes::{eight, either, first_zero};
-use ternary_word::Word;
+use rule_model::Word;
 
 /// What a try of eight slots found.
 #[derive(Clone, Copy, Drop)]

@@ -1,5 +1,5 @@
 -- An IPv6 address as it is printed is read as that address.
-use Rattle.std.proofs.Common.{◌≡◌, ℕ, zero, suc, ◌+◌, ◌-◌, ◌*◌, ◌/◌, ◌%◌, ◌^◌, ◌<◌, ◌≤◌, Bool, false, List, [], ◌∷◌, ◌++◌, length, take, drop, replicate, map, None, Some, inl, inr, refl, sym, ap, ap₂, ◌∙◌, subst, arith, append_assoc, append-nil, All, le-leb, lt-ltb, le-ltb, ne_eqb, eqb-true, length-append}
+use Rattle.std.proofs.Common.{◌≡◌, ℕ, zero, suc, ◌+◌, ◌-◌, ◌*◌, ◌/◌, ◌%◌, ◌^◌, ◌<◌, ◌≤◌, false, List, [], ◌∷◌, ◌++◌, length, take, drop, replicate, map, None, Some, inl, inr, refl, sym, ap, ap₂, ◌∙◌, subst, arith, append_assoc, append-nil, All, le-leb, lt-ltb, le-ltb, ne_eqb, eqb-true, length-append}
 use Rattle.std.specs.Prelude.{nat_lt, ◌==◌, option_and_then}
 use Rattle.std.specs.List.{AllByRecursion}
 use Rattle.std.proofs.lemmas.List.{length-replicate}
@@ -67,10 +67,6 @@ AreGroups groups = AllByRecursion (λ n. n < 65536) groups
 values_back : (groups : List ℕ) → AreGroups groups → group_values (map group_text groups) ≡ Some groups
 values_back [] are = refl
 values_back (n ∷ groups) are = rw (group_back n are.0) (rw (values_back groups are.1) refl)
-
--- groups and the colons between them
-is_colon : ℕ → Bool
-is_colon byte = byte == 58
 
 all_of : (P : ℕ → Type 0) (xs : List ℕ) → AllByRecursion P xs → All P xs
 all_of P [] are i d below = absurd (omega arith)

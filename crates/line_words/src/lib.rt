@@ -20,6 +20,15 @@
 //!
 //! An IPv6 address has many texts, of which RFC 5952 recommends one. `Ipv6Text` is that one, in fixed room,
 //! and it is read back as the address.
+//!
+//! # Decided
+//! - **An IPv6 address is groups of one to four hexadecimal digits** of either case (RFC 4291, section 2.2): eight, or
+//!   at most seven with two colons together, once. So `1:2:3:4:5:6:7::` is read, though RFC 5952 never prints it. The
+//!   form with a dotted IPv4 part isn't taken, nor a zone. A length past 128 is of the wrong form, a bad prefix, as one
+//!   past 32 is for IPv4.
+//! - **It is printed as RFC 5952 recommends**: lower case, no leading zeros, two colons for the longest run of two or
+//!   more zero groups, the first of equals. Two laws say it apart from the definition (`printed_is_read_back`,
+//!   `shortens_the_longest`).
 #![tactic(auto)]
 
 ghost use Rattle.std.specs.Prelude.{◌≡◌, Some};

@@ -90,22 +90,22 @@ fn note(
     }
 }
 
-/// Makes the turns in order, over the device that the manager's steps have, and answers each search with its turn's number,
-/// counted from 0: tag and result of the entry that it found, or None where it found none.
+/// Makes the turns in order, over the device that the manager's steps have, and answers each search with its turn's
+/// number, counted from 0: tag and result of the entry that it found, or None where it found none.
 ///
 /// A translation with 256 words in flight and a search with none are passed over. A step makes what
 /// [`Manager::step`] does, which may be to wait for the words in flight.
 ///
-/// Each search answers what an undivided look-up of its key would at that moment, which is the old rules' answer or that
-/// of the new ones, and the words that are in flight in the end are current again. For that those in the beginning have to
-/// be, as they are where none is in flight, and the device has to hold what the manager's writes left.
+/// Each search answers what an undivided look-up of its key would at that moment, which is the old rules' answer or
+/// that of the new ones, and the words that are in flight in the end are current again. For that those in the beginning
+/// have to be, as they are where none is in flight, and the device has to hold what the manager's writes left.
 ///
-/// `Memory` comes only before the first turn, and nothing is done then. `Device` comes exactly where the device's count of
-/// failures rose, by one: the turns before the one that failed stand, and that one, a step with a write due, changed
+/// `Memory` comes only before the first turn, and nothing is done then. `Device` comes exactly where the device's count
+/// of failures rose, by one: the turns before the one that failed stand, and that one, a step with a write due, changed
 /// nothing and isn't tried again. After either the same manager and device may be driven on.
 ///
-/// The commit under way can be taken back before these turns and after them, if it could: its way back, and the room for
-/// it, are kept.
+/// The commit under way can be taken back before these turns and after them, if it could: its way back, and the room
+/// for it, are kept.
 pub fn drive<D: Device>(
     alloc: Global,
     manager: &mut Manager,

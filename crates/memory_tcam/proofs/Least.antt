@@ -2,10 +2,10 @@
 use Rattle.std.proofs.Common.{◌≡◌, ℕ, Option, None, Some, List, refl, sym, ◌∙◌, subst}
 use Rattle.std.specs.Prelude.{MatchOption}
 use Rattle.slot_order.specs.Order.{slot, first_hit}
-use Rattle.ternary_word.specs.declared.Word.{Word}
-use Rattle.ternary_word.specs.declared.Entry.{Entry}
-use Rattle.ternary_word.specs.Entry.{hits, first_hitting}
-use Rattle.ternary_word.proofs.Lookups.{first_hitting-is}
+use Rattle.rule_model.specs.declared.words.Word.{Word}
+use Rattle.rule_model.specs.declared.words.Entry.{Entry}
+use Rattle.rule_model.specs.Entry.{hits, first_hitting}
+use Rattle.rule_model.proofs.Lookups.{first_hitting-is}
 
 pub record StandsFirst (slots : List (Option Entry)) (word : Word) (place : ℕ) : Type 0 where
   pub entry : Entry

@@ -2,7 +2,7 @@
 use Rattle.std.proofs.Common.{◌≡◌, Some, None, [], ◌∷◌, ap, refl}
 use Rattle.std.specs.Prelude.{slice_get}
 use Rattle.rule_model.specs.declared.Key.{Key}
-use Rattle.ternary_word.specs.declared.Word.{Word}
+use Rattle.rule_model.specs.declared.words.Word.{Word}
 use Rattle.tcam_device.specs.State.{State}
 use Rattle.tcam_device.specs.Flight.{Flight, search_answer, word_answer}
 

@@ -6,11 +6,10 @@ ghost use Rattle.tcam_device.specs.Flight.{writes_in};
 
 use crate::MemTcam;
 use call_history::Calls;
-use rule_model::{Key, Rank};
+use rule_model::{Entry, Key, Rank};
 use std::alloc::{AllocError, Global};
 use std::marker::Model;
 use tcam_device::{Device, DeviceFault, Field, ReadBack, Writable, Write};
-use ternary_word::Entry;
 
 /// A device in memory of which the listed write calls fail.
 #[derive(Drop)]
@@ -29,8 +28,8 @@ impl<'a> Model for FlakyTcam<'a> {
 }
 
 impl<'a> FlakyTcam<'a> {
-    /// A blank device of 1 to 65,536 slots, with an empty journal, no word in flight and room for no write yet. The write calls
-    /// whose numbers are in `calls` will fail; they are counted from 1, the failing ones too.
+    /// A blank device of 1 to 65,536 slots, with an empty journal, no word in flight and room for no write yet. The
+    /// write calls whose numbers are in `calls` will fail; they are counted from 1, the failing ones too.
     pub fn new(alloc: Global, slots: u32, calls: &'a [u64]) -> Result<FlakyTcam<'a>, AllocError>
         requires least { 0 < slots }
         requires most { slots ≤ 65536 }

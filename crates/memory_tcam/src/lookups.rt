@@ -6,14 +6,13 @@ ghost use Rattle.tcam_device.specs.Flight.{most_in_flight, with_word, search_ans
 
 use crate::memory::Memory;
 use circular_buffer::HeapCircularBuffer;
-use rule_model::{Key, Rank};
+use rule_model::{Entry, Key, Rank, Word};
 use std::alloc::{AllocError, Global};
 use std::marker::Model;
 use tcam_device::{Field, MOST_IN_FLIGHT, Write};
-use ternary_word::{Entry, Word};
 
-/// A memory, and the words of it that are in flight with their keys. The queue has its room from the first, so no look-up
-/// takes memory.
+/// A memory, and the words of it that are in flight with their keys. The queue has its room from the first, so no
+/// look-up takes memory.
 #[derive(Drop)]
 pub(crate) struct Lookups {
     memory: Memory,

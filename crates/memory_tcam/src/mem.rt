@@ -6,11 +6,10 @@ ghost use Rattle.tcam_device.specs.Flight.{writes_in};
 
 use crate::log::Log;
 use crate::lookups::Lookups;
-use rule_model::{Key, Rank};
+use rule_model::{Entry, Key, Rank};
 use std::alloc::{AllocError, Global};
 use std::marker::Model;
 use tcam_device::{Device, DeviceFault, Field, ReadBack, Writable, Write};
-use ternary_word::Entry;
 
 /// A device in memory, which never fails.
 #[derive(Drop)]

@@ -2,16 +2,15 @@
 ghost use Rattle.std.specs.Prelude.{◌≡◌, ◌<◌, ◌≤◌, ◌^◌, [], ◌∷◌, length, replicate, slice_index, None, IfOk};
 ghost use Rattle.slot_order.specs.Order as order;
 ghost use Rattle.slot_order.specs.Order.{first_hit};
-ghost use Rattle.ternary_word.specs.Entry as entries;
+ghost use Rattle.rule_model.specs.Entry as entries;
 ghost use Rattle.tcam_device.specs.State.{IsInUse, apply, blank, told, lookup, search_word, table_of};
 ghost use Rattle.tcam_device.specs.Flight.{word_answer};
 
 use lane_lookup::Columns;
-use rule_model::{Key, Rank};
+use rule_model::{Entry, Key, Rank, Word, word_of};
 use std::alloc::{AllocError, Global};
 use std::marker::Model;
 use tcam_device::{Field, Write};
-use ternary_word::{Entry, Word, word_of};
 
 /// How many words a translation table has, one a port.
 const PORTS: usize = 65_536;

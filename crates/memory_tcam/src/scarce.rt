@@ -3,11 +3,10 @@ ghost use Rattle.std.specs.Prelude.{◌≡◌};
 ghost use Rattle.tcam_device.specs.Flight.{writes_in};
 
 use crate::MemTcam;
-use rule_model::{Key, Rank};
+use rule_model::{Entry, Key, Rank};
 use std::alloc::AllocError;
 use std::marker::Model;
 use tcam_device::{Device, DeviceFault, Field, ReadBack, Writable, Write};
-use ternary_word::Entry;
 
 /// A device in memory that makes room for no write more once it has made so many.
 #[derive(Drop)]
@@ -25,8 +24,8 @@ impl Model for ScarceTcam {
 }
 
 impl ScarceTcam {
-    /// A device as it comes, which makes room as long as fewer than `most` writes were made since it was blank. The room
-    /// that it has stays.
+    /// A device as it comes, which makes room as long as fewer than `most` writes were made since it was blank. The
+    /// room that it has stays.
     pub fn new(device: MemTcam, most: usize) -> ScarceTcam
         ensures { result ≡ record { device = device; most = most } }
     {

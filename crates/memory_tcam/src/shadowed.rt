@@ -6,20 +6,19 @@ ghost use Rattle.memory_tcam.specs.Tcam.{HasPut};
 
 use crate::lookups::Lookups;
 use call_history::History;
-use rule_model::{Key, Rank};
+use rule_model::{Entry, Key, Rank};
 use std::alloc::{AllocError, Global};
 use std::marker::Model;
 use tcam_device::{Action, Device, DeviceFault, Field, Hardware, ReadBack, Writable, Write};
-use ternary_word::Entry;
 
 /// A device made of hardware and its shadow: slots and tables in memory that follow the writes which the hardware
-/// answered Ok. So look-ups answer by what the hardware answered Ok, however little it tells. The journal, with the drains
-/// in it, is a history that takes no memory, and what the shadow takes doesn't grow. A drain is made of the hardware too,
-/// and words in flight are the shadow's.
+/// answered Ok. So look-ups answer by what the hardware answered Ok, however little it tells. The journal, with the
+/// drains in it, is a history that takes no memory, and what the shadow takes doesn't grow. A drain is made of the
+/// hardware too, and words in flight are the shadow's.
 ///
-/// The hardware as it was given to `new` is remembered too, alone in a list, by a history that takes no memory: `given`.
-/// Each call that takes the device by `&mut` says that it keeps it. The calls of which [`Shadowed::hardware`] tells begin
-/// there, so no write slips in before the first of them.
+/// The hardware as it was given to `new` is remembered too, alone in a list, by a history that takes no memory:
+/// `given`. Each call that takes the device by `&mut` says that it keeps it. The calls of which [`Shadowed::hardware`]
+/// tells begin there, so no write slips in before the first of them.
 #[derive(Drop)]
 pub struct Shadowed<H: Hardware> {
     given: History<H>,
@@ -61,9 +60,9 @@ impl<H: Hardware> Shadowed<H> {
         })
     }
 
-    /// The hardware. From what `new` was given it came to be what it is by these calls alone: it was asked for the writes
-    /// and drains of the events, in their order, and for other writes only where it answered that they failed, each of
-    /// which is counted.
+    /// The hardware. From what `new` was given it came to be what it is by these calls alone: it was asked for the
+    /// writes and drains of the events, in their order, and for other writes only where it answered that they failed,
+    /// each of which is counted.
     pub fn hardware(&self) -> &H
         ensures hardware { result.now ≡ self.now.hardware }
         ensures put { HasPut H.puts H.drains self.now.given self.now.events self.now.faults self.now.hardware }

@@ -2,19 +2,19 @@
 use Rattle.std.proofs.Common.{◌≡◌, ℕ, ◌-◌, ◌≤◌, Bool, Option, None, Some, List, [], ◌∷◌, ◌++◌, length, set, inl, inr, arith, refl, sym, ◌∙◌, subst, ap, length-set}
 use Rattle.std.proofs.lemmas.Bool.{cases_eq, cases_lt, both_ways}
 use Rattle.slot_order.specs.Order.{slot}
-use Rattle.slot_order.specs.Cuts.{holds, early, late}
+use Rattle.slot_moves.specs.Cuts.{holds, early, late}
 use Rattle.slot_order.proofs.Writes.{slot_inside, put_here, put_away}
-use Rattle.slot_order.proofs.Tally.{take_clear, drop_clear}
+use Rattle.slot_moves.proofs.Tally.{take_clear, drop_clear}
 use Rattle.slot_pool.specs.Arrangement.{Slots, next_free_above, last_free_below}
-use Rattle.move_planner.specs.declared.Aim.{Aim}
-use Rattle.move_planner.specs.declared.Move.{Move}
-use Rattle.move_planner.specs.declared.Move.TheVariants.{Put, Erase}
-use Rattle.move_planner.specs.Placement.{Above, after_moves, DownChain, UpChain, put_held, moves_along, IsCut, IsLastBefore, IsFirstFrom, Pass, passed, pass_down, pass_up, IsPlacing, into_gap, push_down, push_up, IsPlacement, straight_in, uncross}
-use Rattle.move_planner.proofs.Planner.{down_one, up_one, last_alone, first_alone}
-use Rattle.move_planner.proofs.Planned.{placing_fits}
-use Rattle.move_planner.proofs.Cutting.{same_held, same_counts, same_tests, same_cut}
-use Rattle.move_planner.proofs.Readied.{start_inside}
-use Rattle.move_planner.proofs.Reach.{holding}
+use Rattle.placement.specs.declared.Aim.{Aim}
+use Rattle.placement.specs.declared.Move.{Move}
+use Rattle.placement.specs.declared.Move.TheVariants.{Put, Erase}
+use Rattle.placement.specs.Placement.{Above, after_moves, DownChain, UpChain, put_held, moves_along, IsCut, IsLastBefore, IsFirstFrom, Pass, passed, pass_down, pass_up, IsPlacing, into_gap, push_down, push_up, IsPlacement, straight_in, uncross}
+use Rattle.placement.proofs.Planner.{down_one, up_one, last_alone, first_alone}
+use Rattle.placement.proofs.Planned.{placing_fits}
+use Rattle.placement.proofs.Cutting.{same_held, same_counts, same_tests, same_cut}
+use Rattle.placement.proofs.Readied.{start_inside}
+use Rattle.placement.proofs.Reach.{holding}
 use Rattle.move_planner.proofs.Shifted.{after_append}
 
 -- the moves along a chain are the same where the slot that it starts from and the target are

@@ -5,24 +5,25 @@ use Rattle.std.proofs.lemmas.Bool.{and_parts, and_from, le-leb}
 use Rattle.std.proofs.lemmas.List.{take_all}
 use Rattle.std.proofs.lemmas.List.Sums.{sum_by_more, sum_by-take-drop}
 use Rattle.slot_order.specs.Order.{slot, Ordered}
-use Rattle.slot_order.specs.Cuts.{holds, early, late, wrong_side, HasRoomNear}
-use Rattle.slot_order.proofs.Tally.{one, tally, tally_same, tally_from, count_take, count_both}
-use Rattle.slot_order.proofs.BestCut.{AreCrossed, has_cut, best_cut, take_none, drop_none, room_from_near}
+use Rattle.slot_moves.specs.Cuts.{holds, early, late, wrong_side, HasRoomNear}
+use Rattle.slot_moves.proofs.Tally.{one, tally, tally_same, tally_from, count_take, count_both}
+use Rattle.slot_moves.proofs.BestCut.{AreCrossed, has_cut, best_cut, take_none, drop_none, room_from_near}
 use Rattle.slot_pool.specs.Arrangement.{Slots}
-use Rattle.overlap_index.specs.Live.{LivePieces, is_above}
-use Rattle.overlap_index.proofs.Above.{rank_in}
+use Rattle.placement.specs.Live.{LivePieces, is_above}
+use Rattle.placement.proofs.Above.{rank_in}
 use Rattle.move_planner.specs.declared.sides.Sides.{Sides}
-use Rattle.move_planner.specs.Placement.{gap_start, gap_end, AreSides, IsCut}
-use Rattle.move_planner.specs.Insertion.{IsLive, IsOther}
-use Rattle.move_planner.specs.Steps.{IsReady, AreFoundSides, IsUnderway, is_marked, mark_at}
+use Rattle.placement.specs.Placement.{gap_start, gap_end, AreSides, IsCut}
+use Rattle.placement.specs.Insertion.{IsLive, IsOther}
+use Rattle.placement.specs.Ready.{IsReady}
+use Rattle.move_planner.specs.Steps.{AreFoundSides, IsUnderway, is_marked, mark_at}
 use Rattle.move_planner.specs.Boundary.{count_marks, marked_early, marked_late, HasMarkedRoom, IsBestTo}
-use Rattle.move_planner.proofs.Chain.{Reads}
-use Rattle.move_planner.proofs.Planner.{Related, ranked_reads}
-use Rattle.move_planner.proofs.Orders.{ranked}
-use Rattle.move_planner.proofs.Readied.{ready_ordered, start_inside}
-use Rattle.move_planner.proofs.Leading.{has_sides}
-use Rattle.move_planner.proofs.Cutting.{are_crossed, same_bool}
-use Rattle.move_planner.proofs.Reach.{holding, is_behind, is_before, sides_are}
+use Rattle.placement.proofs.Chain.{Reads}
+use Rattle.placement.proofs.Planner.{Related, ranked_reads}
+use Rattle.placement.proofs.Orders.{ranked}
+use Rattle.placement.proofs.Readied.{ready_ordered, start_inside}
+use Rattle.placement.proofs.Leading.{has_sides}
+use Rattle.placement.proofs.Cutting.{are_crossed, same_bool}
+use Rattle.placement.proofs.Reach.{holding, is_behind, is_before, sides_are}
 
 -- the marks of some slots say what a test holds of
 pub record SayMarks (test : ℕ → Bool) (slots : Slots) (start end : ℕ) (marks : List Bool) : Type 0 where

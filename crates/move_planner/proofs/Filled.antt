@@ -1,17 +1,16 @@
 -- A table of eight slots that fills up, id by id.
-use Rattle.std.proofs.Common.{◌≡◌, ℕ, ◌+◌, ◌<◌, ◌≤◌, true, false, None, List, [], ◌∷◌, ◌++◌, length, replicate, take, Contains, inl, inr, arith, le_refl, sym, ◌∙◌, subst, ap}
-use Rattle.std.proofs.lemmas.Bool.{cases_lt, false_from_ne_true}
-use Rattle.std.proofs.lemmas.List.{get_or-replicate, get_or_past, take_all}
+use Rattle.std.proofs.Common.{◌≡◌, ℕ, ◌+◌, ◌<◌, ◌≤◌, true, false, List, [], ◌∷◌, ◌++◌, length, take, Contains, inl, inr, arith, le_refl, sym, ◌∙◌, subst, ap}
+use Rattle.std.proofs.lemmas.Bool.{false_from_ne_true}
+use Rattle.std.proofs.lemmas.List.{take_all}
 use Rattle.std.proofs.lemmas.List.Elements.{Contains-push, Contains-push_cases}
-use Rattle.slot_order.specs.Order.{slot}
 use Rattle.slot_pool.specs.Arrangement.{Slots}
-use Rattle.overlap_index.specs.declared.LivePiece.{LivePiece}
-use Rattle.overlap_index.specs.Live.{LivePieces, is_live, is_above}
-use Rattle.overlap_index.proofs.Above.{live_is, is_live_from}
-use Rattle.move_planner.specs.declared.Move.{Move}
-use Rattle.move_planner.specs.Placement.{after_moves, IsInOrder}
-use Rattle.move_planner.specs.Insertion.{IsLive, IsOther, StandOnce, free_slots}
-use Rattle.move_planner.proofs.Settled.{length-after_moves, add_standing, add_order}
+use Rattle.placement.specs.declared.LivePiece.{LivePiece}
+use Rattle.placement.specs.Live.{LivePieces, is_live, is_above}
+use Rattle.placement.proofs.Above.{live_is, is_live_from}
+use Rattle.placement.specs.declared.Move.{Move}
+use Rattle.placement.specs.Placement.{after_moves, IsInOrder}
+use Rattle.placement.specs.Insertion.{IsLive, IsOther, StandOnce, free_slots}
+use Rattle.placement.proofs.Settled.{length-after_moves, add_standing, add_order}
 
 -- the ids below a count are live, stand in one slot each, and in order
 pub record IsFilled (index : LivePieces) (slots : Slots) (count : ℕ) : Type 0 where
@@ -21,12 +20,6 @@ pub record IsFilled (index : LivePieces) (slots : Slots) (count : ℕ) : Type 0 
   pub small : (one : LivePiece) → Contains index.live one → one.id < count
   pub standing : StandOnce (IsLive index.live) slots
   pub order : IsInOrder (is_above index.live) slots
-
-empty : (at : ℕ) → slot {E = ℕ} (replicate 8 None) at ≡ None
-empty at = elim (cases_lt at 8) [
-  | inl inside ↦ get_or-replicate 8 at None None inside
-  | inr past ↦ get_or_past (replicate 8 None) at None past
-]
 
 -- the next id isn't live
 pub next_absent : (index : LivePieces) (slots : Slots) (count : ℕ) → IsFilled index slots count → is_live index.live count ≡ false

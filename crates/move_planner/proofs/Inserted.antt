@@ -3,29 +3,30 @@ use Rattle.std.proofs.Common.{◌≡◌, ℕ, ◌+◌, ◌-◌, ◌*◌, ◌<◌
 use Rattle.std.proofs.lemmas.Bool.{cases_lt, cases_eq}
 use Rattle.std.proofs.lemmas.List.{take-map, take-append-le, take_all, length-map}
 use Rattle.slot_order.specs.Order.{slot, Ordered}
-use Rattle.slot_order.specs.Moves.{applied, IsChain, BoundsMemberChains}
-use Rattle.slot_order.proofs.Turns.{Plus}
+use Rattle.slot_order.specs.Chains.{applied, IsChain, BoundsMemberChains}
+use Rattle.slot_moves.proofs.Turns.{Plus}
 use Rattle.slot_order.proofs.Walks.{Along_prefix, applied_append}
-use Rattle.slot_order.proofs.Whole.{IsWhole, WholeKeeps, whole_keeps, whole_few, whole_once}
-use Rattle.slot_order.specs.Cuts.{wrong_side, HasRoomNear}
+use Rattle.slot_moves.proofs.Whole.{IsWhole, WholeKeeps, whole_keeps, whole_few, whole_once}
+use Rattle.slot_moves.specs.Cuts.{wrong_side, HasRoomNear}
 use Rattle.slot_order.proofs.Lists.{contains_head, contains_tail, in_map}
 use Rattle.slot_pool.specs.Arrangement.{Slots}
 use Rattle.rule_model.specs.Piece.{pieces_meet}
-use Rattle.overlap_index.specs.declared.LivePiece.{LivePiece}
-use Rattle.overlap_index.specs.Live.{LivePieces, is_above}
-use Rattle.overlap_index.proofs.Above.{rank_in, rank_is, piece_in, piece_is, live_is, above_is}
-use Rattle.move_planner.specs.declared.Aim.{Aim}
-use Rattle.move_planner.specs.declared.Move.{Move}
-use Rattle.move_planner.specs.Placement.{after_moves, gap_start, gap_end, span_of, AreSides, IsCut, IsInOrder, IsPlacement, straight_in}
+use Rattle.placement.specs.declared.LivePiece.{LivePiece}
+use Rattle.placement.specs.Live.{LivePieces, is_above}
+use Rattle.placement.proofs.Above.{rank_in, rank_is, piece_in, piece_is, live_is, above_is}
+use Rattle.placement.specs.declared.Aim.{Aim}
+use Rattle.placement.specs.declared.Move.{Move}
+use Rattle.placement.specs.Placement.{after_moves, gap_start, gap_end, span_of, AreSides, IsCut, IsInOrder, IsPlacement, straight_in}
 use Rattle.std.proofs.Math.Seq.{drop-append_seam}
-use Rattle.move_planner.specs.Insertion.{IsLive, IsOther, StandOnce, BoundsLiveChains, AreMade, moves_since, free_slots}
-use Rattle.move_planner.specs.Steps.{IsReady, UndoesCrossing, IsPlaced}
+use Rattle.placement.specs.Insertion.{IsLive, IsOther, StandOnce, BoundsLiveChains, AreMade, moves_since, free_slots}
+use Rattle.placement.specs.Ready.{IsReady}
+use Rattle.move_planner.specs.Steps.{UndoesCrossing, IsPlaced}
 use Rattle.move_planner.proofs.Shifted.{after_append, made_by}
-use Rattle.move_planner.proofs.Chain.{write_of, after_moves-applied, Reads, floor_is, ceiling_is}
-use Rattle.move_planner.proofs.Planned.{IsPlanned, planned}
-use Rattle.move_planner.proofs.Planner.{Related, ranked_reads}
-use Rattle.move_planner.proofs.Orders.{ranked}
-use Rattle.move_planner.proofs.Readied.{ready_ordered, order_from}
+use Rattle.placement.proofs.Chain.{write_of, after_moves-applied, Reads, floor_is, ceiling_is}
+use Rattle.placement.proofs.Planned.{IsPlanned, planned}
+use Rattle.placement.proofs.Planner.{Related, ranked_reads}
+use Rattle.placement.proofs.Orders.{ranked}
+use Rattle.placement.proofs.Readied.{ready_ordered, order_from}
 
 -- a chain of live ids is one of live pieces
 live_chain : (index : LivePieces) (id : ℕ) (slots : Slots) (none : LivePiece) (chain : List ℕ) → IsReady index id slots → ((x : ℕ) → Contains chain x → IsLive index.live x)

@@ -1,24 +1,15 @@
 pub mod Alone
 pub mod Begun
-pub mod Chain
-pub mod Cutting
 pub mod Ends
 mod Examples
 pub mod Filled
 pub mod Inserted
-pub mod Leading
 pub mod Marks
 pub mod Near
-pub mod Orders
 pub mod Outcomes
 pub mod Passed
 pub mod Placed
-pub mod Planned
-pub mod Planner
 pub mod Pushed
-pub mod Reach
-pub mod Readied
-pub mod Settled
 pub mod Shifted
 pub mod Sought
 pub mod Tallied

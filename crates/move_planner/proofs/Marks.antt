@@ -10,7 +10,7 @@ use Rattle.slot_order.proofs.Lists.{contains_none}
 use Rattle.slot_pool.specs.Arrangement.{Slots, passes, home_of}
 use Rattle.slot_pool.proofs.Places.{first_slot_is, find_range_none}
 use Rattle.move_planner.specs.Steps.{AreMarked, AreReached, is_marked}
-use Rattle.move_planner.proofs.Chain.{passes_is}
+use Rattle.placement.proofs.Chain.{passes_is}
 
 -- the home of an id that stands once
 pub home_is : (slots : Slots) (id at : ℕ) → ((i j other : ℕ) → slot slots i ≡ Some other → slot slots j ≡ Some other → i ≡ j) → slot slots at ≡ Some id → home_of slots id ≡ Some at

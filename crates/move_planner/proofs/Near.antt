@@ -2,8 +2,8 @@
 use Rattle.std.proofs.Common.{◌≡◌, ℕ, zero, suc, ◌+◌, ◌-◌, ◌<◌, ◌≤◌, ◌&&◌, Bool, true, false, Option, None, Some, length, arith, ap}
 use Rattle.std.specs.Prelude.{min, is_none, is_some, nat_lt}
 use Rattle.std.proofs.lemmas.Bool.{false_from_ne_true, and_parts, and_from, lt-ltb, both_ways}
-use Rattle.slot_order.specs.Cuts.{free_before, free_behind}
-use Rattle.slot_order.proofs.BestCut.{take_none, drop_none, behind_falls}
+use Rattle.slot_moves.specs.Cuts.{free_before, free_behind}
+use Rattle.slot_moves.proofs.BestCut.{take_none, drop_none, behind_falls}
 use Rattle.slot_pool.specs.Arrangement.{Slots, is_free, next_free_above, last_free_below}
 use Rattle.slot_pool.proofs.Places.{find_range, find_range_none}
 use Rattle.slot_pool.proofs.Scan.{find_back, find_back_none, next_free_is, last_free_is}

@@ -4,32 +4,33 @@ use Rattle.std.specs.Prelude.{slice_index_or}
 use Rattle.std.proofs.lemmas.Bool.{cases_eq}
 use Rattle.std.proofs.lemmas.List.{length-map, map-append}
 use Rattle.slot_order.specs.Order.{slot, Ordered}
-use Rattle.slot_order.specs.Moves.{applied, chain_moves, Turn, Down, Up, turn_moves}
-use Rattle.slot_order.specs.Cuts.{holds, early, late, HasRoom}
+use Rattle.slot_order.specs.Chains.{applied}
+use Rattle.slot_moves.specs.Moves.{chain_moves, Turn, Down, Up, turn_moves}
+use Rattle.slot_moves.specs.Cuts.{holds, early, late, HasRoom}
 use Rattle.slot_order.proofs.Writes.{slot_inside}
-use Rattle.slot_order.proofs.Count.{length-chain_moves}
-use Rattle.slot_order.proofs.Passing.{IsPass, HasSides, Passed, ShowsDown, ShowsUp, GoesDown, GoesUp, pass_keeps, shows_down, shows_up, goes_down, goes_up}
-use Rattle.slot_order.proofs.Passes.{room_down, room_up}
+use Rattle.slot_moves.proofs.Count.{length-chain_moves}
+use Rattle.slot_moves.proofs.Passing.{IsPass, HasSides, Passed, ShowsDown, ShowsUp, GoesDown, GoesUp, pass_keeps, shows_down, shows_up, goes_down, goes_up}
+use Rattle.slot_moves.proofs.Passes.{room_down, room_up}
 use Rattle.slot_pool.specs.Arrangement.{Slots, next_free_above, last_free_below}
 use Rattle.slot_pool.proofs.Scan.{next_free_is, last_free_is}
-use Rattle.overlap_index.specs.Live.{LivePieces, is_above}
-use Rattle.overlap_index.proofs.Above.{rank_in}
-use Rattle.move_planner.specs.declared.Move.{Move}
-use Rattle.move_planner.specs.declared.Move.TheVariants.{Erase}
+use Rattle.placement.specs.Live.{LivePieces, is_above}
+use Rattle.placement.proofs.Above.{rank_in}
+use Rattle.placement.specs.declared.Move.{Move}
+use Rattle.placement.specs.declared.Move.TheVariants.{Erase}
 use Rattle.move_planner.specs.declared.sides.Sides.{Sides}
 use Rattle.move_planner.specs.declared.crossings.Cut.{Cut}
 use Rattle.move_planner.specs.declared.chains.Chain.{Chain}
-use Rattle.move_planner.specs.Placement.{Above, after_moves, moves_along, DownChain, UpChain, AreSides, Pass, pass_down, pass_up, IsLastBefore, IsFirstFrom}
-use Rattle.move_planner.specs.Insertion.{IsLive, IsOther, free_slots}
-use Rattle.move_planner.specs.Steps.{IsReady, IsShiftedOut, IsUnderway, OnePassed}
-use Rattle.move_planner.specs.Steps.{IsDown as FoundDown, IsUp as FoundUp}
-use Rattle.move_planner.proofs.Chain.{write_of, after_moves-applied, Reads, IsDown, IsUp}
-use Rattle.move_planner.proofs.Planner.{Related, ranked_reads}
-use Rattle.move_planner.proofs.Orders.{ranked}
-use Rattle.move_planner.proofs.Readied.{ready_ordered, order_from, down_size, up_size}
+use Rattle.placement.specs.Placement.{Above, after_moves, moves_along, DownChain, UpChain, AreSides, Pass, pass_down, pass_up, IsLastBefore, IsFirstFrom}
+use Rattle.placement.specs.Insertion.{IsLive, IsOther, free_slots}
+use Rattle.placement.specs.Ready.{IsReady}
+use Rattle.move_planner.specs.Steps.{IsShiftedOut, IsUnderway, OnePassed, IsDown as FoundDown, IsUp as FoundUp}
+use Rattle.placement.proofs.Chain.{write_of, after_moves-applied, Reads, IsDown, IsUp}
+use Rattle.placement.proofs.Planner.{Related, ranked_reads}
+use Rattle.placement.proofs.Orders.{ranked}
+use Rattle.placement.proofs.Readied.{ready_ordered, order_from, down_size, up_size}
 use Rattle.move_planner.proofs.Turned.{chain_down, chain_up}
-use Rattle.move_planner.proofs.Leading.{has_sides}
-use Rattle.move_planner.proofs.Reach.{holding, sides_still}
+use Rattle.placement.proofs.Leading.{has_sides}
+use Rattle.placement.proofs.Reach.{holding, sides_still}
 
 -- an entry went past a boundary along its chain
 pub record WentDown (above : Above) (slots slots' : Slots) (plan plan' : List Move) (lower cut : ℕ) : Type 0 where

@@ -4,21 +4,22 @@ use Rattle.std.specs.Prelude.{slice_index_or}
 use Rattle.std.specs.Option.{unwrap_or}
 use Rattle.std.proofs.lemmas.List.{length-map}
 use Rattle.slot_order.proofs.Writes.{slot_inside}
-use Rattle.slot_order.proofs.Count.{length-chain_moves}
+use Rattle.slot_moves.proofs.Count.{length-chain_moves}
 use Rattle.slot_pool.specs.Arrangement.{Slots, HasTwin, nearest_free}
 use Rattle.slot_pool.proofs.Scan.{IsFree, nearest_free_is, next_free_is}
-use Rattle.overlap_index.specs.Live.{LivePieces, is_above}
-use Rattle.overlap_index.proofs.Above.{rank_in}
-use Rattle.move_planner.specs.declared.Aim.{Aim}
-use Rattle.move_planner.specs.declared.Move.{Move}
-use Rattle.move_planner.specs.declared.Move.TheVariants.{Put}
+use Rattle.placement.specs.Live.{LivePieces, is_above}
+use Rattle.placement.proofs.Above.{rank_in}
+use Rattle.placement.specs.declared.Aim.{Aim}
+use Rattle.placement.specs.declared.Move.{Move}
+use Rattle.placement.specs.declared.Move.TheVariants.{Put}
 use Rattle.move_planner.specs.declared.chains.Chain.{Chain}
-use Rattle.move_planner.specs.Placement.{Above, after_move, after_moves, moves_along, first_lower, last_upper, next_slot, gap_start, gap_end, aimed_at, gap_slot, into_gap, push_down, push_up}
-use Rattle.move_planner.specs.Insertion.{free_slots}
-use Rattle.move_planner.specs.Steps.{IsReady, IsPlaced, IsWay}
-use Rattle.move_planner.proofs.Chain.{write_of, IsDown, IsUp}
-use Rattle.move_planner.proofs.Planner.{Related}
-use Rattle.move_planner.proofs.Readied.{down_size, up_size}
+use Rattle.placement.specs.Placement.{Above, after_move, after_moves, moves_along, first_lower, last_upper, next_slot, gap_start, gap_end, aimed_at, gap_slot, into_gap, push_down, push_up}
+use Rattle.placement.specs.Insertion.{free_slots}
+use Rattle.placement.specs.Ready.{IsReady}
+use Rattle.move_planner.specs.Steps.{IsPlaced, IsWay}
+use Rattle.placement.proofs.Chain.{write_of, IsDown, IsUp}
+use Rattle.placement.proofs.Planner.{Related}
+use Rattle.placement.proofs.Readied.{down_size, up_size}
 use Rattle.move_planner.proofs.Shifted.{free_put, free_over, after_more}
 use Rattle.move_planner.proofs.Turned.{chain_down, chain_up, low_at, high_at}
 

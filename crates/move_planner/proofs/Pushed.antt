@@ -3,17 +3,18 @@ use Rattle.std.proofs.Common.{◌≡◌, ℕ, ◌+◌, ◌-◌, ◌<◌, ◌≤�
 use Rattle.std.proofs.lemmas.Bool.{cases_lt}
 use Rattle.slot_order.specs.Order.{slot, Ordered}
 use Rattle.slot_pool.specs.Arrangement.{Slots}
-use Rattle.overlap_index.specs.Live.{LivePieces, is_above}
-use Rattle.overlap_index.proofs.Above.{rank_in}
-use Rattle.move_planner.specs.Placement.{Above, Leads, straight, through, gap_start, gap_end}
-use Rattle.move_planner.specs.Insertion.{IsLive, IsOther}
-use Rattle.move_planner.specs.Steps.{IsReady, LedTo, LeadsFrom, AreReached, AreLedTo, LeadFrom}
-use Rattle.move_planner.proofs.Chain.{Reads, stands_before}
-use Rattle.move_planner.proofs.Planner.{Related, ranked_reads}
-use Rattle.move_planner.proofs.Orders.{ranked}
-use Rattle.move_planner.proofs.Readied.{ready_ordered}
-use Rattle.move_planner.proofs.Leading.{leads_more, leads_before}
-use Rattle.move_planner.proofs.Cutting.{behind_from, before_to}
+use Rattle.placement.specs.Live.{LivePieces, is_above}
+use Rattle.placement.proofs.Above.{rank_in}
+use Rattle.placement.specs.Placement.{Above, Leads, straight, through, gap_start, gap_end}
+use Rattle.placement.specs.Insertion.{IsLive, IsOther}
+use Rattle.placement.specs.Ready.{IsReady}
+use Rattle.move_planner.specs.Steps.{LedTo, LeadsFrom, AreReached, AreLedTo, LeadFrom}
+use Rattle.placement.proofs.Chain.{Reads, stands_before}
+use Rattle.placement.proofs.Planner.{Related, ranked_reads}
+use Rattle.placement.proofs.Orders.{ranked}
+use Rattle.placement.proofs.Readied.{ready_ordered}
+use Rattle.placement.proofs.Leading.{leads_more, leads_before}
+use Rattle.placement.proofs.Cutting.{behind_from, before_to}
 use Rattle.move_planner.proofs.Marks.{Hit, hit_low}
 
 -- only what the id leads to is marked, and of that all that is right below the id or a marked entry before one slot

@@ -8,11 +8,11 @@ use Rattle.slot_order.specs.Order.{slot}
 use Rattle.slot_order.proofs.Writes.{slot_same, slot_other, slot_inside}
 use Rattle.slot_order.proofs.Lists.{contains_head, contains_tail}
 use Rattle.slot_pool.specs.Arrangement.{Slots, HasTwin}
-use Rattle.move_planner.specs.declared.Move.{Move}
-use Rattle.move_planner.specs.declared.Move.TheVariants.{Put}
-use Rattle.move_planner.specs.Placement.{after_move, after_moves, moves_along, put_held}
-use Rattle.move_planner.specs.Insertion.{free_slots, moves_since, AreMade}
-use Rattle.move_planner.specs.Steps.{IsTaken, CanShift}
+use Rattle.placement.specs.declared.Move.{Move}
+use Rattle.placement.specs.declared.Move.TheVariants.{Put}
+use Rattle.placement.specs.Placement.{after_move, after_moves, moves_along, put_held}
+use Rattle.placement.specs.Insertion.{free_slots, moves_since, AreMade}
+use Rattle.placement.specs.Ready.{IsTaken, CanShift}
 
 abbrev pub one_if_free : Option ℕ → ℕ
 one_if_free held = cond (is_none held) 1 0

@@ -6,11 +6,11 @@ use Rattle.slot_pool.specs.Arrangement.{Slots, passes}
 use Rattle.slot_pool.proofs.Places.{first_slot_is}
 use Rattle.slot_pool.proofs.Scan.{last_slot_is}
 use Rattle.slot_pool.proofs.Finds.{found_first, found_last}
-use Rattle.move_planner.specs.Placement.{Above, first_lower, last_upper, lower_of_held, upper_of_held, step_down, step_up, StopsBelow, StopsAbove, IsInOrder}
-use Rattle.move_planner.specs.Steps.{StepsDown, StepsUp}
-use Rattle.move_planner.proofs.Chain.{passes_is}
-use Rattle.move_planner.proofs.Orders.{stands_first, steps_down_on, steps_up_on}
-use Rattle.move_planner.proofs.Planner.{IsRanked}
+use Rattle.placement.specs.Placement.{Above, first_lower, last_upper, lower_of_held, upper_of_held, step_down, step_up, StopsBelow, StopsAbove, IsInOrder}
+use Rattle.placement.specs.Ready.{StepsDown, StepsUp}
+use Rattle.placement.proofs.Chain.{passes_is}
+use Rattle.placement.proofs.Orders.{stands_first, steps_down_on, steps_up_on}
+use Rattle.placement.proofs.Planner.{IsRanked}
 
 -- no slot behind one, up to another, holds a lower id
 abbrev pub HoldNoLower : Above → Slots → ℕ → ℕ → ℕ → Type 0

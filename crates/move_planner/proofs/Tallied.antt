@@ -4,8 +4,8 @@ use Rattle.std.specs.Prelude.{MatchOption, cond, count_by, min, is_none, nat_lt,
 use Rattle.std.proofs.lemmas.Bool.{cases_Bool, cases_lt, cond-true, cond-false, and_parts, and_from, le-leb, leb-true, ltb-true, ltb-false, both_ways}
 use Rattle.std.proofs.lemmas.List.Sums.{sum_by_more, sum_by-drop_more, sum_by-take-le, sum_by-take-drop, count_by-le-length}
 use Rattle.slot_order.specs.Order.{slot}
-use Rattle.slot_order.specs.Cuts.{free_behind, near_behind, free_before}
-use Rattle.slot_order.proofs.BestCut.{before_rises, behind_falls}
+use Rattle.slot_moves.specs.Cuts.{free_behind, near_behind, free_before}
+use Rattle.slot_moves.proofs.BestCut.{before_rises, behind_falls}
 use Rattle.slot_pool.specs.Arrangement.{Slots}
 use Rattle.move_planner.specs.declared.sides.Sides.{Sides}
 use Rattle.move_planner.specs.declared.boundary.Tally.{Tally}
@@ -35,9 +35,6 @@ room_said slots sides tally cut w r =
 -- the choice among the boundaries before one
 abbrev pub IsChosenBefore : Slots → Sides → ℕ → Option Choice → Type 0
 IsChosenBefore slots sides cut choice = MatchOption choice ((other : ℕ) → sides.start ≤ other → other < cut → HasMarkedRoom slots sides other → ⊥) (λ made. (0 < cut) × IsChosen slots sides (cut - 1) made)
-
-pub none_before_start : (slots : Slots) (sides : Sides) → IsChosenBefore slots sides sides.start None
-none_before_start slots sides = λ other low high room. absurd (omega arith)
 
 pub chosen_before : (slots : Slots) (sides : Sides) (cut : ℕ) (choice : Option Choice) → IsChosenTo slots sides cut choice → IsChosenBefore slots sides (cut + 1) choice
 chosen_before slots sides cut None w = λ other low high room. w other low (omega arith) room

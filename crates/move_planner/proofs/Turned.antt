@@ -3,18 +3,17 @@ use Rattle.std.proofs.Common.{◌≡◌, ℕ, Some, List, ◌∷◌, sym, subst}
 use Rattle.slot_order.specs.Order.{slot}
 use Rattle.slot_pool.specs.Arrangement.{Slots, next_free_above, last_free_below}
 use Rattle.slot_pool.proofs.Scan.{next_free_is, last_free_is}
-use Rattle.overlap_index.specs.Live.{LivePieces, is_above}
-use Rattle.overlap_index.proofs.Above.{rank_in}
-use Rattle.move_planner.specs.Placement.{first_lower, last_upper}
-use Rattle.move_planner.specs.Placement.{IsDownChain as PlansDown, IsUpChain as PlansUp}
-use Rattle.move_planner.specs.Insertion.{IsOther}
+use Rattle.placement.specs.Live.{LivePieces, is_above}
+use Rattle.placement.proofs.Above.{rank_in}
+use Rattle.placement.specs.Placement.{first_lower, last_upper, IsDownChain as PlansDown, IsUpChain as PlansUp}
+use Rattle.placement.specs.Insertion.{IsOther}
 use Rattle.move_planner.specs.declared.chains.Chain.{Chain}
-use Rattle.move_planner.specs.Steps.{CanShift, IsReady}
+use Rattle.placement.specs.Ready.{CanShift, IsReady}
 use Rattle.move_planner.specs.Steps.{IsDown as FoundDown, IsUp as FoundUp}
-use Rattle.move_planner.proofs.Chain.{Reads, lower_is, upper_is, down_is, up_is, IsDown, IsUp, LowerAt, UpperAt}
-use Rattle.move_planner.proofs.Planner.{Related, ranked_reads}
-use Rattle.move_planner.proofs.Orders.{ranked}
-use Rattle.move_planner.proofs.Readied.{ready_ordered, down_can_shift, up_can_shift}
+use Rattle.placement.proofs.Chain.{Reads, lower_is, upper_is, down_is, up_is, IsDown, IsUp, LowerAt, UpperAt}
+use Rattle.placement.proofs.Planner.{Related, ranked_reads}
+use Rattle.placement.proofs.Orders.{ranked}
+use Rattle.placement.proofs.Readied.{ready_ordered, down_can_shift, up_can_shift}
 
 -- whatever stands is known
 abbrev pub Any : ℕ → Type 0

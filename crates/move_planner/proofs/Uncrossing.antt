@@ -2,24 +2,25 @@
 use Rattle.std.proofs.Common.{◌≡◌, ℕ, ◌+◌, ◌*◌, ◌≤◌, Bool, true, Option, None, Some, List, [], ◌++◌, length, inl, inr, arith, refl, sym, ◌∙◌, subst, ap, append-nil, append_assoc, length-append}
 use Rattle.std.proofs.lemmas.Bool.{cases_lt, both_ways}
 use Rattle.slot_order.specs.Order.{slot}
-use Rattle.slot_order.specs.Cuts.{holds, early, late, wrong_side}
+use Rattle.slot_moves.specs.Cuts.{holds, early, late, wrong_side}
 use Rattle.slot_order.proofs.Writes.{slot_inside}
-use Rattle.slot_order.proofs.Tally.{take_clear, drop_clear}
+use Rattle.slot_moves.proofs.Tally.{take_clear, drop_clear}
 use Rattle.slot_pool.specs.Arrangement.{Slots}
-use Rattle.overlap_index.specs.Live.{LivePieces, is_above}
-use Rattle.overlap_index.proofs.Above.{rank_in}
-use Rattle.move_planner.specs.declared.Move.{Move}
+use Rattle.placement.specs.Live.{LivePieces, is_above}
+use Rattle.placement.proofs.Above.{rank_in}
+use Rattle.placement.specs.declared.Move.{Move}
 use Rattle.move_planner.specs.declared.sides.Sides.{Sides}
 use Rattle.move_planner.specs.declared.crossings.Cut.{Cut}
-use Rattle.move_planner.specs.Placement.{after_moves, first_lower, last_upper, next_slot, gap_start, gap_end, straight, AreSides, Pass, passed, IsPlacing, uncross}
-use Rattle.move_planner.specs.Insertion.{IsLive, free_slots, moves_since, AreMade}
+use Rattle.placement.specs.Placement.{after_moves, first_lower, last_upper, next_slot, gap_start, gap_end, straight, AreSides, Pass, passed, IsPlacing, uncross}
+use Rattle.placement.specs.Insertion.{IsLive, free_slots, moves_since, AreMade}
 use Rattle.move_planner.specs.Boundary.{IsBestTo}
-use Rattle.move_planner.specs.Steps.{IsReady, IsUnderway, OnePassed, NonePasses, UndoesCrossing}
-use Rattle.move_planner.proofs.Chain.{Reads, lower_is, upper_is}
-use Rattle.move_planner.proofs.Planner.{Related, ranked_reads}
-use Rattle.move_planner.proofs.Orders.{ranked}
-use Rattle.move_planner.proofs.Readied.{start_inside}
-use Rattle.move_planner.proofs.Reach.{is_behind, is_before}
+use Rattle.placement.specs.Ready.{IsReady}
+use Rattle.move_planner.specs.Steps.{IsUnderway, OnePassed, NonePasses, UndoesCrossing}
+use Rattle.placement.proofs.Chain.{Reads, lower_is, upper_is}
+use Rattle.placement.proofs.Planner.{Related, ranked_reads}
+use Rattle.placement.proofs.Orders.{ranked}
+use Rattle.placement.proofs.Readied.{start_inside}
+use Rattle.placement.proofs.Reach.{is_behind, is_before}
 use Rattle.move_planner.proofs.Begun.{IsBegun, are, cut_is, begins, few_wrong}
 use Rattle.move_planner.proofs.Shifted.{after_append, made_by}
 use Rattle.std.specs.Option.{unwrap_or}

@@ -1,28 +1,28 @@
 -- Which entry passes the boundary of a cut under way next, or that none is left.
-use Rattle.std.proofs.Common.{◌≡◌, ℕ, ◌+◌, ◌-◌, ◌<◌, ◌≤◌, ◌⊎◌, Bool, true, false, Option, None, Some, List, ◌∷◌, length, inl, inr, arith, refl, sym, ◌∙◌, subst, ap}
+use Rattle.std.proofs.Common.{◌≡◌, ℕ, ◌-◌, ◌<◌, ◌≤◌, ◌⊎◌, Bool, true, false, Option, None, Some, List, ◌∷◌, length, inl, inr, arith, refl, sym, ◌∙◌, subst, ap}
 use Rattle.std.specs.Prelude.{nat_lt, slice_index_or, IfSome}
 use Rattle.std.proofs.lemmas.Bool.{cases_lt, cond-true, cond-false, false_from_ne_true, lt-ltb, ltb-true, both_ways}
 use Rattle.slot_order.specs.Order.{slot}
-use Rattle.slot_order.specs.Cuts.{holds, early, late, free_before, free_behind}
+use Rattle.slot_moves.specs.Cuts.{holds, early, late, free_before, free_behind}
 use Rattle.slot_order.proofs.Writes.{slot_inside}
-use Rattle.slot_order.proofs.Passes.{can_pass}
-use Rattle.slot_order.proofs.BestCut.{take_none, drop_none}
-use Rattle.slot_order.proofs.Tally.{take_clear, drop_clear}
+use Rattle.slot_moves.proofs.Passes.{can_pass}
+use Rattle.slot_moves.proofs.BestCut.{take_none, drop_none}
+use Rattle.slot_moves.proofs.Tally.{take_clear, drop_clear}
 use Rattle.slot_pool.specs.Arrangement.{Slots, next_free_above, last_free_below}
 use Rattle.slot_pool.proofs.Scan.{next_free_is, last_free_is}
-use Rattle.overlap_index.specs.Live.{LivePieces, is_above}
-use Rattle.move_planner.specs.declared.Move.{Move}
+use Rattle.placement.specs.Live.{LivePieces, is_above}
+use Rattle.placement.specs.declared.Move.{Move}
 use Rattle.move_planner.specs.declared.sides.Sides.{Sides}
 use Rattle.move_planner.specs.declared.crossings.Cut.{Cut}
 use Rattle.move_planner.specs.declared.chains.Chain.{Chain}
 use Rattle.move_planner.specs.declared.shorter.Ends.{Ends}
-use Rattle.move_planner.specs.Placement.{DownChain, UpChain, IsLastBefore, IsFirstFrom}
-use Rattle.move_planner.specs.Placement.{IsDownChain as PlansDown, IsUpChain as PlansUp}
-use Rattle.move_planner.specs.Steps.{CanShift, CanGoDown, CanGoUp, IsShiftedOut, FindsShorter, EarlyEnds, NoEarlyEnds, FindsEarly, LateEnds, NoLateEnds, FindsLate, EarlyPasses, LatePasses, NonePass, FindsPasser, IsUnderway, OnePassed, IsLastMarked, IsFirstMarked, mark_at, cleared}
-use Rattle.move_planner.proofs.Planner.{last_alone, first_alone}
+use Rattle.placement.specs.Placement.{DownChain, UpChain, IsLastBefore, IsFirstFrom, IsDownChain as PlansDown, IsUpChain as PlansUp}
+use Rattle.placement.specs.Ready.{CanShift}
+use Rattle.move_planner.specs.Steps.{CanGoDown, CanGoUp, IsShiftedOut, FindsShorter, EarlyEnds, NoEarlyEnds, FindsEarly, LateEnds, NoLateEnds, FindsLate, EarlyPasses, LatePasses, NonePass, FindsPasser, IsUnderway, OnePassed, IsLastMarked, IsFirstMarked, mark_at, cleared}
+use Rattle.placement.proofs.Planner.{last_alone, first_alone}
 use Rattle.move_planner.proofs.Near.{none_before, none_behind}
 use Rattle.move_planner.proofs.Turned.{down_shifts, up_shifts}
-use Rattle.move_planner.proofs.Reach.{holding}
+use Rattle.placement.proofs.Reach.{holding}
 use Rattle.move_planner.proofs.Passed.{went_down, went_up, cut_inside, passed_down, passed_up}
 
 -- what stands in a slot that a test holds of
@@ -170,18 +170,6 @@ module _ (index : LivePieces) (id : ℕ) (behind before : ℕ → Bool) (slots :
       let h = stands_there before slots e.late_one.upper e.late_one.first.passing in
       up_shifts index id slots e.late_one.upper cut.boundary h.0 chain w.ready h.1 e.late_one.up
 
-  -- the slot of the one that passes
-  pub first_few : (chain : Chain) (first : ℕ) → EarlyPasses (is_above index.live) behind before slots sides cut chain ⊎ LatePasses (is_above index.live) behind before slots sides cut chain
-      → first ≡ slice_index_or chain.members.items 0 chain.free → first < 4096
-  first_few chain first (inl e) is =
-      let h = stands_there behind slots e.early_one.lower e.early_one.last.passing in
-      let l = slot_inside slots e.early_one.lower h.0 h.1 in let f = w.ready.few in
-      let k : first ≡ e.early_one.lower = is ∙ ap (λ ms. slice_index_or ms 0 chain.free) e.early_one.down.members in omega arith
-  first_few chain first (inr e) is =
-      let h = stands_there before slots e.late_one.upper e.late_one.first.passing in
-      let l = slot_inside slots e.late_one.upper h.0 h.1 in let f = w.ready.few in
-      let k : first ≡ e.late_one.upper = is ∙ ap (λ ms. slice_index_or ms 0 chain.free) e.late_one.up.members in omega arith
-
   -- it has passed
   pub passer_passed : (slots' : Slots) (plan plan' : List Move) (chain : Chain) (first : ℕ)
       → EarlyPasses (is_above index.live) behind before slots sides cut chain ⊎ LatePasses (is_above index.live) behind before slots sides cut chain
@@ -200,19 +188,3 @@ module _ (index : LivePieces) (id : ℕ) (behind before : ℕ → Bool) (slots :
       (subst (OnePassed index id behind before slots slots' plan plan' sides cut) (sym (cond-false _ _ _ l))
       (passed_up index id behind before slots sides cut w slots' plan plan' e.late_one.upper e.late_one.high e.late_one.less e.late_one.first
       (went_up index slots slots' plan plan' e.late_one.upper cut.boundary chain e.late_one.up out) e.shortest))
-
-  -- and the boundary is clear further on
-  pub passer_further : (chain : Chain) (first : ℕ) → EarlyPasses (is_above index.live) behind before slots sides cut chain ⊎ LatePasses (is_above index.live) behind before slots sides cut chain
-      → first ≡ slice_index_or chain.members.items 0 chain.free → (cleared cut first).low + (sides.end - (cleared cut first).high) < cut.low + (sides.end - cut.high)
-  passer_further chain first (inl e) is =
-      let k : first ≡ e.early_one.lower = is ∙ ap (λ ms. slice_index_or ms 0 chain.free) e.early_one.down.members in
-      let l : nat_lt e.early_one.lower cut.boundary ≡ true = lt-ltb e.early_one.lower cut.boundary e.early_one.last.inside in
-      let c : cleared cut first ≡ record { boundary = cut.boundary; low = e.early_one.lower; high = cut.high } = ap (cleared cut) k ∙ cond-true _ _ _ l in
-      let less = e.early_one.less in
-      subst (λ x. x.low + (sides.end - x.high) < cut.low + (sides.end - cut.high)) (sym c) (omega arith)
-  passer_further chain first (inr e) is =
-      let k : first ≡ e.late_one.upper = is ∙ ap (λ ms. slice_index_or ms 0 chain.free) e.late_one.up.members in
-      let l : nat_lt e.late_one.upper cut.boundary ≡ false = false_from_ne_true _ (λ y. let m = ltb-true e.late_one.upper cut.boundary y in let n = e.late_one.first.inside in absurd (omega arith)) in
-      let c : cleared cut first ≡ record { boundary = cut.boundary; low = cut.low; high = e.late_one.upper + 1 } = ap (cleared cut) k ∙ cond-false _ _ _ l in
-      let less = e.late_one.less in let high = e.late_one.high in
-      subst (λ x. x.low + (sides.end - x.high) < cut.low + (sides.end - cut.high)) (sym c) (omega arith)

@@ -3,8 +3,9 @@ use Rattle.std.proofs.Common.{◌≡◌, ℕ, ◌+◌, ◌<◌, ◌≤◌, Optio
 use Rattle.slot_order.proofs.Writes.{slot_inside}
 use Rattle.slot_pool.specs.Arrangement.{Slots}
 use Rattle.move_planner.specs.declared.shorter.Ends.{Ends}
-use Rattle.move_planner.specs.Placement.{Above, IsDownChain, IsUpChain, StopsBelow, StopsAbove, step_down, step_up}
-use Rattle.move_planner.specs.Steps.{StepsDown, StepsUp, CanGoDown, CanGoUp}
+use Rattle.placement.specs.Placement.{Above, IsDownChain, IsUpChain, StopsBelow, StopsAbove, step_down, step_up}
+use Rattle.placement.specs.Ready.{StepsDown, StepsUp}
+use Rattle.move_planner.specs.Steps.{CanGoDown, CanGoUp}
 
 -- the members so far, the last of which is known, are the first part of whatever chain goes on from it, and each chain
 -- begins with them

@@ -10,11 +10,12 @@ use Rattle.slot_order.proofs.Writes.{slot_inside}
 use Rattle.slot_pool.specs.Arrangement.{Slots, is_free, is_free_within, nearest, nearer, next_free_above, last_free_below}
 use Rattle.slot_pool.proofs.Places.{find_range_none}
 use Rattle.slot_pool.proofs.Scan.{find_back_none, next_free_is, last_free_is}
-use Rattle.overlap_index.specs.Live.{LivePieces, is_above}
+use Rattle.placement.specs.Live.{LivePieces, is_above}
 use Rattle.move_planner.specs.declared.chains.Chain.{Chain}
 use Rattle.move_planner.specs.declared.shorter.Ends.{Ends}
-use Rattle.move_planner.specs.Placement.{first_lower, last_upper, next_slot, gap_start, gap_end, aimed_at}
-use Rattle.move_planner.specs.Steps.{CanShift, IsReady, IsFull, CanGoDown, CanGoUp, IsShorter, IsWay, ends_at, ends_down, ends_up}
+use Rattle.placement.specs.Placement.{first_lower, last_upper, next_slot, gap_start, gap_end, aimed_at}
+use Rattle.placement.specs.Ready.{CanShift, IsReady}
+use Rattle.move_planner.specs.Steps.{IsFull, CanGoDown, CanGoUp, IsShorter, IsWay, ends_at, ends_down, ends_up}
 use Rattle.move_planner.proofs.Shifted.{free_somewhere}
 use Rattle.move_planner.proofs.Turned.{low_at, high_at, down_shifts, up_shifts}
 

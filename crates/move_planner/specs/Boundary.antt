@@ -1,6 +1,6 @@
 -- The choice of a boundary, from the marks of a crossed stretch.
 use Rattle.std.specs.Prelude.{◌≡◌, ℕ, ◌+◌, ◌-◌, ◌<◌, ◌≤◌, Bool, false, ◌&&◌, cond, nat_lt, nat_le, if◌then◌else◌, Option, None, Some, MatchOption, List, take, drop, count_by}
-use Rattle.slot_order.specs.Cuts.{free_behind, near_before, near_behind}
+use Rattle.slot_moves.specs.Cuts.{free_behind, near_before, near_behind}
 use Rattle.slot_pool.specs.Arrangement.{Slots, is_free}
 use Rattle.move_planner.specs.declared.sides.Sides.{Sides}
 use Rattle.move_planner.specs.declared.boundary.Tally.{Tally}

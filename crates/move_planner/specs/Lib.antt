@@ -1,4 +1,2 @@
-pub mod Placement
-pub mod Insertion
 pub mod Steps
 pub mod Boundary

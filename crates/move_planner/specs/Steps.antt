@@ -1,20 +1,19 @@
 -- What the steps of the planner need and what they leave.
-use Rattle.std.specs.Prelude.{◌≡◌, ◌≢◌, ℕ, ◌+◌, ◌-◌, ◌*◌, ◌<◌, ◌≤◌, ◌⊎◌, IsTrue, Bool, true, false, Contains}
-use Rattle.std.specs.Prelude.{Option, None, Some, MatchOption, List, ◌∷◌, ◌++◌, [], length, min, max, slice_index_or, if◌then◌else◌, nat_lt, nat_le, ◌&&◌, ◌↔◌}
+use Rattle.std.specs.Prelude.{◌≡◌, ℕ, ◌+◌, ◌-◌, ◌*◌, ◌<◌, ◌≤◌, ◌⊎◌, IsTrue, Bool, true, false, Contains, Option, None, Some, MatchOption, List, ◌∷◌, ◌++◌, [], length, min, max, slice_index_or, if◌then◌else◌, nat_lt, nat_le, ◌&&◌, ◌↔◌}
 use Rattle.slot_order.specs.Order.{slot}
-use Rattle.slot_order.specs.Cuts.{holds, early, late, wrong_side, free_before, free_behind, HasRoom}
+use Rattle.slot_moves.specs.Cuts.{holds, early, late, wrong_side, free_before, free_behind, HasRoom}
 use Rattle.slot_pool.specs.Arrangement.{Slots, HasTwin, home_of, next_free_above, last_free_below}
-use Rattle.overlap_index.specs.Live.{LivePieces, AreApart, is_live, is_above}
-use Rattle.move_planner.specs.declared.Aim.{Aim}
-use Rattle.move_planner.specs.declared.Move.{Move}
-use Rattle.move_planner.specs.declared.Move.TheVariants.{Put, Erase}
+use Rattle.placement.specs.Live.{LivePieces, is_live, is_above}
+use Rattle.placement.specs.declared.Aim.{Aim}
+use Rattle.placement.specs.declared.Move.{Move}
+use Rattle.placement.specs.declared.Move.TheVariants.{Put, Erase}
 use Rattle.move_planner.specs.declared.chains.Chain.{Chain}
 use Rattle.move_planner.specs.declared.shorter.Ends.{Ends}
 use Rattle.move_planner.specs.declared.sides.Sides.{Sides}
 use Rattle.move_planner.specs.declared.crossings.Cut.{Cut}
-use Rattle.move_planner.specs.Placement.{Above, after_moves, moves_along, first_lower, last_upper, gap_start, gap_end, gap_slot, StopsBelow, StopsAbove, step_down, step_up}
-use Rattle.move_planner.specs.Placement.{IsDownChain, IsUpChain, DownChain, UpChain, Leads, AreSides, IsLastBefore, IsFirstFrom, Pass, IsPlacing, IsPlacement, IsInOrder}
-use Rattle.move_planner.specs.Insertion.{IsOther, StandOnce, free_slots}
+use Rattle.placement.specs.Placement.{Above, after_moves, moves_along, first_lower, last_upper, gap_start, gap_end, gap_slot, IsDownChain, IsUpChain, DownChain, UpChain, Leads, AreSides, IsLastBefore, IsFirstFrom, Pass, IsPlacing, IsPlacement}
+use Rattle.placement.specs.Insertion.{free_slots}
+use Rattle.placement.specs.Ready.{IsTaken, IsReady}
 
 -- the lesser of two slots, or the one that there is
 abbrev pub lesser : Option ℕ → Option ℕ → Option ℕ
@@ -28,38 +27,14 @@ greater None b = b
 greater (Some a) None = Some a
 greater (Some a) (Some b) = Some (max a b)
 
--- an id stands in the slot
-abbrev pub IsTaken : Slots → ℕ → Type 0
-IsTaken slots at = (id : ℕ) × (slot slots at ≡ Some id)
-
 -- each id that stands is live
 abbrev pub AllLive : LivePieces → Slots → Type 0
 AllLive index slots = (at id : ℕ) → slot slots at ≡ Some id → IsTrue (is_live index.live id)
-
--- the next slot of a down chain, where it is before the free one, and nothing where the chain stops
-abbrev pub StepsDown : Above → Slots → ℕ → ℕ → Option ℕ → Type 0
-StepsDown above slots free at found =
-    MatchOption found (StopsBelow free (step_down above slots at))
-    (λ next. (step_down above slots at ≡ Some next) × (at < next) × (next < free) × IsTaken slots next)
-
--- the mirror
-abbrev pub StepsUp : Above → Slots → ℕ → ℕ → Option ℕ → Type 0
-StepsUp above slots free at found =
-    MatchOption found (StopsAbove free (step_up above slots at))
-    (λ next. (step_up above slots at ≡ Some next) × (next < at) × (free < next) × IsTaken slots next)
 
 -- the move is one that an arrangement can make: what it is put over stands in another slot too
 abbrev pub CanMake : Slots → Move → Type 0
 CanMake slots (Put at id) = (at < length slots) × ((slot slots at ≡ None) ⊎ HasTwin slots at)
 CanMake slots (Erase at) = at < length slots
-
--- the members of a chain are taken slots, none twice, and can move towards a free slot
-pub record CanShift (slots : Slots) (free : ℕ) (members : List ℕ) : Type 0 where
-  pub some : 0 < length members
-  pub room : free < length slots
-  pub empty : slot slots free ≡ None
-  pub taken : (k : ℕ) → k < length members → IsTaken slots (slice_index_or members k free)
-  pub apart : (j k : ℕ) → j < k → k < length members → slice_index_or members j free ≢ slice_index_or members k free
 
 -- a down chain from a slot to the free slot that it goes to
 pub record IsDown (above : Above) (slots : Slots) (from : ℕ) (target : Option ℕ) (chain : Chain) : Type 0 where
@@ -115,15 +90,6 @@ ends_down slots (Some lower) = ends_at lower (next_free_above slots lower)
 abbrev pub ends_up : Slots → Option ℕ → Option Ends
 ends_up slots None = None
 ends_up slots (Some upper) = ends_at upper (last_free_below slots upper)
-
--- an arrangement in which a live id is to be placed
-pub record IsReady (index : LivePieces) (id : ℕ) (slots : Slots) : Type 0 where
-  pub few : length slots ≤ 4096
-  pub free : 0 < free_slots slots
-  pub live : IsTrue (is_live index.live id)
-  pub apart : AreApart index.slots index.live
-  pub standing : StandOnce (IsOther index.live id) slots
-  pub order : IsInOrder (is_above index.live) slots
 
 -- no slot of the gap is free: whatever the aim, none is the nearest to it
 abbrev pub IsFull : Above → Slots → ℕ → Type 0

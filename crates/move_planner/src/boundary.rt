@@ -1,6 +1,6 @@
 //! The best boundary of a crossed stretch: the fewest entries on its wrong side.
 ghost use Rattle.std.specs.Prelude.{◌≡◌, ℕ, ◌+◌, ◌-◌, ◌<◌, ◌≤◌, length, min};
-ghost use Rattle.slot_order.specs.Cuts.{free_before, free_behind};
+ghost use Rattle.slot_moves.specs.Cuts.{free_before, free_behind};
 ghost use Rattle.move_planner.specs.Boundary.{AreQuiet, HasMarkedRoom, IsBestTo, IsNextFree, IsTallied, one, count_marks, has_room, with_better};
 
 use crate::sides::{Sides, first_marked};

@@ -2,14 +2,16 @@
 ghost use Rattle.std.specs.Prelude.{◌≡◌, ◌<◌, ◌+◌, ◌++◌, ℕ, Some, OnOk, OnErr, length, slice_index_or, IsTrue, MatchOption};
 ghost use Rattle.slot_order.specs.Order.{slot as held_in};
 ghost use Rattle.slot_pool.specs.Arrangement.{HasTwin, passes};
-ghost use Rattle.overlap_index.specs.Live.{is_above, is_live};
-ghost use Rattle.move_planner.specs.Placement.{IsInOrder, StopsBelow, StopsAbove, after_moves, moves_along};
-ghost use Rattle.move_planner.specs.Insertion.{AreMade, free_slots};
-ghost use Rattle.move_planner.specs.Steps.{AllLive, StepsDown, StepsUp, CanShift};
+ghost use Rattle.placement.specs.Live.{is_above, is_live};
+ghost use Rattle.placement.specs.Placement.{IsInOrder, StopsBelow, StopsAbove, after_moves, moves_along};
+ghost use Rattle.placement.specs.Insertion.{AreMade, free_slots};
+ghost use Rattle.move_planner.specs.Steps.{AllLive};
+ghost use Rattle.placement.specs.Ready.{StepsDown, StepsUp, CanShift};
 
+use crate::Moves;
 use crate::places::{greater, lesser};
-use crate::{Move, Moves};
 use overlap_index::Index;
+use placement::Move;
 use slot_pool::Arrangement;
 use std::alloc::AllocError;
 
@@ -51,8 +53,9 @@ impl Chain {
     }
 }
 
-/// The slot that a down chain goes on to, if it is before the free one: the first behind `slot` whose id is below the one
-/// there. The list of those below it and the slots are gone through side by side, until either ends or the slot is found.
+/// The slot that a down chain goes on to, if it is before the free one: the first behind `slot` whose id is below the
+/// one there. The list of those below it and the slots are gone through side by side, until either ends or the slot is
+/// found.
 pub(crate) fn step_down(slots: &Arrangement, index: &Index, slot: u32, free: u32) -> Option<u32>
     requires before { slot < free }
     requires inside { free < length slots.now }

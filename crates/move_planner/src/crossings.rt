@@ -1,18 +1,20 @@
 //! The turns that put the entries that must stand before a new id and those that must stand behind it apart.
 ghost use Rattle.std.specs.Prelude.{◌≡◌, ℕ, ◌-◌, ◌<◌, ◌≤◌, Bool, IfOk, OnOk, OnErr, length};
 ghost use Rattle.slot_pool.specs.Arrangement.{next_free_above, last_free_below};
-ghost use Rattle.overlap_index.specs.Live.{LivePieces, is_above};
-ghost use Rattle.move_planner.specs.Placement.{gap_start, gap_end, IsInOrder};
-ghost use Rattle.move_planner.specs.Insertion.{AreMade};
-ghost use Rattle.move_planner.specs.Steps.{CanShift, IsReady, IsShiftedOut, FindsEarly, FindsLate, FindsPasser, IsUnderway, MayPass, IsFurther, UndoesCrossing, cleared};
+ghost use Rattle.placement.specs.Live.{LivePieces, is_above};
+ghost use Rattle.placement.specs.Placement.{gap_start, gap_end, IsInOrder};
+ghost use Rattle.placement.specs.Insertion.{AreMade};
+ghost use Rattle.placement.specs.Ready.{CanShift, IsReady};
+ghost use Rattle.move_planner.specs.Steps.{IsShiftedOut, FindsEarly, FindsLate, FindsPasser, IsUnderway, MayPass, IsFurther, UndoesCrossing, cleared};
 
+use crate::Moves;
 use crate::boundary::best_boundary;
 use crate::chains::Chain;
 use crate::places::Gap;
 use crate::shorter::{Ends, shorter_chain};
 use crate::sides::{Sides, find_sides, first_marked, last_marked};
-use crate::{Move, Moves};
 use overlap_index::Index;
+use placement::Move;
 use slot_pool::Arrangement;
 use std::alloc::{AllocError, Global};
 

@@ -17,15 +17,15 @@
 //!    first, as below, and nothing crosses any more.
 //!
 //! # The cut
-//! An entry to which a chain of overlapping entries of falling priority leads from the new one must stand behind it, and
-//! one from which such a chain leads to the new one must stand before it. So a boundary is chosen between the first lower
-//! and the last upper entry, and each entry on its wrong side passes it: along its chain to the nearest free slot beyond,
-//! and its old slot is erased. The nearest on either side may be next, and the one with the shorter chain is. Of the
-//! boundaries with room the one is taken that the fewest have to pass, the last of equal ones. A boundary has room where
-//! the entries on either wrong side fit into the free slots beyond it and those that the other side's leave; of the free
-//! slots those between the first lower and the last upper entry count, and up to two before them and up to two behind
-//! them. One boundary always has room. Of chains of equal length the down chain is taken. In a table of 8 slots two lower
-//! entries, b and c, stand in slots 2 and 3 and an upper one, a, in slot 4:
+//! An entry to which a chain of overlapping entries of falling priority leads from the new one must stand behind it,
+//! and one from which such a chain leads to the new one must stand before it. So a boundary is chosen between the first
+//! lower and the last upper entry, and each entry on its wrong side passes it: along its chain to the nearest free slot
+//! beyond, and its old slot is erased. The nearest on either side may be next, and the one with the shorter chain is.
+//! Of the boundaries with room the one is taken that the fewest have to pass, the last of equal ones. A boundary has
+//! room where the entries on either wrong side fit into the free slots beyond it and those that the other side's leave;
+//! of the free slots those between the first lower and the last upper entry count, and up to two before them and up to
+//! two behind them. One boundary always has room. Of chains of equal length the down chain is taken. In a table of 8
+//! slots two lower entries, b and c, stand in slots 2 and 3 and an upper one, a, in slot 4:
 //!
 //! ```text
 //! slot     0    1    2    3    4    5
@@ -56,41 +56,72 @@
 //!
 //! # What it costs
 //! A chain's entries overlap one after the other at falling priorities. So with the new entry it has at most as many
-//! members as the longest such chain among the live pieces has, `m`. Each entry that passes the boundary takes at most `m`
-//! moves, and so does the rest: at most `m * (1 + w)` in all, `w` the number of entries on the wrong side of any boundary
-//! with room. The best one has no more of them than the crossing span `c` has slots, so there are at most `m * (1 + c)`
-//! moves. So `n` entries take at most `(n + 1)^2` moves. One move more than entries stand isn't enough, for any way to
-//! insert: a lower entry, a free slot and an upper one, in three slots, take four. Where `p` lower entries, one free slot
-//! and `q` upper ones stand in this order, all of either kind overlapping one another, a search over small `p` and `q`
-//! found `(p + 1) * (q + 1)` moves to be the least.
+//! members as the longest such chain among the live pieces has, `m`. Each entry that passes the boundary takes at most
+//! `m` moves, and so does the rest: at most `m * (1 + w)` in all, `w` the number of entries on the wrong side of any
+//! boundary with room. The best one has no more of them than the crossing span `c` has slots, so there are at most
+//! `m * (1 + c)` moves. So `n` entries take at most `(n + 1)^2` moves. One move more than entries stand isn't enough,
+//! for any way to insert: a lower entry, a free slot and an upper one, in three slots, take four. Where `p` lower
+//! entries, one free slot and `q` upper ones stand in this order, all of either kind overlapping one another, a search
+//! over small `p` and `q` found `(p + 1) * (q + 1)` moves to be the least.
 //!
-//! What is asked of the index is the list of what is above an entry or of what is below it. The gap takes one of either,
-//! before the cut and again after it. The cut asks for what is below the new entry and below each entry of the crossed
-//! stretch that must stand behind it, and for what is above the new entry and above each one that must stand before it.
-//! No entry is among both, and one that is neither isn't asked for anything. Chains take one list for each member: where a
-//! down chain and an up chain are both there they are walked in turns, a member of each, until one ends, and the other
-//! goes no further. So without a cut at most two lists are asked for each move, and a cut takes at most `s + 2` more, `s`
-//! the number of entries of its stretch that must stand behind the new one or before it. An entry's slot is looked up,
-//! not searched for.
+//! What is asked of the index is the list of what is above an entry or of what is below it. The gap takes one of
+//! either, before the cut and again after it. The cut asks for what is below the new entry and below each entry of the
+//! crossed stretch that must stand behind it, and for what is above the new entry and above each one that must stand
+//! before it. No entry is among both, and one that is neither isn't asked for anything. Chains take one list for each
+//! member: where a down chain and an up chain are both there they are walked in turns, a member of each, until one
+//! ends, and the other goes no further. So without a cut at most two lists are asked for each move, and a cut takes at
+//! most `s + 2` more, `s` the number of entries of its stretch that must stand behind the new one or before it. An
+//! entry's slot is looked up, not searched for.
 //!
-//! A chain's list is seldom gone through to its end. The next member of a chain is also the first slot on the way to the
-//! free one whose entry overlaps the member before, and is lower, or higher on the way up. So the list and the slots are
-//! gone through side by side, a node and a slot at a time, and whichever ends first gives the answer: at most as many of
-//! either as the list has entries, or as there are slots to the next member or to the free slot, whichever is less. Where
-//! entries overlap much the lists are long, and the next member stands near.
+//! A chain's list is seldom gone through to its end. The next member of a chain is also the first slot on the way to
+//! the free one whose entry overlaps the member before, and is lower, or higher on the way up. So the list and the
+//! slots are gone through side by side, a node and a slot at a time, and whichever ends first gives the answer: at most
+//! as many of either as the list has entries, or as there are slots to the next member or to the free slot, whichever
+//! is less. Where entries overlap much the lists are long, and the next member stands near.
 //!
 //! # What isn't promised
-//! A least number of moves. The cut counts entries and not the moves that they take, and chains are taken one by one; we
-//! don't know a good way to look further ahead that stays simple. The idea of ordering only entries that overlap is that
-//! of D. Shah and P. Gupta, "Fast Updating Algorithms for TCAMs", IEEE Micro 21(1), 2001; the cut is our own.
+//! A least number of moves. The cut counts entries and not the moves that they take, and chains are taken one by one;
+//! we don't know a good way to look further ahead that stays simple. The idea of ordering only entries that overlap is
+//! that of D. Shah and P. Gupta, "Fast Updating Algorithms for TCAMs", IEEE Micro 21(1), 2001; the cut is our own.
+//!
+//! # Decided
+//! - **Moves overwrite**: `k` entries of a chain move in `k` writes, and no slot is erased first.
+//! - **The gap is found once, and once more behind a cut.** It is crossed where its end is before its start, and the
+//!   crossing span is one less than by how much.
+//! - **A crossing is undone by a cut** (`IsCut`, `Pass`, `IsPlacement` in `specs/Placement`, over
+//!   `slot_moves/specs/Cuts`): each entry on the wrong side passes one boundary once, by one turn. Where instead the
+//!   first lower entry moved past the last upper one, turn after turn, the same entries moved many times: over access
+//!   and firewall lists of 4,096 entries, 90 % full, 4.42 writes an insertion became 2.17 by the cut, and 29.71 became
+//!   14.07, the longest 234 for 5,007 and 1,152 for 14,040 (`docs/SPEED.md`). `plan_insert` promises `m` writes for
+//!   each entry on the wrong side of any boundary with room, and `m` more (`cut`), no more entries on that of the
+//!   boundary taken than the span has slots (`parted`), and that no other moves are the placement (`alone`). The price:
+//!   two marks for each slot of the crossed stretch, and two chains for each turn.
+//! - **No bound of one write more than entries stand is possible.** Take `b . a` in three slots, with a new entry that
+//!   must stand behind `a` and before `b`. Slots 0, 1 and 2 all change; what stands in 0 and in 2 has no copy, and the
+//!   new entry in slot 1 would stand before `a` and behind `b`. So the first write is of one of them into slot 1, which
+//!   is written again for the new one: four at least, and four are enough (`a` to 1, `b` to 2, `a` to 0, the new one to
+//!   1). The rule here takes six.
+//! - **The boundary needs room near it, not free slots alone** (`HasRoomNear`). Where all free slots counted, entries
+//!   went to far ones along chains of up to 105, in one insertion 3,986 writes for 279. With one slot on either side of
+//!   the stretch in place of two the counts are about as good, but a row of five lines takes 7 writes for 6.
+//! - **Of the two entries that may pass next the one with the shorter chain does**, as where nothing crosses. With all
+//!   from one side first the longest insertion took more in most counts (1,456 for 419 in one), since slots that are
+//!   left near the boundary weren't used again. **It goes to the nearest free slot**: to leave room for those to come
+//!   saved writes in some counts and took more in others; to plan the old way too and take the better one gained up to
+//!   5 % for twice the work.
+//! - **A chain's next member is looked for along the list and along the slots at once** (`step_down`, `step_up`). Where
+//!   each entry overlaps hundreds its list lies all over the memory, and each node costs a miss of the cache. Over a
+//!   firewall list of 4,096 entries, 90 % full, planning took 818 and 941 µs in the mean by the lists alone, and 159
+//!   and 164 µs so (two runs of each). The price is `is_above` of two ids in `overlap_index`.
 #![tactic(auto)]
 
 ghost use Rattle.std.specs.Prelude.{◌≡◌, ℕ, ◌+◌, ◌*◌, ◌<◌, ◌≤◌, ◌++◌, ◌∷◌, [], List, Bool, IsTrue, IfOk, OnOk, OnErr, length, take, slice_index_or};
-ghost use Rattle.overlap_index.specs.Live.{is_live, is_above};
-ghost use Rattle.slot_order.specs.Cuts.{wrong_side, HasRoomNear};
-ghost use Rattle.move_planner.specs.Placement.{AreSides, IsCut, IsPlacement, IsInOrder, first_lower, last_upper, gap_start, gap_end, span_of, after_move, after_moves};
-ghost use Rattle.move_planner.specs.Insertion.{IsLive, IsOther, StandOnce, BoundsLiveChains, AreMade, free_slots, moves_since};
-ghost use Rattle.move_planner.specs.Steps.{CanMake, IsReady, UndoesCrossing};
+ghost use Rattle.placement.specs.Live.{is_live, is_above};
+ghost use Rattle.slot_moves.specs.Cuts.{wrong_side, HasRoomNear};
+ghost use Rattle.placement.specs.Placement.{AreSides, IsCut, IsPlacement, IsInOrder, first_lower, last_upper, gap_start, gap_end, span_of, after_move, after_moves};
+ghost use Rattle.placement.specs.Insertion.{IsLive, IsOther, StandOnce, BoundsLiveChains, AreMade, free_slots, moves_since};
+ghost use Rattle.move_planner.specs.Steps.{CanMake, UndoesCrossing};
+ghost use Rattle.placement.specs.Ready.{IsReady};
 
 mod boundary;
 mod chains;
@@ -104,29 +135,12 @@ mod tests;
 
 use crossings::uncross;
 use overlap_index::Index;
+use placement::{Aim, Move};
 use places::{Gap, find_gap};
 use placing::place;
 use slot_pool::Arrangement;
 use std::alloc::{AllocError, Global};
 use std::marker::Model;
-
-/// One move of a plan.
-#[derive(Clone, Copy, Debug, PartialEq, Eq)]
-pub enum Move {
-    /// Into a slot goes an id: the slot is empty, or what it holds stands in another one too.
-    Put(u32, u32),
-    /// A slot is emptied.
-    Erase(u32),
-}
-
-/// Where a new id would stand best. Of the free slots that it may take it takes the one nearest to that.
-#[derive(Clone, Copy, Debug, PartialEq, Eq)]
-pub enum Aim {
-    /// The middle of the gap, as it is once nothing crosses.
-    Middle,
-    /// A slot, in the gap or not.
-    At(u32),
-}
 
 /// What an insertion took.
 #[derive(Clone, Copy, Debug, PartialEq, Eq)]
@@ -145,7 +159,7 @@ pub struct Moves {
 
 impl Model for Moves {
     ghost use Rattle.std.specs.Prelude.{List};
-    ghost use Rattle.move_planner.specs.declared.Move.{Move};
+    ghost use Rattle.placement.specs.declared.Move.{Move};
 
     ghost Value = { List Move };
 
@@ -203,14 +217,14 @@ impl Moves {
 
 /// Plans the moves that place a new live id with an aim, and makes them in the arrangement.
 ///
-/// `slots` has at most 4,096 slots, of which one is free. `id` is live in `index` and stands in no slot; every other live
-/// id stands in exactly one, and all in order. The plan gains the moves, each of which leaves the arrangement in order,
-/// and at the end every live id stands in exactly one slot. The answer is the number of the moves and how far the last
-/// upper entry stood past the first lower one, 0 where nothing crossed. With `m` a bound on the chains of live pieces
-/// there are at most `m` moves for each slot of that span and `m` more (`bound`), and at most `m` for each entry on the
-/// wrong side of any boundary with room, and `m` more (`cut`). The boundary that entries pass has no more of them than the
-/// span has slots (`parted`), and no other moves are a placement of the id (`alone`). The one refusal is want of memory:
-/// then the arrangement is the old one after the moves that the plan gained.
+/// `slots` has at most 4,096 slots, of which one is free. `id` is live in `index` and stands in no slot; every other
+/// live id stands in exactly one, and all in order. The plan gains the moves, each of which leaves the arrangement in
+/// order, and at the end every live id stands in exactly one slot. The answer is the number of the moves and how far
+/// the last upper entry stood past the first lower one, 0 where nothing crossed. With `m` a bound on the chains of live
+/// pieces there are at most `m` moves for each slot of that span and `m` more (`bound`), and at most `m` for each entry
+/// on the wrong side of any boundary with room, and `m` more (`cut`). The boundary that entries pass has no more of
+/// them than the span has slots (`parted`), and no other moves are a placement of the id (`alone`). The one refusal is
+/// want of memory: then the arrangement is the old one after the moves that the plan gained.
 ///
 /// Source: D. Shah and P. Gupta, "Fast Updating Algorithms for TCAMs", IEEE Micro 21(1), 2001; the cut is our own.
 pub fn plan_insert(

@@ -2,12 +2,12 @@
 ghost use Rattle.std.specs.Prelude.{◌≡◌, ◌<◌, ◌≤◌, ◌+◌, ◌-◌, ◌/◌, ◌^◌, ℕ, IsTrue, Some, length};
 ghost use Rattle.slot_order.specs.Order.{slot as held_in};
 ghost use Rattle.slot_pool.specs.Arrangement.{nearest_free};
-ghost use Rattle.overlap_index.specs.Live.{AreApart, is_live, is_above};
-ghost use Rattle.move_planner.specs.Placement.{first_lower, last_upper, next_slot, gap_start, gap_end, aimed_at};
+ghost use Rattle.placement.specs.Live.{AreApart, is_live, is_above};
+ghost use Rattle.placement.specs.Placement.{first_lower, last_upper, next_slot, gap_start, gap_end, aimed_at};
 ghost use Rattle.move_planner.specs.Steps.{lesser, greater};
 
-use crate::Aim;
 use overlap_index::Index;
+use placement::Aim;
 use slot_pool::Arrangement;
 
 /// The least slot of an id below this one.

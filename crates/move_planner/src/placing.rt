@@ -1,15 +1,17 @@
 //! The last part of an insertion: the new id's own move, and the chain that makes way for it.
 ghost use Rattle.std.specs.Prelude.{◌≡◌, ◌<◌, ◌≤◌, IfSome, IfOk, OnOk, OnErr, length};
-ghost use Rattle.overlap_index.specs.Live.{is_above};
-ghost use Rattle.move_planner.specs.Placement.{first_lower, last_upper, gap_start, gap_end};
-ghost use Rattle.move_planner.specs.Insertion.{AreMade};
-ghost use Rattle.move_planner.specs.Steps.{IsReady, IsFull, IsPlaced, IsWay, ends_down, ends_up};
+ghost use Rattle.placement.specs.Live.{is_above};
+ghost use Rattle.placement.specs.Placement.{first_lower, last_upper, gap_start, gap_end};
+ghost use Rattle.placement.specs.Insertion.{AreMade};
+ghost use Rattle.placement.specs.Ready.{IsReady};
+ghost use Rattle.move_planner.specs.Steps.{IsFull, IsPlaced, IsWay, ends_down, ends_up};
 
+use crate::Moves;
 use crate::chains::Chain;
 use crate::places::{Gap, choose};
 use crate::shorter::{Ends, shorter_chain};
-use crate::{Aim, Move, Moves};
 use overlap_index::Index;
+use placement::{Aim, Move};
 use slot_pool::Arrangement;
 use std::alloc::{AllocError, Global};
 

@@ -1,8 +1,8 @@
 //! The shorter of two chains, found by walking both a step at a time.
 ghost use Rattle.std.specs.Prelude.{◌≡◌, ◌++◌, ◌∷◌, [], ℕ, Some, IfSome, IfOk, OnOk, length};
 ghost use Rattle.slot_order.specs.Order.{slot as held_in};
-ghost use Rattle.overlap_index.specs.Live.{is_above};
-ghost use Rattle.move_planner.specs.Placement.{IsInOrder};
+ghost use Rattle.placement.specs.Live.{is_above};
+ghost use Rattle.placement.specs.Placement.{IsInOrder};
 ghost use Rattle.move_planner.specs.Steps.{AllLive, CanGoDown, CanGoUp, IsDown, IsUp, IsShorter, FindsShorter};
 
 use crate::chains::{Chain, step_down, step_up};

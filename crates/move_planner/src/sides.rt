@@ -1,9 +1,10 @@
 //! Which entries must stand behind a new id, and which before it.
 ghost use Rattle.std.specs.Prelude.{◌≡◌, ℕ, ◌+◌, ◌<◌, ◌≤◌, ◌∷◌, [], IsTrue, Some, IfOk, length};
 ghost use Rattle.slot_order.specs.Order.{slot};
-ghost use Rattle.overlap_index.specs.Live.{is_live, is_above};
-ghost use Rattle.move_planner.specs.Placement.{gap_start, gap_end};
-ghost use Rattle.move_planner.specs.Steps.{IsReady, IsLastMarked, IsFirstMarked, AreMarked, AreReached, AreLedTo, LeadFrom, AreFoundSides};
+ghost use Rattle.placement.specs.Live.{is_live, is_above};
+ghost use Rattle.placement.specs.Placement.{gap_start, gap_end};
+ghost use Rattle.placement.specs.Ready.{IsReady};
+ghost use Rattle.move_planner.specs.Steps.{IsLastMarked, IsFirstMarked, AreMarked, AreReached, AreLedTo, LeadFrom, AreFoundSides};
 
 use crate::places::Gap;
 use overlap_index::{Index, Overlaps};

@@ -1,8 +1,9 @@
 ghost use Rattle.std.specs.Prelude.{◌≡◌, ◌≤◌, None, [], length, replicate};
 
 use crate::Move::{Erase, Put};
-use crate::{Aim, Insert, Move, Moves, plan_insert};
+use crate::{Insert, Moves, plan_insert};
 use overlap_index::Index;
+use placement::{Aim, Move};
 use rule_model::{Piece, Prefix, Rank, list_rank, route_rule};
 use slot_pool::Arrangement;
 use std::alloc::{AllocError, Global};

@@ -54,14 +54,6 @@ pub link_same : (side : Side) (n : Node) (l : Link) → link_of side (with_link 
 link_same Below n l = refl
 link_same Above n l = refl
 
-pub upper_same : (side : Side) (n : Node) (l : Link) → (with_link side n l).upper ≡ n.upper
-upper_same Below n l = refl
-upper_same Above n l = refl
-
-pub lower_same : (side : Side) (n : Node) (l : Link) → (with_link side n l).lower ≡ n.lower
-lower_same Below n l = refl
-lower_same Above n l = refl
-
 pub pushed_length : (side : Side) (ns : List Node) (at head : ℕ) → length (pushed side ns at head) ≡ length ns
 pushed_length side ns at head = put_length _ _ _ ∙ length-set _ _ _
 

@@ -18,12 +18,17 @@
 //! # What it cost
 //! A node takes 24 bytes, an id 8. To link two ids takes the same time whatever is there; an id goes in the time of its
 //! pairs, and its partners are named in that time too. Growth copies the block, which doubles as long as its places are
-//! numbers of 32 bits. The worst list, each entry over each other, has n (n - 1) / 2 pairs: 12 bytes times n squared, 51 GB
-//! at 65,536 entries, where a scan takes none. The block may have room for twice as many, and a growth has the old block
-//! beside the new one.
+//! numbers of 32 bits. The worst list, each entry over each other, has n (n - 1) / 2 pairs: 12 bytes times n squared,
+//! 51 GB at 65,536 entries, where a scan takes none. The block may have room for twice as many, and a growth has the
+//! old block beside the new one.
 //!
 //! # What isn't promised
 //! Any order of the ids that are named. Room is never given back before the whole is.
+//!
+//! # Decided
+//! - **`reserve` answers want of memory too where places would no longer fit 32 bits**, so no caller has to count
+//!   pairs. Where there is room it changes nothing (`enough`): a body that took memory all the same met the other
+//!   clauses.
 #![tactic(auto)]
 
 ghost use Rattle.std.specs.Prelude.{◌≡◌, ◌≢◌, ◌+◌, ◌^◌, ◌<◌, ◌≤◌, ◌↔◌, ◌++◌, ℕ, [], None, Some, Contains, replicate, map, slice_set, nat_eq, IfOk, IfSome, IfNone, OnOk, OnErr};

@@ -4,8 +4,8 @@ use Rattle.rule_model.specs.declared.Piece.{Piece}
 use Rattle.rule_model.specs.AddressBlock.{AddressBlock, any_address, ipv4_block}
 use Rattle.rule_model.specs.PortRange.{PortRange, any_port}
 use Rattle.rule_model.specs.Rank.{list_rank}
-use Rattle.overlap_index.specs.declared.LivePiece.{LivePiece}
-use Rattle.overlap_index.specs.Live.{ids_above, ids_below, is_above}
+use Rattle.placement.specs.declared.LivePiece.{LivePiece}
+use Rattle.placement.specs.Live.{ids_above, ids_below, is_above}
 
 abbrev piece : AddressBlock → PortRange → Piece
 piece dst dport = record { src = any_address; dst = dst; proto = None; sport = any_port; dport = dport; srcbit = None; dstbit = None }

@@ -8,5 +8,4 @@ mod Places
 mod Rows
 mod Sides
 mod Taken
-pub mod Above
-pub mod Live
+pub mod Came

@@ -11,12 +11,12 @@ use Rattle.slot_order.proofs.Lists.{contains_head, contains_none, AllByRecursion
 use Rattle.order_chains.specs.Pairs.{Pairs, HasPair, has_end, without}
 use Rattle.overlap_index.specs.declared.scan.Side.{Side}
 use Rattle.overlap_index.specs.declared.scan.Side.TheVariants.{Above, Below}
-use Rattle.overlap_index.specs.declared.LivePiece.{LivePiece}
-use Rattle.overlap_index.specs.Live.{AreApart, is_live, is_over, is_on, ids_on, ids_above, ids_below, is_above, without_id}
+use Rattle.placement.specs.declared.LivePiece.{LivePiece}
+use Rattle.placement.specs.Live.{AreApart, is_live, is_over, ids_above, ids_below, is_above, without_id}
+use Rattle.overlap_index.specs.Sides.{is_on, ids_on, AreOn}
 use Rattle.overlap_index.specs.Linked.{AreLinked, ArePlaced, HaveMore}
-use Rattle.overlap_index.specs.Sides.{AreOn}
-use Rattle.overlap_index.proofs.Above.{IsOver, above_is, is_above_from, ids_above_are, ids_below_are, is_live_from, live_is}
-use Rattle.overlap_index.proofs.Live.{distinct_on}
+use Rattle.placement.proofs.Above.{IsOver, above_is, is_above_from, ids_above_are, ids_below_are, is_live_from, live_is}
+use Rattle.overlap_index.proofs.Came.{distinct_on}
 use Rattle.overlap_index.proofs.Placed.{apart_placed, on_more}
 use Rattle.order_chains.proofs.Seen.{roomy_pairs, without_pairs}
 

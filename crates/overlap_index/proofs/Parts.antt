@@ -3,12 +3,12 @@ use Rattle.std.proofs.Common.{◌≡◌, ℕ, ◌-◌, ◌<◌, ◌≤◌, true,
 use Rattle.std.specs.List.{swap_remove}
 use Rattle.order_chains.specs.Pairs.{Pairs, without}
 use Rattle.overlap_index.specs.declared.scan.Side.TheVariants.{Above, Below}
-use Rattle.overlap_index.specs.declared.LivePiece.{LivePiece}
-use Rattle.overlap_index.specs.Live.{is_live, without_id}
+use Rattle.placement.specs.declared.LivePiece.{LivePiece}
+use Rattle.placement.specs.Live.{is_live, without_id}
 use Rattle.overlap_index.specs.Near.{SpanColumns, columns_of, with_row, without_row}
 use Rattle.overlap_index.specs.Linked.{AreParts, ArePlaced, HaveMore}
 use Rattle.overlap_index.specs.Sides.{AreOn}
-use Rattle.overlap_index.proofs.Live.{apart_none, apart_more, apart_filter}
+use Rattle.placement.proofs.Live.{apart_none, apart_more, apart_filter}
 use Rattle.overlap_index.proofs.Rows.{row_more, row_less}
 use Rattle.overlap_index.proofs.Placed.{Closes, placed_none, placed_more, placed_less, stands_at}
 use Rattle.overlap_index.proofs.Linked.{linked_none, linked_roomy, linked_more, linked_without, have_as}

@@ -3,14 +3,15 @@ use Rattle.std.proofs.Common.{◌≡◌, ℕ, zero, suc, Bool, true, false, ◌+
 use Rattle.std.specs.Prelude.{Contains, ◌==◌, ◌&&◌, not, nat_eq, nat_le, nat_lt}
 use Rattle.std.specs.Option.{option_eq}
 use Rattle.std.proofs.lemmas.Bool.{both_ways, cases_Bool, cases_lt, cond-true, cond-false, and_parts, and_from, or_left, or_right, not-true, lt-ltb, false_from_ne_true}
-use Rattle.std.proofs.lemmas.List.{append-nil, drop_all, drop_more, get_or-map, get_or_default}
+use Rattle.std.proofs.lemmas.List.{drop_more, get_or-map, get_or_default}
 use Rattle.rule_model.specs.AddressBlock.{AddressBlock}
 use Rattle.rule_model.specs.PortRange.{PortRange, is_disjoint}
 use Rattle.rule_model.specs.declared.Piece.{Piece}
 use Rattle.overlap_index.specs.declared.scan.Side.{Side}
 use Rattle.overlap_index.specs.declared.scan.Side.TheVariants.{Above, Below}
-use Rattle.overlap_index.specs.declared.LivePiece.{LivePiece}
-use Rattle.overlap_index.specs.Live.{is_over, is_on, ids_on}
+use Rattle.placement.specs.declared.LivePiece.{LivePiece}
+use Rattle.placement.specs.Live.{is_over}
+use Rattle.overlap_index.specs.Sides.{is_on, ids_on}
 use Rattle.overlap_index.specs.Near.{SpanColumns, columns_of, spans_of, first_of, last_of, is_near}
 use Rattle.overlap_index.specs.declared.near.Spans.{Spans}
 use Rattle.overlap_index.proofs.Blocks.{meet_near, first_below_last}
@@ -99,10 +100,6 @@ found_more side of one live k so_far more all inside at before is =
     ∙ append_assoc so_far (ids_on side of (one ∷ [])) (ids_on side of (drop (k + 1) live))
     ∙ ap (λ xs. so_far ++ xs) (sym (ids_first side of one (drop (k + 1) live)) ∙ ap (λ x. ids_on side of (x ∷ drop (k + 1) live)) (sym at) ∙ ap (ids_on side of) (sym (drop_more live k one inside)))
     ∙ before
-
-pub found_all : (side : Side) (of : LivePiece) (live : List LivePiece) (k : ℕ) (so_far all : List ℕ) → length live ≤ k → so_far ++ ids_on side of (drop k live) ≡ all → so_far ≡ all
-found_all side of live k so_far all past before =
-    sym (append-nil so_far) ∙ ap (λ xs. so_far ++ ids_on side of xs) (sym (drop_all k live past)) ∙ before
 
 -- places that aren't near are passed over
 skip_far : (side : Side) (of : LivePiece) (live : List LivePiece) (at n : ℕ) → at + n ≤ length live

@@ -9,10 +9,11 @@ use Rattle.slot_order.proofs.Lists.{AllByRecursion-member, in_map, map_in, in_fi
 use Rattle.rule_model.specs.AddressBlock.{any_address}
 use Rattle.rule_model.specs.PortRange.{any_port}
 use Rattle.overlap_index.specs.declared.scan.Side.{Side}
-use Rattle.overlap_index.specs.declared.LivePiece.{LivePiece}
-use Rattle.overlap_index.specs.Live.{AreApart, is_live, is_on, ids_on, without_id}
+use Rattle.placement.specs.declared.LivePiece.{LivePiece}
+use Rattle.placement.specs.Live.{AreApart, is_live, without_id}
+use Rattle.overlap_index.specs.Sides.{is_on, ids_on}
 use Rattle.overlap_index.specs.Linked.{ArePlaced}
-use Rattle.overlap_index.proofs.Above.{live_is, is_live_from}
+use Rattle.placement.proofs.Above.{live_is, is_live_from}
 
 -- what is read past the end of a list
 none : LivePiece

@@ -2,7 +2,7 @@
 use Rattle.std.proofs.Common.{◌≡◌, ℕ, ◌-◌, ◌<◌, List, [], ◌∷◌, ◌++◌, length, map, take, set, get_or, arith, refl, sym, ◌∙◌, ap}
 use Rattle.std.specs.List.{swap_remove}
 use Rattle.std.proofs.lemmas.List.{get_or-map, length-map, map-set, map_push, take-map}
-use Rattle.overlap_index.specs.declared.LivePiece.{LivePiece}
+use Rattle.placement.specs.declared.LivePiece.{LivePiece}
 use Rattle.overlap_index.specs.Near.{SpanColumns, columns_of, with_row, without_row, first_of, last_of}
 
 -- the last takes the place of one that goes, seen through a map

@@ -6,9 +6,9 @@ use Rattle.std.proofs.lemmas.List.{append-nil}
 use Rattle.rule_model.specs.Piece.{pieces_meet}
 use Rattle.overlap_index.specs.declared.scan.Side.{Side}
 use Rattle.overlap_index.specs.declared.scan.Side.TheVariants.{Above, Below}
-use Rattle.overlap_index.specs.declared.LivePiece.{LivePiece}
-use Rattle.overlap_index.specs.Live.{is_over, is_on, ids_on}
-use Rattle.overlap_index.specs.Sides.{side_of}
+use Rattle.placement.specs.declared.LivePiece.{LivePiece}
+use Rattle.placement.specs.Live.{is_over}
+use Rattle.overlap_index.specs.Sides.{is_on, ids_on, side_of}
 
 -- of two pieces one at most is over the other
 over_once : (a b : LivePiece) → is_over a b ≡ true → is_over b a ≡ false

@@ -3,8 +3,8 @@ use Rattle.std.specs.Prelude.{List, [], ◌∷◌, ◌++◌}
 use Rattle.std.specs.List.{fold}
 use Rattle.overlap_index.specs.declared.Change.{Change}
 use Rattle.overlap_index.specs.declared.Change.TheVariants.{Came, Went}
-use Rattle.overlap_index.specs.declared.LivePiece.{LivePiece}
-use Rattle.overlap_index.specs.Live.{without_id}
+use Rattle.placement.specs.declared.LivePiece.{LivePiece}
+use Rattle.placement.specs.Live.{without_id}
 
 -- one change
 abbrev pub changed : List LivePiece → Change → List LivePiece

@@ -1,8 +1,8 @@
 -- The live ids that overlap, linked.
 use Rattle.std.specs.Prelude.{◌≡◌, ℕ, ◌<◌, ◌≤◌, ◌↔◌, ◌⊎◌, List, IsTrue, Contains, length, slice_index, slice_index_or}
 use Rattle.order_chains.specs.Pairs.{Pairs, HasPair}
-use Rattle.overlap_index.specs.declared.LivePiece.{LivePiece}
-use Rattle.overlap_index.specs.Live.{AreApart, is_above}
+use Rattle.placement.specs.declared.LivePiece.{LivePiece}
+use Rattle.placement.specs.Live.{AreApart, is_above}
 use Rattle.overlap_index.specs.Near.{SpanColumns, columns_of}
 
 -- of two live ids one is linked as the upper one of the other exactly where it is above it

@@ -6,7 +6,7 @@ use Rattle.rule_model.specs.PortRange.{PortRange}
 use Rattle.rule_model.specs.declared.Piece.{Piece}
 use Rattle.overlap_index.specs.declared.near.Span.{Span}
 use Rattle.overlap_index.specs.declared.near.Spans.{Spans}
-use Rattle.overlap_index.specs.declared.LivePiece.{LivePiece}
+use Rattle.placement.specs.declared.LivePiece.{LivePiece}
 
 -- Of a window of 32 bits of an address, with so many bits before it: the bits themselves, and how many of them a block
 -- of a length leaves open.

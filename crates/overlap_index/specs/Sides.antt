@@ -1,10 +1,19 @@
 -- The side of a piece on which another one is, and the ids on one side.
-use Rattle.std.specs.Prelude.{ℕ, List, length, ◌≤◌, Contains, ◌↔◌, nat_eq, None, Option, Some, if◌then◌else◌}
+use Rattle.std.specs.Prelude.{ℕ, List, length, ◌≤◌, Contains, ◌↔◌, nat_eq, None, Option, Some, if◌then◌else◌, Bool, filter, map}
 use Rattle.std.specs.List.{IsDistinct}
 use Rattle.overlap_index.specs.declared.scan.Side.{Side}
 use Rattle.overlap_index.specs.declared.scan.Side.TheVariants.{Above, Below}
-use Rattle.overlap_index.specs.declared.LivePiece.{LivePiece}
-use Rattle.overlap_index.specs.Live.{is_over, ids_on}
+use Rattle.placement.specs.declared.LivePiece.{LivePiece}
+use Rattle.placement.specs.Live.{is_over}
+
+-- the first is on this side of the second
+abbrev pub is_on : Side → LivePiece → LivePiece → Bool
+is_on Above other of = is_over other of
+is_on Below other of = is_over of other
+
+-- the ids of some pieces on one side of another piece
+abbrev pub ids_on : Side → LivePiece → List LivePiece → List ℕ
+ids_on side of live = map (λ one. one.id) (filter (λ other. is_on side other of) live)
 
 -- the side of a piece on which another one is, if it is on one
 abbrev pub side_of : LivePiece → LivePiece → Option Side

@@ -1,15 +1,15 @@
 //! The live id of one piece and one priority.
 ghost use Rattle.std.specs.Prelude.{◌≡◌, IfSome, IsNone, Contains};
-ghost use Rattle.overlap_index.specs.declared.LivePiece.{LivePiece};
+ghost use Rattle.placement.specs.declared.LivePiece.{LivePiece};
 ghost use Rattle.overlap_index.specs.Near.{columns_of};
 
-use crate::LivePiece;
 use crate::columns::Columns;
 use crate::near::spans_of;
+use placement::LivePiece;
 use rule_model::{Piece, Rank};
 
-/// The id of a live piece that equals this one and has this priority, if there is one. Those that are far from the piece
-/// aren't looked at, and of the others the priorities first, which few share.
+/// The id of a live piece that equals this one and has this priority, if there is one. Those that are far from the
+/// piece aren't looked at, and of the others the priorities first, which few share.
 pub(crate) fn id_of(
     pieces: &[LivePiece],
     columns: &Columns,

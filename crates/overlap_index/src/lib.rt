@@ -13,14 +13,15 @@
 //! apart by their addresses alone. So each is looked at once, but eight at a time, by a window of 32 bits of its
 //! destination: the least and the greatest of what its addresses have there stand in columns of their own. Two blocks
 //! that overlap have a number in common in every window, so any one may tell them apart, in any order. There are three:
-//! the upper 32 bits, which are all of an IPv4 address, the next 32, by which routes within one IPv6 network differ, and
-//! the lowest 32, by which its hosts do. The last window of which the new piece leaves something out is looked at first,
-//! since the pieces of one network have those before in common. Where one of the eight is near by it, so are the other
-//! windows, the sources and the destination ports, by columns of theirs; only those that are near by all are compared by
-//! priority and piece. A rule's ports are cut into blocks that are apart, so ports tell most pieces of lists apart.
+//! the upper 32 bits, which are all of an IPv4 address, the next 32, by which routes within one IPv6 network differ,
+//! and the lowest 32, by which its hosts do. The last window of which the new piece leaves something out is looked at
+//! first, since the pieces of one network have those before in common. Where one of the eight is near by it, so are the
+//! other windows, the sources and the destination ports, by columns of theirs; only those that are near by all are
+//! compared by priority and piece. A rule's ports are cut into blocks that are apart, so ports tell most pieces of
+//! lists apart.
 //!
-//! Live pieces, and the columns beside them, stand in no order that matters: where one goes the last takes its place. In
-//! which order they came is known to contracts alone, by a history that takes no memory.
+//! Live pieces, and the columns beside them, stand in no order that matters: where one goes the last takes its place.
+//! In which order they came is known to contracts alone, by a history that takes no memory.
 //!
 //! # What it cost
 //! A question costs time by the number of ids that it names, and not by the number of live pieces, and `is_above` takes
@@ -28,20 +29,29 @@
 //! many steps as there are links that go, and moves one piece. Least and greatest numbers, and not number and mask, are
 //! in the columns, since the order of numbers is all that the proof needs then.
 //!
-//! Only `new` and `add` take memory: 52 bytes an id beside the piece, which stands once, and 24 bytes a pair of ids that
-//! overlap, whose room doubles where it grows. The worst list, each piece over each other, has n (n - 1) / 2 pairs: 12
-//! bytes times n squared, 201 MB at 4,096 ids and 51 GB at 65,536, in a block with room for up to twice as many.
+//! Only `new` and `add` take memory: 52 bytes an id beside the piece, which stands once, and 24 bytes a pair of ids
+//! that overlap, whose room doubles where it grows. The worst list, each piece over each other, has n (n - 1) / 2
+//! pairs: 12 bytes times n squared, 201 MB at 4,096 ids and 51 GB at 65,536, in a block with room for up to twice as
+//! many.
 //!
 //! # What isn't promised
-//! Any order of the ids that are named. Lists in which many rules have both blocks and their ports in common, `any` say,
-//! gain nothing from the columns, nor do IPv6 blocks that differ in their third 32 bits alone. Room for links isn't given
-//! back before the whole index is.
+//! Any order of the ids that are named. Lists in which many rules have both blocks and their ports in common, `any`
+//! say, gain nothing from the columns, nor do IPv6 blocks that differ in their third 32 bits alone. Room for links
+//! isn't given back before the whole index is.
+//!
+//! # Decided
+//! - **The id of a piece is found by the pass that finds its overlaps** (`id_of`), so no further table has to be kept.
+//! - **Each window is a test of its own**, so no two have to be compared in order. The second and the third of the
+//!   destination cost 16 bytes an id together.
+//! - **What is found is kept as pairs**, so the planner, which asks for the overlaps of every entry that moves, pays
+//!   for those and not for the table: half a megabyte of links where each of 4,096 entries overlaps 10. A test compares
+//!   what is linked with a plain scan.
 #![tactic(auto)]
 
 ghost use Rattle.std.specs.Prelude.{◌≡◌, ◌<◌, ◌≤◌, ◌↔◌, ℕ, [], ◌∷◌, ◌++◌, length, IsTrue, IsFalse, IsNone, IfSome, IfOk, OnOk, OnErr, Contains, nat_eq};
 ghost use Rattle.std.specs.List.{IsDistinct};
-ghost use Rattle.overlap_index.specs.declared.LivePiece.{LivePiece};
-ghost use Rattle.overlap_index.specs.Live.{AreApart, is_live, is_above, without_id, ids_above, ids_below};
+ghost use Rattle.placement.specs.declared.LivePiece.{LivePiece};
+ghost use Rattle.placement.specs.Live.{AreApart, is_live, is_above, without_id, ids_above, ids_below};
 ghost use Rattle.overlap_index.specs.Sides.{AreOn};
 ghost use Rattle.overlap_index.specs.declared.scan.Side.TheVariants as side;
 
@@ -59,6 +69,7 @@ use columns::Columns;
 use links::{link_above, link_below};
 use order_chains::Edges;
 pub use overlaps::Overlaps;
+use placement::LivePiece;
 use rule_model::{Piece, Rank};
 use scan::{Found, is_over, overlapping};
 use std::alloc::{AllocError, AllocFailed, Global};
@@ -66,14 +77,6 @@ use std::marker::Model;
 
 /// The greatest number of ids.
 pub const MOST_IDS: u32 = 65_536;
-
-/// A live id with its piece and its priority.
-#[derive(Clone, Copy, Debug)]
-pub struct LivePiece {
-    pub id: u32,
-    pub piece: Piece,
-    pub rank: Rank,
-}
 
 /// What became of an id, as the history of an index has it.
 #[derive(Drop)]
@@ -103,7 +106,7 @@ pub struct Index {
 }
 
 impl Model for Index {
-    ghost use Rattle.overlap_index.specs.Live.{LivePieces};
+    ghost use Rattle.placement.specs.Live.{LivePieces};
     ghost use Rattle.overlap_index.specs.Changes.{live_after};
     ghost use Rattle.overlap_index.specs.Linked.{AreParts};
 

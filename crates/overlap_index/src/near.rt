@@ -13,8 +13,8 @@ pub(crate) struct Span {
     pub(crate) last: u32,
 }
 
-/// Those of a piece: of three windows of its destination, the upper 32 bits, the next 32 and the lowest 32, of the upper
-/// 32 bits of its source, and of its destination ports.
+/// Those of a piece: of three windows of its destination, the upper 32 bits, the next 32 and the lowest 32, of the
+/// upper 32 bits of its source, and of its destination ports.
 #[derive(Clone, Copy)]
 pub(crate) struct Spans {
     pub(crate) dst: Span,

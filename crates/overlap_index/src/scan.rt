@@ -1,13 +1,13 @@
 //! The ids of the live pieces that overlap one, found by a pass over all of them.
 ghost use Rattle.std.specs.Prelude.{◌≡◌, ◌++◌, ◌∷◌, [], IfOk, OnOk};
 ghost use Rattle.overlap_index.specs.declared.scan.Side.TheVariants as side;
-ghost use Rattle.overlap_index.specs.Live.{is_over, ids_on};
+ghost use Rattle.placement.specs.Live.{is_over};
+ghost use Rattle.overlap_index.specs.Sides.{ids_on, side_of};
 ghost use Rattle.overlap_index.specs.Near.{columns_of};
-ghost use Rattle.overlap_index.specs.Sides.{side_of};
 
-use crate::LivePiece;
 use crate::columns::Columns;
 use crate::near::spans_of;
+use placement::LivePiece;
 use rule_model::piece_overlaps;
 use std::alloc::{AllocError, Global};
 

@@ -1,8 +1,9 @@
 ghost use Rattle.std.specs.Prelude.{◌≡◌, IsTrue};
-ghost use Rattle.overlap_index.specs.Live.{is_live};
+ghost use Rattle.placement.specs.Live.{is_live};
 
+use crate::Index;
 use crate::scan::Side;
-use crate::{Index, LivePiece};
+use placement::LivePiece;
 use rule_model::{Piece, Prefix, Rank, list_rank, piece_overlaps, route_rule};
 use std::alloc::{AllocError, Global};
 use std::process::Abort;
@@ -56,8 +57,8 @@ fn plain(
     Ok(ids)
 }
 
-// Prefixes of all lengths, some apart and some nested, 29 of them: the last few aren't eight. Of every fourth the prefix
-// is the source's, and of some their two blocks differ.
+// Prefixes of all lengths, some apart and some nested, 29 of them: the last few aren't eight. Of every fourth the
+// prefix is the source's, and of some their two blocks differ.
 fn pieces(alloc: Global) -> Result<Vec<LivePiece>, Fail> {
     let mut live: Vec<LivePiece> = Vec::new(alloc);
     for id in 0..29u32 {

@@ -15,6 +15,10 @@
 //!
 //! `key_of_frame` and `key6_of_frame` look at these fields alone, test lengths before they read, and name the
 //! first fault that they meet. They take no memory.
+//!
+//! # Decided
+//! - **Extension headers of an IPv6 frame aren't walked**: the protocol is the header's next header. So a frame with
+//!   options or a fragment header has their number as its protocol, and ports 0.
 #![tactic(auto)]
 
 ghost use Rattle.std.specs.Prelude.{◌≡◌, ◌↔◌, ◌+◌, ◌<◌, ◌≤◌, length, IsTrue, IsErr, OnOk, IfOk, IfErr};

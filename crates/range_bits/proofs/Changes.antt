@@ -2,11 +2,11 @@
 use Rattle.std.proofs.Common.{◌≡◌, ◌≢◌, ℕ, suc, Option, Some, None, List, [], ◌∷◌, length, get_or, set, ◌⊎◌, inl, inr, refl, ap, sym, ◌∙◌, arith}
 use Rattle.std.specs.List.{list_any}
 use Rattle.std.proofs.lemmas.Bool.{cases_lt}
-use Rattle.std.proofs.lemmas.List.{length-set, length-map, get_or-map, get_or_past}
+use Rattle.std.proofs.lemmas.List.{length-map, get_or-map, get_or_past}
 use Rattle.std.proofs.lemmas.List.Elements.{All-tail}
 use Rattle.std.proofs.lemmas.Option.{cond_some}
 use Rattle.rule_model.specs.PortRange.{PortRange, IsPortRange, same_range}
-use Rattle.range_bits.specs.LiveRanges.{LiveRanges, bit_of, range_at, free_bit, assigned, with_ranges, kept, kept_ranges}
+use Rattle.range_bits.specs.LiveRanges.{LiveRanges, bit_of, range_at, free_bit, assigned, kept, kept_ranges}
 use Rattle.range_bits.specs.FieldMap.{IsFieldMap, AreNewRanges, NewRangesGetOneBit, KeptRangesHaveOneBit}
 use Rattle.range_bits.proofs.FieldMaps.{IsFieldMap-given, least_free, not_live, bit_of-none, given_at}
 
@@ -59,13 +59,6 @@ IsFieldMap-with_ranges live (range ∷ ranges) is new =
     IsFieldMap-with_ranges (assigned live range (free_bit live)) ranges
     (IsFieldMap-assigned live range is (new.right 0 range (omega arith)) (new.not_live 0 range (omega arith)))
     (AreNewRanges-tail live range ranges is new)
-
-pub length-with_ranges : (live : LiveRanges) (ranges : List PortRange) → length (with_ranges live ranges) ≡ length live
-length-with_ranges live [] = refl
-length-with_ranges live (range ∷ ranges) = length-with_ranges (assigned live range (free_bit live)) ranges ∙ elim (cases_assigned live range) [
-  | inl w ↦ ap length w.2 ∙ length-set live w.0 (Some range)
-  | inr w ↦ ap length w.1
-]
 
 -- a range stays where it stands in the list
 kept_is : (ranges : List PortRange) (held : Option PortRange) (range : PortRange) → kept ranges held ≡ Some range → held ≡ Some range

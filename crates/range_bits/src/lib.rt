@@ -12,6 +12,10 @@
 //!     the word at port 443 is 0b11, and 0b01 at port 444, with its other bits as before
 //!
 //! The map has room for its 16 ranges in itself, and no call takes memory.
+//!
+//! # Decided
+//! - **`range_of` takes any bit**, and answers None from 16 on: None comes exactly where the bit isn't live.
+//! - **That a bit belongs to one live range is the map's invariant**, which `live`, `assign` and `release` hand out.
 #![tactic(auto)]
 
 mod laws;

@@ -9,8 +9,8 @@ use Rattle.rule_store.specs.declared.Mode.{Mode}
 use Rattle.rule_store.specs.declared.Command.{Command}
 use Rattle.rule_store.specs.Batch.{additions, set_after}
 use Rattle.rule_store.specs.Verdict.{pieces_of}
-use Rattle.ternary_word.specs.Entry.{RankedPiece}
-use Rattle.ternary_word.proofs.Exact.{hits-entry_of}
+use Rattle.rule_model.specs.Entry.{RankedPiece}
+use Rattle.rule_model.proofs.Exact.{hits-entry_of}
 use Rattle.tcam_device.specs.State.{State, IsState, Shows, state_after}
 use Rattle.tcam_device.specs.Hitless.{ShowsOldOrNew}
 use Rattle.tcam_device.proofs.Lookups.{HitAsPieces}

@@ -6,7 +6,7 @@ use Rattle.rule_model.specs.declared.Field.{Field}
 use Rattle.rule_model.specs.declared.Rule.{Rule}
 use Rattle.rule_store.specs.declared.Command.{Command}
 use Rattle.rule_store.specs.declared.Mode.{Mode}
-use Rattle.ternary_word.specs.declared.Entry.{Entry}
+use Rattle.rule_model.specs.declared.words.Entry.{Entry}
 use Rattle.tcam_device.specs.State.{State}
 use Rattle.tcam_device.specs.Order.{HasOneTwin}
 use Rattle.commit_writes.specs.Bits.{FieldBits, bits_with}

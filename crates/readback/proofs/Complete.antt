@@ -8,8 +8,8 @@ use Rattle.slot_order.proofs.Lists.{contains_head, contains_tail, contains_cases
 use Rattle.rule_model.specs.declared.Field.{Field}
 use Rattle.rule_model.specs.declared.Field.TheVariants.{Src, Dst}
 use Rattle.rule_model.specs.PortRange.{is_bit_set, range_holds}
-use Rattle.ternary_word.specs.declared.Entry.{Entry}
-use Rattle.ternary_word.specs.Entry.{RankedPiece, entry_for, same_match}
+use Rattle.rule_model.specs.declared.words.Entry.{Entry}
+use Rattle.rule_model.specs.Entry.{RankedPiece, entry_for, same_match}
 use Rattle.tcam_device.specs.State.{State}
 use Rattle.tcam_device.proofs.One.{same_match-same}
 use Rattle.commit_writes.specs.Bits.{FieldBits, bits_with}

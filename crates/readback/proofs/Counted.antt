@@ -3,8 +3,8 @@ use Rattle.std.proofs.Common.{◌≡◌, ℕ, ◌+◌, ◌<◌, IsTrue, IsFalse,
 use Rattle.std.proofs.lemmas.List.{take_more, drop_more, map-append, take-append-drop}
 use Rattle.std.specs.List.{AllByRecursion}
 use Rattle.slot_order.proofs.Lists.{all_append}
-use Rattle.ternary_word.specs.declared.Entry.{Entry}
-use Rattle.ternary_word.specs.Entry.{RankedPiece}
+use Rattle.rule_model.specs.declared.words.Entry.{Entry}
+use Rattle.rule_model.specs.Entry.{RankedPiece}
 use Rattle.readback.specs.Tasks.{Task, Insert, Rewrite, Erase, piece_of, is_done}
 use Rattle.readback.specs.declared.progress.Kind.{Kind}
 use Rattle.readback.specs.declared.progress.Kind.TheVariants as kind

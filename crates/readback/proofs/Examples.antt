@@ -9,8 +9,8 @@ use Rattle.rule_model.specs.Rule.{route_rule}
 use Rattle.rule_model.specs.Piece.{whole_piece}
 use Rattle.rule_store.specs.declared.Mode.TheVariants.{Cover}
 use Rattle.rule_store.specs.declared.Command.TheVariants.{Add, Set, Del}
-use Rattle.ternary_word.specs.declared.Entry.{Entry}
-use Rattle.ternary_word.specs.Entry.{RankedPiece, entry_for}
+use Rattle.rule_model.specs.declared.words.Entry.{Entry}
+use Rattle.rule_model.specs.Entry.{RankedPiece, entry_for}
 use Rattle.tcam_device.specs.declared.Write.{Write}
 use Rattle.tcam_device.specs.declared.Write.TheVariants.{Slot}
 use Rattle.tcam_device.specs.State.{State, state_after}

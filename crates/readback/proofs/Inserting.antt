@@ -6,8 +6,8 @@ use Rattle.std.proofs.lemmas.List.Elements.{Contains-append_left, Contains-appen
 use Rattle.slot_order.specs.Order.{slot}
 use Rattle.slot_order.proofs.Lists.{contains_take, in_map, map_in}
 use Rattle.rule_model.specs.Piece.{PiecesOverlap}
-use Rattle.ternary_word.specs.declared.Entry.{Entry}
-use Rattle.ternary_word.specs.Entry.{RankedPiece, entry_for, same_match}
+use Rattle.rule_model.specs.declared.words.Entry.{Entry}
+use Rattle.rule_model.specs.Entry.{RankedPiece, entry_for, same_match}
 use Rattle.tcam_device.specs.State.{State}
 use Rattle.tcam_device.specs.Order.{StandsAt, IsOrdered, HasOneTwin}
 use Rattle.tcam_device.proofs.One.{same_match-same}

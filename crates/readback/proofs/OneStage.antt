@@ -10,8 +10,8 @@ use Rattle.rule_model.specs.Piece.{whole_piece}
 use Rattle.rule_store.specs.declared.Mode.TheVariants.{Cover}
 use Rattle.range_bits.specs.LiveRanges.{no_ranges, range_at}
 use Rattle.range_bits.proofs.FieldMaps.{no_range}
-use Rattle.ternary_word.specs.declared.Entry.{Entry}
-use Rattle.ternary_word.specs.Entry.{RankedPiece, entry_for, same_match}
+use Rattle.rule_model.specs.declared.words.Entry.{Entry}
+use Rattle.rule_model.specs.Entry.{RankedPiece, entry_for, same_match}
 use Rattle.tcam_device.specs.State.{State}
 use Rattle.commit_writes.specs.Bits.{no_bits}
 use Rattle.readback.specs.Tasks.{CommitPieces, commit_pieces, tasks_of}

@@ -3,8 +3,8 @@ use Rattle.std.proofs.Common.{◌≡◌, ℕ, ◌+◌, ◌<◌, ◌≤◌, Bool,
 use Rattle.std.proofs.lemmas.Bool.{cases_eq, cases_order, eqb-true, eq-eqb}
 use Rattle.slot_order.specs.Order.{slot}
 use Rattle.slot_order.proofs.Writes.{slot_inside}
-use Rattle.ternary_word.specs.declared.Entry.{Entry}
-use Rattle.ternary_word.specs.Entry.{same_match}
+use Rattle.rule_model.specs.declared.words.Entry.{Entry}
+use Rattle.rule_model.specs.Entry.{same_match}
 use Rattle.tcam_device.specs.Order.{AreAlike, IsTwin, HasOneTwin}
 use Rattle.readback.specs.Fault.{IsOneTooMany}
 use Rattle.readback.specs.Stage.{IsTwinSlot}
@@ -26,9 +26,6 @@ AreTwinsBelow held n (Some twin) = (twin < n) × IsTwin held twin × ((k : ℕ) 
 pub record IsWalked (held : List (Option Entry)) (n : ℕ) (twin : Option ℕ) : Type 0 where
   pub twins : AreTwinsBelow held n twin
   pub equal : (k : ℕ) → k < n → (lesser : ℕ) (alike : AreAlike held lesser k) → alike.first.result ≡ alike.second.result
-
-pub walked_none : (held : List (Option Entry)) → IsWalked held 0 None
-walked_none held = record { twins = λ k less is. absurd (omega arith); equal = λ k less lesser alike. absurd (omega arith) }
 
 -- a slot that is no twin
 pub walked_on : (held : List (Option Entry)) (n : ℕ) (twin : Option ℕ) → IsWalked held n twin → ((lesser : ℕ) → AreAlike held lesser n → ⊥) → IsWalked held (n + 1) twin

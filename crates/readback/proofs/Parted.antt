@@ -5,7 +5,7 @@ use Rattle.std.specs.List.{filter_map}
 use Rattle.std.proofs.lemmas.List.Elements.{All-contains, filter_map-append}
 use Rattle.slot_order.proofs.Lists.{contains_head, contains_tail, contains_cases, contains_none}
 use Rattle.rule_model.proofs.Pairs.{pairs_head, pairs_tail}
-use Rattle.ternary_word.specs.Entry.{RankedPiece}
+use Rattle.rule_model.specs.Entry.{RankedPiece}
 use Rattle.readback.specs.Tasks.{CommitPieces, Task, Insert, Rewrite, Erase, tasks_of}
 use Rattle.readback.specs.Going.{inserted_by, rewritten_by, erased_by}
 use Rattle.readback.proofs.Shows.{InOrder}
@@ -68,15 +68,6 @@ put_by (Insert y ∷ tasks) x member = elim (contains_cases y x (filter_map inse
 ]
 put_by (Rewrite y ∷ tasks) x member = contains_tail (Rewrite y) (Insert x) tasks (put_by tasks x member)
 put_by (Erase y ∷ tasks) x member = contains_tail (Erase y) (Insert x) tasks (put_by tasks x member)
-
-pub puts_by : (tasks : List Task) (x : RankedPiece) → Contains tasks (Insert x) → Contains (filter_map inserted_by tasks) x
-puts_by [] x member = absurd (contains_none (Insert x) member)
-puts_by (Insert y ∷ tasks) x member = elim (contains_cases (Insert y) (Insert x) tasks member) [
-  | inl same ↦ subst (Contains (y ∷ filter_map inserted_by tasks)) (let e : Insert y ≡ Insert x = same in cc) (contains_head y (filter_map inserted_by tasks))
-  | inr later ↦ contains_tail y x (filter_map inserted_by tasks) (puts_by tasks x later)
-]
-puts_by (Rewrite y ∷ tasks) x member = elim (contains_cases (Rewrite y) (Insert x) tasks member) [ inl same ↦ absurd (let e : Rewrite y ≡ Insert x = same in cc) | inr later ↦ puts_by tasks x later ]
-puts_by (Erase y ∷ tasks) x member = elim (contains_cases (Erase y) (Insert x) tasks member) [ inl same ↦ absurd (let e : Erase y ≡ Insert x = same in cc) | inr later ↦ puts_by tasks x later ]
 
 inserts_back : (xs : List RankedPiece) → (filter_map rewritten_by (map Insert xs) ≡ []) × (filter_map erased_by (map Insert xs) ≡ [])
 inserts_back [] = (refl, refl)

@@ -16,8 +16,8 @@ use Rattle.rule_store.specs.declared.Command.{Command}
 use Rattle.rule_store.specs.Batch.{additions, set_after, with_rule}
 use Rattle.rule_store.specs.Verdict.{pieces_of, added_pieces}
 use Rattle.rule_store.proofs.RulesAt.{rule_at-member}
-use Rattle.ternary_word.specs.Entry.{RankedPiece}
-use Rattle.ternary_word.proofs.Apart.{SameParts, same_match-parts}
+use Rattle.rule_model.specs.Entry.{RankedPiece}
+use Rattle.rule_model.proofs.ApartEntries.{SameParts, same_match-parts}
 use Rattle.range_bits.specs.LiveRanges.{LiveRanges, range_at}
 use Rattle.tcam_device.specs.State.{State}
 use Rattle.commit_writes.specs.Bits.{FieldBits, bits_with}

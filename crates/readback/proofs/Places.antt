@@ -3,8 +3,8 @@ use Rattle.std.proofs.Common.{◌≡◌, ℕ, ◌<◌, true, false, Option, Some
 use Rattle.std.proofs.lemmas.Bool.{both_ways}
 use Rattle.slot_order.specs.Order.{slot}
 use Rattle.rule_model.specs.Piece.{PiecesOverlap}
-use Rattle.ternary_word.specs.declared.Entry.{Entry}
-use Rattle.ternary_word.specs.Entry.{RankedPiece, entry_for, same_match}
+use Rattle.rule_model.specs.declared.words.Entry.{Entry}
+use Rattle.rule_model.specs.Entry.{RankedPiece, entry_for, same_match}
 use Rattle.tcam_device.specs.State.{State}
 use Rattle.tcam_device.specs.Order.{StandsAt}
 use Rattle.tcam_device.proofs.One.{same_match-same}

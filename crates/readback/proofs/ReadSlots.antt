@@ -9,8 +9,8 @@ use Rattle.slot_order.proofs.Writes.{slot_inside}
 use Rattle.tcam_device.specs.State.{replay}
 use Rattle.tcam_device.specs.declared.Write.{Write}
 use Rattle.tcam_device.proofs.Wider.{slots-after}
-use Rattle.ternary_word.specs.declared.Entry.{Entry}
-use Rattle.ternary_word.specs.Entry.{RankedPiece, entry_for}
+use Rattle.rule_model.specs.declared.words.Entry.{Entry}
+use Rattle.rule_model.specs.Entry.{RankedPiece, entry_for}
 use Rattle.readback.specs.Places.{AreIn}
 
 -- a device that was replayed has as many slots as a blank one

@@ -8,7 +8,7 @@ use Rattle.tcam_device.specs.declared.Write.{Write}
 use Rattle.tcam_device.specs.State.{IsState, blank, replay}
 use Rattle.tcam_device.proofs.States.{IsState-blank}
 use Rattle.tcam_device.proofs.Wider.{slots-after}
-use Rattle.translation_tables.proofs.ReadBack.{table_size}
+use Rattle.commit_writes.proofs.ReadBack.{table_size}
 use Rattle.readback.specs.Words.{AreShort}
 
 -- a word past the table's end is 0

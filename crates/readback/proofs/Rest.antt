@@ -7,7 +7,7 @@ use Rattle.std.proofs.lemmas.List.{take-append-le, take-append-drop, take_all}
 use Rattle.std.proofs.lemmas.List.Elements.{Contains-append_right, filter_map-append}
 use Rattle.std.proofs.Math.Seq.{take-append-add}
 use Rattle.slot_order.proofs.Lists.{contains_head}
-use Rattle.ternary_word.specs.Entry.{RankedPiece, entry_for}
+use Rattle.rule_model.specs.Entry.{RankedPiece, entry_for}
 use Rattle.tcam_device.specs.declared.Write.{Write}
 use Rattle.tcam_device.specs.State.{State, state_after}
 use Rattle.tcam_device.specs.Order.{IsOrdered}
@@ -42,9 +42,6 @@ module _ (slots : ℕ) (before during : FieldBits) (p : CommitPieces) (new : Lis
     (stage : IsStageAt slots before during p start done left) (alone : HasNoTwin start) (rest : AreRest p start left inserted rewritten erased) (keeps : KeepsRest slots p start left inserted) where
   abbrev base : State
   base = state_after start inserted
-
-  tail_tasks : List Task
-  tail_tasks = map Rewrite (filter_map rewritten_by left) ++ map Erase (filter_map erased_by left)
 
   ordered_left : AllPairs InOrder left
   ordered_left = pairs_behind InOrder done left (subst (AllPairs InOrder) stage.parts leads.in_order)

@@ -19,9 +19,9 @@ use Rattle.range_bits.specs.FieldMap.{IsFieldMap, live_count}
 use Rattle.range_bits.proofs.FieldMaps.{live_count-within}
 use Rattle.commit_writes.specs.Bits.{FieldBits, bits_with, no_bits}
 use Rattle.commit_writes.specs.Serving.{HaveFreeBits}
-use Rattle.translation_tables.specs.Needed.{AreLive, ranges_needed, with_needed}
-use Rattle.translation_tables.proofs.RulesBits.{live_count-coded, without_bits-new, with_needed-new}
-use Rattle.translation_tables.proofs.SetRanges.{is_live, are_by}
+use Rattle.commit_writes.specs.Needed.{AreLive, ranges_needed, with_needed}
+use Rattle.commit_writes.proofs.RulesBits.{live_count-coded, without_bits-new, with_needed-new}
+use Rattle.commit_writes.proofs.SetRanges.{is_live, are_by}
 use Rattle.readback.specs.Fault.{AreSetBits, set_ranges}
 use Rattle.readback.proofs.Begun.{no_bits_live}
 

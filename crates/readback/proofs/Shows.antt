@@ -6,8 +6,8 @@ use Rattle.std.proofs.lemmas.List.Elements.{Contains-append_left, Contains-appen
 use Rattle.slot_order.specs.Order.{slot, Distinct}
 use Rattle.slot_order.proofs.Lists.{contains_head, contains_tail, contains_cases, contains_none, map_in, in_filter, filter_in, AllByRecursion-member}
 use Rattle.rule_model.specs.declared.Rule.{Rule}
-use Rattle.ternary_word.specs.declared.Entry.{Entry}
-use Rattle.ternary_word.specs.Entry.{RankedPiece, entry_of, entry_for, same_match}
+use Rattle.rule_model.specs.declared.words.Entry.{Entry}
+use Rattle.rule_model.specs.Entry.{RankedPiece, entry_of, entry_for, same_match}
 use Rattle.tcam_device.specs.State.{State, Shows}
 use Rattle.tcam_device.specs.Order.{IsOrdered}
 use Rattle.tcam_device.specs.Hitless.{ShowsOldOrNew}

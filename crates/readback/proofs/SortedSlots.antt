@@ -1,8 +1,8 @@
 -- What the walks over the slots found, put together.
 use Rattle.std.proofs.Common.{◌≡◌, ◌⊎◌, ℕ, ◌<◌, true, false, Option, Some, Result, Ok, Err, List, IfOk, Contains, sym, subst}
 use Rattle.slot_order.specs.Order.{slot}
-use Rattle.ternary_word.specs.declared.Entry.{Entry}
-use Rattle.ternary_word.specs.Entry.{RankedPiece, entry_for}
+use Rattle.rule_model.specs.declared.words.Entry.{Entry}
+use Rattle.rule_model.specs.Entry.{RankedPiece, entry_for}
 use Rattle.tcam_device.specs.State.{State}
 use Rattle.tcam_device.specs.Order.{HasOneTwin}
 use Rattle.readback.specs.declared.Stage.{Stage}

@@ -14,8 +14,8 @@ use Rattle.rule_store.specs.Batch.{ChangesRules, additions}
 use Rattle.rule_store.specs.Verdict.{Accepted, verdict}
 use Rattle.range_bits.specs.LiveRanges.{LiveRanges}
 use Rattle.range_bits.specs.FieldMap.{IsFieldMap}
-use Rattle.ternary_word.specs.declared.Entry.{Entry}
-use Rattle.ternary_word.specs.Entry.{RankedPiece, IsEncodable}
+use Rattle.rule_model.specs.declared.words.Entry.{Entry}
+use Rattle.rule_model.specs.Entry.{RankedPiece, IsEncodable}
 use Rattle.tcam_device.specs.declared.Write.{Write}
 use Rattle.tcam_device.specs.State.{State, IsState, replay, state_after}
 use Rattle.commit_writes.specs.Bits.{FieldBits, bits_with}
@@ -25,7 +25,7 @@ use Rattle.commit_writes.proofs.BatchPieces.{rewritten_stays}
 use Rattle.commit_writes.proofs.BatchRules.{IsSoundChange}
 use Rattle.commit_writes.proofs.Filters.{all_members}
 use Rattle.commit_writes.proofs.ServedTables.{fresh_writes, tables_serve}
-use Rattle.batch_pieces.specs.Changes.{coded_by, during_of}
+use Rattle.commit_writes.specs.Changes.{coded_by, during_of}
 use Rattle.readback.specs.declared.Stage.{Stage}
 use Rattle.readback.specs.declared.StageFault.{StageFault}
 use Rattle.readback.specs.declared.StageFault.TheVariants.{BitsDiffer, Word, Foreign, Crossed, Twin, Gap, Memory}
@@ -53,19 +53,10 @@ pub fault_answers : (slots : ℕ) (mode : Mode) (bits : FieldBits) (rules : List
 fault_answers slots mode bits rules batch state fault is =
     record { bits_are = tt; found = tt; fault = is; no_fault = λ are stage. stages_have_no_fault slots mode bits rules batch state fault stage are is }
 
-pub memory_answers : (slots : ℕ) (mode : Mode) (bits : FieldBits) (rules : List Rule) (batch : List Command) (state : State) → AnswersStage slots mode bits rules batch state (Err Memory)
-memory_answers slots mode bits rules batch state = fault_answers slots mode bits rules batch state Memory tt
-
 pub differ_answers : (slots : ℕ) (mode : Mode) (bits : FieldBits) (rules : List Rule) (batch : List Command) (state : State) (fault : StageFault)
     → ((field : Field) × (fault ≡ BitsDiffer field) × (AreSetRanges mode field rules bits → ⊥)) → AnswersStage slots mode bits rules batch state (Err fault)
 differ_answers slots mode bits rules batch state fault (field, is, differ) =
     subst (λ why. AnswersStage slots mode bits rules batch state (Err why)) (sym is) (fault_answers slots mode bits rules batch state (BitsDiffer field) differ)
-
--- a wrong word for a range of the old set
-pub word_answers : (slots : ℕ) (mode : Mode) (bits : FieldBits) (rules : List Rule) (batch : List Command) (state : State) (fault : StageFault) → NamesWord bits state fault
-    → AnswersStage slots mode bits rules batch state (Err fault)
-word_answers slots mode bits rules batch state fault (field, port, is, fits, wrong) =
-    subst (λ why. AnswersStage slots mode bits rules batch state (Err why)) (sym is) (fault_answers slots mode bits rules batch state (Word field port) (fits, inl wrong))
 
 -- and for a new one where an inserted piece stands
 pub new_word_answers : (slots : ℕ) (mode : Mode) (bits : FieldBits) (rules : List Rule) (batch : List Command) (state : State) (fault : StageFault)

@@ -12,7 +12,7 @@ use Rattle.rule_store.specs.declared.Command.{Command}
 use Rattle.range_bits.specs.LiveRanges.{LiveRanges, range_at, if_new, newly_live}
 use Rattle.range_bits.proofs.Newer.{range_at-newly_live}
 use Rattle.range_bits.proofs.Words.{word_for-live, word_for-other}
-use Rattle.ternary_word.specs.Entry.{RankedPiece}
+use Rattle.rule_model.specs.Entry.{RankedPiece}
 use Rattle.tcam_device.specs.State.{State, state_after}
 use Rattle.tcam_device.specs.Order.{IsTranslated, HasOneTwin}
 use Rattle.commit_writes.specs.Bits.{FieldBits, bits_with, new_bits}

@@ -6,8 +6,8 @@ use Rattle.std.proofs.lemmas.List.{get_or_default}
 use Rattle.slot_order.proofs.Lists.{any_is, any_from}
 use Rattle.slot_order.specs.Order.{slot}
 use Rattle.slot_order.proofs.Writes.{slot_inside}
-use Rattle.ternary_word.specs.declared.Entry.{Entry}
-use Rattle.ternary_word.specs.Entry.{RankedPiece, entry_for, same_match}
+use Rattle.rule_model.specs.declared.words.Entry.{Entry}
+use Rattle.rule_model.specs.Entry.{RankedPiece, entry_for, same_match}
 use Rattle.tcam_device.specs.State.{State}
 use Rattle.tcam_device.specs.Insertion.{holds_match}
 use Rattle.tcam_device.proofs.One.{same_match-same}

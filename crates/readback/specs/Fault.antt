@@ -5,8 +5,8 @@ use Rattle.rule_model.specs.declared.Rule.{Rule}
 use Rattle.rule_model.specs.declared.Field.{Field}
 use Rattle.rule_model.specs.PortRange.{PortRange, is_bit_set, range_holds}
 use Rattle.rule_model.specs.Piece.{PiecesOverlap}
-use Rattle.ternary_word.specs.declared.Entry.{Entry}
-use Rattle.ternary_word.specs.Entry.{RankedPiece, entry_for}
+use Rattle.rule_model.specs.declared.words.Entry.{Entry}
+use Rattle.rule_model.specs.Entry.{RankedPiece, entry_for}
 use Rattle.rule_store.specs.declared.Mode.{Mode}
 use Rattle.rule_store.specs.declared.Mode.TheVariants.{Cover, Bits}
 use Rattle.rule_store.specs.declared.Command.{Command}

@@ -6,7 +6,7 @@ use Rattle.rule_store.specs.declared.Command.{Command}
 use Rattle.tcam_device.specs.declared.Write.{Write}
 use Rattle.tcam_device.specs.State.{State, replay}
 use Rattle.commit_writes.specs.Bits.{FieldBits, bits_with}
-use Rattle.batch_pieces.specs.Changes.{coded_by, during_of}
+use Rattle.commit_writes.specs.Changes.{coded_by, during_of}
 use Rattle.readback.specs.declared.Stage.{Stage}
 use Rattle.readback.specs.declared.StageFault.{StageFault}
 use Rattle.readback.specs.declared.StageFault.TheVariants.{Memory}
@@ -14,7 +14,7 @@ use Rattle.readback.specs.declared.staging.Shown.{Shown}
 use Rattle.readback.specs.Places.{AreIn}
 use Rattle.readback.specs.Stage.{IsStage, Finds}
 use Rattle.readback.specs.Tasks.{CommitPieces, known_pieces}
-use Rattle.ternary_word.specs.declared.Entry.{Entry}
+use Rattle.rule_model.specs.declared.words.Entry.{Entry}
 use Rattle.readback.specs.Fault.{AreSetBits, IsFaultOf}
 use Rattle.readback.specs.Laws.{CanCommit}
 use Rattle.readback.specs.Words.{AreRight, AreShort}

@@ -9,3 +9,9 @@ pub mod Places
 pub mod Sorted
 pub mod Words
 pub mod Found
+pub mod Standing
+pub mod PlannedRest
+pub mod Restart
+pub mod Ending
+pub mod Serving
+pub mod Narrow

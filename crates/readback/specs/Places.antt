@@ -2,8 +2,8 @@
 use Rattle.std.specs.Prelude.{◌≡◌, ℕ, ◌<◌, ◌≤◌, Option, Some, None, List, Contains, length}
 use Rattle.slot_order.specs.Order.{slot}
 use Rattle.rule_model.specs.Piece.{PiecesOverlap}
-use Rattle.ternary_word.specs.declared.Entry.{Entry}
-use Rattle.ternary_word.specs.Entry.{RankedPiece, entry_for}
+use Rattle.rule_model.specs.declared.words.Entry.{Entry}
+use Rattle.rule_model.specs.Entry.{RankedPiece, entry_for}
 
 -- each slot that holds the entry of one of some pieces has such a piece, and each other slot none
 pub record AreIn (held : List (Option Entry)) (pieces : List RankedPiece) (places : List (Option RankedPiece)) : Type 0 where

@@ -1,8 +1,8 @@
 -- How far a commit came, by tests of its tasks.
 use Rattle.std.specs.Prelude.{◌≡◌, ℕ, IsTrue, IsFalse, Option, List, ◌∷◌, ◌++◌, length}
 use Rattle.std.specs.List.{AllByRecursion}
-use Rattle.ternary_word.specs.declared.Entry.{Entry}
-use Rattle.ternary_word.specs.Entry.{RankedPiece}
+use Rattle.rule_model.specs.declared.words.Entry.{Entry}
+use Rattle.rule_model.specs.Entry.{RankedPiece}
 use Rattle.readback.specs.declared.progress.Kind.{Kind}
 use Rattle.readback.specs.declared.progress.Kind.TheVariants as kind
 use Rattle.readback.specs.Tasks.{Task, Insert, Rewrite, Erase, piece_of, is_done}

@@ -1,8 +1,8 @@
 -- What is found of the slots of a device, and what may be wrong with them.
 use Rattle.std.specs.Prelude.{◌≡◌, ℕ, ◌<◌, ◌⊎◌, true, Option, Some, List, Contains}
 use Rattle.slot_order.specs.Order.{slot}
-use Rattle.ternary_word.specs.declared.Entry.{Entry}
-use Rattle.ternary_word.specs.Entry.{RankedPiece, entry_for}
+use Rattle.rule_model.specs.declared.words.Entry.{Entry}
+use Rattle.rule_model.specs.Entry.{RankedPiece, entry_for}
 use Rattle.tcam_device.specs.State.{State}
 use Rattle.tcam_device.specs.Order.{HasOneTwin}
 use Rattle.readback.specs.declared.Stage.{Stage}

@@ -4,8 +4,8 @@ use Rattle.std.specs.List.{AllByRecursion}
 use Rattle.slot_order.specs.Order.{slot}
 use Rattle.rule_model.specs.declared.Rule.{Rule}
 use Rattle.rule_model.specs.Piece.{PiecesOverlap}
-use Rattle.ternary_word.specs.declared.Entry.{Entry}
-use Rattle.ternary_word.specs.Entry.{RankedPiece, entry_for}
+use Rattle.rule_model.specs.declared.words.Entry.{Entry}
+use Rattle.rule_model.specs.Entry.{RankedPiece, entry_for}
 use Rattle.rule_store.specs.declared.Mode.{Mode}
 use Rattle.rule_store.specs.declared.Command.{Command}
 use Rattle.tcam_device.specs.State.{State}

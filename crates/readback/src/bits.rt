@@ -8,16 +8,16 @@ ghost use Rattle.rule_model.specs.RuleSet.{IsRuleSet};
 ghost use Rattle.range_bits.specs.FieldMap.{IsFieldMap};
 ghost use Rattle.commit_writes.specs.Bits.{bits_with};
 ghost use Rattle.commit_writes.specs.Serving.{HaveFreeBits};
-ghost use Rattle.translation_tables.specs.Needed.{AreLive};
-ghost use Rattle.batch_pieces.specs.Changes.{coded_by, during_of};
+ghost use Rattle.commit_writes.specs.Needed.{AreLive};
+ghost use Rattle.commit_writes.specs.Changes.{coded_by, during_of};
 ghost use Rattle.readback.specs.declared.StageFault.TheVariants as faults;
 ghost use Rattle.readback.specs.Fault.{AreSetBits, AreSetRanges, set_ranges};
 
 use crate::{Field, Mode, Parts, StageFault};
+use commit_writes::{FieldBits, is_map_of};
 use range_bits::BitMap;
 use rule_model::rule_conditions;
 use rule_store::{Batch, Store};
-use translation_tables::{FieldBits, is_map_of};
 
 /// Whether the bits that were handed in are those of the set's ranges: by covers no range has one.
 pub(crate) fn check_maps(parts: &Parts, mode: Mode) -> Result<(), StageFault>

@@ -4,20 +4,18 @@ ghost use Rattle.std.specs.Prelude.{◌≡◌, IfOk, filter};
 ghost use Rattle.std.specs.List.{AllByRecursion};
 ghost use Rattle.rule_model.specs.RuleSet.{IsRuleSet};
 ghost use Rattle.rule_store.specs.Batch.{batch_fault};
-ghost use Rattle.ternary_word.specs.Entry.{IsEncodable};
+ghost use Rattle.rule_model.specs.Entry.{IsEncodable};
 ghost use Rattle.commit_writes.specs.Shape as shape;
 ghost use Rattle.commit_writes.specs.Shape.{erased_pieces, inserted_pieces, rewritten_pieces};
-ghost use Rattle.batch_pieces.specs.Changes.{coded_by, during_of};
+ghost use Rattle.commit_writes.specs.Changes.{coded_by, during_of};
 ghost use Rattle.readback.specs.Tasks as tasks;
 ghost use Rattle.readback.specs.Tasks.{pieces_with};
 
-use batch_pieces::{Ranked, batch_pieces, set_pieces};
-use rule_model::Rank;
+use commit_writes::{FieldBits, Ranked, batch_pieces, set_pieces};
+use rule_model::{Entry, Rank, entry_of};
 use rule_store::{Batch, Store};
 use std::alloc::{AllocError, Global};
 use std::marker::Model;
-use ternary_word::{Entry, entry_of};
-use translation_tables::FieldBits;
 
 /// A piece with its entry. Contracts see it as the piece.
 #[derive(Drop)]
@@ -28,7 +26,7 @@ pub struct Coded {
 
 impl Model for Coded {
     ghost use Rattle.std.specs.Prelude.{◌≡◌};
-    ghost use Rattle.ternary_word.specs.Entry.{RankedPiece, entry_for};
+    ghost use Rattle.rule_model.specs.Entry.{RankedPiece, entry_for};
 
     ghost Value = { RankedPiece };
 

@@ -3,10 +3,10 @@
 ghost use Rattle.std.specs.Prelude.{◌≡◌, ◌↔◌, ◌<◌, ◌≤◌, ◌^◌, ℕ, IfSome, IsNone, IsTrue, IsFalse, Some, length};
 ghost use Rattle.slot_order.specs.Order.{slot};
 ghost use Rattle.rule_model.specs.Piece.{PiecesOverlap};
-ghost use Rattle.ternary_word.specs.Entry.{RankedPiece};
+ghost use Rattle.rule_model.specs.Entry.{RankedPiece};
 ghost use Rattle.readback.specs.Places.{AreInOrder, IsBehindLower};
 
-use batch_pieces::Ranked;
+use commit_writes::Ranked;
 use rule_model::piece_overlaps;
 
 /// The least slot whose piece stands behind an overlapping one of lower priority.

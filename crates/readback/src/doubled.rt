@@ -6,7 +6,7 @@ ghost use Rattle.readback.specs.Fault.{IsOneTooMany};
 ghost use Rattle.readback.specs.Stage.{IsTwinSlot};
 
 use crate::standing::same_match;
-use ternary_word::Entry;
+use rule_model::Entry;
 
 /// The greater slot of an entry that stands in two, if one does, or a slot that holds an entry once too often.
 pub(crate) fn twin_of(held: &[Option<Entry>]) -> Result<Option<u32>, u32>

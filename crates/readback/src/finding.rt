@@ -14,8 +14,8 @@ use crate::foreign::foreign_slot;
 use crate::missing::missing;
 use crate::progress::{Progress, count_tasks};
 use crate::{Stage, StageFault};
-use batch_pieces::Ranked;
-use ternary_word::Entry;
+use commit_writes::Ranked;
+use rule_model::Entry;
 
 /// How far a commit came by what the slots hold, of which so many are in use, and which piece each holds. What is wrong
 /// is looked for in this order: an entry of no piece, one behind a lower one that it overlaps, one that stands once too

@@ -2,11 +2,11 @@
 
 ghost use Rattle.std.specs.Prelude.{◌≡◌, ◌⊎◌, ◌<◌, ◌≤◌, ◌^◌, ℕ, IfSome, IsNone, IsTrue, IsFalse, Some, None, length};
 ghost use Rattle.slot_order.specs.Order.{slot};
-ghost use Rattle.ternary_word.specs.declared.Entry as entries;
-ghost use Rattle.ternary_word.specs.Entry.{RankedPiece};
+ghost use Rattle.rule_model.specs.declared.words.Entry as entries;
+ghost use Rattle.rule_model.specs.Entry.{RankedPiece};
 
-use batch_pieces::Ranked;
-use ternary_word::Entry;
+use commit_writes::Ranked;
+use rule_model::Entry;
 
 /// The least slot that holds an entry and isn't in use, or has no piece.
 pub(crate) fn foreign_slot(

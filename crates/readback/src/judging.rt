@@ -6,8 +6,8 @@ ghost use Rattle.rule_store.specs.Verdict.{Accepted, coded_ranges, field_bits, n
 ghost use Rattle.readback.specs.Judged.{judgement};
 
 use crate::{Field, Mode, Rejection};
+use commit_writes::{added_ranges, free_bits};
 use rule_store::{Batch, Store};
-use translation_tables::{added_ranges, free_bits};
 
 /// Judges a batch of changes to the rules by these alone, for so many slots in use. It takes no memory. Where the rules
 /// take more bits or slots than there are, a batch is rejected also where it needs none, and the answer tells that 0

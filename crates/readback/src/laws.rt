@@ -22,8 +22,8 @@ pub fn returns_pass_stages()
     ensures { ReturnsPassStages }
 {}
 
-/// The writes that go on from a stage, with insertions that keep the order, pass only stages, and end at one with no task
-/// left.
+/// The writes that go on from a stage, with insertions that keep the order, pass only stages, and end at one with no
+/// task left.
 pub fn rests_pass_stages()
     ensures { RestsPassStages }
 {}

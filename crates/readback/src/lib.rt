@@ -5,16 +5,45 @@
 //! tasks, `specs/Stage` says what a stage is, `specs/Fault` what is wrong with a device that shows none, and
 //! `specs/Going` which writes go on from a stage to the new set.
 //!
-//! **What is known of stages** stands as laws, calls that make nothing (`laws`): a commit that writes slots in use alone
-//! passes only stages, also while it is taken back; a stage answers each key as the old set or as the new one; writes
-//! that go on from one, with insertions that keep the order, pass only stages, and end with the new set; and the faults
-//! are exactly what is wrong with a device that shows none.
+//! **What is known of stages** stands as laws, calls that make nothing (`laws`): a commit that writes slots in use
+//! alone passes only stages, also while it is taken back; a stage answers each key as the old set or as the new one;
+//! writes that go on from one, with insertions that keep the order, pass only stages, and end with the new set; and the
+//! faults are exactly what is wrong with a device that shows none.
 //!
 //! Whether a batch is taken at all is told by the rules alone (`verdict`), without memory. **How far its commit came**
 //! is told by the device (`find_stage`): the stage that it shows, or what is wrong with it. Slots and tables are read
 //! back, and then each clause of a stage is a walk over lists: which piece each slot holds (`reading`), and whether it
 //! may (`foreign`), the order (`crossing`), twins (`doubled`), pieces that stay (`missing`), and the tasks
 //! (`progress`). Whoever is to go on with the commit gets the pieces too (`show_commit`).
+//!
+//! # Decided
+//! - **A stage is said by tasks in one order** (`specs/Stage`). A result that doesn't change is no task. Of two slots
+//!   that hold one entry the greater is the twin, and one at most is. That a segment passes only stages asks that it
+//!   writes slots in use alone, and that the state before it is a manager's between commits (`MayBegin`): the manager's
+//!   `Holds` says both of each.
+//! - **A stage is found by walks over lists**, of which the contract says nothing: Ok comes only with the stage and its
+//!   numbers, a fault only where it applies, so for a stage none but want of memory. The walks compare each slot with
+//!   each piece, and slots with each other, which a restart can wait for; of several faults the first in the order of
+//!   the walks is told. Numbers of tasks past a `u32` would be told as want of memory: no device has the slots for
+//!   them.
+//! - **What the rules alone refuse is told by one type** ([`Rejection`]), which a manager's refusal has beside a held plan
+//!   and want of memory. Where the set alone takes more than there is, 0 is told as free.
+//! - **What is left of a stopped commit is planned as a commit is**: insertions, results and erases over ids, in the
+//!   forms of `commit_writes/specs/Planned`, so a plan of the manager's is one of these. The pieces that stand take the
+//!   place of the old set's: each has an id, and the twin has none, since its erase is the first slot write. The laws
+//!   ask no more of a stage than `find_stage` finds. Words in flight are current for the ranges that the stage tells
+//!   (`stopped_ranges`): those that are live meanwhile once an inserted piece stands, else those before the commit, and
+//!   only then a restart drains.
+//!
+//! # What is left of a stopped commit
+//! A restart plans it from the stage that it finds, and here is the theory of that. It gives an id to each piece that
+//! stands (`specs/Standing`), plans an insertion for each that is still to come, and then new results and erases, as a
+//! commit's plan does. `specs/PlannedRest` says what such a plan is, and `specs/Restart` what it is behind the table
+//! words that differ and the erase of the twin, on a device with as many slots as are in use or more.
+//!
+//! The laws (`rest_laws`) say that ids that are read back so are in order, that the writes go on to the new set,
+//! hitless after each of them and within the bounds, and where they lead (`specs/Ending`): a manager's restart rests on
+//! them.
 #![tactic(auto)]
 
 mod bits;
@@ -28,6 +57,7 @@ mod laws;
 mod missing;
 mod progress;
 mod reading;
+mod rest_laws;
 mod staging;
 mod standing;
 mod words;
@@ -40,6 +70,13 @@ pub use laws::{
     tasks_part_once,
 };
 use range_bits::BitMap;
+pub use rest_laws::{
+    planned_restarts_are_counted, planned_restarts_come_to_rest, planned_restarts_cross_nothing,
+    planned_restarts_go_on, planned_restarts_lead_on, planned_restarts_serve,
+    planned_restarts_show_old_or_new, planned_rests_pass_stages, stages_have_standing_ids,
+    stages_serve, stages_use_no_other_slots, stopped_commits_are_current,
+    stopped_restarts_are_current,
+};
 pub use rule_model::Field;
 use rule_model::Rank;
 pub use rule_store::Mode;

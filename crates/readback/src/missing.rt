@@ -2,14 +2,13 @@
 
 ghost use Rattle.std.specs.Prelude.{◌≡◌, ◌↔◌, ◌⊎◌, IfSome, IsNone, IsTrue, Contains, true, false};
 ghost use Rattle.std.specs.List.{AllByRecursion};
-ghost use Rattle.ternary_word.specs.Entry.{RankedPiece, entry_for};
+ghost use Rattle.rule_model.specs.Entry.{RankedPiece, entry_for};
 ghost use Rattle.readback.specs.Tasks.{stands_in};
 
 use crate::commit::{Coded, Commit};
 use crate::reading::find;
 use crate::standing::stands;
-use rule_model::Rank;
-use ternary_word::Entry;
+use rule_model::{Entry, Rank};
 
 /// The priority of the first old piece that isn't taken out and stands in no slot. An erased piece is told by its
 /// entry.

@@ -7,8 +7,7 @@ ghost use Rattle.readback.specs.Progress.{AreParted, IsOutOfTurn, task_of};
 
 use crate::commit::{Coded, Commit};
 use crate::standing::{is_told, stands};
-use rule_model::Rank;
-use ternary_word::Entry;
+use rule_model::{Entry, Rank};
 
 /// How many tasks are done, and how many behind them are left. Three lists may have more elements than a `u64` counts.
 #[derive(Clone, Copy)]
@@ -20,8 +19,11 @@ pub(crate) struct Progress {
 /// What a task does to its piece.
 #[derive(Clone, Copy)]
 pub(crate) enum Kind {
+    /// It goes in.
     Insert,
+    /// It gets another result.
     Rewrite,
+    /// It goes out.
     Erase,
 }
 

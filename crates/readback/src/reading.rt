@@ -1,18 +1,18 @@
 //! The slots of a device, and which piece of a commit each holds.
 
 ghost use Rattle.std.specs.Prelude.{◌≡◌, ◌<◌, ◌^◌, Some, IfOk, IfSome, IsNone, Contains, length};
-ghost use Rattle.ternary_word.specs.declared.Entry as entries;
-ghost use Rattle.ternary_word.specs.Entry.{RankedPiece, entry_for};
+ghost use Rattle.rule_model.specs.declared.words.Entry as entries;
+ghost use Rattle.rule_model.specs.Entry.{RankedPiece, entry_for};
 ghost use Rattle.tcam_device.specs.State.{replay};
 ghost use Rattle.readback.specs.Places.{AreIn};
 ghost use Rattle.readback.specs.Tasks.{known_pieces};
 
 use crate::commit::{Coded, Commit};
 use crate::standing::same_entry;
-use batch_pieces::Ranked;
+use commit_writes::Ranked;
+use rule_model::Entry;
 use std::alloc::{AllocError, Global};
 use tcam_device::ReadBack;
-use ternary_word::Entry;
 
 /// What the slots of a device hold.
 pub(crate) fn read_slots<D: ReadBack>(

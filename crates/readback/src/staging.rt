@@ -3,7 +3,7 @@
 ghost use Rattle.std.specs.Prelude.{◌≡◌, ◌<◌, ◌≤◌, ◌^◌, length, true, Some, Err, OnOk, IfOk, IfErr, IfSome, Contains};
 ghost use Rattle.std.specs.List.{AllByRecursion};
 ghost use Rattle.rule_store.specs.Verdict.{Accepted, verdict};
-ghost use Rattle.ternary_word.specs.Entry.{RankedPiece, IsEncodable};
+ghost use Rattle.rule_model.specs.Entry.{RankedPiece, IsEncodable};
 ghost use Rattle.tcam_device.specs.State.{IsState, State, replay};
 ghost use Rattle.commit_writes.specs.Bits as bits;
 ghost use Rattle.readback.specs.Found.{AnswersStage, IsRead, IsShown, stage_in};
@@ -19,12 +19,11 @@ use crate::reading::{pieces_in, read_slots};
 use crate::standing::any_stands;
 use crate::words::check_words;
 use crate::{Mode, Parts, Stage, StageFault};
-use batch_pieces::Ranked;
+use commit_writes::{FieldBits, Ranked};
+use rule_model::Entry;
 use rule_store::Batch;
 use std::alloc::{AllocError, Global};
 use tcam_device::ReadBack;
-use ternary_word::Entry;
-use translation_tables::FieldBits;
 
 /// What a device shows of a batch's commit that was stopped on it: how far it came, the piece of each slot that holds
 /// one, and the pieces that the commit puts in, that get another result, and that it takes out.
@@ -62,9 +61,9 @@ pub fn find_stage<D: ReadBack>(
     }
 }
 
-/// The same stage with the pieces that stand in the slots, and those that the commit is about: what a plan to go on needs.
-/// Where a stage is answered, the commit can be made from the set and its bits, and each word of the tables has 16 bits.
-/// The faults are those of `find_stage`, in that order.
+/// The same stage with the pieces that stand in the slots, and those that the commit is about: what a plan to go on
+/// needs. Where a stage is answered, the commit can be made from the set and its bits, and each word of the tables has
+/// 16 bits. The faults are those of `find_stage`, in that order.
 pub fn show_commit<D: ReadBack>(
     alloc: Global,
     parts: &Parts,
@@ -97,8 +96,8 @@ pub fn show_commit<D: ReadBack>(
     show_in(alloc, slots, &held, commit)
 }
 
-/// The live ranges while the commit is made, once the bits that were handed in are found to be those of the set, and each
-/// word of the tables to be right for them.
+/// The live ranges while the commit is made, once the bits that were handed in are found to be those of the set, and
+/// each word of the tables to be right for them.
 fn read_live<D: ReadBack>(
     parts: &Parts,
     batch: &Batch,

@@ -2,12 +2,12 @@
 
 ghost use Rattle.std.specs.Prelude.{◌≡◌, ◌↔◌, IsTrue, false};
 ghost use Rattle.std.specs.List.{list_any};
-ghost use Rattle.ternary_word.specs.Entry as entries;
+ghost use Rattle.rule_model.specs.Entry as entries;
 ghost use Rattle.tcam_device.specs.Insertion as insertion;
 ghost use Rattle.readback.specs.Tasks as tasks;
 
 use crate::commit::Coded;
-use ternary_word::Entry;
+use rule_model::Entry;
 
 /// Whether some slot holds an entry of the piece, whatever its result.
 pub(crate) fn stands(held: &[Option<Entry>], piece: &Coded) -> bool

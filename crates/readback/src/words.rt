@@ -9,9 +9,9 @@ ghost use Rattle.readback.specs.Fault.{IsWrongWord};
 ghost use Rattle.readback.specs.Words.{AreRight, AreShort, NamesWord};
 
 use crate::{Field, StageFault};
+use commit_writes::FieldBits;
 use range_bits::{BitMap, FIELD_BITS};
 use tcam_device::ReadBack;
-use translation_tables::FieldBits;
 
 /// Whether each word of both tables has the bits of live ranges right. Each is read once.
 pub(crate) fn check_words<D: ReadBack>(device: &D, bits: &FieldBits) -> Result<(), StageFault>

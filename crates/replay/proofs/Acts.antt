@@ -12,7 +12,8 @@ use Rattle.tcam_device.specs.State.{lookup, replay, on_device}
 use Rattle.replay.specs.declared.Family.{Family}
 use Rattle.replay.specs.declared.Act.{Act}
 use Rattle.replay.specs.declared.Act.TheVariants.{Command, Probe, Packet}
-use Rattle.replay.specs.declared.RunFault.{RunFault}
+use Rattle.replay.specs.declared.ActFault.{ActFault}
+use Rattle.replay.specs.declared.ActFault.TheVariants.{BatchFull, ProbesFull, Stopped}
 use Rattle.replay.specs.declared.RunFault.TheVariants as fault
 use Rattle.replay.specs.Effects.{Setting, Effect, Prints}
 use Rattle.replay.specs.declared.fate.Fate.{Fate}
@@ -37,9 +38,9 @@ memory-at_once A B C true both = λ at. both.0
 memory-at_once A B C false both = both
 
 -- a change that joined the batch, or not
-pub push-acts : (result : Result (Unit {0}) RunFault) (slots : ℕ) (run new : Running) (act : Act) (change : Change) (events : List Action) (taken : Option (List ℕ)) → act ≡ Command change
+pub push-acts : (result : Result (Unit {0}) ActFault) (slots : ℕ) (run new : Running) (act : Act) (change : Change) (events : List Action) (taken : Option (List ℕ)) → act ≡ Command change
     → OnOk result (new ≡ record run { pending = run.pending ++ change ∷ [] }) → OnErr result (new ≡ run)
-    → IfErr result (λ why. (why ≡ fault.BatchFull) ⊎ (why ≡ fault.Memory)) → ComesTo slots run act new result events events taken taken
+    → IfErr result (λ why. (why ≡ BatchFull) ⊎ (why ≡ Stopped fault.Memory)) → ComesTo slots run act new result events events taken taken
 push-acts (Ok done) slots run new act change events taken is pushed same kind = λ at. record {
   effects = [];
   step = subst (λ one. HasEffects (setting_of run) (progress_of slots run) one [] (progress_of slots new)) (sym is) (refl, ap (progress_of slots) pushed);
@@ -55,8 +56,8 @@ push-acts (Err why) slots run new act change events taken is pushed same (inr me
     ))
 
 -- a key that is probed from now on, or not
-pub probe-acts : (result : Result (Unit {0}) RunFault) (slots : ℕ) (run new : Running) (act : Act) (key : Key) (events : List Action) (taken : Option (List ℕ)) → act ≡ Probe key
-    → OnOk result (new ≡ record run { probes = run.probes ++ key ∷ [] }) → OnErr result (new ≡ run) → IfErr result (λ why. why ≡ fault.ProbesFull)
+pub probe-acts : (result : Result (Unit {0}) ActFault) (slots : ℕ) (run new : Running) (act : Act) (key : Key) (events : List Action) (taken : Option (List ℕ)) → act ≡ Probe key
+    → OnOk result (new ≡ record run { probes = run.probes ++ key ∷ [] }) → OnErr result (new ≡ run) → IfErr result (λ why. why ≡ ProbesFull)
     → ComesTo slots run act new result events events taken taken
 probe-acts (Ok done) slots run new act key events taken is probed same kind = λ at. record {
   effects = [];
@@ -87,7 +88,7 @@ packet-carries slots run family key events found old new shows idle within valid
 pub packet-cuts : (slots : ℕ) (run : Running) (family : Family) (key : Key) (events : List Action) (found : Answer) (old new : Option (List ℕ))
     → ShowsRules run.manager → run.manager.held ≡ None → run.manager.slots ≤ slots → IsKey key
     → found ≡ lookup (replay slots (writes_in events)) key → family ≡ run.family → AppendsPart old new (packet_line family found)
-    → ComesTo slots run (Packet key) run (Err fault.Sink) events events old new
+    → ComesTo slots run (Packet key) run (Err (Stopped fault.Sink)) events events old new
 packet-cuts slots run family key events found old new shows idle within valid told same part at = record {
   front = [];
   partial = part.0;
@@ -146,9 +147,9 @@ refuse-carries fate slots run new reason events_old events_new old taken judged 
 -- and with a part of it
 pub refuse-cuts : (fate : Fate) (slots : ℕ) (run new : Running) (reason : Verdict) (events_old events_new : List Action) (old taken : Option (List ℕ))
     → verdict_of run ≡ reason → reason ≢ Accepted → events_new ≡ events_old → AppendsPart old taken (refused_line run.family (run.commits + 1) reason)
-    → ComesTo slots run (commit_act fate) new (Err fault.Sink) events_old events_new old taken
+    → ComesTo slots run (commit_act fate) new (Err (Stopped fault.Sink)) events_old events_new old taken
 refuse-cuts fate slots run new reason events_old events_new old taken judged other same part =
-    subst (λ events. ComesTo slots run (commit_act fate) new (Err fault.Sink) events_old events old taken) (sym same) (λ at. record {
+    subst (λ events. ComesTo slots run (commit_act fate) new (Err (Stopped fault.Sink)) events_old events old taken) (sym same) (λ at. record {
       front = [];
       partial = part.0;
       rest = part.1;

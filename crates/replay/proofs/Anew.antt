@@ -23,6 +23,7 @@ use Rattle.commit_writes.specs.Shape.{inserted_pieces}
 use Rattle.commit_writes.proofs.Current.{are_current_part}
 use Rattle.commit_writes.proofs.WritesIn.{writes_of_commit}
 use Rattle.readback.specs.declared.Parts.{Parts}
+use Rattle.readback.specs.declared.StageFault.TheVariants as stage_faults
 use Rattle.readback.specs.Fault.{AreSetBits}
 use Rattle.readback.specs.Stage.{IsStage}
 use Rattle.readback.specs.Tasks.{stands_in}
@@ -197,7 +198,7 @@ module _ (slots after : ℕ) (base : Running) (half : IsHalfway (crashing after 
 
   -- the device shows a stage, so there is but memory to want
   pub only-memory : (parts : Parts) → ArePartsOf base.manager parts → (fault : RestartFault) (back : Parts)
-      → AnswersRestart base.manager.slots base.manager.mode base.manager.placement parts base.pending slots (on_device slots base.manager.state) (Err (fault, back)) → fault ≡ restart_faults.Memory
+      → AnswersRestart base.manager.slots base.manager.mode base.manager.placement parts base.pending slots (on_device slots base.manager.state) (Err (fault, back)) → fault ≡ restart_faults.Stage stage_faults.Memory
   only-memory parts are_parts fault back answers =
       let are = are-begun parts are_parts in
       let moved : AnswersRestart half.begun.slots half.begun.mode half.begun.placement parts run.pending slots at_crash (Err (fault, back)) =
@@ -403,7 +404,7 @@ module _ (slots after : ℕ) (base now : Running) (view_is : base ≡ now) (is :
           (subst (λ (state : State). AnswersRestart asked mode placement parts base.pending slots state result) shown answers)))
 
       -- it fails only for want of memory
-      pub memory-shown : (fault : RestartFault) (back : Parts) → AnswersRestart asked mode placement parts base.pending slots (replay slots journal) (Err (fault, back)) → fault ≡ restart_faults.Memory
+      pub memory-shown : (fault : RestartFault) (back : Parts) → AnswersRestart asked mode placement parts base.pending slots (replay slots journal) (Err (fault, back)) → fault ≡ restart_faults.Stage stage_faults.Memory
       memory-shown fault back answers = only-memory slots after base stop.half stop.is inside_base stop.more at_base.told_is parts are_parts fault back (as_shown (Err (fault, back)) answers)
 
       module _ (restarted : Managed) (answers : AnswersRestart asked mode placement parts base.pending slots (replay slots journal) (Ok restarted)) where

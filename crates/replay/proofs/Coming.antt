@@ -53,10 +53,7 @@ made-up_to Seen slots after base (Err fault.Sink) now count events_old events_ne
     record { some = stops.some; come = stops.come; before = before; few = few; events = stops.events }
 made-up_to Seen slots after base (Err fault.Device) now count events_old events_new taken taken_new (stops, before, below) =
     record { some = stops.some; come = stops.come; before = before; few = omega (arith, below); events = stops.events }
-made-up_to Seen slots after base (Err fault.BatchFull) now count events_old events_new taken taken_new stops = absurd stops
-made-up_to Seen slots after base (Err fault.ProbesFull) now count events_old events_new taken taken_new stops = absurd stops
 made-up_to Seen slots after base (Err fault.Memory) now count events_old events_new taken taken_new stops = absurd stops
-made-up_to Seen slots after base (Err (fault.Held left)) now count events_old events_new taken taken_new stops = absurd stops
 
 module _ (slots after : ℕ) (base began : Running) (view_is : base ≡ began) (is : IsRun base) (within : began.manager.slots ≤ slots) (held : IsSome began.manager.held) (fate_is : began.fate ≡ fates.CrashAfter after) (more : HasMoreThan after began) where
   stop : IsToStop after base
@@ -143,10 +140,7 @@ module _ (slots after : ℕ) (base began : Running) (view_is : base ≡ began) (
   kind-first Seen (Ok done) now count events_old events_new taken taken_new pauses = tt
   kind-first Seen (Err fault.Sink) now count events_old events_new taken taken_new stops = inl refl
   kind-first Seen (Err fault.Device) now count events_old events_new taken taken_new stops = inr refl
-  kind-first Seen (Err fault.BatchFull) now count events_old events_new taken taken_new stops = absurd stops
-  kind-first Seen (Err fault.ProbesFull) now count events_old events_new taken taken_new stops = absurd stops
   kind-first Seen (Err fault.Memory) now count events_old events_new taken taken_new stops = absurd stops
-  kind-first Seen (Err (fault.Held left)) now count events_old events_new taken taken_new stops = absurd stops
 
   module _ (before : Progress) (front : List Effect) (unfinished : IsUnfinished slots before front began) (events_old : List Action) (flight : Flight) (at : IsAt slots events_old (progress_of slots began)) (current : AreCurrent (live_now began.manager) flight) where
     at_base : IsAt slots events_old (progress_of slots base)

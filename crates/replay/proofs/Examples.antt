@@ -5,7 +5,7 @@ use Rattle.std.specs.Fmt.{digits}
 use Rattle.rule_model.specs.AddressBlock.{AddressBlock, ipv4_block}
 use Rattle.rule_model.specs.Rank.{ipv4_route_rank, ipv6_route_rank, list_rank}
 use Rattle.rule_model.specs.declared.Field.TheVariants.{Dst}
-use Rattle.ternary_word.specs.declared.Word.{Word}
+use Rattle.rule_model.specs.declared.words.Word.{Word}
 use Rattle.tcam_device.specs.declared.Write.TheVariants.{Slot, Table}
 use Rattle.rule_store.specs.declared.BatchFault.TheVariants.{Twice, Absent}
 use Rattle.rule_store.specs.Verdict.{Unsound, OutOfBits, OutOfSlots}

@@ -15,13 +15,16 @@ use Rattle.replay.specs.declared.steps.Ended.{Ended}
 use Rattle.commit_writes.specs.Routes.{IsRoute}
 use Rattle.commit_writes.specs.InFlight.{AreCurrent}
 use Rattle.commit_writes.proofs.WritesIn.{writes_in-append}
-use Rattle.batch_order.specs.declared.Ready.{Ready}
-use Rattle.batch_order.specs.declared.Refusal.{Refusal}
+use Rattle.commit_writes.specs.declared.Done.{Done}
+use Rattle.readback.specs.declared.Rejection.{Rejection}
+use Rattle.readback.specs.Judged.{judgement}
 use Rattle.batch_order.specs.declared.Refusal.TheVariants as refusal
 use Rattle.batch_order.specs.Managed.{Managed, Holds, Judges, Answers, commit_of, live_now}
 use Rattle.replay.specs.declared.Act.{Act}
 use Rattle.replay.specs.declared.Act.TheVariants as acts
 use Rattle.replay.specs.declared.watch.Count.{Count}
+use Rattle.replay.specs.declared.ActFault.{ActFault}
+use Rattle.replay.specs.declared.ActFault.TheVariants.{Stopped}
 use Rattle.replay.specs.declared.RunFault.{RunFault}
 use Rattle.replay.specs.declared.RunFault.TheVariants as fault
 use Rattle.replay.specs.Effects.{Setting, Effect, Acts, Prints, flushed, printed, waiting_after}
@@ -33,7 +36,7 @@ use Rattle.replay.specs.Text.{refused_line, end_line}
 use Rattle.replay.specs.Told.{verdict_told}
 use Rattle.replay.specs.Outside.{AppendsPart, CutsLines}
 use Rattle.replay.specs.Carried.{IsAt}
-use Rattle.replay.specs.Running.{Running, Watching, HasCome, IsRun, IsHalfway, IsUnderWay, ComesTo, Makes, MakesAll, MakesSome, ShowsRules, Tells, sink_failed, ended_line, watching, setting_of, progress_of, routes_of, verdict_of}
+use Rattle.replay.specs.Running.{Running, Watching, HasCome, IsRun, IsHalfway, IsUnderWay, ComesTo, Makes, MakesAll, MakesSome, ShowsRules, Tells, act_outcome_of, sink_failed, ended_line, watching, setting_of, progress_of, routes_of, verdict_of}
 use Rattle.replay.specs.declared.fate.Fate.{Fate}
 use Rattle.replay.specs.declared.fate.Fate.TheVariants as fates
 use Rattle.replay.specs.Fates.{IsFirst, IsToCrash, commit_act, most_of}
@@ -52,10 +55,7 @@ pub cut-some : (why : RunFault) (Seen : Type 0) (most : Option ℕ) (begun now :
     → (some : MakesSome most count.told begun now) × HasCome watch count count_now some.made × ((why ≡ fault.Sink) ⊎ (why ≡ fault.Device))
 cut-some fault.Sink Seen most begun now watch slots count count_now events_old events_new old taken stops = (stops.some, stops.come, inl refl)
 cut-some fault.Device Seen most begun now watch slots count count_now events_old events_new old taken stops = (stops.some, stops.come, inr refl)
-cut-some fault.BatchFull Seen most begun now watch slots count count_now events_old events_new old taken stops = absurd stops
-cut-some fault.ProbesFull Seen most begun now watch slots count count_now events_old events_new old taken stops = absurd stops
 cut-some fault.Memory Seen most begun now watch slots count count_now events_old events_new old taken stops = absurd stops
-cut-some (fault.Held left) Seen most begun now watch slots count count_now events_old events_new old taken stops = absurd stops
 
 -- a run whose commit was cut
 pub cut-held : (why : RunFault) (Seen : Type 0) (slots slots_made : ℕ) (before : Progress) (front : List Effect) (run : Running) (rest : Rest slots before front run) (now : Managed) (count_now : Count)
@@ -115,10 +115,7 @@ module _ (slots : ℕ) (before : Progress) (front : List Effect) (inside run : R
       (rest.part now stops.some ∙ sym (append-nil (stops.some.made ++ stops.some.left)))
       (ap (λ (manager : Managed). setting_of (record inside { manager = manager })) stops.some.now_is)
       (stops.cuts is-seen))
-  resumes-cut fault.BatchFull now count flight_new old taken stops current_new = absurd stops
-  resumes-cut fault.ProbesFull now count flight_new old taken stops current_new = absurd stops
   resumes-cut fault.Memory now count flight_new old taken stops current_new = absurd stops
-  resumes-cut (fault.Held left) now count flight_new old taken stops current_new = absurd stops
 
   module _ (end : Ended) (now : Managed) (count : Count) (old mid : Option (List ℕ)) (all : MakesAll Seen (most_of inside.fate) inside.manager (watching inside) slots (count_of inside) count end now events_old events_new old mid)
       (counted : Running) (closed : counted ≡ record inside { manager = now; told = 0; waiting = 0; fate = fates.ToTheEnd; pending = []; commits = inside.commits + 1 }) where
@@ -217,34 +214,34 @@ lost-comes A C true lost comes = comes
 lost-comes A C false lost comes = absurd (cc)
 
 -- a batch that is taken is accepted
-taken-accepted : (verdict : Verdict) (ready : Ready) → Answers verdict (Ok ready) → verdict ≡ Accepted
-taken-accepted Accepted ready taken = refl
-taken-accepted (Unsound fault) ready taken = absurd (cc)
-taken-accepted (OutOfBits field needed free) ready taken = absurd (cc)
-taken-accepted (OutOfSlots needed free) ready taken = absurd (cc)
+taken-accepted : (verdict : Verdict) (counts : Done) → Answers (judgement verdict) (Ok counts) → verdict ≡ Accepted
+taken-accepted Accepted counts taken = refl
+taken-accepted (Unsound fault) counts taken = absurd (cc)
+taken-accepted (OutOfBits field needed free) counts taken = absurd (cc)
+taken-accepted (OutOfSlots needed free) counts taken = absurd (cc)
 
 -- where the commit of the pending batch is taken
-module _ (inside : Running) (ready : Ready) (manager : Managed) (is : IsRun inside) (idle : inside.manager.held ≡ None) (holds : Holds inside.manager inside.pending ready manager)
-    (judges : Judges inside.manager inside.manager.held inside.pending (Ok ready)) (fate : Fate) (first : IsFirst fate) where
+module _ (inside : Running) (counts : Done) (manager : Managed) (is : IsRun inside) (idle : inside.manager.held ≡ None) (holds : Holds inside.manager inside.pending counts manager)
+    (judges : Judges inside.manager inside.manager.held inside.pending (Ok counts)) (fate : Fate) (first : IsFirst fate) where
   abbrev run_taken : Running
   run_taken = record inside { manager = manager; fate = fate }
 
   manager-same : record manager { held = None } ≡ inside.manager
   manager-same = ap (λ (m : Managed). record m { held = None }) holds.new_is ∙ ap (λ held. record inside.manager { held = held }) (sym idle)
 
-  holds-taken : Holds (record manager { held = None }) inside.pending ready manager
-  holds-taken = subst (λ (m : Managed). Holds m inside.pending ready manager) (sym manager-same) holds
+  holds-taken : Holds (record manager { held = None }) inside.pending counts manager
+  holds-taken = subst (λ (m : Managed). Holds m inside.pending counts manager) (sym manager-same) holds
 
   shows-taken : ShowsRules (record manager { held = None })
   shows-taken = subst ShowsRules (sym manager-same) is.shows
 
   accepted-taken : verdict_of run_taken ≡ Accepted
   accepted-taken =
-      let answers : Answers (verdict_of inside) (Ok ready) = subst (λ held. Judges inside.manager held inside.pending (Ok ready)) idle judges in
-      ap (λ (m : Managed). verdict_of (record inside { manager = m })) holds.new_is ∙ taken-accepted (verdict_of inside) ready answers
+      let answers : Answers (judgement (verdict_of inside)) (Ok counts) = subst (λ held. Judges inside.manager held inside.pending (Ok counts)) idle judges in
+      ap (λ (m : Managed). verdict_of (record inside { manager = m })) holds.new_is ∙ taken-accepted (verdict_of inside) counts answers
 
   abbrev half-taken : IsHalfway run_taken
-  half-taken = halfway-none run_taken first ready holds-taken accepted-taken shows-taken (is.idle idle).0 (is.idle idle).1
+  half-taken = halfway-none run_taken first counts holds-taken accepted-taken shows-taken (is.idle idle).0 (is.idle idle).1
 
   pub taken-run : IsRun (record inside { manager = manager; fate = fate })
   taken-run = record {
@@ -252,11 +249,11 @@ module _ (inside : Running) (ready : Ready) (manager : Managed) (is : IsRun insi
     routes = subst (λ (m : Managed). (version : IpVersion) → inside.family ≡ routes_of version → AllByRecursion (IsRoute version) m.rules) (sym holds.new_is) is.routes;
     size = subst (λ (m : Managed). length m.state.slots ≡ m.slots) (sym holds.new_is) is.size;
     few = is.few;
-    shows = λ none. absurd (let bad : Some (commit_of inside.manager inside.pending holds.made holds.counts) ≡ None = sym (ap (λ (m : Managed). m.held) holds.new_is) ∙ none in cc);
+    shows = λ none. absurd (let bad : Some (commit_of inside.manager inside.pending holds.made counts) ≡ None = sym (ap (λ (m : Managed). m.held) holds.new_is) ∙ none in cc);
     some_slots = subst (λ (m : Managed). 1 ≤ m.slots) (sym holds.new_is) is.some_slots;
     most_slots = subst (λ (m : Managed). m.slots ≤ 4096) (sym holds.new_is) is.most_slots;
     halfway = λ some. inl half-taken;
-    idle = λ none. absurd (let bad : Some (commit_of inside.manager inside.pending holds.made holds.counts) ≡ None = sym (ap (λ (m : Managed). m.held) holds.new_is) ∙ none in cc);
+    idle = λ none. absurd (let bad : Some (commit_of inside.manager inside.pending holds.made counts) ≡ None = sym (ap (λ (m : Managed). m.held) holds.new_is) ∙ none in cc);
   }
 
   taken-unfinished : (slots : ℕ) → IsUnfinished slots (progress_of slots inside) [] (record inside { manager = manager; fate = fate })
@@ -285,13 +282,13 @@ module _ (inside : Running) (ready : Ready) (manager : Managed) (is : IsRun insi
     setting-taken setting = setting ∙ ap (λ (m : Managed). setting_of (record inside { manager = m; fate = fate })) holds.new_is ∙ ap setting_of same
 
     pub taken-acts : (result : Result (Unit {0}) RunFault) → setting_of new ≡ setting_of (record inside { manager = manager; fate = fate }) → IfErr result (λ why. (why ≡ fault.Sink) ⊎ ((why ≡ fault.Device) ⊎ ((why ≡ fault.Memory) × IsToCrash fate)))
-        → new.broken ≡ memory_wanted result → Goes result → ComesTo slots run (commit_act fate) new result events_old events_new old taken
+        → new.broken ≡ memory_wanted result → Goes result → ComesTo slots run (commit_act fate) new (act_outcome_of result) events_old events_new old taken
     taken-acts (Ok done) setting kind broken goes = λ at.
         let ends = begins (Ok done) goes at in
         record { effects = ends.rest; step = subst (λ one. HasEffects one (progress_of slots run) (commit_act fate) ends.rest (progress_of slots new)) (setting-taken setting) ends.step; does = ends.does }
     taken-acts (Err why) setting (inl sink) broken goes =
         let goes_sink : Goes (Err fault.Sink) = subst (λ one. Goes (Err one)) sink goes in
-        subst (λ one. ComesTo slots run (commit_act fate) new (Err one) events_old events_new old taken) (sym sink) (λ at.
+        subst (λ one. ComesTo slots run (commit_act fate) new (Err (Stopped one)) events_old events_new old taken) (sym sink) (λ at.
         let ends = begins (Err fault.Sink) goes_sink at in record {
           front = ends.more;
           partial = ends.partial;
@@ -301,7 +298,7 @@ module _ (inside : Running) (ready : Ready) (manager : Managed) (is : IsRun insi
         })
     taken-acts (Err why) setting (inr (inl device)) broken goes =
         let goes_device : Goes (Err fault.Device) = subst (λ one. Goes (Err one)) device goes in
-        subst (λ one. ComesTo slots run (commit_act fate) new (Err one) events_old events_new old taken) (sym device) (λ at.
+        subst (λ one. ComesTo slots run (commit_act fate) new (Err (Stopped one)) events_old events_new old taken) (sym device) (λ at.
         let ends = begins (Err fault.Device) goes_device at in record {
           front = ends.more;
           write = ends.due;
@@ -311,7 +308,7 @@ module _ (inside : Running) (ready : Ready) (manager : Managed) (is : IsRun insi
     taken-acts (Err why) setting (inr (inr (memory, crashes))) broken goes =
         let goes_memory : Goes (Err fault.Memory) = subst (λ one. Goes (Err one)) memory goes in
         let lost : new.broken ≡ true = broken ∙ ap (λ one. memory_wanted (Err one)) memory in
-        subst (λ one. ComesTo slots run (commit_act fate) new (Err one) events_old events_new old taken) (sym memory)
+        subst (λ one. ComesTo slots run (commit_act fate) new (Err (Stopped one)) events_old events_new old taken) (sym memory)
         (lost-comes _ _ new.broken lost (λ at.
         let ends = begins (Err fault.Memory) goes_memory at in record {
           effects = ends.more;
@@ -324,17 +321,14 @@ module _ (inside : Running) (ready : Ready) (manager : Managed) (is : IsRun insi
     taken-stays result goes cut at = subst (λ one. ResumesTo slots (progress_of slots run) (commit_act fate) [] new one events_old events_new flight_new old taken) cut (begins result goes at)
 
 -- the mark of a sink that failed changes nothing else
-pub marked-same : (result : Result (Unit {0}) RunFault) (mid new : Running) → new ≡ record mid { broken = mid.broken || sink_failed result } → mid.broken ≡ memory_wanted result → result ≢ Err fault.Sink → new ≡ mid
+pub marked-same : (result : Result (Unit {0}) RunFault) (mid new : Running) → new ≡ record mid { broken = mid.broken || sink_failed (act_outcome_of result) } → mid.broken ≡ memory_wanted result → result ≢ Err fault.Sink → new ≡ mid
 marked-same (Ok done) mid new is whole other = is ∙ ap (λ mark. record mid { broken = mark || false }) whole ∙ ap (λ mark. record mid { broken = mark }) (sym whole)
 marked-same (Err fault.Sink) mid new is whole other = absurd (other refl)
 marked-same (Err fault.Device) mid new is whole other = is ∙ ap (λ mark. record mid { broken = mark || false }) whole ∙ ap (λ mark. record mid { broken = mark }) (sym whole)
 marked-same (Err fault.Memory) mid new is whole other = is ∙ ap (λ mark. record mid { broken = mark || false }) whole ∙ ap (λ mark. record mid { broken = mark }) (sym whole)
-marked-same (Err fault.BatchFull) mid new is whole other = is ∙ ap (λ mark. record mid { broken = mark || false }) whole ∙ ap (λ mark. record mid { broken = mark }) (sym whole)
-marked-same (Err fault.ProbesFull) mid new is whole other = is ∙ ap (λ mark. record mid { broken = mark || false }) whole ∙ ap (λ mark. record mid { broken = mark }) (sym whole)
-marked-same (Err (fault.Held left)) mid new is whole other = is ∙ ap (λ mark. record mid { broken = mark || false }) whole ∙ ap (λ mark. record mid { broken = mark }) (sym whole)
 
 pub marked-resumes : (result : Result (Unit {0}) RunFault) (slots : ℕ) (before : Progress) (act : Act) (front : List Effect) (mid new : Running) (events_old events_new : List Action) (flight : Flight) (old taken : Option (List ℕ))
-    → new ≡ record mid { broken = mid.broken || sink_failed result } → mid.broken ≡ memory_wanted result → ResumesTo slots before act front mid result events_old events_new flight old taken → ResumesTo slots before act front new result events_old events_new flight old taken
+    → new ≡ record mid { broken = mid.broken || sink_failed (act_outcome_of result) } → mid.broken ≡ memory_wanted result → ResumesTo slots before act front mid result events_old events_new flight old taken → ResumesTo slots before act front new result events_old events_new flight old taken
 marked-resumes (Ok done) slots before act front mid new events_old events_new flight old taken is whole ends =
     subst (λ (run : Running). ResumesTo slots before act front run (Ok done) events_old events_new flight old taken) (sym (marked-same (Ok done) mid new is whole (λ e. absurd (cc)))) ends
 marked-resumes (Err fault.Device) slots before act front mid new events_old events_new flight old taken is whole ends =
@@ -348,33 +342,30 @@ marked-resumes (Err fault.Sink) slots before act front mid new events_old events
   cut = subst (λ setting. IsCutStep setting before act (front ++ ends.more) (Prints (ends.partial ++ ends.rest))) (sym (ap setting_of is)) ends.cut;
   does = ends.does;
 }
-marked-resumes (Err fault.BatchFull) slots before act front mid new events_old events_new flight old taken is whole ends = absurd ends
-marked-resumes (Err fault.ProbesFull) slots before act front mid new events_old events_new flight old taken is whole ends = absurd ends
-marked-resumes (Err (fault.Held left)) slots before act front mid new events_old events_new flight old taken is whole ends = absurd ends
 
--- the refusal of an idle manager tells the verdict, which is against the batch
-judged : (inside run : Running) (reason : Refusal) → inside ≡ run → run.manager.held ≡ None → Judges inside.manager inside.manager.held inside.pending (Err reason)
-    → reason ≢ refusal.Memory → (verdict_of run ≡ verdict_told reason) × (verdict_told reason ≢ Accepted)
-judged inside run reason same idle judges other =
-    let answers : Answers (verdict_of run) (Err reason) =
-    subst (λ held. Judges run.manager held run.pending (Err reason)) idle (subst (λ (r : Running). Judges r.manager r.manager.held r.pending (Err reason)) same judges) in
-    (sym (told-verdict (verdict_of run) reason answers other), told-refused (verdict_of run) reason answers other)
+-- the rejection of an idle manager tells the verdict, which is against the batch
+judged : (inside run : Running) (reason : Rejection) → inside ≡ run → run.manager.held ≡ None → Judges inside.manager inside.manager.held inside.pending (Err (refusal.Rejected reason))
+    → (verdict_of run ≡ verdict_told reason) × (verdict_told reason ≢ Accepted)
+judged inside run reason same idle judges =
+    let answers : Answers (judgement (verdict_of run)) (Err (refusal.Rejected reason)) =
+    subst (λ held. Judges run.manager held run.pending (Err (refusal.Rejected reason))) idle (subst (λ (r : Running). Judges r.manager r.manager.held r.pending (Err (refusal.Rejected reason))) same judges) in
+    (sym (told-verdict (verdict_of run) reason answers), told-refused reason)
 
 -- a refused commit, with its line or a part of it
-pub refused-acts : (fate : Fate) (result : Result (Unit {0}) RunFault) (slots : ℕ) (inside run new : Running) (reason : Refusal) (manager : Managed)
+pub refused-acts : (fate : Fate) (result : Result (Unit {0}) ActFault) (slots : ℕ) (inside run new : Running) (reason : Rejection) (manager : Managed)
     (events_old events_new : List Action) (old taken : Option (List ℕ)) → inside ≡ run → run.manager.held ≡ None
-    → Judges inside.manager inside.manager.held inside.pending (Err reason) → reason ≢ refusal.Memory → manager ≡ inside.manager → events_new ≡ events_old
-    → new ≡ run_refused (record inside { manager = manager }) → IfErr result (λ why. why ≡ fault.Sink)
+    → Judges inside.manager inside.manager.held inside.pending (Err (refusal.Rejected reason)) → manager ≡ inside.manager → events_new ≡ events_old
+    → new ≡ run_refused (record inside { manager = manager }) → IfErr result (λ why. why ≡ Stopped fault.Sink)
     → OnOk result (Appends old taken (refused_line inside.family (inside.commits + 1) (verdict_told reason)))
     → OnErr result (AppendsPart old taken (refused_line inside.family (inside.commits + 1) (verdict_told reason)))
     → ComesTo slots run (commit_act fate) new result events_old events_new old taken
-refused-acts fate (Ok done) slots inside run new reason manager events_old events_new old taken same idle judges other kept journal is kind grown part =
-    let verdict = judged inside run reason same idle judges other in
+refused-acts fate (Ok done) slots inside run new reason manager events_old events_new old taken same idle judges kept journal is kind grown part =
+    let verdict = judged inside run reason same idle judges in
     let whole : record inside { manager = manager } ≡ run = ap (λ (m : Managed). record inside { manager = m }) kept ∙ same in
     refuse-carries fate slots run new (verdict_told reason) events_old events_new old taken verdict.0 verdict.1 (is ∙ ap run_refused whole) journal
     (subst (λ (r : Running). Appends old taken (refused_line r.family (r.commits + 1) (verdict_told reason))) same grown)
-refused-acts fate (Err why) slots inside run new reason manager events_old events_new old taken same idle judges other kept journal is kind grown part =
-    let verdict = judged inside run reason same idle judges other in
+refused-acts fate (Err why) slots inside run new reason manager events_old events_new old taken same idle judges kept journal is kind grown part =
+    let verdict = judged inside run reason same idle judges in
     subst (λ one. ComesTo slots run (commit_act fate) new (Err one) events_old events_new old taken) (sym kind)
     (refuse-cuts fate slots run new (verdict_told reason) events_old events_new old taken verdict.0 verdict.1 journal
     (subst (λ (r : Running). AppendsPart old taken (refused_line r.family (r.commits + 1) (verdict_told reason))) same part))

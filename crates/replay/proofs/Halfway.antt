@@ -8,7 +8,6 @@ use Rattle.tcam_device.specs.State.{State, IsInUse, state_after}
 use Rattle.tcam_device.proofs.Spans.{state_after-append}
 use Rattle.tcam_device.proofs.Wider.{slots-after}
 use Rattle.commit_writes.specs.declared.Done.{Done}
-use Rattle.batch_order.specs.declared.Ready.{Ready}
 use Rattle.commit_writes.specs.Actions.{have_bits}
 use Rattle.commit_writes.specs.Routes.{IsRoute}
 use Rattle.commit_writes.specs.Bits.{FieldBits, bits_with, new_bits}
@@ -60,14 +59,14 @@ halfway-more run now count half some come before within =
     }
 
 -- a commit that was taken, before its first write
-abbrev pub halfway-none : (run : Running) → IsFirst run.fate → (ready : Ready) → (holds : Holds (record run.manager { held = None }) run.pending ready run.manager) → verdict_of run ≡ Accepted → ShowsRules (record run.manager { held = None })
+abbrev pub halfway-none : (run : Running) → IsFirst run.fate → (counts : Done) → (holds : Holds (record run.manager { held = None }) run.pending counts run.manager) → verdict_of run ≡ Accepted → ShowsRules (record run.manager { held = None })
     → run.told ≡ 0 → run.waiting ≡ 0 → IsHalfway run
-halfway-none run first ready holds accepted shows told waiting =
-    let held : HeldCommit = commit_of (record run.manager { held = None }) run.pending holds.made holds.counts in
+halfway-none run first counts holds accepted shows told waiting =
+    let held : HeldCommit = commit_of (record run.manager { held = None }) run.pending holds.made counts in
     let held_is : run.manager.held ≡ Some held = ap (λ (manager : Managed). manager.held) holds.new_is in record {
       begun = run.manager;
       first = first;
-      holds = (ready, holds);
+      holds = (counts, holds);
       accepted = accepted;
       shows = shows;
       some = record {
@@ -101,7 +100,7 @@ module _ (run : Running) (half : IsHalfway run) where
   begun-holds = half.holds.1
 
   abbrev pub held_begun : HeldCommit
-  held_begun = commit_of (record half.begun { held = None }) run.pending begun-holds.made begun-holds.counts
+  held_begun = commit_of (record half.begun { held = None }) run.pending begun-holds.made half.holds.0
 
   pub held-same : half.some.held ≡ held_begun
   held-same =
@@ -214,7 +213,7 @@ module _ (run : Running) (half : IsHalfway run) where
   -- the line that it ends with
   abbrev pub line_by : Bool → List ℕ
   line_by true = aborted_line (run.commits + 1) (length (writes_in whole_actions))
-  line_by false = accepted_line (run.commits + 1) begun-holds.counts
+  line_by false = accepted_line (run.commits + 1) half.holds.0
 
   abbrev pub line : List ℕ
   line = line_by is_back
@@ -222,7 +221,7 @@ module _ (run : Running) (half : IsHalfway run) where
   -- and the run behind it
   abbrev pub ended_by : Bool → Running
   ended_by true = run_returned run_begun (writes_in whole_actions)
-  ended_by false = run_after run_begun begun-holds.made begun-holds.counts
+  ended_by false = run_after run_begun begun-holds.made half.holds.0
 
   abbrev pub run_ended : Running
   run_ended = ended_by is_back
@@ -396,7 +395,7 @@ module _ (Seen : Type 0) (run : Running) (half : IsHalfway run) (watch : Watchin
         first-line (CrashAfter after) first done = refl
         first-line (RestartedAfter after) first done = absurd first
 
-        counts-same : half.some.one.counts ≡ (begun-holds run half).counts
+        counts-same : half.some.one.counts ≡ half.holds.0
         counts-same = half.some.same.counts ∙ ap (λ (one : HeldCommit). one.counts) (held-same run half)
 
         go : (end : Ended) → EndsBy (is_back run half) run.manager half.some.one half.some.left end now → ended_line counted.commits run.fate end count_now.told ≡ line run half

@@ -1,13 +1,13 @@
 -- The words in flight of a run's probes: which they are after a write, and that searches tell what look-ups would.
-use Rattle.std.proofs.Common.{◌≡◌, ℕ, zero, suc, ◌+◌, ◌*◌, ◌<◌, ◌≤◌, ◌==◌, Bool, true, false, min, List, [], ◌∷◌, ◌++◌, length, map, take, drop, get_or, take-append-drop, refl, sym, ap, ◌∙◌, subst, append_assoc, length-append, arith}
+use Rattle.std.proofs.Common.{◌≡◌, ℕ, zero, suc, ◌+◌, ◌*◌, ◌<◌, ◌≤◌, ◌==◌, Bool, true, false, min, List, [], ◌∷◌, ◌++◌, length, map, take, drop, get_or, refl, sym, ap, ◌∙◌, subst, append_assoc, length-append, arith}
 use Rattle.std.specs.List.{AllByRecursion}
 use Rattle.std.proofs.lemmas.Bool.{eqb-true, eqb-false}
 use Rattle.std.proofs.Math.Seq.{take-suc}
-use Rattle.std.proofs.lemmas.List.{append-nil, drop_all, map-append}
+use Rattle.std.proofs.lemmas.List.{append-nil, map-append}
 use Rattle.slot_order.proofs.Lists.{all_append}
 use Rattle.rule_model.specs.declared.Key.{Key}
 use Rattle.rule_model.specs.Key.{IsKey}
-use Rattle.ternary_word.specs.declared.Word.{Word}
+use Rattle.rule_model.specs.declared.words.Word.{Word}
 use Rattle.tcam_device.specs.State.{State, lookup, search_word}
 use Rattle.tcam_device.specs.Flight.{Flight, with_word, word_answer}
 use Rattle.commit_writes.specs.Bits.{FieldBits}
@@ -191,12 +191,6 @@ module _ (inside watch : Watching) (place : ℕ) (key : Key) (same : inside ≡ 
 
   pub keys-more : AllByRecursion IsKey (take place watch.probes) → IsKey key → AllByRecursion IsKey (take (place + 1) watch.probes)
   keys-more keys valid = subst (AllByRecursion IsKey) (sym next-probe) (all_append IsKey (take place watch.probes) (key ∷ []) keys (valid, tt))
-
--- all of them
-pub taken-all : (inside watch : Watching) (place : ℕ) → inside ≡ watch → length inside.probes ≤ place → take place watch.probes ≡ watch.probes
-taken-all inside watch place same all =
-    let over : length watch.probes ≤ place = subst (λ (one : Watching). length one.probes ≤ place) same all in
-    sym (append-nil (take place watch.probes)) ∙ ap (λ rest. take place watch.probes ++ rest) (sym (drop_all place watch.probes over)) ∙ take-append-drop place watch.probes
 
 -- with the words of a depth of writes in flight the oldest are searched
 full-now : (waiting depth : ℕ) → waiting ≡ depth → (waiting == depth) ≡ true

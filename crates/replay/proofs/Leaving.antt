@@ -1,12 +1,15 @@
 -- What calls leave of a sink and a device, one after the other.
-use Rattle.std.proofs.Common.{◌≡◌, ◌⊎◌, inl, inr, ℕ, Result, Ok, Err, IfErr, List, [], ◌++◌, Option, IsSome, length, refl, sym, ap, ◌∙◌, subst, append_assoc, append-nil, arith}
+use Rattle.std.proofs.Common.{◌≡◌, ◌⊎◌, inl, inr, ℕ, Result, Ok, Err, IfErr, List, [], ◌++◌, Option, None, IsSome, OnOk, length, refl, sym, ap, ◌∙◌, subst, append_assoc, append-nil, arith}
 use Rattle.std.proofs.lemmas.List.{length-append}
 use Rattle.call_history.specs.Cause.{HasCause, IsCounted}
 use Rattle.tcam_device.specs.declared.Write.{Write}
 use Rattle.batch_order.specs.CarriedOut.{IsTried}
+use Rattle.replay.specs.declared.ActFault.{ActFault}
+use Rattle.replay.specs.declared.ActFault.TheVariants.{BatchFull, Stopped}
 use Rattle.replay.specs.declared.RunFault.{RunFault}
-use Rattle.replay.specs.declared.RunFault.TheVariants.{BatchFull, Memory, Sink, Device}
+use Rattle.replay.specs.declared.RunFault.TheVariants.{Memory, Sink, Device}
 use Rattle.replay.specs.Outside.{Leaves}
+use Rattle.replay.specs.Running.{AnswersHeld, act_outcome_of, limit_text}
 use Rattle.replay.proofs.Tries.{tried-none, tried-then, tried-as}
 
 -- no failure, and none counted
@@ -19,19 +22,37 @@ counted-as A B old new back forth is =
     record { later = is.later; once = is.once; failed = λ b. is.failed (back b); stayed = λ other. is.stayed (λ a. other (forth a)) }
 
 -- a line fails by the sink alone
-pub line-counted : (result : Result (Unit {0}) RunFault) (old new : ℕ) → IfErr result (λ why. why ≡ Sink) → HasCause old new result → IsCounted (result ≡ Err Sink) old new
+pub line-counted : (result : Result (Unit {0}) ActFault) (old new : ℕ) → IfErr result (λ why. why ≡ Stopped Sink) → HasCause old new result → IsCounted (result ≡ Err (Stopped Sink)) old new
 line-counted (Ok done) old new kind cause = record { later = cause.later; once = cause.once; failed = λ e. absurd (cc); stayed = λ _. cause.stayed }
 line-counted (Err why) old new kind cause = record { later = cause.later; once = cause.once; failed = λ _. cause.failed; stayed = λ other. absurd (other (ap Err kind)) }
 
-pub no-write : (result : Result (Unit {0}) RunFault) → IfErr result (λ why. why ≡ Sink) → result ≡ Err Device → ⊥
+pub no-write : (result : Result (Unit {0}) ActFault) → IfErr result (λ why. why ≡ Stopped Sink) → result ≡ Err (Stopped Device) → ⊥
 no-write (Ok done) kind e = absurd (cc)
 no-write (Err why) kind e = absurd (cc)
 
 -- a change fails by neither
-pub no-fault : (result : Result (Unit {0}) RunFault) → IfErr result (λ why. (why ≡ BatchFull) ⊎ (why ≡ Memory)) → (result ≡ Err Sink → ⊥) × (result ≡ Err Device → ⊥)
+pub no-fault : (result : Result (Unit {0}) ActFault) → IfErr result (λ why. (why ≡ BatchFull) ⊎ (why ≡ Stopped Memory)) → (result ≡ Err (Stopped Sink) → ⊥) × (result ≡ Err (Stopped Device) → ⊥)
 no-fault (Ok done) kind = ((λ e. absurd (cc)), (λ e. absurd (cc)))
 no-fault (Err why) (inl full) = ((λ e. absurd (cc)), (λ e. absurd (cc)))
 no-fault (Err why) (inr memory) = ((λ e. absurd (cc)), (λ e. absurd (cc)))
+
+-- an act fails as its commit does
+pub outcome-fails : (result : Result (Unit {0}) RunFault) (why : RunFault) → act_outcome_of result ≡ Err (Stopped why) → result ≡ Err why
+outcome-fails (Ok done) why is = absurd (cc)
+outcome-fails (Err other) why is = let same : other ≡ why = cc in ap Err same
+
+-- it was taken, and there was room for it
+pub outcome-taken : (result : Result (Unit {0}) RunFault) → AnswersHeld None (act_outcome_of result)
+outcome-taken (Ok done) = λ left e. absurd (cc)
+outcome-taken (Err why) = λ left e. absurd (cc)
+
+pub outcome-room : (result : Result (Unit {0}) RunFault) → limit_text (act_outcome_of result) ≡ None
+outcome-room (Ok done) = refl
+outcome-room (Err why) = refl
+
+pub outcome-ok : (P : Type 0) (result : Result (Unit {0}) RunFault) → OnOk result P → OnOk (act_outcome_of result) P
+outcome-ok P (Ok done) holds = holds
+outcome-ok P (Err why) holds = tt
 
 module _ {S D : Type 0} (taken : S → Option (List ℕ)) (sink_faults : S → ℕ) (slots : D → ℕ) (journal : D → List Write) (device_faults : D → ℕ) where
   -- a call that made no write

@@ -1,21 +1,22 @@
 -- The words in flight that a call leaves, by its answer.
-use Rattle.std.proofs.Common.{Bool, true, false, ◌≡◌, ◌⊎◌, inl, inr, ℕ, ◌+◌, ◌≤◌, min, List, [], ◌∷◌, Option, Some, None, IsSome, Result, Ok, Err, OnOk, refl, sym, ap, ◌∙◌, subst, arith}
+use Rattle.std.proofs.Common.{Bool, true, false, ◌≡◌, ◌⊎◌, inl, inr, ℕ, ◌+◌, ◌≤◌, min, List, [], ◌∷◌, Option, Some, None, IsSome, Result, Ok, Err, refl, sym, ap, ◌∙◌, subst, arith}
 use Rattle.std.specs.Prelude.{◌||◌}
 use Rattle.rule_model.specs.declared.Key.{Key}
 use Rattle.tcam_device.specs.declared.Action.{Action}
 use Rattle.tcam_device.specs.declared.Action.TheVariants.{Written, Drained}
 use Rattle.tcam_device.specs.Flight.{Flight}
 use Rattle.batch_order.specs.Managed.{HeldCommit, Managed}
-use Rattle.replay.specs.declared.Act.{Act}
 use Rattle.replay.specs.declared.watch.Count.{Count}
 use Rattle.replay.specs.declared.fate.Fate.{Fate}
+use Rattle.replay.specs.declared.ActFault.{ActFault}
+use Rattle.replay.specs.declared.ActFault.TheVariants.{BatchFull, ProbesFull, Held, Stopped}
 use Rattle.replay.specs.declared.RunFault.{RunFault}
 use Rattle.replay.specs.declared.RunFault.TheVariants as fault
 use Rattle.replay.specs.declared.fate.Fate.TheVariants as fates
 use Rattle.replay.specs.Crashing.{IsGoneOnWith}
 use Rattle.replay.specs.Effects.{waiting_after}
 use Rattle.replay.specs.InFlight.{AreOf}
-use Rattle.replay.specs.Running.{Running, ComesTo, IsHalfway, IsRun, AreLeft, LeavesWords, sink_failed}
+use Rattle.replay.specs.Running.{Running, IsHalfway, IsRun, AreLeft, LeavesWords, sink_failed}
 
 -- no more words wait than a depth of writes has
 pub waiting-most : (depth waiting : ℕ) (actions : List Action) → waiting ≤ depth → waiting_after depth waiting actions ≤ depth
@@ -67,45 +68,45 @@ pub none-of-left : (run : Running) (flight : Flight) → run.manager.held ≡ No
 none-of-left run flight idle left = none-left run.manager.held run.probes run.waiting flight idle left
 
 -- a call that touched none, and didn't fail by a write
-pub words-kept : (new : Running) (result : Result (Unit {0}) RunFault) (flight_old flight_new : Flight) → flight_new ≡ flight_old → flight_old ≡ [] → (result ≡ Err fault.Device → ⊥)
+pub words-kept : (new : Running) (result : Result (Unit {0}) ActFault) (flight_old flight_new : Flight) → flight_new ≡ flight_old → flight_old ≡ [] → (result ≡ Err (Stopped fault.Device) → ⊥)
     → LeavesWords new result flight_old flight_new
 words-kept new (Ok done) flight_old flight_new same none never = same ∙ none
-words-kept new (Err fault.Sink) flight_old flight_new same none never = tt
-words-kept new (Err fault.Device) flight_old flight_new same none never = absurd (never refl)
-words-kept new (Err fault.Memory) flight_old flight_new same none never = λ whole. same
-words-kept new (Err fault.BatchFull) flight_old flight_new same none never = same
-words-kept new (Err fault.ProbesFull) flight_old flight_new same none never = same
-words-kept new (Err (fault.Held left)) flight_old flight_new same none never = same
+words-kept new (Err (Stopped fault.Sink)) flight_old flight_new same none never = tt
+words-kept new (Err (Stopped fault.Device)) flight_old flight_new same none never = absurd (never refl)
+words-kept new (Err (Stopped fault.Memory)) flight_old flight_new same none never = λ whole. same
+words-kept new (Err BatchFull) flight_old flight_new same none never = same
+words-kept new (Err ProbesFull) flight_old flight_new same none never = same
+words-kept new (Err (Held left)) flight_old flight_new same none never = same
 
 unbroken : (broken : Bool) → (broken || false) ≡ false → broken ≡ false
 unbroken true none = absurd (cc)
 unbroken false none = refl
 
 -- whether the sink failed makes no difference
-pub words-marked : (mid new : Running) (result : Result (Unit {0}) RunFault) (flight_old flight_new : Flight) → new ≡ record mid { broken = mid.broken || sink_failed result } → LeavesWords mid result flight_old flight_new
+pub words-marked : (mid new : Running) (result : Result (Unit {0}) ActFault) (flight_old flight_new : Flight) → new ≡ record mid { broken = mid.broken || sink_failed result } → LeavesWords mid result flight_old flight_new
     → LeavesWords new result flight_old flight_new
 words-marked mid new (Ok done) flight_old flight_new is left = left
-words-marked mid new (Err fault.Sink) flight_old flight_new is left = tt
-words-marked mid new (Err fault.Device) flight_old flight_new is left = subst (λ (run : Running). AreLeft run flight_new) (sym is) left
-words-marked mid new (Err fault.Memory) flight_old flight_new is left = λ whole. left (unbroken mid.broken (sym (ap (λ (run : Running). run.broken) is) ∙ whole))
-words-marked mid new (Err fault.BatchFull) flight_old flight_new is left = left
-words-marked mid new (Err fault.ProbesFull) flight_old flight_new is left = left
-words-marked mid new (Err (fault.Held left_number)) flight_old flight_new is left = left
+words-marked mid new (Err (Stopped fault.Sink)) flight_old flight_new is left = tt
+words-marked mid new (Err (Stopped fault.Device)) flight_old flight_new is left = subst (λ (run : Running). AreLeft run flight_new) (sym is) left
+words-marked mid new (Err (Stopped fault.Memory)) flight_old flight_new is left = λ whole. left (unbroken mid.broken (sym (ap (λ (run : Running). run.broken) is) ∙ whole))
+words-marked mid new (Err BatchFull) flight_old flight_new is left = left
+words-marked mid new (Err ProbesFull) flight_old flight_new is left = left
+words-marked mid new (Err (Held left_number)) flight_old flight_new is left = left
 
 -- a commit that was cut
 pub words-cut : (new : Running) (why : RunFault) (flight_old flight_new : Flight) → ((why ≡ fault.Sink) ⊎ (why ≡ fault.Device)) → (why ≡ fault.Device → AreLeft new flight_new)
-    → LeavesWords new (Err why) flight_old flight_new
-words-cut new why flight_old flight_new (inl sink) left = subst (λ one. LeavesWords new (Err one) flight_old flight_new) (sym sink) tt
-words-cut new why flight_old flight_new (inr device) left = subst (λ one. LeavesWords new (Err one) flight_old flight_new) (sym device) (left device)
+    → LeavesWords new (Err (Stopped why)) flight_old flight_new
+words-cut new why flight_old flight_new (inl sink) left = subst (λ one. LeavesWords new (Err (Stopped one)) flight_old flight_new) (sym sink) tt
+words-cut new why flight_old flight_new (inr device) left = subst (λ one. LeavesWords new (Err (Stopped one)) flight_old flight_new) (sym device) (left device)
 
 -- a commit of which some is left, and the words of the last writes
 pub words-stopped : (new : Running) (why : RunFault) (flight_old flight_new : Flight) → ((why ≡ fault.Sink) ⊎ (why ≡ fault.Device)) → IsSome new.manager.held
-    → (why ≡ fault.Device → AreOf new.probes new.waiting flight_new) → LeavesWords new (Err why) flight_old flight_new
+    → (why ≡ fault.Device → AreOf new.probes new.waiting flight_new) → LeavesWords new (Err (Stopped why)) flight_old flight_new
 words-stopped new why flight_old flight_new kind held are = words-cut new why flight_old flight_new kind (λ device. left-of new flight_new held (are device))
 
 -- the same by what the run held before
 pub words-cut_run : (inside : Running) (now : Managed) (count : Count) (why : RunFault) (flight_old flight_new : Flight) → IsRun inside → ((why ≡ fault.Sink) ⊎ (why ≡ fault.Device)) → IsSome now.held
-    → (why ≡ fault.Device → AreOf inside.probes count.waiting flight_new) → LeavesWords (record inside { manager = now; told = count.told; waiting = count.waiting }) (Err why) flight_old flight_new
+    → (why ≡ fault.Device → AreOf inside.probes count.waiting flight_new) → LeavesWords (record inside { manager = now; told = count.told; waiting = count.waiting }) (Err (Stopped why)) flight_old flight_new
 words-cut_run inside now count why flight_old flight_new is kind held are =
     words-stopped (record inside { manager = now; told = count.told; waiting = count.waiting }) why flight_old flight_new kind held are
 
@@ -121,35 +122,5 @@ left-gone after old new flight flight_new gone held left kept =
     (left-of (record old { manager = gone.0; fate = fates.RestartedAfter after }) flight gone.1 (are-of-left old flight held left)))
 
 -- whatever was in flight before, where it was left to the call
-pub words-from : (new : Running) (result : Result (Unit {0}) RunFault) (flight flight_old flight_new : Flight) → flight ≡ flight_old → LeavesWords new result flight flight_new → LeavesWords new result flight_old flight_new
+pub words-from : (new : Running) (result : Result (Unit {0}) ActFault) (flight flight_old flight_new : Flight) → flight ≡ flight_old → LeavesWords new result flight flight_new → LeavesWords new result flight_old flight_new
 words-from new result flight flight_old flight_new same left = subst (λ before. LeavesWords new result before flight_new) same left
-
-idle-left : (held : Option HeldCommit) (probes : List Key) (waiting : ℕ) (flight : Flight) → held ≡ None → flight ≡ []
-    → IsLeft held probes waiting flight
-idle-left None probes waiting flight idle none = none
-idle-left (Some one) probes waiting flight idle none = absurd (cc)
-
--- a call that did nothing left the words that were there
-untouched-left : (old new : Running) (flight_old flight_new : Flight) → new ≡ old → flight_new ≡ flight_old → AreLeft old flight_old → AreLeft new flight_new
-untouched-left old new flight_old flight_new same kept left = subst (λ (run : Running). AreLeft run flight_new) (sym same) (subst (AreLeft old) (sym kept) left)
-
--- want of memory left the run as it was, where a call may follow
-abbrev Either : Bool → Type 0 → Type 0 → Type 0
-Either broken Whole Lost = elim broken [ false ↦ Whole | true ↦ Lost ]
-
-at-once : (A B C : Type 0) (broken : Bool) → broken ≡ false → Either broken (A × B) C → B
-at-once A B C true whole comes = absurd (cc)
-at-once A B C false whole comes = comes.1
-
--- So after an act the words in flight are those that the run left, as before it, unless a line failed.
-pub stays-left : (slots : ℕ) (old : Running) (act : Act) (new : Running) (result : Result (Unit {0}) RunFault) (events_old events_new : List Action) (taken_old taken_new : Option (List ℕ)) (flight_old flight_new : Flight)
-    → ComesTo slots old act new result events_old events_new taken_old taken_new → OnOk result (new.manager.held ≡ None) → LeavesWords new result flight_old flight_new → new.broken ≡ false → (result ≡ Err fault.Sink → ⊥)
-    → AreLeft old flight_old → AreLeft new flight_new
-stays-left slots old act new (Ok done) events_old events_new taken_old taken_new flight_old flight_new comes idle leaves whole never left =
-    idle-left new.manager.held new.probes new.waiting flight_new idle leaves
-stays-left slots old act new (Err fault.Sink) events_old events_new taken_old taken_new flight_old flight_new comes idle leaves whole never left = absurd (never refl)
-stays-left slots old act new (Err fault.Device) events_old events_new taken_old taken_new flight_old flight_new comes idle leaves whole never left = leaves
-stays-left slots old act new (Err fault.Memory) events_old events_new taken_old taken_new flight_old flight_new comes idle leaves whole never left = untouched-left old new flight_old flight_new (at-once _ _ _ new.broken whole comes).run (leaves whole) left
-stays-left slots old act new (Err fault.BatchFull) events_old events_new taken_old taken_new flight_old flight_new comes idle leaves whole never left = untouched-left old new flight_old flight_new comes.run leaves left
-stays-left slots old act new (Err fault.ProbesFull) events_old events_new taken_old taken_new flight_old flight_new comes idle leaves whole never left = untouched-left old new flight_old flight_new comes.run leaves left
-stays-left slots old act new (Err (fault.Held number)) events_old events_new taken_old taken_new flight_old flight_new comes idle leaves whole never left = untouched-left old new flight_old flight_new comes.run leaves left

@@ -11,7 +11,7 @@ use Rattle.tcam_device.proofs.Spans.{state_after-append}
 use Rattle.commit_writes.proofs.WritesIn.{writes_in-append}
 use Rattle.batch_order.specs.declared.Step.{Step}
 use Rattle.batch_order.specs.declared.Step.TheVariants.{Wrote, Drained, Waiting, Idle}
-use Rattle.batch_order.specs.CarriedOut.{HasRoomBothWays, HasRoomLeft}
+use Rattle.batch_order.specs.CarriedOut.{HasRoomBothWays}
 use Rattle.batch_order.specs.Managed.{Managed, HeldCommit}
 use Rattle.batch_order.specs.Steps.{Steps, actions_of, awaits_drain, next_of}
 use Rattle.replay.specs.declared.watch.Count.{Count}
@@ -352,14 +352,3 @@ module _ (most : Option ℕ) (begun now new passed : Managed) (watch : Watching)
   pub fewer-passed : count_new.told ≡ count_now.told → count_new.waiting ≡ 0 → left_number (rest_of most count_new.told) passed.state passed.held < length making.some.left
   fewer-passed told waiting =
       fewer-action most begun now passed watch count count_now count_new events_begun events_now events_new flight flight_new spare spare_new making action.Drained passed-acts (come-drained watch count_now count_new told waiting)
-
--- where there is room for both ways there is for the one that it goes
-room-parts : (actions : List Action) (undo : List Write) (turned : Option ℕ) (spare : ℕ)
-    → elim turned [ None ↦ length actions + (length (writes_in actions) + length undo) | Some undone ↦ length undo ] ≤ spare
-    → elim turned [ None ↦ length actions | Some undone ↦ length undo ] ≤ spare
-room-parts actions undo None spare room = omega arith
-room-parts actions undo (Some undone) spare room = room
-
-pub room-left : (held : Option HeldCommit) (spare : ℕ) → HasRoomBothWays held spare → HasRoomLeft held spare
-room-left None spare room = tt
-room-left (Some held) spare room = room-parts held.actions held.undo held.turned spare room

@@ -255,7 +255,7 @@ module _ (slots : ℕ) (run : Running) (onward : IsOnward slots run) (is : IsRun
           (sym (in-use (setting_of (record run { manager = begun })) slots begun.state begun-size)) holds.placed;
       of_family = of-first run.family refl;
       in_use = holds.in_use;
-      counts = holds.counts;
+      counts = onward.holds.0;
       numbers = holds.numbers slots begun-inside;
       more = onward.more;
     };

@@ -61,9 +61,6 @@ resumes-then (Err fault.Memory) slots before act front mid new events events_mid
   needs = subst (TakesAtCrash (setting_of new) before act) (append_assoc front goes.more ends.more) ends.needs;
   does = does-then goes.more ends.more [] events events_mid events_new taken taken_mid taken_new goes.does ends.does;
 }
-resumes-then (Err fault.BatchFull) slots before act front mid new events events_mid events_new flight flight_new taken taken_mid taken_new goes ends = absurd ends
-resumes-then (Err fault.ProbesFull) slots before act front mid new events events_mid events_new flight flight_new taken taken_mid taken_new goes ends = absurd ends
-resumes-then (Err (fault.Held left)) slots before act front mid new events events_mid events_new flight flight_new taken taken_mid taken_new goes ends = absurd ends
 
 -- over its crash, by two managers
 pub carried-over : (result : Result (Unit {0}) RunFault) (slots after : ℕ) (before : Progress) (front : List Effect) (old mid over new : Running) (events events_mid events_new : List Action) (flight flight_new : Flight) (taken taken_mid taken_new : Option (List ℕ))

@@ -46,10 +46,6 @@ module _ (slots : ℕ) (run : Running) (onward : IsOnward slots run) (is : IsRun
   abbrev made_before : List Action
   made_before = first_actions run onward.begun onward.holds.1.made onward.after
 
-  -- some more actions of the plan
-  abbrev some-more : (now : Managed) → MakesSome (most_of run.fate) run.told run.manager now → MakesSome None run.told run.manager now
-  some-more now some = subst (λ most. MakesSome most run.told run.manager now) none-most some
-
   told-from : run.told ≡ onward.after + length (writes_in onward.some.made)
   told-from = onward.told
 

@@ -4,16 +4,14 @@ use Rattle.std.proofs.Math.Seq.{take-append_seam}
 use Rattle.std.specs.List.{AllByRecursion}
 use Rattle.rule_model.specs.declared.IpVersion.{IpVersion}
 use Rattle.rule_model.specs.declared.IpVersion.TheVariants.{V4, V6}
-use Rattle.rule_model.specs.declared.Key.{Key}
 use Rattle.rule_store.specs.Batch.{set_after}
 use Rattle.rule_store.specs.declared.Mode.{Mode}
 use Rattle.rule_store.specs.declared.Command.{Command as Change}
-use Rattle.ternary_word.specs.declared.Entry.{Entry}
+use Rattle.rule_model.specs.declared.words.Entry.{Entry}
 use Rattle.tcam_device.specs.State.{State, Shows, IsInUse, blank, state_after, on_device}
 use Rattle.tcam_device.specs.Insertion.{Insertion, IsUncrossed}
 use Rattle.commit_writes.specs.Bits.{bits_with, bits_left}
 use Rattle.batch_order.specs.declared.Placement.{Placement}
-use Rattle.batch_order.specs.declared.Ready.{Ready}
 use Rattle.commit_writes.specs.declared.Done.{Done}
 use Rattle.tcam_device.specs.declared.Write.{Write}
 use Rattle.batch_order.specs.Managed.{HeldCommit, Holds, OnlyChangesRoutes}
@@ -77,20 +75,6 @@ pushed-run (Ok done) run change pending is none change_is pushed same = subst (�
   idle = is.idle;
 })
 pushed-run (Err fault) run change pending is none change_is pushed same = subst (λ batch. IsRun (record run { pending = batch })) (sym same) is
-
--- a key is probed
-pub probed-run : (run : Running) (probes : List Key) → IsRun run → run.manager.held ≡ None → IsRun (record run { probes = probes })
-probed-run run probes is none = record {
-  changes = is.changes;
-  routes = is.routes;
-  some_slots = is.some_slots;
-  most_slots = is.most_slots;
-  size = is.size;
-  few = is.few;
-  shows = is.shows;
-  halfway = never-halfway run (record run { probes = probes }) none;
-  idle = is.idle;
-}
 
 abbrev same-halfway : (run : Running) (broken : Bool) → IsHalfway run → IsHalfway (record run { broken = broken })
 same-halfway run broken half = record {
@@ -180,7 +164,7 @@ pub wider : (made : List Insertion) → IsUncrossed 33 made → IsUncrossed 67 m
 wider [] all = tt
 wider (one ∷ made) all = let few = all.0.1 in ((all.0.0, omega arith), wider made all.1)
 
-module _ (run : Running) (ready : Ready) (is : IsRun run) (holds : Holds (record run.manager { held = None }) run.pending ready run.manager) where
+module _ (run : Running) (counts : Done) (is : IsRun run) (holds : Holds (record run.manager { held = None }) run.pending counts run.manager) where
   pub after-state : (slots : ℕ) → on_device slots (state_after run.manager.state holds.made) ≡ state_after (on_device slots run.manager.state) holds.made
   after-state slots =
       sym (state_after-on_device slots run.manager.state holds.made
@@ -188,7 +172,7 @@ module _ (run : Running) (ready : Ready) (is : IsRun run) (holds : Holds (record
 
   -- the run once the writes are made
   pub made-run : (pending : List Change) (commits writes : ℕ) → ((version : IpVersion) → run.family ≡ routes_of version → OnlyChangesRoutes version pending) → writes ≤ commits * (2 ^ 40 - 1)
-      → IsRun (record (run_after run holds.made holds.counts) { pending = pending; commits = commits; writes = writes })
+      → IsRun (record (run_after run holds.made counts) { pending = pending; commits = commits; writes = writes })
   made-run pending commits writes changes few = record {
     changes = changes;
     routes = λ version route. routes_after version run.manager.rules run.pending (is.routes version route) (is.changes version route);
@@ -218,18 +202,18 @@ module _ (run : Running) (ready : Ready) (is : IsRun run) (holds : Holds (record
     idle = λ none. (refl, refl, refl);
   }
 
-  pub after-run : IsRun (run_after run holds.made holds.counts)
+  pub after-run : IsRun (run_after run holds.made counts)
   after-run =
       let few = is.few in
       let more = holds.few in
       let same = (holds.numbers run.manager.slots (omega arith)).writes in
-      made-run [] (run.commits + 1) (run.writes + holds.counts.writes) (λ version route. tt) (omega arith)
+      made-run [] (run.commits + 1) (run.writes + counts.writes) (λ version route. tt) (omega arith)
 
   pub after-progress : (slots : ℕ) → run.manager.slots ≤ slots
-      → progress_of slots (run_after run holds.made holds.counts) ≡ after_segment (setting_of run) (progress_of slots run) holds.made
+      → progress_of slots (run_after run holds.made counts) ≡ after_segment (setting_of run) (progress_of slots run) holds.made
   after-progress slots within =
-      let at : State → ℕ → Progress = λ state writes. record (progress_of slots (run_after run holds.made holds.counts)) { state = state; writes = writes } in
-      ap (λ after. at after (run.writes + holds.counts.writes)) (after-state slots)
+      let at : State → ℕ → Progress = λ state writes. record (progress_of slots (run_after run holds.made counts)) { state = state; writes = writes } in
+      ap (λ after. at after (run.writes + counts.writes)) (after-state slots)
       ∙ ap (λ count. at (state_after (on_device slots run.manager.state) holds.made) (run.writes + count)) (holds.numbers slots within).writes
 
   pub of-family : (slots : ℕ) → run.manager.slots ≤ slots → OfFamily run.family (on_device slots run.manager.state) holds.made
@@ -245,11 +229,11 @@ module _ (run : Running) (ready : Ready) (is : IsRun run) (holds : Holds (record
 
   -- the commit, as what it writes and prints
   abbrev pub commits-with : (slots : ℕ) → run.manager.slots ≤ slots → (effects : List Effect)
-      → effects ≡ carried (setting_of run) (progress_of slots run) (actions_for (setting_of run) (progress_of slots run) holds.made) ++ Prints (accepted_line (run.commits + 1) holds.counts) ∷ []
-      → Commits (setting_of run) (progress_of slots run) effects (progress_of slots (run_after run holds.made holds.counts))
+      → effects ≡ carried (setting_of run) (progress_of slots run) (actions_for (setting_of run) (progress_of slots run) holds.made) ++ Prints (accepted_line (run.commits + 1) counts) ∷ []
+      → Commits (setting_of run) (progress_of slots run) effects (progress_of slots (run_after run holds.made counts))
   commits-with slots within effects same = record {
     made = holds.made;
-    counts = holds.counts;
+    counts = counts;
     segment = holds.segment slots within;
     placed = subst (λ (state : State). IsPlacedBy run.manager.placement run.manager.mode run.manager.bits run.manager.rules run.pending state holds.made)
         (sym (in-use (setting_of run) slots run.manager.state is.size)) holds.placed;

@@ -5,7 +5,7 @@ use Rattle.std.specs.Io.KnownBytes.{Appends}
 use Rattle.std.proofs.KnownBytes.{Appends-trans}
 use Rattle.rule_model.specs.declared.Key.{Key}
 use Rattle.rule_model.specs.RuleSet.{Answer}
-use Rattle.ternary_word.specs.declared.Word.{Word}
+use Rattle.rule_model.specs.declared.words.Word.{Word}
 use Rattle.tcam_device.specs.State.{State}
 use Rattle.tcam_device.specs.Flight.{Flight, search_answer, word_answer}
 use Rattle.replay.specs.declared.Family.{Family}

@@ -1,42 +1,13 @@
 -- A line, and the lines behind it.
-use Rattle.std.proofs.Common.{◌≡◌, ℕ, List, [], ◌∷◌, ◌++◌, Option, Result, Ok, Err, IsErr, OnOk, OnErr, sym, ap, ◌∙◌, subst, append_assoc, append-nil}
+use Rattle.std.proofs.Common.{◌≡◌, ℕ, List, [], ◌∷◌, ◌++◌, Option, Result, Ok, Err, IsErr, OnErr, sym, ap, ◌∙◌, subst, append_assoc, append-nil}
 use Rattle.std.specs.Io.KnownBytes.{Appends}
 use Rattle.std.proofs.KnownBytes.{Appends-trans}
-use Rattle.call_history.specs.Cause.{HasCause}
 use Rattle.tcam_device.specs.declared.Write.{Write}
 use Rattle.replay.specs.declared.Family.{Family}
 use Rattle.replay.specs.Text.{trace_line}
 use Rattle.replay.specs.Effects.{Effect, Prints, printed}
 use Rattle.replay.specs.Outside.{WritesLine, WritesLines, CutsLines}
 use Rattle.replay.proofs.Effects.{printed-append}
-
-whole-behind : {E : Type 0} (result : Result (Unit {0}) E) (line : List ℕ) (more : List Effect) (old mid new : Option (List ℕ)) → Appends old mid line
-    → OnOk result (Appends mid new (printed more)) → OnOk result (Appends old new (printed (Prints line ∷ more)))
-whole-behind (Ok done) line more old mid new front whole = Appends-trans old mid new line (printed more) front whole
-whole-behind (Err fault) line more old mid new front whole = tt
-
-part-behind : {E : Type 0} (result : Result (Unit {0}) E) (line : List ℕ) (more : List Effect) (old mid new : Option (List ℕ)) → Appends old mid line
-    → OnErr result (CutsLines more mid new) → OnErr result (CutsLines (Prints line ∷ more) old new)
-part-behind (Ok done) line more old mid new front cuts = tt
-part-behind (Err fault) line more old mid new front cuts = record {
-  front = Prints line ∷ cuts.front;
-  partial = cuts.partial;
-  rest = cuts.rest;
-  back = cuts.back;
-  cut = ap (λ effects. Prints line ∷ effects) cuts.cut;
-  grown = subst (Appends old new) (sym (append_assoc line (printed cuts.front) cuts.partial)) (Appends-trans old mid new line (printed cuts.front ++ cuts.partial) front cuts.grown);
-}
-
-module _ {S E : Type 0} (taken : S → Option (List ℕ)) (accepted : S → List ℕ) (faults : S → ℕ) (line : List ℕ) (more : List Effect) (result : Result (Unit {0}) E) (old mid new : S) where
-  -- the line is written, and then those behind it, or a part of them
-  pub line-then : WritesLine {T = Unit {0}} {E = E} taken accepted faults old mid line (Ok tt) → WritesLines taken accepted faults mid new more result
-      → WritesLines taken accepted faults old new (Prints line ∷ more) result
-  line-then front rest = record {
-    whole = λ which. whole-behind result line more _ _ _ (front.whole which) (rest.whole which);
-    part = λ which. part-behind result line more _ _ _ (front.whole which) (rest.part which);
-    told = λ some. rest.told (front.told some);
-    cause = subst (λ count. HasCause count (faults new) result) front.cause.stayed rest.cause;
-  }
 
 -- the line is cut
 pub line-cut : {S E F : Type 0} (taken : S → Option (List ℕ)) (accepted : S → List ℕ) (faults : S → ℕ) (line : List ℕ) (more : List Effect) (result : Result (Unit {0}) E) (old new : S) (fault : F)

@@ -96,7 +96,7 @@ module _ (slots after : ℕ) (base : Running) (half : IsHalfway (crashing after 
   first-made = sym (first-before (subst (λ n. after < n) (sym whole-writes) more)) ∙ ap (up_to_writes after) whole-commit
 
   abbrev whole_commit_effects : List Effect
-  whole_commit_effects = carried begun_setting first (actions_for begun_setting first half.holds.1.made) ++ Prints (accepted_line (run.commits + 1) half.holds.1.counts) ∷ []
+  whole_commit_effects = carried begun_setting first (actions_for begun_setting first half.holds.1.made) ++ Prints (accepted_line (run.commits + 1) half.holds.0) ∷ []
 
   pub crashes-in : CrashesIn (setting_of run) first after half.holds.1.made
   crashes-in = subst (λ setting. CrashesIn setting first after half.holds.1.made) (sym (setting-begun run half)) (record {
@@ -109,7 +109,7 @@ module _ (slots after : ℕ) (base : Running) (half : IsHalfway (crashing after 
     more = more;
   })
     where
-      commits : Commits begun_setting first whole_commit_effects (progress_of slots (run_after (run_begun run half) half.holds.1.made half.holds.1.counts))
+      commits : Commits begun_setting first whole_commit_effects (progress_of slots (run_after (run_begun run half) half.holds.1.made half.holds.0))
       commits = commits-with (run_begun run half) half.holds.0 (begun-is run half is) half.holds.1 slots (within_begun slots run half is inside) whole_commit_effects refl
 
   pub accepted-run : verdict (setting_of run).slots (setting_of run).mode half.begun.rules run.pending ≡ Accepted
@@ -243,10 +243,7 @@ module _ (slots after : ℕ) (base : Running) (half : IsHalfway (crashing after 
         (left-first now count stops.some stops.come before few ∙ sym (append-nil (stops.some.made ++ up_to_writes (after - run.told - length (writes_in stops.some.made)) stops.some.left)))
         (ap (λ (manager : Managed). setting_of (record run { manager = manager })) stops.some.now_is)
         (cuts (enough-left now stops.some) seen)
-    comes (Err fault.BatchFull) now count old taken stops current_new = absurd stops
-    comes (Err fault.ProbesFull) now count old taken stops current_new = absurd stops
     comes (Err fault.Memory) now count old taken stops current_new = absurd stops
-    comes (Err (fault.Held left)) now count old taken stops current_new = absurd stops
 
 -- one that isn't taken back isn't turned round
 pub goes-straight : (turned : Option ℕ) (actions : List Action) → turns_in turned None actions ≡ false → turned ≡ None

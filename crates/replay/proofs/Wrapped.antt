@@ -16,10 +16,7 @@ pub stops-whole : (why : RunFault) (Seen : Type 0) (most : Option ℕ) (begun no
     → MakesUntil Seen most None begun now watch slots count count_now (Err why) events events_now taken taken_now → Makes Seen most begun now watch slots count count_now (Err why) events events_now taken taken_now
 stops-whole fault.Sink Seen most begun now watch slots count count_now events events_now taken taken_now stops = stops.0
 stops-whole fault.Device Seen most begun now watch slots count count_now events events_now taken taken_now stops = stops.0
-stops-whole fault.BatchFull Seen most begun now watch slots count count_now events events_now taken taken_now stops = stops
-stops-whole fault.ProbesFull Seen most begun now watch slots count count_now events events_now taken taken_now stops = stops
 stops-whole fault.Memory Seen most begun now watch slots count count_now events events_now taken taken_now stops = stops
-stops-whole (fault.Held left) Seen most begun now watch slots count count_now events events_now taken taken_now stops = stops
 
 -- a commit that has more writes than come before its crash doesn't come to its end before that
 pub not-ended : (ended : Ended) (Seen : Type 0) (after : ℕ) (begun now : Managed) (watch : Watching) (slots : ℕ) (count count_now : Count) (events events_now : List Action) (taken taken_now : Option (List ℕ))

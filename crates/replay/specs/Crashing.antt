@@ -66,6 +66,3 @@ memory_wanted (Ok done) = false
 memory_wanted (Err fault.Sink) = false
 memory_wanted (Err fault.Device) = false
 memory_wanted (Err fault.Memory) = true
-memory_wanted (Err fault.BatchFull) = false
-memory_wanted (Err fault.ProbesFull) = false
-memory_wanted (Err (fault.Held left)) = false

@@ -6,7 +6,8 @@ use Rattle.commit_writes.specs.Actions.{up_to_writes}
 use Rattle.batch_order.specs.Managed.{HeldCommit, writes_due}
 use Rattle.replay.specs.declared.Act.{Act}
 use Rattle.replay.specs.declared.Act.TheVariants.{Command, Probe, Packet, Commit, Trial, Crash}
-use Rattle.replay.specs.declared.RunFault.{RunFault}
+use Rattle.replay.specs.declared.ActFault.{ActFault}
+use Rattle.replay.specs.declared.ActFault.TheVariants.{BatchFull, ProbesFull, Held, Stopped}
 use Rattle.replay.specs.declared.RunFault.TheVariants as fault
 use Rattle.replay.specs.declared.fate.Fate.{Fate}
 use Rattle.replay.specs.declared.fate.Fate.TheVariants.{ToTheEnd, BackAfter, CrashAfter, RestartedAfter}
@@ -77,15 +78,15 @@ crash_due (Some after) told (Some held) = nat_le after told && nat_lt 0 (length 
 
 -- What an answer says of whether a call may follow: none may behind a failure of the sink, and perhaps none where a commit
 -- that crashed found no memory.
-abbrev pub AnswersBroken : Act → Result (Unit {0}) RunFault → Bool → Type 0
+abbrev pub AnswersBroken : Act → Result (Unit {0}) ActFault → Bool → Type 0
 AnswersBroken act (Ok done) broken = broken ≡ false
-AnswersBroken act (Err fault.Sink) broken = broken ≡ true
-AnswersBroken act (Err fault.Device) broken = broken ≡ false
-AnswersBroken act (Err fault.Memory) broken = broken ≡ true → IsCrash act
-AnswersBroken act (Err fault.BatchFull) broken = broken ≡ false
-AnswersBroken act (Err fault.ProbesFull) broken = broken ≡ false
-AnswersBroken act (Err (fault.Held left)) broken = broken ≡ false
+AnswersBroken act (Err (Stopped fault.Sink)) broken = broken ≡ true
+AnswersBroken act (Err (Stopped fault.Device)) broken = broken ≡ false
+AnswersBroken act (Err (Stopped fault.Memory)) broken = broken ≡ true → IsCrash act
+AnswersBroken act (Err BatchFull) broken = broken ≡ false
+AnswersBroken act (Err ProbesFull) broken = broken ≡ false
+AnswersBroken act (Err (Held left)) broken = broken ≡ false
 
 -- before the sink's failure is remembered: the manager was lost
-abbrev pub AnswersLost : Act → Result (Unit {0}) RunFault → Bool → Type 0
-AnswersLost act result broken = broken ≡ true → (result ≡ Err fault.Memory) × IsCrash act
+abbrev pub AnswersLost : Act → Result (Unit {0}) ActFault → Bool → Type 0
+AnswersLost act result broken = broken ≡ true → (result ≡ Err (Stopped fault.Memory)) × IsCrash act

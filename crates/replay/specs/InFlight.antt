@@ -1,7 +1,7 @@
 -- The words in flight of a run's probes, and what their searches print: words that only the contracts of calls need.
 use Rattle.std.specs.Prelude.{◌≡◌, ℕ, zero, suc, ◌+◌, ◌==◌, true, false, List, [], ◌∷◌, ◌++◌, length, take, drop, map}
 use Rattle.rule_model.specs.declared.Key.{Key}
-use Rattle.ternary_word.specs.declared.Word.{Word}
+use Rattle.rule_model.specs.declared.words.Word.{Word}
 use Rattle.tcam_device.specs.declared.Action.{Action}
 use Rattle.tcam_device.specs.State.{State, replay, search_word, on_device}
 use Rattle.tcam_device.specs.Flight.{Flight, word_answer, writes_in}

@@ -7,7 +7,7 @@ use Rattle.batch_order.specs.Managed.{Managed}
 use Rattle.replay.specs.declared.watch.Count.{Count}
 use Rattle.replay.specs.declared.steps.Ended.{Ended}
 use Rattle.replay.specs.declared.RunFault.{RunFault}
-use Rattle.replay.specs.declared.RunFault.TheVariants.{BatchFull, ProbesFull, Sink, Device, Memory, Held}
+use Rattle.replay.specs.declared.RunFault.TheVariants.{Sink, Device, Memory}
 use Rattle.replay.specs.Fates.{IsBefore, IsUpTo, IsWithinCrash}
 use Rattle.replay.specs.Carried.{CutsEffects}
 use Rattle.replay.specs.Running.{Watching, HasCome, MakesAll, MakesSome, StopsAtLine, StopsAtWrite, Tells, effects_on}
@@ -37,10 +37,7 @@ StopsEarlier Seen most stop begun now watch device_slots count count_now Sink ev
 StopsEarlier Seen most stop begun now watch device_slots count count_now Device events_begun events_now taken_begun taken_now =
     (stops : StopsAtWrite Seen most begun now watch device_slots count count_now events_begun events_now taken_begun taken_now)
     × IsBefore stop count.told stops.some.made stops.some.left × IfSome stop (λ after. count_now.told < after)
-StopsEarlier Seen most stop begun now watch device_slots count count_now BatchFull events_begun events_now taken_begun taken_now = ⊥
-StopsEarlier Seen most stop begun now watch device_slots count count_now ProbesFull events_begun events_now taken_begun taken_now = ⊥
 StopsEarlier Seen most stop begun now watch device_slots count count_now Memory events_begun events_now taken_begun taken_now = ⊥
-StopsEarlier Seen most stop begun now watch device_slots count count_now (Held left) events_begun events_now taken_begun taken_now = ⊥
 
 -- they are made to the end of the commit, or up to its crash, or some of them are
 abbrev pub MakesUntil : Type 0 → Option ℕ → Option ℕ → Managed → Managed → Watching → ℕ → Count → Count → Result (Option Ended) RunFault → List Action → List Action → Option (List ℕ) → Option (List ℕ) → Type 0

@@ -18,7 +18,6 @@ use Rattle.commit_writes.specs.Routes.{IsRoute}
 use Rattle.commit_writes.specs.Actions.{commit_actions, up_to_writes}
 use Rattle.commit_writes.specs.Undo.{undo_writes}
 use Rattle.batch_order.specs.declared.Placement.{Placement}
-use Rattle.batch_order.specs.declared.Ready.{Ready}
 use Rattle.batch_order.specs.Managed.{Managed, HeldCommit, Holds, OnlyChangesRoutes, fresh, writes_due}
 use Rattle.batch_order.specs.Steps.{next_of}
 use Rattle.readback.specs.declared.Parts.{Parts}
@@ -37,8 +36,10 @@ use Rattle.replay.specs.InFlight.{AreOf}
 use Rattle.replay.specs.Text.{aborted_line, accepted_line, restarted_line}
 use Rattle.replay.specs.Run.{Progress}
 use Rattle.replay.specs.Fates.{IsBefore, IsFirst, IsWithinCrash, crash_of, most_of}
+use Rattle.replay.specs.declared.ActFault.{ActFault}
+use Rattle.replay.specs.declared.ActFault.TheVariants.{BatchFull, ProbesFull, Held, Stopped}
 use Rattle.replay.specs.declared.RunFault.{RunFault}
-use Rattle.replay.specs.declared.RunFault.TheVariants.{BatchFull, ProbesFull, Sink, Device, Memory, Held}
+use Rattle.replay.specs.declared.RunFault.TheVariants.{Sink, Device, Memory}
 use Rattle.replay.specs.Carried.{IsAt, Carries, CutsAtLine, CutsAtWrite, CutsEffects, Wants}
 
 -- what is told of each write: how rules are named, whether a trace is wanted, after how many further writes a probe's
@@ -127,7 +128,7 @@ verdict_of run = verdict run.manager.slots run.manager.mode run.manager.rules ru
 
 -- the commit under way is that of the pending batch
 abbrev pub HoldsPending : Running → Type 0
-HoldsPending run = (ready : Ready) × Holds (record run.manager { held = None }) run.pending ready run.manager
+HoldsPending run = (counts : Done) × Holds (record run.manager { held = None }) run.pending counts run.manager
 
 -- how many writes more a trial makes before it is taken back
 abbrev pub rest_of : Option ℕ → ℕ → Option ℕ
@@ -279,20 +280,25 @@ pub record IsUntouched (old new : Running) (events_old events_new : List Action)
   pub events : events_new ≡ events_old
   pub report : taken_new ≡ taken_old
 
+-- what an act answers whose commit comes to this
+abbrev pub act_outcome_of : Result (Unit {0}) RunFault → Result (Unit {0}) ActFault
+act_outcome_of (Ok done) = Ok tt
+act_outcome_of (Err fault) = Err (Stopped fault)
+
 -- What an act comes to, by the answer. Where the device is where the run stands, the act is carried out, or cut at the
 -- line or at the write that failed. For want of memory or of room nothing is done, but where a commit crashed: it has
 -- made its writes up to then, its manager is lost, and no call may follow.
-abbrev pub ComesTo : ℕ → Running → Act → Running → Result (Unit {0}) RunFault → List Action → List Action → Option (List ℕ) → Option (List ℕ) → Type 0
+abbrev pub ComesTo : ℕ → Running → Act → Running → Result (Unit {0}) ActFault → List Action → List Action → Option (List ℕ) → Option (List ℕ) → Type 0
 ComesTo device_slots old act new (Ok done) events_old events_new taken_old taken_new =
     IsAt device_slots events_old (progress_of device_slots old)
     → Carries (setting_of old) (progress_of device_slots old) act (progress_of device_slots new) events_old events_new taken_old taken_new
-ComesTo device_slots old act new (Err Sink) events_old events_new taken_old taken_new =
+ComesTo device_slots old act new (Err (Stopped Sink)) events_old events_new taken_old taken_new =
     IsAt device_slots events_old (progress_of device_slots old)
     → CutsAtLine (setting_of old) (progress_of device_slots old) act events_old events_new taken_old taken_new
-ComesTo device_slots old act new (Err Device) events_old events_new taken_old taken_new =
+ComesTo device_slots old act new (Err (Stopped Device)) events_old events_new taken_old taken_new =
     IsAt device_slots events_old (progress_of device_slots old)
     → CutsAtWrite (setting_of old) (progress_of device_slots old) act events_old events_new taken_old taken_new
-ComesTo device_slots old act new (Err Memory) events_old events_new taken_old taken_new =
+ComesTo device_slots old act new (Err (Stopped Memory)) events_old events_new taken_old taken_new =
     elim new.broken [
       | false ↦
           Wants (setting_of old) (progress_of device_slots old) act events_old events_new taken_old taken_new
@@ -313,39 +319,37 @@ abbrev pub AreLeft : Running → Flight → Type 0
 AreLeft run flight = elim run.manager.held [ None ↦ flight ≡ [] | Some held ↦ AreOf run.probes run.waiting flight ]
 
 -- What a call leaves in flight, by its answer. Where no call may follow nothing is said.
-abbrev pub LeavesWords : Running → Result (Unit {0}) RunFault → Flight → Flight → Type 0
+abbrev pub LeavesWords : Running → Result (Unit {0}) ActFault → Flight → Flight → Type 0
 LeavesWords new (Ok done) flight_old flight_new = flight_new ≡ []
-LeavesWords new (Err Sink) flight_old flight_new = Unit {0}
-LeavesWords new (Err Device) flight_old flight_new = AreLeft new flight_new
-LeavesWords new (Err Memory) flight_old flight_new = new.broken ≡ false → flight_new ≡ flight_old
+LeavesWords new (Err (Stopped Sink)) flight_old flight_new = Unit {0}
+LeavesWords new (Err (Stopped Device)) flight_old flight_new = AreLeft new flight_new
+LeavesWords new (Err (Stopped Memory)) flight_old flight_new = new.broken ≡ false → flight_new ≡ flight_old
 LeavesWords new (Err BatchFull) flight_old flight_new = flight_new ≡ flight_old
 LeavesWords new (Err ProbesFull) flight_old flight_new = flight_new ≡ flight_old
 LeavesWords new (Err (Held left)) flight_old flight_new = flight_new ≡ flight_old
 
 -- An act is taken only while no commit is unfinished. Else the answer has the number of the writes that are left.
-abbrev pub AnswersHeld : Option HeldCommit → Result (Unit {0}) RunFault → Type 0
+abbrev pub AnswersHeld : Option HeldCommit → Result (Unit {0}) ActFault → Type 0
 AnswersHeld (Some held) result = result ≡ Err (Held (length (writes_due held)))
 AnswersHeld None result = (left : ℕ) → result ≢ Err (Held left)
 
 -- the sink failed
-abbrev pub sink_failed : Result (Unit {0}) RunFault → Bool
+abbrev pub sink_failed : Result (Unit {0}) ActFault → Bool
 sink_failed (Ok done) = false
-sink_failed (Err Sink) = true
-sink_failed (Err Device) = false
-sink_failed (Err Memory) = false
+sink_failed (Err (Stopped Sink)) = true
+sink_failed (Err (Stopped Device)) = false
+sink_failed (Err (Stopped Memory)) = false
 sink_failed (Err BatchFull) = false
 sink_failed (Err ProbesFull) = false
 sink_failed (Err (Held left)) = false
 
 -- The text of an answer that an act isn't taken, in a script whose commits come to their end: that there is no room.
-abbrev pub limit_text : Result (Unit {0}) RunFault → Option (List ℕ)
+abbrev pub limit_text : Result (Unit {0}) ActFault → Option (List ℕ)
 limit_text (Ok done) = None
 limit_text (Err BatchFull) = Some (codes "batch full")
 limit_text (Err ProbesFull) = Some (codes "too many probes")
-limit_text (Err Sink) = None
-limit_text (Err Device) = None
-limit_text (Err Memory) = None
 limit_text (Err (Held left)) = Some (codes "a commit is unfinished")
+limit_text (Err (Stopped why)) = None
 
 -- what is told while a manager makes the writes of its commit
 abbrev pub telling : Managed → Watching → Setting
@@ -432,7 +436,4 @@ Makes Seen most begun now watch device_slots count count_now (Err Sink) events_b
     StopsAtLine Seen most begun now watch device_slots count count_now events_begun events_now taken_begun taken_now
 Makes Seen most begun now watch device_slots count count_now (Err Device) events_begun events_now taken_begun taken_now =
     StopsAtWrite Seen most begun now watch device_slots count count_now events_begun events_now taken_begun taken_now
-Makes Seen most begun now watch device_slots count count_now (Err BatchFull) events_begun events_now taken_begun taken_now = ⊥
-Makes Seen most begun now watch device_slots count count_now (Err ProbesFull) events_begun events_now taken_begun taken_now = ⊥
 Makes Seen most begun now watch device_slots count count_now (Err Memory) events_begun events_now taken_begun taken_now = ⊥
-Makes Seen most begun now watch device_slots count count_now (Err (Held left)) events_begun events_now taken_begun taken_now = ⊥

@@ -11,7 +11,7 @@ use Rattle.batch_order.specs.Steps.{next_of}
 use Rattle.replay.specs.declared.Act.{Act}
 use Rattle.replay.specs.declared.Act.TheVariants.{Command, Probe, Packet, Commit, Trial, Crash}
 use Rattle.replay.specs.declared.RunFault.{RunFault}
-use Rattle.replay.specs.declared.RunFault.TheVariants.{BatchFull, ProbesFull, Sink, Device, Memory, Held}
+use Rattle.replay.specs.declared.RunFault.TheVariants.{Sink, Device, Memory}
 use Rattle.replay.specs.Effects.{Setting, Effect, Acts, Prints, effects_of}
 use Rattle.replay.specs.Run.{Progress, HasEffects, IsCutStep, StopsAtCrash}
 use Rattle.replay.specs.Carried.{IsAt, Does}
@@ -95,8 +95,5 @@ ResumesTo device_slots before act front new (Err Device) events_old events_new f
     StaysUnfinished device_slots before act front new events_old events_new flight taken_old taken_new
 ResumesTo device_slots before act front new (Err Sink) events_old events_new flight taken_old taken_new =
     BreaksOff device_slots before act front new events_old events_new taken_old taken_new
-ResumesTo device_slots before act front new (Err BatchFull) events_old events_new flight taken_old taken_new = ⊥
-ResumesTo device_slots before act front new (Err ProbesFull) events_old events_new flight taken_old taken_new = ⊥
 ResumesTo device_slots before act front new (Err Memory) events_old events_new flight taken_old taken_new =
     RunsOut device_slots before act front new events_old events_new taken_old taken_new
-ResumesTo device_slots before act front new (Err (Held left)) events_old events_new flight taken_old taken_new = ⊥

@@ -10,7 +10,7 @@ ghost use Rattle.replay.specs.Run.{Progress};
 ghost use Rattle.replay.specs.Outside.{Leaves, WritesLine};
 ghost use Rattle.replay.specs.Carried.{IsAt};
 ghost use Rattle.replay.specs.Fates.{IsToCrash, commit_act, crash_of};
-ghost use Rattle.replay.specs.Running.{AreLeft, LeavesWords, ended_line, progress_of, setting_of};
+ghost use Rattle.replay.specs.Running.{act_outcome_of, AreLeft, LeavesWords, ended_line, progress_of, setting_of};
 ghost use Rattle.replay.specs.Unfinished.{IsUnfinished, ResumesTo, StaysInStep, TakesAtCrash};
 ghost use Rattle.replay.specs.Crashing.{ComesToCrash, HasMoreThan, IsAtCrash, IsGoneOnWith, IsLost, memory_wanted};
 
@@ -21,6 +21,7 @@ use crate::run::Run;
 use crate::steps::{Ended, make_up_to, make_writes};
 use crate::watch::NOTHING;
 use batch_order::{Manager, RestartFault};
+use readback::StageFault;
 use script_lines::{Failed, Sink};
 use std::alloc::AllocError;
 use std::mem::replace;
@@ -52,7 +53,7 @@ impl Run {
         ensures room { HasRoomBothWays self.new.manager.held (D.spare device.new) }
         ensures setting { setting_of self.new ≡ setting_of self.old }
         ensures commits { self.new.commits ≤ self.old.commits + 1 }
-        ensures in_flight { LeavesWords self.new result (D.flight device.old) (D.flight device.new) }
+        ensures in_flight { LeavesWords self.new (act_outcome_of result) (D.flight device.old) (D.flight device.new) }
         ensures in_step { result ≢ Err RunFault.Sink → StaysInStep (D.slot_count device.old) self.old self.new (D.events device.old) (D.events device.new) (D.flight device.old) (D.flight device.new) }
         ensures leaves { Leaves K.taken K.faults sink.old sink.new D.slot_count D.journal D.faults device.old device.new (result ≡ Err RunFault.Sink) (result ≡ Err RunFault.Device) }
     {
@@ -169,7 +170,7 @@ impl Run {
                 self.fate = Fate::RestartedAfter(after);
                 Ok(())
             }
-            Err((RestartFault::Memory, _)) => {
+            Err((RestartFault::Stage(StageFault::Memory), _)) => {
                 self.count = NOTHING;
                 self.fate = Fate::ToTheEnd;
                 self.broken = true;
@@ -200,7 +201,7 @@ impl Run {
         ensures room { HasRoomBothWays self.new.manager.held (D.spare device.new) }
         ensures setting { setting_of self.new ≡ setting_of self.old }
         ensures commits { self.new.commits ≤ self.old.commits + 1 }
-        ensures in_flight { LeavesWords self.new result (D.flight device.old) (D.flight device.new) }
+        ensures in_flight { LeavesWords self.new (act_outcome_of result) (D.flight device.old) (D.flight device.new) }
         ensures in_step { result ≢ Err RunFault.Sink → StaysInStep (D.slot_count device.old) self.old self.new (D.events device.old) (D.events device.new) (D.flight device.old) (D.flight device.new) }
         ensures leaves { Leaves K.taken K.faults sink.old sink.new D.slot_count D.journal D.faults device.old device.new (result ≡ Err RunFault.Sink) (result ≡ Err RunFault.Device) }
     {

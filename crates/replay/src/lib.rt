@@ -9,13 +9,14 @@
 //! What an act does is a list of effects, device writes, drains and report lines in one order, said of rule lists,
 //! journal and report alone (`specs/Run`). A body that prints first and writes later has other effects, and so has one
 //! that answers a probe from the set and not from the device as it stands. `apply` has exactly the effects of its act,
-//! or those before the line or the write that failed, and no memory is taken between two writes of a commit but where it
-//! crashes. A write that fails is tried again at once, [`TRIES`] times in all.
+//! or those before the line or the write that failed, and no memory is taken between two writes of a commit but where
+//! it crashes. A write that fails is tried again at once, [`TRIES`] times in all.
 //!
 //! # How it stands
-//! `run` has the acts, `carrying` a commit from its first write to its line, `fate` what becomes of it, `steps` its loop,
-//! `watch` what is told after a write, `report` the lines, and `report_line` how they are made of words, in fixed room.
-//! Each line goes to the sink, with its line feed, before the next effect. `laws` has what packets see over a crash.
+//! `run` has the acts, `carrying` a commit from its first write to its line, `fate` what becomes of it, `steps` its
+//! loop, `watch` what is told after a write, `report` the lines, and `report_line` how they are made of words, in fixed
+//! room. Each line goes to the sink, with its line feed, before the next effect. `laws` has what packets see over a
+//! crash.
 //!
 //! # What it cost
 //! A line is written as soon as it is known, so a trace takes a call of the sink for each line. A failed line of a
@@ -26,13 +27,71 @@
 //! writes and lines of both calls are those of the commit, each once. Until then no act is taken.
 //!
 //! # A manager that crashes
-//! `Act::Crash` drops the manager within a commit, and another one goes on by what the device shows: what can be lost is
-//! the plan, and a device that is read back tells as much of it as is needed (`carrying`).
+//! `Act::Crash` drops the manager within a commit, and another one goes on by what the device shows: what can be lost
+//! is the plan, and a device that is read back tells as much of it as is needed (`carrying`).
 //!
 //! # What isn't promised
 //! That a run can go on after a failed line: a part of it may stand in the report, so no call may follow a fault of the
-//! sink; nor where a commit that crashed found no memory, since its manager is gone ([`Run::is_broken`]). That no write is
-//! tried a fifth time where its act has made others before it: a device has one count for all of its failures.
+//! sink; nor where a commit that crashed found no memory, since its manager is gone ([`Run::is_broken`]). That no write
+//! is tried a fifth time where its act has made others before it: a device has one count for all of its failures.
+//!
+//! # Decided
+//! - **A run stands at a value**, `progress_of`, that its manager, its pending batch and its counts give for a device
+//!   of so many slots; clauses of `apply` speak of it under the premise that the device is there.
+//! - **A packet's line is the set's answer**, and no clause says who was asked. The run asks the device, which holds
+//!   the manager's writes and so answers the same (`rules` of the manager).
+//! - **`trial K` is turned round before the step that would be too much** (`turn_round`): right behind write `K`, where
+//!   writes are left, and before a drain that is due then. What is left is stated by what it has come to, the actions
+//!   there and back in one list (`left_of` in `specs/Running`), so `resume` goes on with a trial that a device stopped
+//!   on either way. Its line counts both ways, since the device made both. A commit's writes are below `2^40`, twice
+//!   those of a segment. `apply` and `resume` ask for room for the way back, which `prepare` reserves.
+//! - **`crash K` is one commit with one list of actions** (`actions_over` in `specs/Run`): those up to the crash,
+//!   without a drain that is due then, and those of the plan that goes on. So lines, numbers and words in flight of
+//!   both parts are those of any commit (`carried`). One that is cut before its crash has no second part yet, and
+//!   whether one can be planned isn't said there (`IsCutBeforeCrash`). The restart needs memory, and its want leaves a
+//!   commit half made whose manager is gone: no call may follow (`broken`). The words in flight at the crash are
+//!   current for the second manager by `unplaced` of `CanRestart`: nothing that a commit inserts stands before its
+//!   first write to a slot. Before a crash the device has to be where the run stands (`stands`), which calls keep
+//!   (`in_step`).
+//! - **A commit that is cut keeps what is to become of it** ([`Run`]'s `Fate`; `act_is` of `StaysUnfinished`): else a
+//!   crash or a trial that is cut could be gone on with as a plain commit, and every clause still held. Where the
+//!   second manager aims is told too (`placed` of `Restarts`), at the price of six files more to believe.
+//! - **A write that fails is tried again at once, four times in all** (`TRIES`, `step_tried`). One failure that passes,
+//!   as of a busy bus, would end a run; few tries, so a device that stays stuck is told soon; no time between them,
+//!   since a run has no clock. A try that failed wrote nothing, and nothing tells of failures that passed. The device's
+//!   count rises by four where the run ends by the device, and by at most three for each write that was made. A device
+//!   has one count for all of its failures, so the clauses refuse a fifth try only where the writes before it took all
+//!   of theirs, as where there are none, and three tries only where failures before them don't make up for the fourth;
+//!   else it is tested (`probed_over_a_failing_device`).
+//! - **A run whose device failed goes on by `resume`, and meanwhile takes no act** (`ActFault::Held`, before any other
+//!   answer, so that a caller learns it from each act). The run remembers how many writes of the commit were told, so
+//!   the next one has its number. The clause of `resume` speaks of the whole commit: for each state in which it may
+//!   have begun, and the effects since (`IsUnfinished`), those and the new ones are the commit's, or are cut where it
+//!   failed (`ResumesTo`). When to go on, and how often, is the caller's choice. The price: a run asks that the sink
+//!   didn't fail (`whole`), and a reader learns two more words of state (`told`, `broken`).
+//! - **What a call hands to a sink, and leaves of sink and device, is said once** (`WritesLine`, `WritesLines`,
+//!   `Leaves` in `specs/Outside`): that a line is taken whole, or in part where the sink fails, by either count; that
+//!   what was told stays told; and which failure has which cause (the program's last line: `ClosesReport` in
+//!   `tcam_cli/specs/Turns`). An act's answer is one clause too, by cases (`ComesTo`), and `limit` is an equation: the
+//!   text that the answer tells is the fault of an act for which there is no room. The price: a reader opens a record
+//!   to see its facts, and the records take the members of the traits as arguments (`K.taken`).
+//! - **A probe's line is said by an undivided look-up** at the moment when its word is searched (`searches_of` in
+//!   `specs/Effects`), so no reader of a report needs to know tables. That the word answers so is proved, from the live
+//!   ranges that tables and slots serve (`ServesNow`) and from the words being current for them, which each step keeps
+//!   but a drain. The price: a run keeps of how many writes the words wait (`Count`), `resume` asks for the words that
+//!   were left (`AreLeft`), and behind a failed line nothing is said of them. All are searched before a drain and
+//!   behind the last write, so no word outlives its commit. The device's history has the drains (`events`), so their
+//!   place is promised too.
+//! - **A line of a write may fail within a commit**: the run is cut at that line with its commit under way, as where a
+//!   write fails, but no call follows. Where no trace is wanted and the script has no probe, a failed line leaves no
+//!   commit half made.
+//! - **An access list takes any rule that its types give** (`IsActOf`). A script gives sequence numbers from 1 and the
+//!   results 1 and 0 alone; no clause needs it, as the report names any priority by `2^32` less its lower part, or 0
+//!   where that is more, and any result but 1 as `deny`. Rules of a script of routes must be routes of its version of
+//!   IP, on which their bounds rest.
+//! - **A trace line takes any write, of any tag.** The tag's number may have more bits than a `u128`, so its last digit
+//!   is reckoned apart. A trace of IPv6 names the rule instead, and prints all eleven lanes: the tag of a route has 136
+//!   bits, which no one looks up by hand. A line has room for 384 bytes, and the longest has 295.
 #![tactic(auto)]
 
 ghost use Rattle.std.specs.Prelude.{◌≡◌};
@@ -106,13 +165,27 @@ pub enum Act {
 
 /// Why an act isn't carried out to its end.
 #[derive(Clone, Copy, Debug, PartialEq, Eq, Error)]
-pub enum RunFault {
-    /// 4,096 changes are pending.
+pub enum ActFault {
+    /// 4,096 changes are pending. Nothing has changed.
     #[error("batch full")]
     BatchFull,
-    /// 16 keys are probed.
+    /// 16 keys are probed. Nothing has changed.
     #[error("too many probes")]
     ProbesFull,
+    /// A commit is unfinished, since the device failed. Nothing has changed.
+    #[error("a commit is unfinished, with {left} writes to make")]
+    Held {
+        /// The writes that are left to make.
+        left: u64,
+    },
+    /// It was taken, and stopped.
+    #[error("{0}")]
+    Stopped(RunFault),
+}
+
+/// What stops an act that was taken, or a commit that is gone on with.
+#[derive(Clone, Copy, Debug, PartialEq, Eq, Error)]
+pub enum RunFault {
     /// The sink failed.
     #[error("the report can't be written")]
     Sink,
@@ -122,10 +195,4 @@ pub enum RunFault {
     /// Want of memory.
     #[error("out of memory")]
     Memory,
-    /// A commit is unfinished, since the device failed.
-    #[error("a commit is unfinished, with {left} writes to make")]
-    Held {
-        /// The writes that are left to make.
-        left: u64,
-    },
 }

@@ -1,15 +1,14 @@
 //! The lines of a report.
 //! What is said of a sink's bytes (`WritesLine`) holds of either count of them: of what it tells, and of what it
 //! accepted.
-ghost use Rattle.std.specs.Prelude.{◌≡◌, ◌≢◌, ◌<◌, ◌≤◌, [], ◌∷◌, ◌++◌, length};
-ghost use Rattle.rule_store.specs.Verdict.{Accepted};
+ghost use Rattle.std.specs.Prelude.{◌≡◌, ◌<◌, ◌≤◌, [], ◌∷◌, ◌++◌, length};
 ghost use Rattle.replay.specs.Text.{packet_line, probe_line, trace_line, drain_line, aborted_line, accepted_line, restarted_line, refused_line, fault_line, end_line};
 ghost use Rattle.replay.specs.Told.{verdict_told};
 ghost use Rattle.replay.specs.Outside.{WritesLine};
 
 use crate::Family;
 use crate::report_line::{LINE_ROOM, ReportLine};
-use batch_order::{Done, Refusal};
+use batch_order::{Done, Rejection};
 use rule_model::Rank;
 use script_lines::{Failed, Sink, write_all};
 use tcam_device::Write;
@@ -69,15 +68,14 @@ fn restarted(commit: u32, after: u32, writes: u64) -> ReportLine
 }
 
 // The line of a refused commit.
-fn refused(commit: u32, family: Family, refusal: &Refusal) -> ReportLine
-    requires judged { verdict_told refusal.now ≢ Accepted }
-    ensures text { result ++ 10 ∷ [] ≡ refused_line family commit (verdict_told refusal.now) }
+fn refused(commit: u32, family: Family, rejection: &Rejection) -> ReportLine
+    ensures text { result ++ 10 ∷ [] ≡ refused_line family commit (verdict_told rejection.now) }
     ensures len { length result < LINE_ROOM }
 {
     ReportLine::new("commit")
         .number(u64::from(commit))
         .word("refused")
-        .reason(family, refusal)
+        .reason(family, rejection)
 }
 
 // The line of a run that came to its end.
@@ -170,8 +168,8 @@ pub fn write_aborted<K: Sink>(sink: &mut K, commit: u32, writes: u64) -> Result<
     aborted(commit, writes).write(sink)
 }
 
-/// Writes the line of a commit that another manager went on with, by its number, from 1, the writes before that, and all
-/// of its writes. Takes no memory. Where the sink fails, a part of the line was taken, perhaps none or all of it.
+/// Writes the line of a commit that another manager went on with, by its number, from 1, the writes before that, and
+/// all of its writes. Takes no memory. Where the sink fails, a part of the line was taken, perhaps none or all of it.
 pub fn write_restarted<K: Sink>(
     sink: &mut K,
     commit: u32,
@@ -183,19 +181,17 @@ pub fn write_restarted<K: Sink>(
     restarted(commit, after, writes).write(sink)
 }
 
-/// Writes the line of a refused commit, by its number, from 1, and the reason. The refusal is one of the batch:
-/// a held plan and want of memory have no line. Takes no memory. Where the sink fails, a part of the line was taken,
-/// perhaps none or all of it.
+/// Writes the line of a refused commit, by its number, from 1, and the reason. Takes no memory. Where the sink fails, a
+/// part of the line was taken, perhaps none or all of it.
 pub fn write_refused<K: Sink>(
     sink: &mut K,
     commit: u32,
     family: Family,
-    refusal: &Refusal,
+    rejection: &Rejection,
 ) -> Result<(), Failed>
-    requires judged { verdict_told refusal.now ≢ Accepted }
-    ensures { WritesLine K.taken K.accepted K.faults sink.old sink.new (refused_line family commit (verdict_told refusal.now)) result }
+    ensures { WritesLine K.taken K.accepted K.faults sink.old sink.new (refused_line family commit (verdict_told rejection.now)) result }
 {
-    refused(commit, family, refusal).write(sink)
+    refused(commit, family, rejection).write(sink)
 }
 
 /// Writes the line that names the fault of a script's line, which is counted from 1. The fault's text has at most 32

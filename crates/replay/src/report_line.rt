@@ -1,8 +1,7 @@
 //! A line of a report, made word by word. It stands in fixed room, so that none takes memory.
 
-ghost use Rattle.std.specs.Prelude.{◌≡◌, ◌≢◌, ◌+◌, ◌<◌, ◌≤◌, ◌%◌, [], ◌∷◌, ◌++◌, decimal, length};
+ghost use Rattle.std.specs.Prelude.{◌≡◌, ◌+◌, ◌<◌, ◌≤◌, ◌%◌, [], ◌∷◌, ◌++◌, decimal, length};
 ghost use Rattle.line_words.specs.Shown.{hex_digit, ipv6_prefix_text};
-ghost use Rattle.rule_store.specs.Verdict.{Accepted};
 ghost use Rattle.replay.specs.Text.{action_text, dotted, answer_words, ipv4_prefix_text, result_name, rule_name, sequence_text, reason_words, field_text, lane_text, version_of, word_text, number_text, tag_text, write_words};
 ghost use Rattle.replay.specs.Told.{with_words, verdict_told};
 ghost use Rattle.replay.specs.Outside.{WritesLine};
@@ -10,14 +9,13 @@ ghost use Rattle.rule_model.specs.declared.IpVersion.TheVariants as version_is;
 
 use crate::Family;
 use arrayvec::ArrayString;
-use batch_order::Refusal;
+use batch_order::{BatchFault, Rejection};
 use itoa::{Buffer, Integer};
 use line_words::Ipv6Text;
-use rule_model::{Field, IpVersion, Rank};
+use rule_model::{Entry, Field, IpVersion, Rank, Word};
 use script_lines::{Failed, Sink, write_all};
 use std::marker::Model;
 use tcam_device::Write;
-use ternary_word::{Entry, Word};
 
 /// More bytes than any line has.
 pub(crate) const LINE_ROOM: usize = 384;
@@ -338,28 +336,27 @@ impl ReportLine {
         }
     }
 
-    /// The line with the reason of a refusal, behind a space.
-    pub(crate) fn reason(self, family: Family, refusal: &Refusal) -> ReportLine
+    /// The line with the reason of a rejection, behind a space.
+    pub(crate) fn reason(self, family: Family, rejection: &Rejection) -> ReportLine
         requires room { length self + 171 < LINE_ROOM }
-        requires judged { verdict_told refusal.now ≢ Accepted }
-        ensures text { result ≡ with_words self (reason_words family (verdict_told refusal.now)) }
+        ensures text { result ≡ with_words self (reason_words family (verdict_told rejection.now)) }
         ensures len { length result < LINE_ROOM }
     {
-        match *refusal {
-            Refusal::Twice(priority) => self.word("twice").name(family, priority),
-            Refusal::Taken(priority) => self.word("taken").name(family, priority),
-            Refusal::Absent(priority) => self.word("absent").name(family, priority),
-            Refusal::Bits { field, need, free } => self
+        match *rejection {
+            Rejection::Unsound(fault) => match fault {
+                BatchFault::Twice(priority) => self.word("twice").name(family, priority),
+                BatchFault::Taken(priority) => self.word("taken").name(family, priority),
+                BatchFault::Absent(priority) => self.word("absent").name(family, priority),
+            },
+            Rejection::Bits { field, need, free } => self
                 .word("bits")
                 .field(field)
                 .number(u64::from(need))
                 .number(u64::from(free)),
-            Refusal::Slots { need, free } => self
+            Rejection::Slots { need, free } => self
                 .word("slots")
                 .number(u64::from(need))
                 .number(u64::from(free)),
-            Refusal::Busy { .. } => unreachable!(),
-            Refusal::Memory => unreachable!(),
         }
     }
 

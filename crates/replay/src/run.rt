@@ -3,7 +3,6 @@
 ghost use Rattle.std.specs.Prelude.{Bool, true, false, ◌≡◌, ◌≢◌, ◌⊎◌, ◌+◌, ◌<◌, ◌≤◌, ◌^◌, ◌++◌, ◌∷◌, ◌||◌, [], ℕ, List, Ok, Err, None, IsSome, IfOk, IfErr, OnOk, OnErr, length};
 ghost use Rattle.script_lines.specs.Given.{counted};
 ghost use Rattle.call_history.specs.Cause.{HasCause};
-ghost use Rattle.rule_store.specs.Verdict.{Accepted};
 ghost use Rattle.commit_writes.specs.InFlight.{AreCurrent};
 ghost use Rattle.batch_order.specs.CarriedOut.{HasRoomBothWays};
 ghost use Rattle.batch_order.specs.Managed.{live_now};
@@ -16,14 +15,14 @@ ghost use Rattle.replay.specs.Outside.{Leaves, WritesLine};
 ghost use Rattle.replay.specs.Carried.{IsAt};
 ghost use Rattle.replay.specs.Crashing.{memory_wanted};
 ghost use Rattle.replay.specs.Fates.{AnswersBroken, AnswersLost, IsCrash, IsFirst, IsToCrash, commit_act};
-ghost use Rattle.replay.specs.Running.{AnswersHeld, AreLeft, ComesTo, IsUntouched, LeavesWords, sink_failed, begun, limit_text, progress_of, setting_of, IsActOf, IsChangeOf};
+ghost use Rattle.replay.specs.Running.{act_outcome_of, AnswersHeld, AreLeft, ComesTo, IsUntouched, LeavesWords, sink_failed, begun, limit_text, progress_of, setting_of, IsActOf, IsChangeOf};
 ghost use Rattle.replay.specs.Unfinished.{IsUnfinished, ResumesTo, StaysInStep, StaysUnfinished};
 
 use crate::fate::Fate;
 use crate::report::{Totals, write_end, write_packet, write_refused};
 use crate::watch::{Count, NOTHING, Watch};
-use crate::{Act, Family, RunFault};
-use batch_order::{Manager, Mode, Placement, Refusal};
+use crate::{Act, ActFault, Family, RunFault};
+use batch_order::{Manager, Mode, Placement, Refusal, Rejection};
 use rule_model::{Key, key_fields};
 use rule_store::{Batch, Command, PushFault};
 use script_lines::{Failed, Sink};
@@ -151,7 +150,7 @@ impl Run {
         act: &Act,
         sink: &mut K,
         device: &mut D,
-    ) -> Result<(), RunFault>
+    ) -> Result<(), ActFault>
         requires slots { self.old.manager.slots ≤ D.slot_count device.old }
         requires none_in_flight { self.old.manager.held ≡ None → D.flight device.old ≡ [] }
         requires act { IsActOf self.old.family act.now }
@@ -163,7 +162,7 @@ impl Run {
         ensures held { AnswersHeld self.old.manager.held result }
         ensures limit { self.old.manager.held ≡ None → limit_text result ≡ limit_fault act.now (length self.old.pending) (length self.old.probes) }
         ensures idle { OnOk result (self.new.manager.held ≡ None) }
-        ensures unfinished { (which : Bool) → result ≡ Err RunFault.Device → IsAt (D.slot_count device.old) (D.events device.old) (progress_of (D.slot_count device.old) self.old)
+        ensures unfinished { (which : Bool) → result ≡ Err (ActFault.Stopped RunFault.Device) → IsAt (D.slot_count device.old) (D.events device.old) (progress_of (D.slot_count device.old) self.old)
             → StaysUnfinished (D.slot_count device.old) (progress_of (D.slot_count device.old) self.old) act.now [] self.new
             (D.events device.old) (D.events device.new) (D.flight device.new) (counted which (K.taken sink.old) (K.accepted sink.old)) (counted which (K.taken sink.new) (K.accepted sink.new)) }
         ensures broken { AnswersBroken act.now result self.new.broken }
@@ -172,10 +171,10 @@ impl Run {
         ensures commits { self.new.commits ≤ self.old.commits + 1 }
         ensures in_flight { LeavesWords self.new result (D.flight device.old) (D.flight device.new) }
         ensures in_step { StaysInStep (D.slot_count device.old) self.old self.new (D.events device.old) (D.events device.new) (D.flight device.old) (D.flight device.new) }
-        ensures leaves { Leaves K.taken K.faults sink.old sink.new D.slot_count D.journal D.faults device.old device.new (result ≡ Err RunFault.Sink) (result ≡ Err RunFault.Device) }
+        ensures leaves { Leaves K.taken K.faults sink.old sink.new D.slot_count D.journal D.faults device.old device.new (result ≡ Err (ActFault.Stopped RunFault.Sink)) (result ≡ Err (ActFault.Stopped RunFault.Device)) }
     {
         if let Some(left) = self.manager.left() {
-            return Err(RunFault::Held { left });
+            return Err(ActFault::Held { left });
         }
         let result = self.perform(act, sink, device);
         self.mark(&result);
@@ -211,11 +210,11 @@ impl Run {
             (D.events device.old) (D.events device.new) (counted which (K.taken sink.old) (K.accepted sink.old)) (counted which (K.taken sink.new) (K.accepted sink.new)) }
         ensures kind { IfErr result (λ fault. (fault ≡ RunFault.Sink) ⊎ ((fault ≡ RunFault.Device) ⊎ ((fault ≡ RunFault.Memory) × IsToCrash self.old.fate))) }
         ensures idle { OnOk result (self.new.manager.held ≡ None) }
-        ensures broken { self.new.broken ≡ (memory_wanted result || sink_failed result) }
+        ensures broken { self.new.broken ≡ (memory_wanted result || sink_failed (act_outcome_of result)) }
         ensures room { HasRoomBothWays self.new.manager.held (D.spare device.new) }
         ensures setting { setting_of self.new ≡ setting_of self.old }
         ensures commits { self.new.commits ≤ self.old.commits + 1 }
-        ensures in_flight { LeavesWords self.new result (D.flight device.old) (D.flight device.new) }
+        ensures in_flight { LeavesWords self.new (act_outcome_of result) (D.flight device.old) (D.flight device.new) }
         ensures in_step { StaysInStep (D.slot_count device.old) self.old self.new (D.events device.old) (D.events device.new) (D.flight device.old) (D.flight device.new) }
         ensures leaves { Leaves K.taken K.faults sink.old sink.new D.slot_count D.journal D.faults device.old device.new (result ≡ Err RunFault.Sink) (result ≡ Err RunFault.Device) }
     {
@@ -223,15 +222,15 @@ impl Run {
             return Ok(());
         }
         let result = self.carry_out(sink, device);
-        self.mark(&result);
+        self.mark(&act_outcome(&result));
         result
     }
 
     // Remembers whether the sink failed.
-    fn mark(&mut self, outcome: &Result<(), RunFault>)
+    fn mark(&mut self, outcome: &Result<(), ActFault>)
         ensures { self.new ≡ record self.old { broken = self.old.broken || sink_failed outcome.now } }
     {
-        let failed = matches!(outcome, Err(RunFault::Sink));
+        let failed = matches!(outcome, Err(ActFault::Stopped(RunFault::Sink)));
         self.broken = self.broken || failed;
     }
 
@@ -241,7 +240,7 @@ impl Run {
         act: &Act,
         sink: &mut K,
         device: &mut D,
-    ) -> Result<(), RunFault>
+    ) -> Result<(), ActFault>
         requires slots { self.old.manager.slots ≤ D.slot_count device.old }
         requires none_in_flight { D.flight device.old ≡ [] }
         requires act { IsActOf self.old.family act.now }
@@ -254,7 +253,7 @@ impl Run {
         ensures taken { AnswersHeld None result }
         ensures limit { limit_text result ≡ limit_fault act.now (length self.old.pending) (length self.old.probes) }
         ensures idle { OnOk result (self.new.manager.held ≡ None) }
-        ensures unfinished { (which : Bool) → result ≡ Err RunFault.Device → IsAt (D.slot_count device.old) (D.events device.old) (progress_of (D.slot_count device.old) self.old)
+        ensures unfinished { (which : Bool) → result ≡ Err (ActFault.Stopped RunFault.Device) → IsAt (D.slot_count device.old) (D.events device.old) (progress_of (D.slot_count device.old) self.old)
             → StaysUnfinished (D.slot_count device.old) (progress_of (D.slot_count device.old) self.old) act.now [] self.new
             (D.events device.old) (D.events device.new) (D.flight device.new) (counted which (K.taken sink.old) (K.accepted sink.old)) (counted which (K.taken sink.new) (K.accepted sink.new)) }
         ensures broken { AnswersLost act.now result self.new.broken }
@@ -262,8 +261,8 @@ impl Run {
         ensures setting { setting_of self.new ≡ setting_of self.old }
         ensures commits { self.new.commits ≤ self.old.commits + 1 }
         ensures in_flight { LeavesWords self.new result (D.flight device.old) (D.flight device.new) }
-        ensures in_step { result ≢ Err RunFault.Sink → StaysInStep (D.slot_count device.old) self.old self.new (D.events device.old) (D.events device.new) (D.flight device.old) (D.flight device.new) }
-        ensures leaves { Leaves K.taken K.faults sink.old sink.new D.slot_count D.journal D.faults device.old device.new (result ≡ Err RunFault.Sink) (result ≡ Err RunFault.Device) }
+        ensures in_step { result ≢ Err (ActFault.Stopped RunFault.Sink) → StaysInStep (D.slot_count device.old) self.old self.new (D.events device.old) (D.events device.new) (D.flight device.old) (D.flight device.new) }
+        ensures leaves { Leaves K.taken K.faults sink.old sink.new D.slot_count D.journal D.faults device.old device.new (result ≡ Err (ActFault.Stopped RunFault.Sink)) (result ≡ Err (ActFault.Stopped RunFault.Device)) }
     {
         match *act {
             Act::Command(command) => self.push(command),
@@ -276,31 +275,31 @@ impl Run {
     }
 
     // A change joins the pending batch.
-    fn push(&mut self, command: Command) -> Result<(), RunFault>
+    fn push(&mut self, command: Command) -> Result<(), ActFault>
         requires change { IsChangeOf self.old.family command }
         requires idle { self.old.manager.held ≡ None }
         ensures pushed { OnOk result (self.new ≡ record self.old { pending = self.old.pending ++ command ∷ [] }) }
         ensures limit { limit_text result ≡ limit_fault (Act.Command command) (length self.old.pending) (length self.old.probes) }
         ensures unchanged { OnErr result (self.new ≡ self.old) }
-        ensures kind { IfErr result (λ fault. (fault ≡ RunFault.BatchFull) ⊎ (fault ≡ RunFault.Memory)) }
+        ensures kind { IfErr result (λ fault. (fault ≡ ActFault.BatchFull) ⊎ (fault ≡ ActFault.Stopped RunFault.Memory)) }
     {
         match self.pending.push(command) {
             Ok(()) => Ok(()),
-            Err(PushFault::Full) => Err(RunFault::BatchFull),
-            Err(PushFault::Memory) => Err(RunFault::Memory),
+            Err(PushFault::Full) => Err(ActFault::BatchFull),
+            Err(PushFault::Memory) => Err(ActFault::Stopped(RunFault::Memory)),
         }
     }
 
     // A key is probed from now on.
-    fn probe(&mut self, key: Key) -> Result<(), RunFault>
+    fn probe(&mut self, key: Key) -> Result<(), ActFault>
         requires idle { self.old.manager.held ≡ None }
         ensures probed { OnOk result (self.new ≡ record self.old { probes = self.old.probes ++ key ∷ [] }) }
         ensures limit { limit_text result ≡ limit_fault (Act.Probe key) (length self.old.pending) (length self.old.probes) }
         ensures unchanged { OnErr result (self.new ≡ self.old) }
-        ensures kind { IfErr result (λ fault. fault ≡ RunFault.ProbesFull) }
+        ensures kind { IfErr result (λ fault. fault ≡ ActFault.ProbesFull) }
     {
         if self.watch.is_full() {
-            return Err(RunFault::ProbesFull);
+            return Err(ActFault::ProbesFull);
         }
         self.watch.probe(key);
         Ok(())
@@ -312,19 +311,19 @@ impl Run {
         key: &Key,
         sink: &mut K,
         device: &D,
-    ) -> Result<(), RunFault>
+    ) -> Result<(), ActFault>
         requires slots { self.now.manager.slots ≤ D.slot_count device.now }
         requires idle { self.now.manager.held ≡ None }
         ensures acts { (which : Bool) → ComesTo (D.slot_count device.now) self.now (Act.Packet key.now) self.now result
             (D.events device.now) (D.events device.now) (counted which (K.taken sink.old) (K.accepted sink.old)) (counted which (K.taken sink.new) (K.accepted sink.new)) }
-        ensures kind { IfErr result (λ fault. fault ≡ RunFault.Sink) }
+        ensures kind { IfErr result (λ fault. fault ≡ ActFault.Stopped RunFault.Sink) }
         ensures told { IsSome (K.taken sink.old) → IsSome (K.taken sink.new) }
         ensures cause { HasCause (K.faults sink.old) (K.faults sink.new) result }
     {
         key_fields(key);
         match write_packet(sink, self.watch.family(), device.look(key)) {
             Ok(()) => Ok(()),
-            Err(Failed) => Err(RunFault::Sink),
+            Err(Failed) => Err(ActFault::Stopped(RunFault::Sink)),
         }
     }
 
@@ -334,7 +333,7 @@ impl Run {
         fate: Fate,
         sink: &mut K,
         device: &mut D,
-    ) -> Result<(), RunFault>
+    ) -> Result<(), ActFault>
         requires slots { self.old.manager.slots ≤ D.slot_count device.old }
         requires none_in_flight { D.flight device.old ≡ [] }
         requires idle { self.old.manager.held ≡ None }
@@ -347,7 +346,7 @@ impl Run {
         ensures taken { AnswersHeld None result }
         ensures limit { limit_text result ≡ None }
         ensures idle { OnOk result (self.new.manager.held ≡ None) }
-        ensures unfinished { (which : Bool) → result ≡ Err RunFault.Device → IsAt (D.slot_count device.old) (D.events device.old) (progress_of (D.slot_count device.old) self.old)
+        ensures unfinished { (which : Bool) → result ≡ Err (ActFault.Stopped RunFault.Device) → IsAt (D.slot_count device.old) (D.events device.old) (progress_of (D.slot_count device.old) self.old)
             → StaysUnfinished (D.slot_count device.old) (progress_of (D.slot_count device.old) self.old) (commit_act fate) [] self.new
             (D.events device.old) (D.events device.new) (D.flight device.new) (counted which (K.taken sink.old) (K.accepted sink.old)) (counted which (K.taken sink.new) (K.accepted sink.new)) }
         ensures broken { AnswersLost (commit_act fate) result self.new.broken }
@@ -355,33 +354,34 @@ impl Run {
         ensures setting { setting_of self.new ≡ setting_of self.old }
         ensures commits { self.new.commits ≤ self.old.commits + 1 }
         ensures in_flight { LeavesWords self.new result (D.flight device.old) (D.flight device.new) }
-        ensures in_step { result ≢ Err RunFault.Sink → StaysInStep (D.slot_count device.old) self.old self.new (D.events device.old) (D.events device.new) (D.flight device.old) (D.flight device.new) }
-        ensures leaves { Leaves K.taken K.faults sink.old sink.new D.slot_count D.journal D.faults device.old device.new (result ≡ Err RunFault.Sink) (result ≡ Err RunFault.Device) }
+        ensures in_step { result ≢ Err (ActFault.Stopped RunFault.Sink) → StaysInStep (D.slot_count device.old) self.old self.new (D.events device.old) (D.events device.new) (D.flight device.old) (D.flight device.new) }
+        ensures leaves { Leaves K.taken K.faults sink.old sink.new D.slot_count D.journal D.faults device.old device.new (result ≡ Err (ActFault.Stopped RunFault.Sink)) (result ≡ Err (ActFault.Stopped RunFault.Device)) }
     {
         match self.manager.prepare(&self.pending, device) {
             Ok(_) => {
                 self.fate = fate;
-                self.carry_out(sink, device)
+                act_outcome(&self.carry_out(sink, device))
             }
-            Err(Refusal::Memory) => Err(RunFault::Memory),
-            Err(refusal) => self.refuse(&refusal, sink),
+            Err(Refusal::Memory) => Err(ActFault::Stopped(RunFault::Memory)),
+            Err(Refusal::Rejected(rejection)) => self.refuse(rejection, sink),
+            // No commit is unfinished.
+            Err(Refusal::Busy { .. }) => unreachable!(),
         }
     }
 
     // Counts a commit that is refused, drops its batch, and writes its line.
-    fn refuse<K: Sink>(&mut self, refusal: &Refusal, sink: &mut K) -> Result<(), RunFault>
-        requires judged { verdict_told refusal.now ≢ Accepted }
+    fn refuse<K: Sink>(&mut self, rejection: Rejection, sink: &mut K) -> Result<(), ActFault>
         requires idle { self.old.manager.held ≡ None }
         requires commits { self.old.commits < 2 ^ 24 }
         ensures refused { self.new ≡ record self.old { pending = []; commits = self.old.commits + 1; refused = true } }
-        ensures line { WritesLine K.taken K.accepted K.faults sink.old sink.new (refused_line self.old.family (self.old.commits + 1) (verdict_told refusal.now)) result }
-        ensures kind { IfErr result (λ fault. fault ≡ RunFault.Sink) }
+        ensures line { WritesLine K.taken K.accepted K.faults sink.old sink.new (refused_line self.old.family (self.old.commits + 1) (verdict_told rejection)) result }
+        ensures kind { IfErr result (λ fault. fault ≡ ActFault.Stopped RunFault.Sink) }
     {
         self.count_commit();
         self.refused = true;
-        match write_refused(sink, self.commits, self.watch.family(), refusal) {
+        match write_refused(sink, self.commits, self.watch.family(), &rejection) {
             Ok(()) => Ok(()),
-            Err(Failed) => Err(RunFault::Sink),
+            Err(Failed) => Err(ActFault::Stopped(RunFault::Sink)),
         }
     }
 
@@ -405,5 +405,15 @@ impl Run {
             Ok(()) => Ok(self.refused),
             Err(Failed) => Err(Failed),
         }
+    }
+}
+
+// What an act answers whose commit comes to this.
+fn act_outcome(outcome: &Result<(), RunFault>) -> Result<(), ActFault>
+    ensures { result ≡ act_outcome_of outcome.now }
+{
+    match *outcome {
+        Ok(()) => Ok(()),
+        Err(fault) => Err(ActFault::Stopped(fault)),
     }
 }

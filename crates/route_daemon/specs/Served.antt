@@ -6,15 +6,16 @@ use Rattle.rule_store.specs.Verdict.{Accepted, verdict}
 use Rattle.tcam_device.specs.declared.Write.{Write}
 use Rattle.tcam_device.specs.State.{apply, replay}
 use Rattle.tcam_device.specs.Hitless.{ShowsOldOrNew}
-use Rattle.batch_order.specs.declared.Ready.{Ready}
+use Rattle.commit_writes.specs.declared.Done.{Done}
 use Rattle.batch_order.specs.declared.Refusal.{Refusal}
+use Rattle.readback.specs.Judged.{judgement}
 use Rattle.batch_order.specs.Managed.{Managed, Answers, Holds}
 use Rattle.batch_order.specs.Steps.{next_of}
 use Rattle.batch_order.specs.CarriedOut.{ahead, writes_left}
 
 -- A batch is refused as the verdict on it says, and nothing changes.
 pub record IsRefused (manager manager' : Managed) (batch : List Command) (journal journal' : List Write) (refusal : Refusal) : Type 0 where
-  pub judged : Answers (verdict manager.slots manager.mode manager.rules batch) (Err refusal)
+  pub judged : Answers (judgement (verdict manager.slots manager.mode manager.rules batch)) (Err refusal)
   pub unchanged : manager' ≡ manager
   pub unwritten : journal' ≡ journal
 
@@ -22,9 +23,9 @@ pub record IsRefused (manager manager' : Managed) (batch : List Command) (journa
 -- it before the first write.
 pub record IsTaken (manager manager' : Managed) (batch : List Command) (journal journal' : List Write) : Type 0 where
   pub accepted : verdict manager.slots manager.mode manager.rules batch ≡ Accepted
-  pub ready : Ready
+  pub counts : Done
   pub planned : Managed
-  pub holds : Holds manager batch ready planned
+  pub holds : Holds manager batch counts planned
   pub made : journal' ++ writes_left manager'.held ≡ journal ++ writes_left planned.held
 
 -- A commit from the old rules to the new ones stopped at a write that failed, and which is next again. Each key is answered

@@ -17,7 +17,8 @@ use std::io;
 use tcam_device::{Device, DeviceFault};
 use thiserror::Error;
 
-/// A packet that is looked up behind each commit: its version of IP, and its destination, as printed and as keys have it.
+/// A packet that is looked up behind each commit: its version of IP, and its destination, as printed and as keys have
+/// it.
 #[derive(Clone, Copy, Debug)]
 pub struct Packet {
     pub version: IpVersion,
@@ -39,8 +40,8 @@ pub enum RouteFault {
 /// Why a commit doesn't come to its end.
 #[derive(Clone, Copy, Debug, PartialEq, Eq, Error)]
 pub enum CommitFault {
-    /// The batch isn't taken. Nothing was written, and the manager is as before. The text of the refusal has the prefix of
-    /// the route that is at fault: `Refusal::for_version` writes it for either version.
+    /// The batch isn't taken. Nothing was written, and the manager is as before. The text of the refusal has the prefix
+    /// of the route that is at fault: `Refusal::for_version` writes it for either version.
     #[error(transparent)]
     Refused(Refusal),
     /// A write failed. The commit is still under way: [`resume`] makes that write again, and those behind it.
@@ -49,12 +50,12 @@ pub enum CommitFault {
 }
 
 /// Adds a route in the pending batch: packets to the network go to `port`. It is refused exactly where that is no
-/// prefix, too long or with a bit set past its length, else exactly where the batch has 4,096 commands, and else only for
-/// want of memory. After a refusal the batch is as before.
+/// prefix, too long or with a bit set past its length, else exactly where the batch has 4,096 commands, and else only
+/// for want of memory. After a refusal the batch is as before.
 ///
-/// Which routes there are is judged by [`commit`]. It refuses a batch that adds a route for a prefix that has one, or that
-/// changes or withdraws one that there isn't; and one that names a prefix twice, unless it withdraws the route and then
-/// adds another.
+/// Which routes there are is judged by [`commit`]. It refuses a batch that adds a route for a prefix that has one, or
+/// that changes or withdraws one that there isn't; and one that names a prefix twice, unless it withdraws the route and
+/// then adds another.
 pub fn add_route(batch: &mut Batch, network: Network, port: u32) -> Result<(), RouteFault>
     ensures added { OnOk result (batch.new ≡ batch.old ++ Command.Add (route_to network port) ∷ []) }
     ensures length { (result ≡ Err (RouteFault.Prefix PrefixFault.Length)) ↔ (longest_in network < length_in network) }
@@ -94,17 +95,17 @@ pub fn withdraw_route(batch: &mut Batch, network: Network) -> Result<(), RouteFa
     batch.push(removal).map_err(RouteFault::Batch)
 }
 
-/// Carries a batch of changes to routes out: `prepare` judges and plans it, and [`resume`] makes its writes. By what was
-/// written, each packet is answered as the old routes do before the first write, and after each write as the old routes
-/// or the new ones do. With Ok the routes are the new ones, and each packet is answered by them.
+/// Carries a batch of changes to routes out: `prepare` judges and plans it, and [`resume`] makes its writes. By what
+/// was written, each packet is answered as the old routes do before the first write, and after each write as the old
+/// routes or the new ones do. With Ok the routes are the new ones, and each packet is answered by them.
 ///
 /// `Refused` says why the batch isn't taken, by the rule lists alone or for want of memory, and all is as before: the
 /// next batch may come. With any other answer the rule lists accept the batch.
 ///
 /// `Stuck` comes exactly where the device's count of failures rose. What was written is the beginning of what was
 /// planned, and the write that failed comes next. Each packet is still answered as the old routes or the new ones do,
-/// even where that write was made all the same; and `resume` goes on with it. Until it has come to the end no other batch
-/// is taken.
+/// even where that write was made all the same; and `resume` goes on with it. Until it has come to the end no other
+/// batch is taken.
 ///
 /// A look-up of this daemon is undivided, so no word is in flight, before and after.
 pub fn commit<D: Device>(
@@ -135,8 +136,8 @@ pub fn commit<D: Device>(
     ensures cause { IsCounted (result ≡ Err CommitFault.Stuck) (D.faults device.old) (D.faults device.new) }
 {
     match manager.prepare(batch, device) {
-        Ok(ready) => {
-            let _ = println!(rt; "commit writes {}", ready.writes);
+        Ok(counts) => {
+            let _ = println!(rt; "commit writes {}", counts.writes);
         }
         Err(refusal) => return Err(CommitFault::Refused(refusal)),
     }
@@ -148,8 +149,8 @@ pub fn commit<D: Device>(
 
 /// Makes the writes that are left of the commit under way, in their order, none of them twice, and looks a packet up
 /// behind them. With none under way there is nothing to do. Each packet is answered as [`commit`] says, before these
-/// writes as well, and a write that fails leaves what it says of `Stuck`: so `resume` may be called again. What can't be
-/// printed changes nothing. The daemon takes no commit back.
+/// writes as well, and a write that fails leaves what it says of `Stuck`: so `resume` may be called again. What can't
+/// be printed changes nothing. The daemon takes no commit back.
 pub fn resume<D: Device>(
     rt: &HostRuntime,
     manager: &mut Manager,

@@ -1,9 +1,17 @@
 //! How a route daemon drives the manager over a device of its own.
 //!
-//! The hardware is [`Registers`]: it stands for a memory behind registers, and tells nothing. `Shadowed` makes a device of
-//! it, with slots and tables in memory that follow what was written. A commit is a batch, one `prepare`, and one
-//! `carry_out`, which makes its writes; a packet is looked up behind it. A write that fails leaves the commit under way, and
-//! `resume` goes on with that write. To drive a memory of your own, write another `Registers`.
+//! The hardware is [`Registers`]: it stands for a memory behind registers, and tells nothing. `Shadowed` makes a device
+//! of it, with slots and tables in memory that follow what was written. A commit is a batch, one `prepare`, and one
+//! `carry_out`, which makes its writes; a packet is looked up behind it. A write that fails leaves the commit under
+//! way, and `resume` goes on with that write. To drive a memory of your own, write another `Registers`.
+//!
+//! # Decided
+//! - **`commit` says what each answer leaves.** Without that a body that gave up after its first write met it, and
+//!   after a mere refusal no caller could show that no commit is under way. So a refusal is the verdict's own or want
+//!   of memory, and leaves manager and journal; with any other answer the verdict accepts the batch, and what was
+//!   written and what is left are together what was planned; a failed write is the next one. The price is a second
+//!   entry, `resume`, with `commit` as `prepare` and then `resume`, that a line that can't be printed ends no commit,
+//!   and that a packet is looked up behind a commit and no more between two writes, for which there is `step`.
 #![tactic(auto)]
 
 mod daemon;
@@ -59,9 +67,9 @@ fn serve(rt: &HostRuntime, networks: [Network; 4], packet: &Packet) -> anyhow::R
     change_routes(rt, networks, packet, &mut manager, &mut device)
 }
 
-/// Adds routes of four networks, a commit each. The last goes between two that stand side by side, so one of them moves.
-/// Then one commit withdraws a route and changes the port of the next shorter one: the packet keeps the old answer until
-/// the route is erased.
+/// Adds routes of four networks, a commit each. The last goes between two that stand side by side, so one of them
+/// moves. Then one commit withdraws a route and changes the port of the next shorter one: the packet keeps the old
+/// answer until the route is erased.
 fn change_routes<D: Device>(
     rt: &HostRuntime,
     networks: [Network; 4],

@@ -11,11 +11,14 @@ use rule_model::{
 /// `V4(0x0a00_0000, 8)`, and 2001:db8::/32 is `V6(0x2001_0db8 << 96, 32)`. A manager has networks of one version.
 #[derive(Clone, Copy, Debug, PartialEq, Eq)]
 pub enum Network {
+    /// Of IPv4, with a length up to 32.
     V4(u32, u8),
+    /// Of IPv6, with a length up to 128.
     V6(u128, u8),
 }
 
-/// The route of a network to a port. It fails where the network is no prefix: too long, or with a bit set past its length.
+/// The route of a network to a port. It fails where the network is no prefix: too long, or with a bit set past its
+/// length.
 pub(crate) fn route_of(network: Network, port: u32) -> Result<Rule, PrefixFault>
     ensures route { IfOk result (λ rule. rule ≡ route_to network port) }
     ensures length { (result ≡ Err PrefixFault.Length) ↔ (longest_in network < length_in network) }

@@ -2,8 +2,8 @@
 
 ghost use Rattle.std.specs.Prelude.{◌≡◌};
 
+use rule_model::Entry;
 use tcam_device::{DeviceFault, Hardware, Write};
-use ternary_word::Entry;
 
 /// How many slots there are.
 pub const SLOTS: u32 = 8;

@@ -298,7 +298,8 @@ mod tests {
         Ok(())
     }
 
-    /// Prefixes that are written wrong, and those with bits past their length, which are told before what stands behind.
+    /// Prefixes that are written wrong, and those with bits past their length, which are told before what stands
+    /// behind.
     #[test]
     fn prefixes_that_are_none(rt: HostRuntime) -> Result<(), Fail> {
         let table: [(&[u8], Result<Option<RouteCommand>, WordFault>); 13] = [

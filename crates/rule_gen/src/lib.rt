@@ -22,6 +22,8 @@ use rule_store::Command;
 /// One of the commands: a change, or the commit that ends a batch.
 #[derive(Clone, Copy, Debug, PartialEq, Eq)]
 pub enum Made {
+    /// A change of the pending batch.
     Change(Command),
+    /// Ends a batch, and carries it out.
     Commit,
 }

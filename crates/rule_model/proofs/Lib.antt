@@ -17,3 +17,14 @@ pub mod RuleSets
 pub mod Routes
 pub mod Routes6
 pub mod Parts
+mod WordExamples
+mod WordBits
+mod Lanes
+mod WordRest
+pub mod Exact
+pub mod Masked
+pub mod Lookups
+pub mod ApartEntries
+pub mod Greedy
+pub mod FirstLevels
+pub mod CoverRest

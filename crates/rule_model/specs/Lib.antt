@@ -7,3 +7,6 @@ pub mod RuleSet
 pub mod Piece
 pub mod Routes
 pub mod Routes6
+pub mod Word
+pub mod Entry
+pub mod FirstBlock

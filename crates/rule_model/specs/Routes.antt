@@ -1,6 +1,6 @@
 -- IPv4 routes: of two that overlap, one lies in the other.
 use Rattle.std.specs.Prelude.{◌≡◌, ℕ, ◌<◌, IsTrue}
-use Rattle.slot_order.specs.Moves.{BoundsMemberChains}
+use Rattle.slot_order.specs.Chains.{BoundsMemberChains}
 use Rattle.rule_model.specs.declared.Rule.{Rule}
 use Rattle.rule_model.specs.AddressBlock.{IsAddressBlock, IsIpv4Block, block_holds}
 use Rattle.rule_model.specs.Rank.{ipv4_route_rank}

@@ -1,6 +1,6 @@
 -- IPv6 routes: of two that overlap, one lies in the other.
 use Rattle.std.specs.Prelude.{◌≡◌, ◌<◌}
-use Rattle.slot_order.specs.Moves.{BoundsMemberChains}
+use Rattle.slot_order.specs.Chains.{BoundsMemberChains}
 use Rattle.rule_model.specs.declared.Rule.{Rule}
 use Rattle.rule_model.specs.AddressBlock.{IsAddressBlock}
 use Rattle.rule_model.specs.Rank.{ipv6_route_rank}

@@ -2,7 +2,7 @@
 use Rattle.std.specs.Prelude.{ℕ, Bool, IsTrue, IsFalse, Option, MatchOption, List, [], ◌∷◌, Contains, IsPermutation, ◌≡◌, option_map, nat_lt, nat_eq}
 use Rattle.std.specs.List.{list_any, find, AllByRecursion}
 use Rattle.slot_order.specs.Order.{best}
-use Rattle.slot_order.specs.Moves.{IsChain, BoundsMemberChains}
+use Rattle.slot_order.specs.Chains.{IsChain, BoundsMemberChains}
 use Rattle.rule_model.specs.declared.Key.{Key}
 use Rattle.rule_model.specs.declared.Rule.{Rule}
 use Rattle.rule_model.specs.Rule.{rule_matches, Overlap}

@@ -36,8 +36,8 @@ pub fn piece_conditions(piece: &Piece)
     proto_fits(piece.proto);
 }
 
-/// What a set of rules answers is the result of a rule of it that matches the key, and that no other one which matches it
-/// exceeds in priority; and nothing only where none matches.
+/// What a set of rules answers is the result of a rule of it that matches the key, and that no other one which matches
+/// it exceeds in priority; and nothing only where none matches.
 pub fn answers_by_its_best_rule()
     ensures { AnswersByItsBestRule }
 {}

@@ -1,4 +1,5 @@
-//! Rules, packet keys and the parts that they are made of.
+//! Rules, packet keys and the parts that they are made of; the cover of a port range; and the entries of a ternary memory
+//! that stand for parts of rules.
 //!
 //! A rule matches a key where its five conditions hold: two address blocks, a protocol or any, two ranges of ports. A
 //! rule is stored as pieces, each with the same five conditions over parts of its ranges. Two rules, or two pieces,
@@ -11,7 +12,8 @@
 //! # How it stands
 //! Prefixes and port ranges are right by their types: no address bit past the length, no first port above the last. The
 //! definitions of matching, of covers, of rule sets and what a set answers, and of chains of overlapping rules are in
-//! `specs/`; `matches`, `overlaps` and their kin are true exactly where these hold.
+//! `specs/`; `matches`, `overlaps` and their kin are true exactly where these hold. `port_covers` cuts a range of ports
+//! into blocks, and `words` lays out search words and entries.
 //!
 //! # What it cost
 //! Both families of addresses share the types. An IPv4 address stands in the upper 32 bits of 128, so that a prefix of
@@ -20,13 +22,23 @@
 //!
 //! # What isn't here
 //! Sets of rules as a structure, and batches: those are `rule_store`'s.
+//!
+//! # Decided
+//! - **A priority is a [`Rank`] of two parts**, so that of two nested routes the longer is greater. An IPv6 route has
+//!   its length and all 128 bits of its address, an IPv4 one its length and 32, so each version has its own rank, rule
+//!   and way back, with the same laws: of routes that overlap one is nested in the other, so a chain has a member for
+//!   each length at most. `Prefix::v6` tests the length up to 128, then the bits past it, as `v4` does up to 32.
+//! - **Contracts see a `Prefix` as a plain block and a `Ports` as a plain range.** That they are right is the type's
+//!   invariant, which `addr`, `len`, `lo` and `hi` hand out.
 #![tactic(auto)]
 
 mod laws;
+mod port_covers;
 mod priorities;
 #[cfg(test)]
 mod tests;
 mod text;
+mod words;
 
 ghost use Rattle.std.specs.Prelude.{ℕ, ◌≡◌, ◌≢◌, ◌<◌, ◌≤◌, ◌^◌, ◌%◌, ◌-◌, ◌*◌, Some, None, Ok, Err, ◌↔◌, IsNone, IfSome, IfOk, IsTrue, not, nat_eq};
 ghost use Rattle.std.specs.Ordering.{nat_cmp};
@@ -43,6 +55,7 @@ pub use laws::{
     answers_by_its_best_rule, answers_in_any_order, ipv4_chains_are_short, ipv4_routes_are_nested,
     ipv6_chains_are_short, ipv6_routes_are_nested, key_fields, piece_conditions, rule_conditions,
 };
+pub use port_covers::{Cover, MOST_BLOCKS, cover, cover_size};
 pub use priorities::{
     ipv4_route_of, ipv4_route_rank, ipv6_route_of, ipv6_route_rank, ipv6_route_rule,
     list_number_of, list_rank, route_rule,
@@ -50,13 +63,14 @@ pub use priorities::{
 use std::cmp::Ordering;
 use std::marker::Model;
 use thiserror::Error;
+pub use words::{Entry, LANES, Word, entry_of, hits, word_of};
 
 /// A packet's address: an IPv6 address, or an IPv4 address in the upper 32 bits.
 pub type Addr = u128;
 
 /// One thing with three names: of a rule it is the priority, of a rule's pieces the rank, and of an entry in the memory
-/// the tag, by which a look-up tells whose entry hit. Ordered by `high`, then by `low`: of a route these are the length and
-/// the address, of a rule of an access list 0 and 2^32 less its sequence number.
+/// the tag, by which a look-up tells whose entry hit. Ordered by `high`, then by `low`: of a route these are the length
+/// and the address, of a rule of an access list 0 and 2^32 less its sequence number.
 #[derive(Clone, Copy, Debug)]
 pub struct Rank {
     pub high: u8,
@@ -197,8 +211,8 @@ impl Prefix {
         })
     }
 
-    /// The block of an IPv6 address (RFC 4291, section 2) and a length up to 128. Length comes for a greater length, and
-    /// HostBits for one that fits where a bit of the address past it is set (RFC 4291, section 2.3).
+    /// The block of an IPv6 address (RFC 4291, section 2) and a length up to 128. Length comes for a greater length,
+    /// and HostBits for one that fits where a bit of the address past it is set (RFC 4291, section 2.3).
     pub fn v6(addr: u128, len: u8) -> Result<Prefix, PrefixFault>
         ensures length { (result ≡ Err PrefixFault.Length) ↔ (128 < len) }
         ensures host_bits { (result ≡ Err PrefixFault.HostBits) ↔ ((len ≤ 128) × (addr % 2 ^ (128 - len) ≢ 0)) }
@@ -338,12 +352,14 @@ impl Ports {
 /// Which of a packet's two ports.
 #[derive(Clone, Copy, Debug, PartialEq, Eq)]
 pub enum Field {
+    /// The source port.
     Src,
+    /// The destination port.
     Dst,
 }
 
-/// A rule: a priority, five conditions on a packet's key (no protocol is any), and a result, which is what a packet gets
-/// that the rule decides.
+/// A rule: a priority, five conditions on a packet's key (no protocol is any), and a result, which is what a packet
+/// gets that the rule decides.
 #[derive(Clone, Copy, Debug, PartialEq, Eq)]
 pub struct Rule {
     pub priority: Rank,

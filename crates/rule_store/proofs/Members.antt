@@ -1,6 +1,6 @@
 -- The members of the set after a batch, and what an addition of a sound batch replaces.
 use Rattle.std.proofs.Common.{◌≡◌, ℕ, true, not, List, [], ◌∷◌, ◌++◌, map, filter, None, IsTrue, IsFalse, Contains, ◌⊎◌, ◌↔◌, inl, inr, refl, sym, ap, subst, ◌∙◌, ltb}
-use Rattle.std.proofs.lemmas.Bool.{cond-true, cond_both, not-true, not_from_false, or_cases, or_left, or_right, eq-eqb, eqb-true}
+use Rattle.std.proofs.lemmas.Bool.{cond-true, cond_both, not-true, not_from_false, or_cases, or_left, eqb-true}
 use Rattle.std.proofs.lemmas.List.{append_assoc}
 use Rattle.slot_order.proofs.Lists.{contains_head, contains_tail, contains_cases, contains_none}
 use Rattle.rule_model.specs.declared.Rule.{Rule}
@@ -131,12 +131,3 @@ additions-gone rules batch earlier (Del removed ∷ later) whole none priority h
 -- what a sound batch adds is absent or removed
 pub sound-gone : (rules : List Rule) (batch : List Command) (priority : ℕ) → IsSound rules batch → IsTrue (has_priority (additions batch) priority) → IsGone rules batch priority
 sound-gone rules batch priority sound has = additions-gone rules batch [] batch refl sound priority has
-
--- the priority of a member is one of the list's
-pub member-has : (rules : List Rule) (rule : Rule) → Contains rules rule → IsTrue (has_priority rules rule.priority)
-member-has [] rule member = absurd (contains_none rule member)
-member-has (first ∷ rules) rule member =
-    elim (contains_cases first rule rules member) [
-      | inl same ↦ or_left _ _ (eq-eqb first.priority rule.priority (ap (λ (r : Rule). r.priority) same))
-      | inr later ↦ or_right _ _ (member-has rules rule later)
-    ]

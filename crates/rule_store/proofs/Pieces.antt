@@ -14,9 +14,6 @@ use Rattle.rule_store.proofs.Counts.{count_by-left, count_by-products}
 
 -- bounds and sums of numbers that stand for covers, which a tactic would unfold
 
-pub along : (a b c : ℕ) → a ≡ b → b ≤ c → a ≤ c
-along a b c same least = omega arith
-
 rest-is : (fresh count all kept needed : ℕ) → fresh + count ≡ all → count ≡ kept → all ≡ needed → fresh + kept ≡ needed
 rest-is fresh count all kept needed both is_kept is_needed = omega arith
 

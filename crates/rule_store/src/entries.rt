@@ -8,8 +8,7 @@ ghost use Rattle.rule_store.specs.Common as common;
 ghost use Rattle.rule_store.specs.Verdict as verdict;
 
 use crate::{Batch, Command, Mode, Store};
-use range_cover::{Cover, cover};
-use rule_model::{Ports, Rule};
+use rule_model::{Cover, Ports, Rule, cover};
 
 // Whether a cover has a block.
 fn has_block(cover: &Cover, block: Ports) -> bool
@@ -56,8 +55,8 @@ pub fn entries_needed(mode: Mode, rule: &Rule) -> u64
     ensures most { result ≤ 900 }
 {
     match mode {
-        Mode::Cover => u64::from(range_cover::pieces(rule.sport))
-            * u64::from(range_cover::pieces(rule.dport)),
+        Mode::Cover => u64::from(rule_model::cover_size(rule.sport))
+            * u64::from(rule_model::cover_size(rule.dport)),
         Mode::Bits => 1,
     }
 }

@@ -12,6 +12,11 @@
 //!
 //! `entries_of` and `entries_added` count the entries of the memory that a set takes and that a batch adds:
 //! for a rule that replaces another only the pieces which that one doesn't have.
+//!
+//! # Decided
+//! - **A set is seen as its list by falling priority.** What it answers doesn't depend on that order.
+//! - **`need > free` is compared as `slots < used + need`**, which is right also where the set alone takes more than
+//!   there is.
 #![tactic(auto)]
 
 use rule_model::{Rank, Rule};
@@ -42,8 +47,11 @@ pub enum Mode {
 /// One change of a batch.
 #[derive(Clone, Copy, Debug, PartialEq, Eq)]
 pub enum Command {
+    /// Adds a rule.
     Add(Rule),
+    /// Gives the rule of a priority another result.
     Set { priority: Rank, result: u32 },
+    /// Removes the rule of a priority.
     Del(Rank),
 }
 

@@ -1,11 +1,9 @@
 -- What is handed out, by what was gathered.
-use Rattle.std.proofs.Common.{◌≡◌, ◌≢◌, ◌<◌, ◌≤◌, ◌+◌, ℕ, inl, Some, None, Ok, Option, Result, Err, List, [], ◌∷◌, ◌++◌, ◌==◌, length, take, drop, refl, ap, sym, ◌∙◌, append_assoc, append-nil, arith, length-take, drop-drop, subst}
+use Rattle.std.proofs.Common.{◌≡◌, ◌≢◌, ◌<◌, ◌≤◌, ◌+◌, ℕ, Some, Option, Result, Err, List, [], ◌∷◌, ◌++◌, ◌==◌, length, take, drop, refl, ap, sym, ◌∙◌, append_assoc, append-nil, arith, length-take, drop-drop, subst}
 use Rattle.std.proofs.lemmas.List.{take-append-drop}
 use Rattle.std.proofs.lemmas.Bool.Decides.{nat_tests}
 use Rattle.std.proofs.Math.Seq.{take-length}
-use Rattle.std.specs.List.{concat}
 use Rattle.std.specs.Io.KnownBytes.{IsAtEnd}
-use Rattle.std.proofs.KnownBytes.{Consumes-nil}
 use Rattle.script_lines.specs.declared.Line.{Line}
 use Rattle.script_lines.specs.declared.LineFault.{LineFault}
 use Rattle.script_lines.specs.declared.LineFault.TheVariants.{Read, ScriptTooLong, TooLong, BadByte}
@@ -151,22 +149,9 @@ follows-last seen old left after buffer n line before number pending same is use
 
 -- ---- by the pieces that were given
 
--- what was gathered, as pieces
-pub by-pieces : (old : HeldBytes) (buffer : List ℕ) (n : ℕ) (a b : Option (List ℕ)) (given0 given1 pieces : List (List ℕ)) (left after : List ℕ)
-    → Gathers old.before old.pending buffer a b given0 given1 pieces → IsScanned buffer n old.before → MayGive left pieces after → IsGathered old left after buffer n
-by-pieces old buffer n a b given0 given1 pieces left after is scan may = record { got = concat pieces; grown = is.grown; taken = may.bytes; scan = scan }
-
 pub gives-pieces : (before : ℕ) (old new : List ℕ) (a b : Option (List ℕ)) (given0 given1 pieces : List (List ℕ)) → Gathers before old new a b given0 given1 pieces → (HasEnd pieces → IsAtEnd b)
     → GivesPieces given0 given1 a b pieces
 gives-pieces before old new a b given0 given1 pieces is end = record { given = is.given; taken = is.taken; end = end }
-
--- nothing was read
-pub gives-none : (given : List (List ℕ)) (a : Option (List ℕ)) → GivesPieces given given a a []
-gives-none given a = record { given = sym (append-nil given); taken = Consumes-nil a; end = λ e. absurd e }
-
--- it was over before
-pub hands-over : (old : HeldBytes) (result : Result (Option Line) LineFault) → old.over ≢ over.Going → HandsByGiven old [] result old
-hands-over old result over = record { hands = λ going. absurd (over going); ended = λ e. absurd e; rests = λ _. refl; last = inl refl }
 
 hands-last-at : (old new : HeldBytes) (left after buffer : List ℕ) (n : ℕ) (line : NumberedLine) → IsGathered old left after buffer n → drop n buffer ≡ [] → after ≡ [] → n ≢ 0
     → line.text ≡ take n buffer → line.number ≡ old.number → new.pending ≡ [] → new.over ≡ over.Ended → HandsLast old left line new after
@@ -187,17 +172,6 @@ pub hands-last : (seen old new : HeldBytes) (left after buffer : List ℕ) (n : 
     → line.text ≡ take n buffer → line.number ≡ seen.number → new.pending ≡ [] → new.over ≡ over.Ended → HandsLast old left line new after
 hands-last seen old new left after buffer n line same is used none some text number empty ended =
     subst (λ h. HandsLast h left line new after) same (hands-last-at seen new left after buffer n line is used none some text number empty ended)
-
-hands-end-at : (old new : HeldBytes) (left after buffer : List ℕ) (n : ℕ) → IsGathered old left after buffer n → drop n buffer ≡ [] → n ≡ 0 → after ≡ [] → new.over ≡ over.Ended → Hands old left (Ok None) new after
-hands-end-at old new left after buffer n is used zero none ended = (
-  gathered old left after buffer n is ∙ ap (λ r. take n buffer ++ (r ++ after)) used ∙ ap (λ r. take n buffer ++ r) none ∙ ap (λ k. take k buffer ++ []) zero,
-  none,
-  ended,
-)
-
-pub hands-end : (seen old new : HeldBytes) (left after buffer : List ℕ) (n : ℕ) → seen ≡ old → IsGathered seen left after buffer n → drop n buffer ≡ [] → n ≡ 0 → after ≡ [] → new.over ≡ over.Ended
-    → Hands old left (Ok None) new after
-hands-end seen old new left after buffer n same is used zero none ended = subst (λ h. Hands h left (Ok None) new after) same (hands-end-at seen new left after buffer n is used zero none ended)
 
 hands-read-at : (old new : HeldBytes) (left after buffer : List ℕ) (n : ℕ) → IsGathered old left after buffer n → n ≡ length buffer → new.pending ≡ buffer → new.over ≡ over.Going → Hands old left (Err Read) new after
 hands-read-at old new left after buffer n is all same going =

@@ -2,7 +2,7 @@
 use Rattle.std.proofs.Common.{◌≡◌, ◌≢◌, ◌≤◌, ◌+◌, take, drop, length-append, arith, ℕ, List, [], ◌∷◌, ◌++◌, ◌⊎◌, inl, inr, Option, length, refl, ap, sym, ◌∙◌, append_assoc, append-nil, subst}
 use Rattle.std.specs.List.{concat}
 use Rattle.std.specs.Io.KnownBytes.{Consumes}
-use Rattle.std.proofs.KnownBytes.{Consumes-trans, Consumes-nil}
+use Rattle.std.proofs.KnownBytes.{Consumes-trans}
 use Rattle.script_lines.specs.Given.{HasEnd}
 use Rattle.script_lines.specs.Reader.{IsOpenLine}
 use Rattle.std.proofs.lemmas.List.{take-append-drop, take-append-le}
@@ -33,15 +33,6 @@ pub end-one : (x : List ℕ) → HasEnd (x ∷ []) → x ≡ []
 end-one x (inl e) = e
 end-one x (inr h) = absurd h
 
--- no read yet
-pub gathers-none : (before : ℕ) (held : List ℕ) (left : Option (List ℕ)) (given : List (List ℕ)) → Gathers before held held left left given given []
-gathers-none before held left given = record {
-  grown = sym (append-nil held);
-  given = sym (append-nil given);
-  taken = Consumes-nil left;
-  last = inl refl;
-}
-
 -- one more, where what was held and read before is a part of one line, and not the end
 pub gathers-more : (before : ℕ) (old mid new : List ℕ) (a b c : Option (List ℕ)) (given0 given1 given2 : List (List ℕ)) (pieces : List (List ℕ)) (piece : List ℕ)
     → Gathers before old mid a b given0 given1 pieces → (HasEnd pieces → ⊥) → IsOpenLine before mid → new ≡ mid ++ piece → Consumes b c piece → given2 ≡ given1 ++ piece ∷ []
@@ -51,17 +42,6 @@ gathers-more before old mid new a b c given0 given1 given2 pieces piece is open_
   given = given ∙ ap (λ l. l ++ piece ∷ []) is.given ∙ append_assoc given0 pieces (piece ∷ []);
   taken = subst (λ bytes. Consumes a c bytes) (sym (concat-one pieces piece)) (Consumes-trans a b c (concat pieces) piece is.taken taken);
   last = inr (pieces, piece, refl, subst (λ l. IsOpenLine before l) is.grown plain, open_end);
-}
-
--- a failed read
-pub gathers-same : (before : ℕ) (old mid : List ℕ) (a b c : Option (List ℕ)) (given0 given1 given2 : List (List ℕ)) (pieces : List (List ℕ))
-    → Gathers before old mid a b given0 given1 pieces → Consumes b c [] → given2 ≡ given1
-    → Gathers before old mid a c given0 given2 pieces
-gathers-same before old mid a b c given0 given1 given2 pieces is taken given = record {
-  grown = is.grown;
-  given = given ∙ is.given;
-  taken = subst (λ bytes. Consumes a c bytes) (append-nil (concat pieces)) (Consumes-trans a b c (concat pieces) [] is.taken taken);
-  last = is.last;
 }
 
 pub none-of : (xs : List ℕ) → length xs ≡ 0 → xs ≡ []

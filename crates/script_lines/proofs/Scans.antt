@@ -1,15 +1,11 @@
 -- What a scan comes to.
-use Rattle.std.proofs.Common.{◌≡◌, ◌<◌, ◌≤◌, ◌+◌, ◌-◌, ℕ, Bool, true, false, cond, suc, IsTrue, List, [], ◌∷◌, ◌++◌, length, take, drop, get_or, refl, ap, sym, ◌∙◌, add-one, arith, length-take, length-drop, subst}
+use Rattle.std.proofs.Common.{◌≡◌, ◌<◌, ◌≤◌, ◌+◌, ◌-◌, ℕ, Bool, true, false, cond, suc, IsTrue, List, [], ◌∷◌, ◌++◌, length, take, drop, get_or, refl, ap, sym, ◌∙◌, arith, length-take, length-drop, subst}
 use Rattle.std.specs.List.{AllByRecursion, prefix_len}
-use Rattle.std.proofs.Math.Seq.{drop-cons, take-add}
+use Rattle.std.proofs.Math.Seq.{take-add}
 use Rattle.std.proofs.lemmas.List.{get_or-take, get_or-drop, take-append-drop, take-append-le}
 use Rattle.std.proofs.lemmas.List.Sums.{prefix_len-le-length, prefix_len_stops}
 use Rattle.script_lines.specs.Reader.{is_of_line}
 use Rattle.script_lines.specs.Scan.{IsScanned}
-
--- the bytes from a place on
-pub next_of : (xs : List ℕ) (at : ℕ) → at < length xs → drop at xs ≡ get_or xs at 0 ∷ drop (at + 1) xs
-next_of xs at lt = rw (drop-cons xs at 0, add-one) refl
 
 plain-append : (line more : List ℕ) → AllByRecursion (λ byte. IsTrue (is_of_line byte)) line → AllByRecursion (λ byte. IsTrue (is_of_line byte)) more → AllByRecursion (λ byte. IsTrue (is_of_line byte)) (line ++ more)
 plain-append [] more h good = good

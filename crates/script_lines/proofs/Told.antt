@@ -1,16 +1,10 @@
 -- What is told of the bytes of a source or a sink, over several calls.
-use Rattle.std.proofs.Common.{Bool, true, false, ◌≡◌, ◌≤◌, ◌+◌, ℕ, List, length, take, drop, Option, Some, None, arith, length-drop, subst, sym, refl}
-use Rattle.std.specs.Io.KnownBytes.{Appends, Consumes}
+use Rattle.std.proofs.Common.{Bool, true, false, ◌≡◌, ◌≤◌, ◌+◌, ℕ, List, length, take, drop, Option, Some, arith, length-drop, subst, sym}
+use Rattle.std.specs.Io.KnownBytes.{Appends}
 use Rattle.script_lines.specs.Given.{counted}
 use Rattle.std.proofs.KnownBytes.{Appends-trans}
 use Rattle.std.proofs.Math.Seq.{take-add}
 use Rattle.std.proofs.lemmas.List.{take_all}
-
--- what was told stays told
-pub told_forward : (a b : Option (List ℕ)) (left : List ℕ) → (bytes : List ℕ) × Consumes a b bytes → a ≡ Some left → (mid : List ℕ) × (b ≡ Some mid)
-told_forward None b left takes e = let bad : None ≡ Some left = e in absurd (cc)
-told_forward (Some x) None left takes e = absurd takes.1
-told_forward (Some x) (Some y) left takes e = (y, refl)
 
 -- a piece is taken in two parts
 pub Appends-more : (a b c : Option (List ℕ)) (piece : List ℕ) (done n : ℕ) → Appends a b (take done piece) → Appends b c (take n (drop done piece)) → Appends a c (take (done + n) piece)

@@ -7,10 +7,10 @@ ghost use Rattle.script_lines.specs.Buffer.{Gains};
 use crate::{Failed, Source};
 use std::marker::Model;
 
-// A line and what a read gave beyond it.
+/// The bytes that a buffer has room for: a line, and what a read gave beyond it.
 pub const BUFFER_BYTES: usize = 4096;
 
-// Contracts see the bytes held, in their order.
+/// Bytes that were read and not used, at most `BUFFER_BYTES`, in room of its own. Contracts see them, in their order.
 #[derive(Drop)]
 pub struct Buffer {
     array: [u8; BUFFER_BYTES],
@@ -29,6 +29,7 @@ impl Model for Buffer {
 }
 
 impl Buffer {
+    /// A buffer that holds nothing.
     pub fn new() -> Buffer
         ensures { result ≡ [] }
     {
@@ -39,14 +40,14 @@ impl Buffer {
         }
     }
 
-    // The bytes held.
+    /// The bytes held, the first that was read first.
     pub fn bytes(&self) -> &[u8]
         ensures { result.now ≡ self.now }
     {
         &self.array[self.start..self.end]
     }
 
-    // Lets go of the first n bytes.
+    /// Lets go of the first `n` bytes held, at most all.
     pub fn skip(&mut self, n: usize)
         requires { n ≤ length self.old }
         ensures { self.new ≡ drop n self.old }
@@ -54,7 +55,8 @@ impl Buffer {
         self.start += n;
     }
 
-    // Reads more bytes after those held, and answers how many; none at the end of the input.
+    /// Reads once, behind the bytes held, of which there are fewer than `BUFFER_BYTES`, and answers how many bytes
+    /// came: at the end of the input 0. It fails exactly where the source does, and the bytes held are as before.
     pub fn fill<S: Source>(&mut self, source: &mut S) -> Result<usize, Failed>
         requires { length self.old < 4096 }
         ensures ok { IfOk result (λ n. Gains self.old self.new (S.left source.old) (S.left source.new) (S.given source.old) (S.given source.new) n) }

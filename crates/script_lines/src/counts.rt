@@ -4,7 +4,7 @@ ghost use Rattle.call_history.specs.Cause.{raised};
 
 use crate::Failed;
 
-// Counts a failure. The count stands still at its last value.
+/// Counts a failure, and answers it. A count at the end of its type stands still.
 pub fn fail(count: &mut u64) -> Failed
     ensures counted { count.new ≡ raised count.old }
     ensures later { count.old ≤ count.new }

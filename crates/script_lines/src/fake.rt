@@ -47,9 +47,8 @@ impl<'a> FailSource<'a> {
 impl Source for FailSource<'_> {
     ghost use Rattle.std.specs.Prelude.{◌≡◌, ◌↔◌, ◌≤◌, ◌<◌, length, min, Some, IsErr, IfOk, OnOk, OnErr};
     ghost use Rattle.std.specs.Io.KnownBytes.{ReadConsumes};
-    ghost use Rattle.call_history.specs.Cause.{HasCause};
+    ghost use Rattle.call_history.specs.Cause.{HasCause, raised};
     ghost use Rattle.script_lines.specs.Given.{Gives};
-    ghost use Rattle.call_history.specs.Cause.{raised};
     ghost use Rattle.call_history.specs.Calls.{IsNextListed, with_call};
 
     ghost left = { λ s. Some s.bytes };

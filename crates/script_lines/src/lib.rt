@@ -13,6 +13,12 @@
 //! What isn't told isn't claimed: std's input and output foretell nothing, and of a failed write they
 //! don't know what became of it. That `ReadFrom` and `WriteTo` ask std once in a call, take each of its
 //! errors for a failure, and flush each write, rests on their few lines: std keeps no count of these.
+//!
+//! # Decided
+//! - **A last line without a line feed ends the reading**: nothing is read after it, so no later read can fail behind
+//!   its act.
+//! - **A line's bytes are counted also where the source tells nothing** (`Lines::next`, `counts`). A line takes at
+//!   least one, so a script has no more commits than bytes, and fewer than a run counts.
 #![tactic(auto)]
 
 mod adapters;
@@ -70,8 +76,11 @@ pub enum LineFault {
 /// Whether lines go on, are at their end, or stopped at a fault.
 #[derive(Clone, Copy, Debug, PartialEq, Eq)]
 pub enum Over {
+    /// More lines may come.
     Going,
+    /// The input was at its end, and all of its lines were handed out.
     Ended,
+    /// A fault ended them.
     Stopped(LineFault),
 }
 

@@ -10,16 +10,20 @@ ghost use Rattle.script_lines.specs.Given.{HasEnd};
 use crate::buffer::Buffer;
 use crate::{Failed, LINE_BYTES, LineFault, SCRIPT_BYTES, Source};
 
-// What stands after the bytes of a line.
+/// What stands after the bytes of a line that are scanned.
 pub enum Found {
+    /// The line feed that ends it.
     LineFeed,
+    /// A byte that makes it faulty, of the line or past the script's limit.
     Fault(LineFault),
-    // Nothing yet.
+    /// Nothing yet.
     Open,
 }
 
-// Reads until the bytes held have a whole line at their front or a byte that is a fault, or until the
-// input is at its end. So many of the bytes held are scanned, before and after.
+/// Reads until the bytes held have a whole line at their front or a byte that is a fault, or until the input is at its
+/// end, where the answer is `Open`. So many of the bytes held are scanned, before and after. `before` bytes of the
+/// script came before those held, and `number` is that of the line, for its fault. Where no read is needed none is
+/// made. It fails exactly where the source does; what was read before is held, and all of it is scanned.
 pub fn gather<S: Source>(
     buffer: &mut Buffer,
     scanned: &mut usize,

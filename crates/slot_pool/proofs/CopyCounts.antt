@@ -1,7 +1,7 @@
 -- How many slots hold an id, as one of them changes.
-use Rattle.std.proofs.Common.{◌≡◌, ◌≢◌, ℕ, ◌+◌, ◌*◌, ◌<◌, ◌==◌, Option, None, Some, List, length, replicate, arith, refl, sym, ◌∙◌, ap}
+use Rattle.std.proofs.Common.{◌≡◌, ℕ, ◌+◌, ◌*◌, ◌<◌, ◌==◌, Option, None, Some, List, length, replicate, arith, refl, sym, ◌∙◌, ap}
 use Rattle.std.specs.Prelude.{cond, slice_set, slice_index_or}
-use Rattle.std.proofs.lemmas.Bool.{eq-eqb, false_from_ne_true, eqb-true}
+use Rattle.std.proofs.lemmas.Bool.{eq-eqb}
 use Rattle.std.proofs.lemmas.List.{get_or-replicate, get_or-set_other, length-replicate, length-set}
 use Rattle.std.proofs.lemmas.List.Sums.{sum_by-set, get_or-le-sum_by}
 use Rattle.std.proofs.lemmas.List.Folds.{sum_by-replicate}
@@ -16,9 +16,6 @@ one_of id held = cond (passes (λ x. x == id) held) 1 0
 
 one_same : (id : ℕ) → one_of id (Some id) ≡ 1
 one_same id = ap (λ b. cond b 1 0) (eq-eqb id id refl)
-
-one_other : (id x : ℕ) → x ≢ id → one_of id (Some x) ≡ 0
-one_other id x other = ap (λ b. cond b 1 0) (false_from_ne_true (x == id) (λ e. other (eqb-true x id e)))
 
 -- the count before and after one slot changes
 changed : (slots : Slots) (at id : ℕ) (held : Option ℕ) → at < length slots

@@ -13,6 +13,10 @@
 //! one, and erases a slot only once for each move, so the table is looked up at once, and only an id
 //! that leaves its home for another slot is searched for, behind it; one that goes isn't. An id past
 //! the table is searched for among the slots.
+//!
+//! # Decided
+//! - **A table of homes takes four bytes an id.** An id is searched for only where the count of its slots says that
+//!   another slot holds it, so an entry that goes costs no walk to the table's end.
 #![tactic(auto)]
 
 ghost use Rattle.std.specs.Prelude.{◌≡◌, ◌==◌, ℕ, ◌+◌, ◌<◌, ◌≤◌, None, Some, IfOk, length, replicate, slice_set, count_by, is_none};

@@ -2,6 +2,10 @@
 //!
 //! What `run` promises is proved; of these few lines nothing is said. What std's reader and writer do with the files is
 //! trusted.
+//!
+//! # Decided
+//! - **The device keeps no journal**: it is `Shadowed` over hardware that takes each write and holds nothing. What the
+//!   program takes for a write is what its plan keeps of it. Tests have `MemTcam`, whose journal they read.
 #![tactic(auto)]
 
 mod modelled;
@@ -35,8 +39,8 @@ fn process_words<R: Env + AllocGlobal>(rt: &R) -> Result<Vec<String>, AllocError
     }
 }
 
-/// Runs the process's words over standard input, standard output and a blank device in memory. Its journal is for proofs
-/// alone, and takes no memory.
+/// Runs the process's words over standard input, standard output and a blank device in memory. Its journal is for
+/// proofs alone, and takes no memory.
 fn run_process(rt: &HostRuntime) -> Result<Status, AllocError> {
     let words = process_words(rt)?;
     let mut source = ReadFrom::new(rt.stdin());

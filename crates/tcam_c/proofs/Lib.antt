@@ -1,4 +1,3 @@
 pub mod Handles
 pub mod Due
 pub mod Ways
-pub mod Calling

@@ -12,7 +12,7 @@ use Rattle.tcam_device.specs.State.{replay, apply, lookup}
 use Rattle.tcam_device.specs.declared.Action.{Action}
 use Rattle.tcam_device.specs.declared.Action.TheVariants.{Written, Drained}
 use Rattle.batch_order.specs.declared.Placement.{Placement}
-use Rattle.batch_order.specs.declared.Ready.{Ready}
+use Rattle.commit_writes.specs.declared.Done.{Done}
 use Rattle.batch_order.specs.declared.Refusal.{Refusal}
 use Rattle.batch_order.specs.declared.AbortFault.{AbortFault}
 use Rattle.batch_order.specs.declared.AbortFault.TheVariants as abort_fault
@@ -93,16 +93,16 @@ IsFreed (Some before) new code = (code ≡ 0) × (new ≡ None)
 
 -- The batch is judged and planned: the library's own clauses, with the code of the answer, and what is told of it. Before the
 -- first write each key is answered as before the call.
-abbrev pub Told : TcamNumbers → TcamNumbers → TcamRefusal → TcamRefusal → Result Ready Refusal → ℕ → Type 0
-Told numbers numbers' refusal refusal' (Ok ready) code =
-    (code ≡ 0) × (numbers' ≡ record { writes = ready.writes; words = ready.words; most = ready.most; span = ready.span }) × (refusal' ≡ refusal)
+abbrev pub Told : TcamNumbers → TcamNumbers → TcamRefusal → TcamRefusal → Result Done Refusal → ℕ → Type 0
+Told numbers numbers' refusal refusal' (Ok counts) code =
+    (code ≡ 0) × (numbers' ≡ record { writes = counts.writes; words = counts.words; most = counts.most; span = counts.span }) × (refusal' ≡ refusal)
 Told numbers numbers' refusal refusal' (Err fault) code =
     (code ≡ refusal_code fault) × (numbers' ≡ numbers) × IsTold fault refusal'
 
 abbrev pub Prepared : TcamNumbers → TcamNumbers → TcamRefusal → TcamRefusal → Driven → Driven → ℕ → Type 0
 Prepared numbers numbers' refusal refusal' before after code =
-    (judged : Result Ready Refusal) × Judges before.manager before.manager.held before.batch judged
-    × IfOk judged (λ ready. Prepares before ready after)
+    (judged : Result Done Refusal) × Judges before.manager before.manager.held before.batch judged
+    × IfOk judged (λ counts. Prepares before counts after)
     × OnErr judged (after ≡ before)
     × Told numbers numbers' refusal refusal' judged code
     × KeepsLive before.manager after.manager

@@ -12,8 +12,10 @@ use Rattle.rule_store.specs.declared.PushFault.{PushFault}
 use Rattle.rule_store.specs.declared.PushFault.TheVariants as push
 use Rattle.batch_order.specs.declared.Placement.{Placement}
 use Rattle.batch_order.specs.declared.Placement.TheVariants as placement
+use Rattle.rule_store.specs.declared.BatchFault.TheVariants.{Twice, Taken, Absent}
+use Rattle.readback.specs.declared.Rejection.TheVariants.{Unsound, Bits, Slots}
 use Rattle.batch_order.specs.declared.Refusal.{Refusal}
-use Rattle.batch_order.specs.declared.Refusal.TheVariants.{Busy, Twice, Taken, Absent, Bits, Slots, Memory}
+use Rattle.batch_order.specs.declared.Refusal.TheVariants.{Busy, Rejected, Memory}
 use Rattle.tcam_c.specs.declared.plain.TcamRule.{TcamRule}
 
 -- the code of a push
@@ -25,11 +27,11 @@ push_code (Err push.Memory) = 11
 -- the code of a refusal
 abbrev pub refusal_code : Refusal → ℕ
 refusal_code (Busy left) = 12
-refusal_code (Twice rank) = 13
-refusal_code (Taken rank) = 14
-refusal_code (Absent rank) = 15
-refusal_code (Bits field needed free) = 16
-refusal_code (Slots needed free) = 17
+refusal_code (Rejected (Unsound (Twice rank))) = 13
+refusal_code (Rejected (Unsound (Taken rank))) = 14
+refusal_code (Rejected (Unsound (Absent rank))) = 15
+refusal_code (Rejected (Bits field needed free)) = 16
+refusal_code (Rejected (Slots needed free)) = 17
 refusal_code Memory = 11
 
 -- a prefix of IPv4: no bit of the address past the length is set

@@ -9,7 +9,7 @@ use Rattle.tcam_device.specs.Insertion.{is_table_write}
 use Rattle.tcam_device.specs.Flight.{Flight, writes_in}
 use Rattle.commit_writes.specs.InFlight.{ArePartOf}
 use Rattle.commit_writes.specs.Undo.{restoring}
-use Rattle.batch_order.specs.declared.Ready.{Ready}
+use Rattle.commit_writes.specs.declared.Done.{Done}
 use Rattle.batch_order.specs.Managed.{Managed, HeldCommit, Holds, IsOn, actions_due, live_now}
 use Rattle.batch_order.specs.declared.AbortFault.{AbortFault}
 use Rattle.batch_order.specs.Steps.{Aborts, current_back}
@@ -89,15 +89,15 @@ abbrev pub settled : Managed → Managed
 settled manager = settled_of manager.held manager
 
 -- A batch was taken: it is planned as the manager's call says, and a plan with nothing to make has finished.
-pub record Plans (old : Managed) (batch : List Command) (ready : Ready) (new : Managed) : Type 0 where
+pub record Plans (old : Managed) (batch : List Command) (counts : Done) (new : Managed) : Type 0 where
   pub planned : Managed
-  pub holds : Holds old batch ready planned
+  pub holds : Holds old batch counts planned
   pub settled_is : new ≡ settled planned
   pub way_back : WayBackFrom old.state new
 
 -- and the batch is empty then
-pub record Prepares (old : Driven) (ready : Ready) (new : Driven) : Type 0 where
-  pub plans : Plans old.manager old.batch ready new.manager
+pub record Prepares (old : Driven) (counts : Done) (new : Driven) : Type 0 where
+  pub plans : Plans old.manager old.batch counts new.manager
   pub events : new.events ≡ old.events
   pub batch : new.batch ≡ []
 

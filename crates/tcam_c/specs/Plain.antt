@@ -4,12 +4,14 @@ use Rattle.rule_model.specs.Rank.{rank_of}
 use Rattle.rule_model.specs.RuleSet.{Answer}
 use Rattle.rule_model.specs.declared.Field.{Field}
 use Rattle.rule_model.specs.declared.Field.TheVariants.{Src, Dst}
-use Rattle.ternary_word.specs.declared.Entry.{Entry}
+use Rattle.rule_model.specs.declared.words.Entry.{Entry}
 use Rattle.tcam_device.specs.declared.Action.{Action}
 use Rattle.tcam_device.specs.declared.Action.TheVariants.{Written, Drained}
 use Rattle.tcam_device.specs.declared.Write.TheVariants.{Slot, Table}
+use Rattle.rule_store.specs.declared.BatchFault.TheVariants.{Twice, Taken, Absent}
+use Rattle.readback.specs.declared.Rejection.TheVariants.{Unsound, Bits, Slots}
 use Rattle.batch_order.specs.declared.Refusal.{Refusal}
-use Rattle.batch_order.specs.declared.Refusal.TheVariants.{Busy, Twice, Taken, Absent, Bits, Slots, Memory}
+use Rattle.batch_order.specs.declared.Refusal.TheVariants.{Busy, Rejected, Memory}
 use Rattle.tcam_c.specs.declared.plain.TcamTag.{TcamTag}
 use Rattle.tcam_c.specs.declared.plain.TcamWrite.{TcamWrite}
 use Rattle.tcam_c.specs.declared.plain.TcamAnswer.{TcamAnswer}
@@ -82,10 +84,10 @@ IsTagged rank told = IsTag rank told.tag × (told ≡ record no_refusal { tag = 
 -- what a refusal tells besides its code, and 0 else
 abbrev pub IsTold : Refusal → TcamRefusal → Type 0
 IsTold (Busy left) told = told ≡ record no_refusal { left = left }
-IsTold (Twice rank) told = IsTagged rank told
-IsTold (Taken rank) told = IsTagged rank told
-IsTold (Absent rank) told = IsTagged rank told
-IsTold (Bits field needed free) told =
+IsTold (Rejected (Unsound (Twice rank))) told = IsTagged rank told
+IsTold (Rejected (Unsound (Taken rank))) told = IsTagged rank told
+IsTold (Rejected (Unsound (Absent rank))) told = IsTagged rank told
+IsTold (Rejected (Bits field needed free)) told =
     told ≡ record no_refusal { field = field_code field; need = needed; free = free }
-IsTold (Slots needed free) told = told ≡ record no_refusal { need = needed; free = free }
+IsTold (Rejected (Slots needed free)) told = told ≡ record no_refusal { need = needed; free = free }
 IsTold Memory told = told ≡ no_refusal

@@ -3,7 +3,7 @@
 ghost use Rattle.std.specs.Prelude.{◌≡◌};
 ghost use Rattle.tcam_c.specs.Codes.{push_code, refusal_code, mode_by, placement_by};
 
-use batch_order::{Mode, Placement, Refusal};
+use batch_order::{BatchFault, Mode, Placement, Refusal, Rejection};
 use rule_store::PushFault;
 
 /// Done.
@@ -70,11 +70,13 @@ pub(crate) fn code_of_refusal(refusal: &Refusal) -> u32
 {
     match refusal {
         Refusal::Busy { .. } => BUSY,
-        Refusal::Twice(_) => TWICE,
-        Refusal::Taken(_) => TAKEN,
-        Refusal::Absent(_) => ABSENT,
-        Refusal::Bits { .. } => BITS,
-        Refusal::Slots { .. } => SLOTS,
+        Refusal::Rejected(Rejection::Unsound(fault)) => match fault {
+            BatchFault::Twice(_) => TWICE,
+            BatchFault::Taken(_) => TAKEN,
+            BatchFault::Absent(_) => ABSENT,
+        },
+        Refusal::Rejected(Rejection::Bits { .. }) => BITS,
+        Refusal::Rejected(Rejection::Slots { .. }) => SLOTS,
         Refusal::Memory => MEMORY,
     }
 }

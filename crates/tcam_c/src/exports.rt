@@ -21,9 +21,9 @@ use rule_model::{Key, list_rank};
 use rule_store::Command;
 use std::alloc::Global;
 
-/// Makes a manager of a blank memory with so many slots, 1 to 4,096, and no rules. Mode 0 cuts port ranges by covers, 1 by
-/// bits; placement 0 aims at the middle of a gap, 1 at the slot of a rule's rank. A handle that has a manager stays as it
-/// is, and so does one for which an argument is wrong or memory is wanting.
+/// Makes a manager of a blank memory with so many slots, 1 to 4,096, and no rules. Mode 0 cuts port ranges by covers, 1
+/// by bits; placement 0 aims at the middle of a gap, 1 at the slot of a rule's rank. A handle that has a manager stays
+/// as it is, and so does one for which an argument is wrong or memory is wanting.
 #[unsafe(no_mangle)]
 pub extern "C" fn tcam_c_new(
     manager: &mut TcamManager,
@@ -200,8 +200,8 @@ pub extern "C" fn tcam_c_clear(manager: &mut TcamManager, alloc: Global) -> u32
     OK
 }
 
-/// Has the batch judged and planned, and takes all memory that its commit needs. Where it is taken the numbers are written,
-/// and the batch is empty then; else what the refusal tells is, and the batch and all else stay as they were.
+/// Has the batch judged and planned, and takes all memory that its commit needs. Where it is taken the numbers are
+/// written, and the batch is empty then; else what the refusal tells is, and the batch and all else stay as they were.
 #[unsafe(no_mangle)]
 pub extern "C" fn tcam_c_prepare(
     manager: &mut TcamManager,
@@ -216,8 +216,8 @@ pub extern "C" fn tcam_c_prepare(
         return NO_MANAGER;
     };
     let code = match session.prepare() {
-        Ok(ready) => {
-            *numbers = numbers_of(&ready);
+        Ok(counts) => {
+            *numbers = numbers_of(&counts);
             OK
         }
         Err(fault) => {
@@ -229,8 +229,8 @@ pub extern "C" fn tcam_c_prepare(
     code
 }
 
-/// Tells what is due: a write, a drain, or nothing where no commit is under way. Of a commit that is turned round it is an
-/// undo write. It changes nothing else, and takes no memory.
+/// Tells what is due: a write, a drain, or nothing where no commit is under way. Of a commit that is turned round it is
+/// an undo write. It changes nothing else, and takes no memory.
 #[unsafe(no_mangle)]
 pub extern "C" fn tcam_c_next(
     manager: &mut TcamManager,
@@ -248,8 +248,8 @@ pub extern "C" fn tcam_c_next(
     OK
 }
 
-/// The write that is due was made: what comes behind it is due then, or the commit has come to its end. Where a drain is
-/// due, or nothing, the code says so, and nothing changes. It takes no memory.
+/// The write that is due was made: what comes behind it is due then, or the commit has come to its end. Where a drain
+/// is due, or nothing, the code says so, and nothing changes. It takes no memory.
 #[unsafe(no_mangle)]
 pub extern "C" fn tcam_c_made(manager: &mut TcamManager, alloc: Global) -> u32
     ensures { Called Tells manager.old.held.session manager.new.held.session result }
@@ -269,8 +269,8 @@ pub extern "C" fn tcam_c_made(manager: &mut TcamManager, alloc: Global) -> u32
     code
 }
 
-/// The drain that is due was made: no look-up whose word was made before is still to be searched. Where a write is due, or
-/// nothing, the code says so, and nothing changes. It takes no memory.
+/// The drain that is due was made: no look-up whose word was made before is still to be searched. Where a write is due,
+/// or nothing, the code says so, and nothing changes. It takes no memory.
 #[unsafe(no_mangle)]
 pub extern "C" fn tcam_c_drained(manager: &mut TcamManager, alloc: Global) -> u32
     ensures { Called TellsDrain manager.old.held.session manager.new.held.session result }
@@ -290,10 +290,10 @@ pub extern "C" fn tcam_c_drained(manager: &mut TcamManager, alloc: Global) -> u3
     code
 }
 
-/// Turns the commit under way round: from now on the writes that were told as made are undone, the last one first, and no drain
-/// is due; once they are the rules are the old ones. It tells how many there are, and with none no commit is under way. Where
-/// the commit is turned round already the code says so, with how many are left, and where none is under way; then nothing
-/// changes. It takes no memory.
+/// Turns the commit under way round: from now on the writes that were told as made are undone, the last one first, and
+/// no drain is due; once they are the rules are the old ones. It tells how many there are, and with none no commit is
+/// under way. Where the commit is turned round already the code says so, with how many are left, and where none is
+/// under way; then nothing changes. It takes no memory.
 #[unsafe(no_mangle)]
 pub extern "C" fn tcam_c_abort(manager: &mut TcamManager, left: &mut u64, alloc: Global) -> u32
     ensures turned { Called (Turns left.old left.new) manager.old.held.session manager.new.held.session result }

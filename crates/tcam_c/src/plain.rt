@@ -3,10 +3,9 @@
 ghost use Rattle.std.specs.Prelude.{◌≡◌, Some};
 ghost use Rattle.tcam_c.specs.Plain.{IsDue, IsAnswer, IsTag, IsTold, field_code};
 
-use batch_order::{Ready, Refusal};
-use rule_model::{Field, Rank};
+use batch_order::{BatchFault, Done, Refusal, Rejection};
+use rule_model::{Entry, Field, Rank};
 use tcam_device::{Action, Write};
-use ternary_word::Entry;
 
 /// A tag, which is the priority of the rule whose entry it is: of 136 bits, the eight upper ones and twice 64.
 #[repr(C)]
@@ -17,9 +16,8 @@ pub struct TcamTag {
     pub low_lower: u64,
 }
 
-/// What is due, by its kind: nothing, an entry that a slot gets, an erase of a slot, a word that a table gets at a port, or
-/// a drain.
-/// Fields that the kind has no use for are 0.
+/// What is due, by its kind: nothing, an entry that a slot gets, an erase of a slot, a word that a table gets at a
+/// port, or a drain. Fields that the kind has no use for are 0.
 #[repr(C)]
 #[derive(Clone, Copy)]
 pub struct TcamWrite {
@@ -54,7 +52,8 @@ pub struct TcamAnswer {
     pub tag: TcamTag,
 }
 
-/// A rule of an access list: its number, two prefixes, a protocol of which 256 is any, two ranges of ports, and a result.
+/// A rule of an access list: its number, two prefixes, a protocol of which 256 is any, two ranges of ports, and a
+/// result.
 #[repr(C)]
 #[derive(Clone, Copy)]
 pub struct TcamRule {
@@ -71,8 +70,8 @@ pub struct TcamRule {
     pub result: u32,
 }
 
-/// The numbers of a commit: its writes and those to the translation tables, the writes of its longest insertion, and the
-/// greatest crossing span of one.
+/// The numbers of a commit: its writes and those to the translation tables, the writes of its longest insertion, and
+/// the greatest crossing span of one.
 #[repr(C)]
 #[derive(Clone, Copy)]
 pub struct TcamNumbers {
@@ -82,8 +81,8 @@ pub struct TcamNumbers {
     pub span: u32,
 }
 
-/// What a refusal tells besides its code: the writes that are left where a commit is under way, the tag of the rule that is
-/// at fault, or how many bits of a field or slots are needed and free.
+/// What a refusal tells besides its code: the writes that are left where a commit is under way, the tag of the rule
+/// that is at fault, or how many bits of a field or slots are needed and free.
 #[repr(C)]
 #[derive(Clone, Copy)]
 pub struct TcamRefusal {
@@ -205,14 +204,14 @@ pub(crate) fn answer_of(answer: Option<(Rank, u32)>) -> TcamAnswer
 }
 
 /// The numbers of a commit, for C.
-pub(crate) fn numbers_of(ready: &Ready) -> TcamNumbers
-    ensures { result ≡ record { writes = ready.now.writes; words = ready.now.words; most = ready.now.most; span = ready.now.span } }
+pub(crate) fn numbers_of(counts: &Done) -> TcamNumbers
+    ensures { result ≡ record { writes = counts.now.writes; words = counts.now.words; most = counts.now.most; span = counts.now.span } }
 {
     TcamNumbers {
-        writes: ready.writes,
-        words: ready.words,
-        most: ready.most,
-        span: ready.span,
+        writes: counts.writes,
+        words: counts.words,
+        most: counts.most,
+        span: counts.span,
     }
 }
 
@@ -222,19 +221,21 @@ pub(crate) fn refusal_of(refusal: &Refusal) -> TcamRefusal
 {
     match *refusal {
         Refusal::Busy { left } => TcamRefusal { left, ..NO_REFUSAL },
-        Refusal::Twice(priority) | Refusal::Taken(priority) | Refusal::Absent(priority) => {
-            TcamRefusal {
+        Refusal::Rejected(Rejection::Unsound(fault)) => match fault {
+            BatchFault::Twice(priority)
+            | BatchFault::Taken(priority)
+            | BatchFault::Absent(priority) => TcamRefusal {
                 tag: tag_of(priority),
                 ..NO_REFUSAL
-            }
-        }
-        Refusal::Bits { field, need, free } => TcamRefusal {
+            },
+        },
+        Refusal::Rejected(Rejection::Bits { field, need, free }) => TcamRefusal {
             field: field_number(field),
             need,
             free,
             ..NO_REFUSAL
         },
-        Refusal::Slots { need, free } => TcamRefusal {
+        Refusal::Rejected(Rejection::Slots { need, free }) => TcamRefusal {
             need,
             free,
             ..NO_REFUSAL

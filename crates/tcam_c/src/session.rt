@@ -10,7 +10,7 @@ ghost use Rattle.tcam_c.specs.Driven.{Prepares, GoesOn, IsEnded, KeepsLive, due_
 
 use crate::outside::Outside;
 use crate::steps::{DueKind, abort, due, go_on, kind_due, prepare};
-use batch_order::{AbortFault, Manager, Mode, Placement, Ready, Refusal};
+use batch_order::{AbortFault, Done, Manager, Mode, Placement, Refusal};
 use memory_tcam::Shadowed;
 use rule_model::{Key, Rank};
 use rule_store::{Batch, Command, PushFault};
@@ -38,8 +38,8 @@ impl Model for Session {
 }
 
 impl Session {
-    /// A manager of a blank memory with so many slots in use and no rules, and an empty batch. It fails only for want of
-    /// memory.
+    /// A manager of a blank memory with so many slots in use and no rules, and an empty batch. It fails only for want
+    /// of memory.
     pub(crate) fn new(
         alloc: Global,
         slots: u32,
@@ -80,17 +80,19 @@ impl Session {
 
     /// Has the batch judged and planned. Where it is taken the batch is empty then, and a commit with nothing to make
     /// has finished. A refusal leaves all as it was.
-    pub(crate) fn prepare(&mut self) -> Result<Ready, Refusal>
+    pub(crate) fn prepare(&mut self) -> Result<Done, Refusal>
         ensures judged { Judges self.old.manager self.old.manager.held self.old.batch result }
-        ensures ready { IfOk result (λ ready. Prepares self.old ready self.new) }
+        ensures ready { IfOk result (λ counts. Prepares self.old counts self.new) }
         ensures refused { OnErr result (self.new ≡ self.old) }
         ensures keeps { KeepsLive self.old.manager self.new.manager }
         ensures before { IsServing self.old }
         ensures serves { IsServing self.new }
     {
-        let ready = prepare(&mut self.manager, &self.batch, &mut self.device)?;
-        self.batch.clear();
-        Ok(ready)
+        let answer = prepare(&mut self.manager, &self.batch, &mut self.device);
+        if answer.is_ok() {
+            self.batch.clear();
+        }
+        answer
     }
 
     /// The write or the drain that is due, or None where no commit is under way.
@@ -115,8 +117,8 @@ impl Session {
         kind_due(&self.manager)
     }
 
-    /// The write or the drain that is due was made: what comes behind it is due then, or the commit has come to its end. It
-    /// takes no memory.
+    /// The write or the drain that is due was made: what comes behind it is due then, or the commit has come to its
+    /// end. It takes no memory.
     pub(crate) fn go_on(&mut self)
         requires { IsSome (due_of self.old.manager.held) }
         ensures on { GoesOn self.old self.new }
@@ -125,8 +127,8 @@ impl Session {
         go_on(&mut self.manager, &mut self.device);
     }
 
-    /// Turns the commit under way round: from now on its undo writes are due, the last one first, and no drain. The answer is
-    /// how many they are, and with none the commit is over. It takes no memory.
+    /// Turns the commit under way round: from now on its undo writes are due, the last one first, and no drain. The
+    /// answer is how many they are, and with none the commit is over. It takes no memory.
     pub(crate) fn abort(&mut self) -> Result<u64, AbortFault>
         ensures turned { TurnsBy self.old self.old.manager.held result self.new }
         ensures before { IsServing self.old }

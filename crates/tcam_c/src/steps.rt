@@ -9,7 +9,7 @@ ghost use Rattle.batch_order.specs.Steps.{next_of};
 ghost use Rattle.tcam_c.specs.Driven.{IsDriven, KeepsLive, KeepsWayBack, KeepsWords, Plans, TakesBack, due_actions, due_of, made_of, settled, stepped_of, kind_of_due};
 
 use crate::outside::Outside;
-use batch_order::{AbortFault, Manager, Ready, Refusal};
+use batch_order::{AbortFault, Done, Manager, Refusal};
 use memory_tcam::Shadowed;
 use rule_store::Batch;
 use tcam_device::{Action, DeviceFault};
@@ -19,10 +19,10 @@ pub(crate) fn prepare(
     manager: &mut Manager,
     batch: &Batch,
     device: &mut Shadowed<Outside>,
-) -> Result<Ready, Refusal>
+) -> Result<Done, Refusal>
     requires driven { IsDriven manager.old device.old.slots device.old.events device.old.flight device.old.spare }
     ensures judged { Judges manager.old manager.old.held batch.now result }
-    ensures ready { IfOk result (λ ready. Plans manager.old batch.now ready manager.new) }
+    ensures ready { IfOk result (λ counts. Plans manager.old batch.now counts manager.new) }
     ensures refused { OnErr result (manager.new ≡ manager.old) }
     ensures keeps { KeepsLive manager.old manager.new }
     ensures events { device.new.events ≡ device.old.events }
@@ -30,9 +30,11 @@ pub(crate) fn prepare(
     ensures before { Serves (replay manager.old.slots (writes_in device.old.events)) manager.old.rules manager.old.held }
     ensures serves { Serves (replay manager.new.slots (writes_in device.new.events)) manager.new.rules manager.new.held }
 {
-    let ready = manager.prepare(batch, device)?;
-    settle(manager, device);
-    Ok(ready)
+    let answer = manager.prepare(batch, device);
+    if answer.is_ok() {
+        settle(manager, device);
+    }
+    answer
 }
 
 /// Turns the commit under way round. With no write made it is over at once.
@@ -53,8 +55,8 @@ pub(crate) fn abort(
     turned
 }
 
-/// What is due of a commit under way, forward or back: its next write, or its drain. None comes where it has nothing left,
-/// and where no commit is under way.
+/// What is due of a commit under way, forward or back: its next write, or its drain. None comes where it has nothing
+/// left, and where no commit is under way.
 pub(crate) fn due(manager: &Manager) -> Option<Action>
     ensures due { result ≡ due_of manager.now.held }
     ensures in_use { IfSome (next_of manager.now.held) (IsInUse manager.now.slots) }
@@ -77,7 +79,9 @@ pub(crate) fn due(manager: &Manager) -> Option<Action>
 pub(crate) enum DueKind {
     /// No commit is under way, or it has nothing left.
     Nothing,
+    /// A write, which the caller makes.
     Write,
+    /// A drain, for which the caller waits.
     Drain,
 }
 

@@ -21,7 +21,7 @@ use Rattle.std.proofs.lemmas.Option.{none-some}
 use Rattle.std.proofs.Math.Seq.{take-nil}
 use Rattle.slot_order.proofs.Lists.{contains_none}
 use Rattle.slot_pool.specs.Arrangement.{Slots}
-use Rattle.ternary_word.specs.declared.Entry.{Entry}
+use Rattle.rule_model.specs.declared.words.Entry.{Entry}
 use Rattle.tcam_device.specs.Order.{IsOrdered, HasOneTwin}
 use Rattle.tcam_device.specs.declared.Write.{Write}
 use Rattle.tcam_device.proofs.States.{IsState-blank}

@@ -9,7 +9,6 @@ use Rattle.tcam_device.specs.declared.Action.{Action}
 use Rattle.replay.specs.declared.Act.{Act}
 use Rattle.replay.specs.declared.RunFault.{RunFault}
 use Rattle.replay.specs.declared.RunFault.TheVariants as run_fault
-use Rattle.replay.specs.Running.{limit_text}
 use Rattle.replay.specs.Script.{ScriptEnd, Whole, FaultAt, Reading, NumberedAct, byte_end, script_of, pending_after, probes_after, limit_fault}
 use Rattle.replay.specs.Text.{fault_line}
 use Rattle.replay.specs.Effects.{Setting, printed}
@@ -44,16 +43,13 @@ closes-script line result before after now (inr c) (inl d) = let e : WriteFault 
 closes-script line result before after now (inr c) (inr d) = let e : WriteFault ≡ Refused = sym c.0 ∙ d in absurd (cc)
 
 -- a fault of an act is no end of the input
-not-whole : {now : List ℕ} (why : RunFault) → limit_text (Err why) ≡ None → (status_of_fault why ≡ Done) ⊎ (status_of_fault why ≡ Refused) → now ≡ []
-not-whole run_fault.Sink room (inl e) = absurd (cc)
-not-whole run_fault.Sink room (inr e) = absurd (cc)
-not-whole run_fault.Device room (inl e) = absurd (cc)
-not-whole run_fault.Device room (inr e) = absurd (cc)
-not-whole run_fault.Memory room (inl e) = absurd (cc)
-not-whole run_fault.Memory room (inr e) = absurd (cc)
-not-whole run_fault.BatchFull room e = absurd (cc)
-not-whole run_fault.ProbesFull room e = absurd (cc)
-not-whole (run_fault.Held left) room e = absurd (cc)
+not-whole : {now : List ℕ} (why : RunFault) → (status_of_fault why ≡ Done) ⊎ (status_of_fault why ≡ Refused) → now ≡ []
+not-whole run_fault.Sink (inl e) = absurd (cc)
+not-whole run_fault.Sink (inr e) = absurd (cc)
+not-whole run_fault.Device (inl e) = absurd (cc)
+not-whole run_fault.Device (inr e) = absurd (cc)
+not-whole run_fault.Memory (inl e) = absurd (cc)
+not-whole run_fault.Memory (inr e) = absurd (cc)
 
 module _ (setting : Setting) (slots : ℕ) (bytes : List ℕ) (old : HeldBytes) (left : List ℕ) (last : Progress) (events : List Action) (start before : Option (List ℕ)) (s : SoFar setting slots bytes old left last events start before) where
   ends-by : (taken now : List ℕ) (result : Status) (events_new : List Action) (after : Option (List ℕ))
@@ -198,13 +194,13 @@ module _ (setting : Setting) (slots : ℕ) (bytes : List ℕ) (old : HeldBytes) 
       here = act-here (reading setting.family) bytes old left (numbered line) new now act s.acts _ _ going.1 (hands going.0) is room
 
       -- by its fault
-      pub exit-stopped : (taken : List ℕ) (why : RunFault) → limit_text (Err why) ≡ None → Stops slots setting last act why events events_new before after
+      pub exit-stopped : (taken : List ℕ) (why : RunFault) → Stops slots setting last act why events events_new before after
           → Ends setting slots bytes taken now (status_of_fault why) events_new start after
-      exit-stopped taken why full is =
+      exit-stopped taken why is =
           ends-by taken now (status_of_fault why) events_new after
           (stopped-outcome setting slots (script_of (reading setting.family) bytes) (script_so_far (reading setting.family) taken) (acts_only s.acts) s.effects last events start before s.run s.events_is s.report
-          act here.0 here.1 events_new after why full is)
-          (not-whole why full)
+          act here.0 here.1 events_new after why is)
+          (not-whole why)
 
       pub wants-next : Wants setting last act events events_new before after → WantsNext setting s.acts bytes last events events_new before after
       wants-next wants = record { act = act; later = here.0; acts_are = here.1; wants = wants }

@@ -1,45 +1,40 @@
 -- The counts of failures, by the status that a fault of an act gives.
-use Rattle.std.proofs.Common.{◌≡◌, ◌≢◌, ℕ, Option, Some, None, Result, Err, List, [], ◌++◌, length, refl, sym, ap, ◌∙◌, subst}
+use Rattle.std.proofs.Common.{◌≡◌, ◌≢◌, ℕ, Option, Some, Result, Err, List, [], ◌++◌, length, refl, sym, ap, ◌∙◌, subst}
 use Rattle.tcam_device.specs.declared.Write.{Write}
 use Rattle.batch_order.specs.CarriedOut.{IsTried}
+use Rattle.replay.specs.declared.ActFault.{ActFault}
+use Rattle.replay.specs.declared.ActFault.TheVariants.{Stopped}
 use Rattle.replay.specs.declared.RunFault.{RunFault}
 use Rattle.replay.specs.declared.RunFault.TheVariants as fault
 use Rattle.replay.specs.Outside.{Leaves}
-use Rattle.replay.specs.Running.{limit_text}
 use Rattle.replay.proofs.Leaving.{leaves-as, leaves-line, leaves-then}
 use Rattle.tcam_cli.specs.declared.Status.{Status}
 use Rattle.tcam_cli.specs.declared.Status.TheVariants.{WriteFault, DeviceFault}
 use Rattle.tcam_cli.specs.Turns.{ClosesReport, status_of_fault}
 
-sink-fault : (why : RunFault) → limit_text (Err why) ≡ None → status_of_fault why ≡ WriteFault → why ≡ fault.Sink
-sink-fault fault.Sink room e = refl
-sink-fault fault.Device room e = absurd (cc)
-sink-fault fault.Memory room e = absurd (cc)
-sink-fault fault.BatchFull room e = absurd (cc)
-sink-fault fault.ProbesFull room e = absurd (cc)
-sink-fault (fault.Held left) room e = absurd (cc)
+sink-fault : (why : RunFault) → status_of_fault why ≡ WriteFault → why ≡ fault.Sink
+sink-fault fault.Sink e = refl
+sink-fault fault.Device e = absurd (cc)
+sink-fault fault.Memory e = absurd (cc)
 
-device-fault : (why : RunFault) → limit_text (Err why) ≡ None → status_of_fault why ≡ DeviceFault → why ≡ fault.Device
-device-fault fault.Device room e = refl
-device-fault fault.Sink room e = absurd (cc)
-device-fault fault.Memory room e = absurd (cc)
-device-fault fault.BatchFull room e = absurd (cc)
-device-fault fault.ProbesFull room e = absurd (cc)
-device-fault (fault.Held left) room e = absurd (cc)
+device-fault : (why : RunFault) → status_of_fault why ≡ DeviceFault → why ≡ fault.Device
+device-fault fault.Device e = refl
+device-fault fault.Sink e = absurd (cc)
+device-fault fault.Memory e = absurd (cc)
 
 -- the answer of an act
-abbrev failed : RunFault → Result (Unit {0}) RunFault
-failed why = Err why
+abbrev failed : RunFault → Result (Unit {0}) ActFault
+failed why = Err (Stopped why)
 
 module _ {S D : Type 0} (taken : S → Option (List ℕ)) (sink_faults : S → ℕ) (slots : D → ℕ) (journal : D → List Write) (device_faults : D → ℕ) where
   -- what a call leaves that failed at an act
-  pub stopped-leaves : (sink_old sink_new : S) (device_old device_new : D) (why : RunFault) → limit_text (Err why) ≡ None
+  pub stopped-leaves : (sink_old sink_new : S) (device_old device_new : D) (why : RunFault)
       → Leaves taken sink_faults sink_old sink_new slots journal device_faults device_old device_new (failed why ≡ failed fault.Sink) (failed why ≡ failed fault.Device)
       → Leaves taken sink_faults sink_old sink_new slots journal device_faults device_old device_new (status_of_fault why ≡ WriteFault) (status_of_fault why ≡ DeviceFault)
-  stopped-leaves sink_old sink_new device_old device_new why room is = leaves-as taken sink_faults slots journal device_faults sink_old sink_new device_old device_new
+  stopped-leaves sink_old sink_new device_old device_new why is = leaves-as taken sink_faults slots journal device_faults sink_old sink_new device_old device_new
       (failed why ≡ failed fault.Sink) (failed why ≡ failed fault.Device) (status_of_fault why ≡ WriteFault) (status_of_fault why ≡ DeviceFault)
-      (λ e. ap failed (sink-fault why room e)) (λ e. let same : why ≡ fault.Sink = cc in ap status_of_fault same)
-      (λ e. ap failed (device-fault why room e)) (λ e. let same : why ≡ fault.Device = cc in ap status_of_fault same) is
+      (λ e. ap failed (sink-fault why e)) (λ e. let same : why ≡ fault.Sink = cc in ap status_of_fault same)
+      (λ e. ap failed (device-fault why e)) (λ e. let same : why ≡ fault.Device = cc in ap status_of_fault same) is
 
   -- the same as an answer
   pub some-leaves : (sink_old sink_new : S) (device_old device_new : D) (status : Status)

@@ -1,5 +1,5 @@
 -- A run by what its source gave.
-use Rattle.std.proofs.Common.{◌≡◌, ◌≢◌, inl, inr, ℕ, Option, Some, None, Result, Err, List, [], ◌++◌, refl, ap, sym, ◌∙◌, append_assoc, append-nil, subst}
+use Rattle.std.proofs.Common.{◌≡◌, ◌≢◌, inl, inr, ℕ, Option, Some, None, Result, List, [], ◌++◌, refl, ap, sym, ◌∙◌, append_assoc, append-nil, subst}
 use Rattle.std.specs.List.{concat}
 use Rattle.std.specs.Io.KnownBytes.{Consumes, IsAtEnd}
 use Rattle.std.proofs.KnownBytes.{Consumes-nil, Consumes-trans}
@@ -13,7 +13,6 @@ use Rattle.script_lines.proofs.Pieces.{concat-append, end-left, end-right, end-e
 use Rattle.tcam_device.specs.declared.Action.{Action}
 use Rattle.replay.specs.declared.RunFault.{RunFault}
 use Rattle.replay.specs.declared.RunFault.TheVariants as run_fault
-use Rattle.replay.specs.Running.{limit_text}
 use Rattle.replay.specs.Effects.{Setting}
 use Rattle.replay.specs.Run.{Progress}
 use Rattle.tcam_cli.specs.declared.Status.{Status}
@@ -26,21 +25,18 @@ use Rattle.tcam_cli.proofs.HitlessRuns.{hitless-job}
 
 -- a turn that ends the run at an act
 pub turns-stopped : (setting : Setting) (slots : ℕ) (old : HeldBytes) (before : Progress) (pieces : List (List ℕ)) (answer : Result (Option Line) LineFault) (held : HeldBytes) (why : RunFault) (new : HeldBytes) (after : Progress) (events_old events_new : List Action) (taken_old taken_new : Option (List ℕ))
-    → HandsByGiven old pieces answer held → limit_text (Err why) ≡ None
+    → HandsByGiven old pieces answer held
     → ((bytes left now : List ℕ) (start : Option (List ℕ)) → MayGive left pieces now → SoFar setting slots bytes old left before events_old start taken_old → Grows events_old events_new taken_old taken_new)
     → ((bytes taken left now : List ℕ) (start : Option (List ℕ)) → MayGive left pieces now → bytes ≡ taken ++ now → SoFar setting slots bytes old left before events_old start taken_old → Ends setting slots bytes taken now (status_of_fault why) events_new start taken_new)
     → (why ≡ run_fault.Memory → (bytes left now : List ℕ) (start : Option (List ℕ)) → MayGive left pieces now → (s : SoFar setting slots bytes old left before events_old start taken_old) → WantsNext setting s.acts bytes before events_old events_new taken_old taken_new)
     → TurnsBy setting slots old before pieces (Some (status_of_fault why)) new after events_old events_new taken_old taken_new
-turns-stopped setting slots old before pieces answer held why new after events_old events_new taken_old taken_new by room grows ends wants =
-    record { goes = tt; ends = ends; wants = λ e. wants (is-memory why room e); ended = λ _. tt; rests = by.rests; last = by.last; grows = grows }
+turns-stopped setting slots old before pieces answer held why new after events_old events_new taken_old taken_new by grows ends wants =
+    record { goes = tt; ends = ends; wants = λ e. wants (is-memory why e); ended = λ _. tt; rests = by.rests; last = by.last; grows = grows }
   where
-    is-memory : (why : RunFault) → limit_text (Err why) ≡ None → Some (status_of_fault why) ≡ Some Memory → why ≡ run_fault.Memory
-    is-memory run_fault.Memory room e = refl
-    is-memory run_fault.Sink room e = absurd (cc)
-    is-memory run_fault.Device room e = absurd (cc)
-    is-memory run_fault.BatchFull room e = absurd (cc)
-    is-memory run_fault.ProbesFull room e = absurd (cc)
-    is-memory (run_fault.Held left) room e = absurd (cc)
+    is-memory : (why : RunFault) → Some (status_of_fault why) ≡ Some Memory → why ≡ run_fault.Memory
+    is-memory run_fault.Memory e = refl
+    is-memory run_fault.Sink e = absurd (cc)
+    is-memory run_fault.Device e = absurd (cc)
 
 -- for another reason
 pub turns-some : (setting : Setting) (slots : ℕ) (old : HeldBytes) (before : Progress) (pieces : List (List ℕ)) (answer : Result (Option Line) LineFault) (held : HeldBytes) (status : Status) (new : HeldBytes) (after : Progress) (events_old events_new : List Action) (taken_old taken_new : Option (List ℕ))

@@ -1,5 +1,5 @@
 -- A run over made commands.
-use Rattle.std.proofs.Common.{◌≡◌, ◌≢◌, ℕ, ◌<◌, ◌≤◌, ◌==◌, Bool, true, false, Option, Some, None, Result, Err, List, [], ◌∷◌, ◌++◌, map, refl, ap, sym, ◌∙◌, subst, append_assoc, append-nil, arith}
+use Rattle.std.proofs.Common.{◌≡◌, ◌≢◌, ℕ, ◌<◌, ◌≤◌, ◌==◌, Bool, true, false, Option, Some, None, Result, List, [], ◌∷◌, ◌++◌, map, refl, ap, sym, ◌∙◌, subst, append_assoc, append-nil, arith}
 use Rattle.std.specs.Prelude.{codes}
 use Rattle.std.specs.Io.KnownBytes.{Appends}
 use Rattle.std.proofs.KnownBytes.{Appends-nil}
@@ -10,6 +10,7 @@ use Rattle.rule_gen.specs.declared.Made.TheVariants as made
 use Rattle.rule_gen.specs.Batches.{AreBatches}
 use Rattle.rule_gen.specs.Made.{made_commands}
 use Rattle.replay.specs.declared.Act.{Act}
+use Rattle.replay.specs.declared.ActFault.{ActFault}
 use Rattle.replay.specs.declared.RunFault.{RunFault}
 use Rattle.replay.specs.declared.RunFault.TheVariants as run_fault
 use Rattle.replay.specs.Script.{Whole, limit_fault, most_pending, pending_after}
@@ -58,7 +59,7 @@ made-pending most (made.Change change) left come are = are.1
 made-pending most made.Commit left come are = are
 
 -- so an act is carried out, or fails for another cause
-pub made-fits : (most : ℕ) (maker left : List Made) (command : Made) (act : Act) (come probes : ℕ) (answer : Result (Unit {0}) RunFault) → maker ≡ command ∷ left → act ≡ made_act command
+pub made-fits : (most : ℕ) (maker left : List Made) (command : Made) (act : Act) (come probes : ℕ) (answer : Result (Unit {0}) ActFault) → maker ≡ command ∷ left → act ≡ made_act command
     → AreBatches most come maker → most ≤ most_pending → limit_text answer ≡ limit_fault act come probes → limit_text answer ≡ None
 made-fits most maker left command act come probes answer next is are few limit =
     limit ∙ ap (λ act. limit_fault act come probes) is ∙ made-room most command left come probes (subst (AreBatches most come) next are) few
@@ -120,27 +121,24 @@ made-ended setting own slots seed rules batches left last events start before af
       ),
     )
 
-no-read : (why : RunFault) → limit_text (Err why) ≡ None → status_of_fault why ≢ ReadFault
-no-read run_fault.Sink room e = absurd (cc)
-no-read run_fault.Device room e = absurd (cc)
-no-read run_fault.Memory room e = absurd (cc)
-no-read run_fault.BatchFull room e = absurd (cc)
-no-read run_fault.ProbesFull room e = absurd (cc)
-no-read (run_fault.Held left) room e = absurd (cc)
+no-read : (why : RunFault) → status_of_fault why ≢ ReadFault
+no-read run_fault.Sink e = absurd (cc)
+no-read run_fault.Device e = absurd (cc)
+no-read run_fault.Memory e = absurd (cc)
 
 pub made-stopped : (setting : Setting) (slots seed rules batches : ℕ) (left : List Made) (command : Made) (last : Progress) (events events_new : List Action) (start before after : Option (List ℕ)) (why : RunFault)
-    → MadeSoFar setting slots (made_commands seed rules batches) (command ∷ left) last events start before → limit_text (Err why) ≡ None
+    → MadeSoFar setting slots (made_commands seed rules batches) (command ∷ left) last events start before
     → Stops slots setting last (made_act command) why events events_new before after → (source : Option (List ℕ))
     → IsCarriedOut (Makes setting seed rules batches) slots (status_of_fault why) source source start after events_new
-made-stopped setting slots seed rules batches left command last events events_new start before after why s full is source =
+made-stopped setting slots seed rules batches left command last events events_new start before after why s is source =
     let script = made_script seed rules batches in
     let acts : acts_of script ≡ map made_act s.done ++ made_act command ∷ map made_act left =
     acts-made (made_commands seed rules batches) ∙ ap (map made_act) s.parts ∙ map_append s.done (command ∷ left) in (
       refl,
       (
-        no-read why full,
+        no-read why,
         stopped-outcome setting slots script script (map made_act s.done) s.effects last events start before s.run s.events_is s.report
-            (made_act command) (map made_act left) acts events_new after why full is,
+            (made_act command) (map made_act left) acts events_new after why is,
       ),
     )
 

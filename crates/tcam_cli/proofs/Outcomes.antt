@@ -1,17 +1,18 @@
 -- How a run ends, by the acts that were carried out before.
-use Rattle.std.proofs.Common.{◌≡◌, inl, inr, ℕ, ◌∷◌, ◌++◌, Bool, true, false, Option, None, Err, List, [], refl, sym, ◌∙◌, subst}
+use Rattle.std.proofs.Common.{◌≡◌, inl, inr, ℕ, ◌∷◌, ◌++◌, Bool, true, false, Option, Err, List, [], refl, sym, ◌∙◌, subst}
 use Rattle.std.specs.Io.KnownBytes.{Appends}
 use Rattle.std.proofs.KnownBytes.{Appends-trans}
 use Rattle.tcam_device.specs.declared.Action.{Action}
 use Rattle.tcam_device.specs.declared.Action.TheVariants.{Written}
 use Rattle.replay.specs.declared.Act.{Act}
+use Rattle.replay.specs.declared.ActFault.TheVariants.{Stopped}
 use Rattle.replay.specs.declared.RunFault.{RunFault}
 use Rattle.replay.specs.declared.RunFault.TheVariants as fault
 use Rattle.replay.specs.Script.{Script}
 use Rattle.replay.specs.Effects.{Setting, Effect, Acts, Prints, events_in, printed}
 use Rattle.replay.specs.Run.{Progress, IsCutStep, Runs}
 use Rattle.replay.specs.Carried.{IsAt, CutsAtLine, CutsAtWrite, Wants}
-use Rattle.replay.specs.Running.{Running, ComesTo, limit_text, progress_of, setting_of}
+use Rattle.replay.specs.Running.{Running, ComesTo, progress_of, setting_of}
 use Rattle.tcam_cli.specs.declared.Status.{Status}
 use Rattle.tcam_cli.specs.Headline.{IsAtAct, IsComplete, IsOutcome, MatchesOutcome, acts_of, last_line, status_of}
 use Rattle.tcam_cli.specs.Turns.{Closes, Grows, status_of_fault}
@@ -19,29 +20,23 @@ use Rattle.tcam_cli.proofs.OneMore.{run-at, does-events, does-report}
 use Rattle.tcam_cli.proofs.Endings.{outcome-complete, written-line, printed-line}
 use Rattle.tcam_cli.proofs.InTime.{does-grows}
 
--- what an act did that isn't carried out, by its fault
+-- what an act did that was stopped, by its fault
 abbrev pub Stops : ℕ → Setting → Progress → Act → RunFault → List Action → List Action → Option (List ℕ) → Option (List ℕ) → Type 0
 Stops slots setting last act fault.Sink events events_new before after = IsAt slots events last → CutsAtLine setting last act events events_new before after
 Stops slots setting last act fault.Device events events_new before after = IsAt slots events last → CutsAtWrite setting last act events events_new before after
 Stops slots setting last act fault.Memory events events_new before after = IsAt slots events last → Wants setting last act events events_new before after
-Stops slots setting last act fault.BatchFull events events_new before after = Unit {0}
-Stops slots setting last act fault.ProbesFull events events_new before after = Unit {0}
-Stops slots setting last act (fault.Held left) events events_new before after = Unit {0}
 
 -- want of memory, where a call may follow or where none may
 wants-at : (slots : ℕ) (old : Running) (act : Act) (new : Running) (events events_new : List Action) (before after : Option (List ℕ)) (broken : Bool) → new.broken ≡ broken
-    → ComesTo slots old act new (Err fault.Memory) events events_new before after → IsAt slots events (progress_of slots old) → Wants (setting_of old) (progress_of slots old) act events events_new before after
-wants-at slots old act new events events_new before after false is comes at = (subst (λ one. ComesTo slots old act (record new { broken = one }) (Err fault.Memory) events events_new before after) is comes).0
-wants-at slots old act new events events_new before after true is comes at = (subst (λ one. ComesTo slots old act (record new { broken = one }) (Err fault.Memory) events events_new before after) is comes) at
+    → ComesTo slots old act new (Err (Stopped fault.Memory)) events events_new before after → IsAt slots events (progress_of slots old) → Wants (setting_of old) (progress_of slots old) act events events_new before after
+wants-at slots old act new events events_new before after false is comes at = (subst (λ one. ComesTo slots old act (record new { broken = one }) (Err (Stopped fault.Memory)) events events_new before after) is comes).0
+wants-at slots old act new events events_new before after true is comes at = (subst (λ one. ComesTo slots old act (record new { broken = one }) (Err (Stopped fault.Memory)) events events_new before after) is comes) at
 
 pub stops : (slots : ℕ) (old : Running) (act : Act) (new : Running) (why : RunFault) (events events_new : List Action) (before after : Option (List ℕ))
-    → ComesTo slots old act new (Err why) events events_new before after → Stops slots (setting_of old) (progress_of slots old) act why events events_new before after
+    → ComesTo slots old act new (Err (Stopped why)) events events_new before after → Stops slots (setting_of old) (progress_of slots old) act why events events_new before after
 stops slots old act new fault.Sink events events_new before after comes = comes
 stops slots old act new fault.Device events events_new before after comes = comes
 stops slots old act new fault.Memory events events_new before after comes = wants-at slots old act new events events_new before after new.broken refl comes
-stops slots old act new fault.BatchFull events events_new before after comes = tt
-stops slots old act new fault.ProbesFull events events_new before after comes = tt
-stops slots old act new (fault.Held left) events events_new before after comes = tt
 
 pub stops-memory : (slots : ℕ) (setting : Setting) (last : Progress) (act : Act) (why : RunFault) (events events_new : List Action) (before after : Option (List ℕ))
     → why ≡ fault.Memory → IsAt slots events last → Stops slots setting last act why events events_new before after → Wants setting last act events events_new before after
@@ -49,13 +44,10 @@ stops-memory slots setting last act why events events_new before after is at sto
 
 -- events and report have only grown
 pub stops-grows : (slots : ℕ) (setting : Setting) (last : Progress) (act : Act) (why : RunFault) (events events_new : List Action) (before after : Option (List ℕ))
-    → limit_text (Err why) ≡ None → IsAt slots events last → Stops slots setting last act why events events_new before after → Grows events events_new before after
-stops-grows slots setting last act fault.Sink events events_new before after room at is = does-grows _ _ events events_new before after (is at).does
-stops-grows slots setting last act fault.Device events events_new before after room at is = does-grows _ _ events events_new before after (is at).does
-stops-grows slots setting last act fault.Memory events events_new before after room at is = does-grows _ _ events events_new before after (is at).does
-stops-grows slots setting last act fault.BatchFull events events_new before after room at is = absurd (cc)
-stops-grows slots setting last act fault.ProbesFull events events_new before after room at is = absurd (cc)
-stops-grows slots setting last act (fault.Held left) events events_new before after room at is = absurd (cc)
+    → IsAt slots events last → Stops slots setting last act why events events_new before after → Grows events events_new before after
+stops-grows slots setting last act fault.Sink events events_new before after at is = does-grows _ _ events events_new before after (is at).does
+stops-grows slots setting last act fault.Device events events_new before after at is = does-grows _ _ events events_new before after (is at).does
+stops-grows slots setting last act fault.Memory events events_new before after at is = does-grows _ _ events events_new before after (is at).does
 
 -- these acts were carried out, with these effects
 module _ (setting : Setting) (slots : ℕ) (script came : Script) (done : List Act) (effects : List Effect) (last : Progress) (events : List Action) (start before : Option (List ℕ))
@@ -103,9 +95,9 @@ module _ (setting : Setting) (slots : ℕ) (script came : Script) (done : List A
     at = run-at setting slots done effects last events run events_is
 
     -- by its fault
-    pub stopped-outcome : (why : RunFault) → limit_text (Err why) ≡ None → Stops slots setting last act why events events_new before after
+    pub stopped-outcome : (why : RunFault) → Stops slots setting last act why events events_new before after
         → MatchesOutcome setting slots script came (status_of_fault why) events_new start after
-    stopped-outcome fault.Sink room is =
+    stopped-outcome fault.Sink is =
         let cut = is at in record {
           effects = effects ++ cut.front;
           partial = cut.partial;
@@ -113,7 +105,7 @@ module _ (setting : Setting) (slots : ℕ) (script came : Script) (done : List A
           events_is = does-events effects cut.front cut.partial events events_new before after cut.does events_is;
           report_is = does-report effects cut.front cut.partial events events_new start before after cut.does report;
         }
-    stopped-outcome fault.Device room is =
+    stopped-outcome fault.Device is =
         let cut = is at in record {
           effects = effects ++ cut.front;
           partial = [];
@@ -121,7 +113,7 @@ module _ (setting : Setting) (slots : ℕ) (script came : Script) (done : List A
           events_is = does-events effects cut.front [] events events_new before after cut.does events_is;
           report_is = does-report effects cut.front [] events events_new start before after cut.does report;
         }
-    stopped-outcome fault.Memory room is =
+    stopped-outcome fault.Memory is =
         let wants = is at in record {
           effects = effects ++ wants.effects;
           partial = [];
@@ -129,6 +121,3 @@ module _ (setting : Setting) (slots : ℕ) (script came : Script) (done : List A
           events_is = does-events effects wants.effects [] events events_new before after wants.does events_is;
           report_is = does-report effects wants.effects [] events events_new start before after wants.does report;
         }
-    stopped-outcome fault.BatchFull room is = absurd (cc)
-    stopped-outcome fault.ProbesFull room is = absurd (cc)
-    stopped-outcome (fault.Held left) room is = absurd (cc)

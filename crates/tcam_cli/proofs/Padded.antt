@@ -7,7 +7,7 @@ use Rattle.rule_model.specs.Rank.{ipv4_route_rank}
 use Rattle.rule_model.specs.Rule.{route_rule}
 use Rattle.rule_store.specs.declared.Command.TheVariants.{Add}
 use Rattle.rule_store.specs.Verdict.{verdict}
-use Rattle.ternary_word.specs.declared.Entry.{Entry}
+use Rattle.rule_model.specs.declared.words.Entry.{Entry}
 use Rattle.tcam_device.specs.declared.Write.TheVariants.{Slot}
 use Rattle.tcam_device.specs.declared.Action.TheVariants.{Written}
 use Rattle.tcam_device.specs.Flight.{writes_in}

@@ -1,9 +1,8 @@
 -- What words ask for, by what clap made of them.
 use Rattle.std.proofs.Common.{◌≡◌, ◌∙◌, refl, sym, ap, subst, true, List, [], Option, Some, None}
 use Rattle.std.specs.Prelude.{IfOk, Ok, Err, Result, option_map, unwrap_or}
-use Rattle.clap.specs.Walk.{Text}
+use Rattle.clap.specs.Walk.{Text, nothing_held, rows_of}
 use Rattle.clap.specs.Simple.{App, argument_words, built, is_simple, subcommand_of, subcommand_rows_of}
-use Rattle.clap.specs.Walk.{nothing_held, rows_of}
 use Rattle.clap.proofs.WalkLemmas.{first_value-rows}
 use Rattle.clap.specs.declared.parser.matches.Found.{Found}
 use Rattle.std.specs.Borrow.{Bor}

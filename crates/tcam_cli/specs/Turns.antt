@@ -21,7 +21,7 @@ use Rattle.replay.specs.Outside.{AppendsPart}
 use Rattle.replay.specs.Carried.{Wants}
 use Rattle.replay.specs.Running.{Running}
 use Rattle.tcam_cli.specs.declared.Status.{Status}
-use Rattle.tcam_cli.specs.declared.Status.TheVariants.{Done, Refused, Script as ScriptFault, WriteFault, DeviceFault, Memory}
+use Rattle.tcam_cli.specs.declared.Status.TheVariants.{Done, Refused, WriteFault, DeviceFault, Memory}
 use Rattle.tcam_cli.specs.Headline.{acts_of, whole_lines, script_so_far, IsOutcome}
 use Rattle.tcam_cli.specs.Readings.{reading}
 use Rattle.script_lines.specs.declared.Over.{Over}
@@ -60,15 +60,11 @@ pub record IsGoing (reading : Reading) (bytes : List ℕ) (held : HeldBytes) (le
 abbrev pub IsAllRead : Reading → List ℕ → List ℕ → List NumberedAct → Type 0
 IsAllRead reading bytes left acts = (script_of reading bytes ≡ record { acts = acts; last = Whole }) × (left ≡ [])
 
--- The status of a run at an act that isn't carried out. A full batch and too many probes are at fault at a line; and no
--- act comes while a commit is unfinished, since a run ends at the device's failure.
+-- the status of a run at an act that was stopped
 abbrev pub status_of_fault : RunFault → Status
 status_of_fault fault.Sink = WriteFault
 status_of_fault fault.Device = DeviceFault
 status_of_fault fault.Memory = Memory
-status_of_fault fault.BatchFull = ScriptFault
-status_of_fault fault.ProbesFull = ScriptFault
-status_of_fault (fault.Held left) = DeviceFault
 
 -- what of the script is read
 abbrev pub IsRead : Over → Reading → List ℕ → HeldBytes → List ℕ → List NumberedAct → ℕ → ℕ → Type 0

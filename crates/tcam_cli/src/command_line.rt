@@ -3,9 +3,8 @@
 ghost use Rattle.std.specs.Prelude.{◌≡◌, ◌≤◌, codes, Err, IfOk, IsErrOf, IfSome, IsNone, None, false, map, string_bytes};
 ghost use Rattle.clap.specs.Words.{app_of, rule_of, rows_of, found_of, subcommand_rows_of, kind_of};
 ghost use Rattle.clap.specs.declared.builder.command.Command.TheViews.{out-Command};
-ghost use Rattle.tcam_cli.specs.CommandLine.{job_of, job_of_fault, mode_by, mode_in, placement_in, topic_in, topic_named};
+ghost use Rattle.tcam_cli.specs.CommandLine.{job_of, job_of_fault, mode_by, mode_in, placement_in, topic_in, topic_named, acl_command as acl_app, depth_option, gen_command as gen_app, number_position, placement_option, ranges_option, route_command as route_app, slots_option, tcam_command as tcam_app, text_of as text_in, trace_flag};
 ghost use Rattle.tcam_cli.specs.Asked.{IsWithin, asked_by, number_within, tested_job, tested_made, tested_script};
-ghost use Rattle.tcam_cli.specs.CommandLine.{acl_command as acl_app, depth_option, gen_command as gen_app, number_position, placement_option, ranges_option, route_command as route_app, slots_option, tcam_command as tcam_app, text_of as text_in, trace_flag};
 ghost use Rattle.tcam_cli.specs.Headline.{NoJob};
 
 use crate::own_texts::Topic;

@@ -12,7 +12,7 @@ ghost use Rattle.rule_model.specs.Rule.{route_rule};
 ghost use Rattle.replay.specs.Run.{start, ending};
 ghost use Rattle.replay.specs.Carried.{IsAt};
 ghost use Rattle.replay.specs.Outside.{Leaves};
-ghost use Rattle.replay.specs.Running.{progress_of, limit_text, setting_of, routes_of, IsActOf};
+ghost use Rattle.replay.specs.Running.{progress_of, setting_of, routes_of, IsActOf};
 ghost use Rattle.replay.specs.Script.{Whole};
 ghost use Rattle.replay.specs.Text.{fault_line};
 ghost use Rattle.tcam_cli.specs.AllTheWay.{IsHitlessJob};
@@ -27,7 +27,7 @@ use crate::command_line::{Asked, WordsFault, read_words};
 use crate::own_texts::{VERSION, help_of};
 use acl_reader::{AclCommand, read_acl};
 use line_words::{CommonCommand, WordFault};
-use replay::{Act, Family, Run, RunFault, write_fault, write_text};
+use replay::{Act, ActFault, Family, Run, RunFault, write_fault, write_text};
 use route_reader::{RouteCommand, read_route};
 use rule_gen::{Made, Maker};
 use rule_model::{
@@ -49,9 +49,9 @@ use tcam_device::ReadBack;
 /// trial with more writes than it may make makes so many of them and then undoes each, the last one first: it ends with
 /// the set, the live ranges and the device as they were before it. A trial with no more is a commit.
 ///
-/// A crash with more writes than it may make makes so many of them. Then its manager is dropped, and another one goes on
-/// with the commit by what the device shows: the same is promised of the writes of both, one after the other. A crash
-/// with no more is a commit.
+/// A crash with more writes than it may make makes so many of them. Then its manager is dropped, and another one goes
+/// on with the commit by what the device shows: the same is promised of the writes of both, one after the other. A
+/// crash with no more is a commit.
 ///
 /// A probe's line stands a depth of writes behind the write that it is for, or before a drain or the commit's line
 /// where that comes first, and has what the device answers the probe's key at that moment. The device is drained once
@@ -63,10 +63,10 @@ use tcam_device::ReadBack;
 /// exactly where the count of failures of source or sink rose. A device write that fails is tried again at once, four
 /// times in all; `DeviceFault` comes where the fourth failed too. After any of the three nothing more is read, written
 /// or printed. `Memory` comes for want of memory alone, before a commit's first write or at its crash. `Usage` comes
-/// where the words are no command line, and there nothing else comes but a failing sink and want of memory. The lines of
-/// an act are handed to the sink before the next act is carried out. No input is taken in vain: of the lines that were
-/// whole before the last read none is at fault or wants memory, journal and accepted report begin with their effects,
-/// and no read before it was the end of the input.
+/// where the words are no command line, and there nothing else comes but a failing sink and want of memory. The lines
+/// of an act are handed to the sink before the next act is carried out. No input is taken in vain: of the lines that
+/// were whole before the last read none is at fault or wants memory, journal and accepted report begin with their
+/// effects, and no read before it was the end of the input.
 pub fn run<S: Source, K: Sink, D: ReadBack>(
     alloc: Global,
     words: &[String],
@@ -199,9 +199,11 @@ fn turn<S: Source, K: Sink, D: ReadBack>(
     };
     match run.apply(&act, sink, device) {
         Ok(()) => None,
-        Err(RunFault::BatchFull) => Some(fault(line.number, "batch full", sink)),
-        Err(RunFault::ProbesFull) => Some(fault(line.number, "too many probes", sink)),
-        Err(fault) => Some(status_of_fault(&fault)),
+        Err(ActFault::BatchFull) => Some(fault(line.number, "batch full", sink)),
+        Err(ActFault::ProbesFull) => Some(fault(line.number, "too many probes", sink)),
+        // The run ends at the device's failure, so no commit is unfinished.
+        Err(ActFault::Held { .. }) => unreachable!(),
+        Err(ActFault::Stopped(why)) => Some(status_of_fault(&why)),
     }
 }
 
@@ -238,7 +240,9 @@ fn run_made<K: Sink, D: ReadBack>(
         };
         match run.apply(&act_of_made(&made), sink, device) {
             Ok(()) => {}
-            Err(fault) => return status_of_fault(&fault),
+            Err(ActFault::Stopped(why)) => return status_of_fault(&why),
+            // There is room for each, and no commit is unfinished.
+            Err(_) => unreachable!(),
         }
     }
 }
@@ -254,10 +258,8 @@ fn act_of_made(made: &Made) -> Act
     }
 }
 
-/// How a run ends at an act that wasn't carried out, for another cause than want of room. No act comes while a commit
-/// is unfinished.
+/// How a run ends at an act that was stopped.
 fn status_of_fault(fault: &RunFault) -> Status
-    requires { limit_text (Err fault.now) ≡ None }
     ensures status { result ≡ status_of_fault fault.now }
     ensures kind { (result ≢ Status.Usage) × (result ≢ Status.ReadFault) }
 {
@@ -265,7 +267,6 @@ fn status_of_fault(fault: &RunFault) -> Status
         RunFault::Sink => Status::WriteFault,
         RunFault::Device => Status::DeviceFault,
         RunFault::Memory => Status::Memory,
-        RunFault::BatchFull | RunFault::ProbesFull | RunFault::Held { .. } => unreachable!(),
     }
 }
 

@@ -5,7 +5,6 @@ pub mod One
 pub mod Spans
 pub mod Kept
 pub mod States
-pub mod Cuts
 pub mod Shown
 pub mod Wider
 pub mod WiderInsertions

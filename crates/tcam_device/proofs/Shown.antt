@@ -11,8 +11,8 @@ use Rattle.rule_model.specs.PortRange.{PortRange, range_holds}
 use Rattle.rule_model.specs.Rule.{rule_matches, proto_holds}
 use Rattle.rule_model.specs.Piece.{piece_matches}
 use Rattle.rule_model.specs.RuleSet.{best_rule}
-use Rattle.ternary_word.specs.declared.Entry.{Entry}
-use Rattle.ternary_word.specs.Entry.{RankedPiece, HitsExactly, entry_for, port_tested}
+use Rattle.rule_model.specs.declared.words.Entry.{Entry}
+use Rattle.rule_model.specs.Entry.{RankedPiece, HitsExactly, entry_for, port_tested}
 use Rattle.tcam_device.specs.State.{State, IsState, Shows, told, hits_key}
 use Rattle.tcam_device.specs.Order.{IsOrdered, ServesBits, IsTranslated}
 use Rattle.tcam_device.proofs.Lookups.{HitAsPieces, EntriesOf, hits_valid, lookup_best}

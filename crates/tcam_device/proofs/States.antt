@@ -3,7 +3,7 @@ use Rattle.std.proofs.Common.{◌≡◌, ◌<◌, ◌^◌, ℕ, length, replicat
 use Rattle.std.specs.Prelude.{slice_index}
 use Rattle.std.proofs.lemmas.Bool.{cases_lt}
 use Rattle.std.proofs.lemmas.List.{length-replicate, get_or-replicate, get_or_past}
-use Rattle.ternary_word.specs.declared.Entry.{Entry}
+use Rattle.rule_model.specs.declared.words.Entry.{Entry}
 use Rattle.tcam_device.specs.State.{IsState, blank, blank_table}
 use Rattle.tcam_device.proofs.Kept.{blank_table-is}
 

@@ -4,8 +4,8 @@ use Rattle.slot_order.specs.Order.{first_hit}
 use Rattle.rule_model.specs.declared.Key.{Key}
 use Rattle.rule_model.specs.Key.{IsKey}
 use Rattle.rule_model.specs.RuleSet.{Answer}
-use Rattle.ternary_word.specs.declared.Word.{Word}
-use Rattle.ternary_word.specs.Entry.{hits}
+use Rattle.rule_model.specs.declared.words.Word.{Word}
+use Rattle.rule_model.specs.Entry.{hits}
 use Rattle.tcam_device.specs.declared.Write.{Write}
 use Rattle.tcam_device.specs.declared.Action.{Action}
 use Rattle.tcam_device.specs.declared.Action.TheVariants.{Written, Drained}

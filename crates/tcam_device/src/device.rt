@@ -8,8 +8,8 @@ use rule_model::{Key, Rank};
 
 /// A device that is written and looked up. Its journal decides what it answers.
 ///
-/// A look-up is undivided, `look`, or two events: `translate` makes the key's word by the tables as they stand then, and
-/// `search` compares the oldest word in flight with the slots as they stand then. No call here takes memory.
+/// A look-up is undivided, `look`, or two events: `translate` makes the key's word by the tables as they stand then,
+/// and `search` compares the oldest word in flight with the slots as they stand then. No call here takes memory.
 pub trait Device: Writable {
     /// Tag and result of the least slot that hits the key's word by the tables, or None where no slot does. It doesn't
     /// look at the words in flight.
@@ -27,8 +27,8 @@ pub trait Device: Writable {
         ensures slots { Self.slot_count self.new ≡ Self.slot_count self.old }
         ensures faults { Self.faults self.new ≡ Self.faults self.old };
 
-    /// Takes the oldest word out of flight, and answers tag and result of the least slot that hits it now, or None inside
-    /// where no slot does. The outer None comes exactly where no word is in flight. It changes nothing else.
+    /// Takes the oldest word out of flight, and answers tag and result of the least slot that hits it now, or None
+    /// inside where no slot does. The outer None comes exactly where no word is in flight. It changes nothing else.
     fn search(&mut self) -> Option<Option<(Rank, u32)>>
         ensures answer { result ≡ search_answer (replay (Self.slot_count self.old) (Self.journal self.old)) (Self.flight self.old) }
         ensures flight { Self.flight self.new ≡ drop 1 (Self.flight self.old) }

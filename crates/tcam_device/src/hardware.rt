@@ -6,11 +6,11 @@ ghost use Rattle.tcam_device.specs.State.{IsInUse};
 
 use crate::{DeviceFault, Write};
 
-/// Hardware as the author of a driver writes it: how many slots there are, and how one write is made. Nothing is
-/// proved of what it holds. It is trusted in this: it is blank when `memory_tcam::Shadowed` takes it, each slot empty
-/// and each word of both tables 0, nobody else writes it, and where `put` answers Ok the write was made, whole, behind
-/// those before it. Where `put` answers Err the write was made whole or not at all, and which of the two doesn't matter to
-/// a caller that makes the same write next, as the manager's `step` does ([`crate::twice_as_once`]). And when `drain`
+/// Hardware as the author of a driver writes it: how many slots there are, and how one write is made. Nothing is proved
+/// of what it holds. It is trusted in this: it is blank when `memory_tcam::Shadowed` takes it, each slot empty and each
+/// word of both tables 0, nobody else writes it, and where `put` answers Ok the write was made, whole, behind those
+/// before it. Where `put` answers Err the write was made whole or not at all, and which of the two doesn't matter to a
+/// caller that makes the same write next, as the manager's `step` does ([`crate::twice_as_once`]). And when `drain`
 /// returns, no look-up whose word was made before is still to be searched.
 pub trait Hardware: Drop {
     /// The number of slots.

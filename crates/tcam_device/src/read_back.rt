@@ -4,7 +4,7 @@ ghost use Rattle.slot_order.specs.Order as order;
 ghost use Rattle.tcam_device.specs.State.{replay, table_of};
 
 use crate::{Device, Field};
-use ternary_word::Entry;
+use rule_model::Entry;
 
 /// A device whose slots and tables can be read back: what it tells is what its journal left there. So whoever lost what
 /// was planned, and knows only that a commit was under way, can see how far it came.

@@ -11,12 +11,12 @@ ghost use Rattle.batch_order.specs.Restart.{AnswersRestart, ArePartsOf, bits_in}
 
 use crate::Placement;
 use crate::manager::Manager;
-use crate::restarting::fault::{RestartFault, restart_fault};
+use crate::restarting::fault::RestartFault;
 use crate::restarting::resuming::resume;
 use crate::restarting::words::maps_of;
 use crate::translation::encoding;
 use range_bits::BitMap;
-use readback::{Parts, show_commit, verdict};
+use readback::{Parts, StageFault, show_commit, verdict};
 use rule_store::{Batch, Mode};
 use std::alloc::{AllocError, Global};
 use tcam_device::ReadBack;
@@ -42,7 +42,8 @@ impl Manager {
     }
 
     /// What is left of a manager: the rules of its set and their live port ranges, while a commit is under way those of
-    /// the old set. It takes no memory. By covers the manager has left the tables of its device blank, as a restart asks.
+    /// the old set. It takes no memory. By covers the manager has left the tables of its device blank, as a restart
+    /// asks.
     pub fn into_parts(self) -> Parts
         ensures parts { ArePartsOf self result }
         ensures set_bits { AreSetBits self.mode self.rules (bits_in result) }
@@ -57,18 +58,18 @@ impl Manager {
     }
 
     /// A manager over a device that was stopped in the middle of a batch's commit, by the parts of the old set's
-    /// manager, with the slots in use and the encoding that it had: 1 to 4,096 slots, which the device has. By covers no
-    /// word of the device's tables may have a bit, as every manager by covers leaves them.
+    /// manager, with the slots in use and the encoding that it had: 1 to 4,096 slots, which the device has. By covers
+    /// no word of the device's tables may have a bit, as every manager by covers leaves them.
     ///
     /// It holds the plan that goes on from what the device shows: the words of the tables that differ come first, then
     /// the erase of an entry that stands twice, and then what is left of the commit, as `prepare` plans it and by the
-    /// same placement. The device is reserved for twice the writes and a drain. `step` and `carry_out` make them; the plan
-    /// can't be turned round, since what stood before the commit is known to nobody.
+    /// same placement. The device is reserved for twice the writes and a drain. `step` and `carry_out` make them; the
+    /// plan can't be turned round, since what stood before the commit is known to nobody.
     ///
-    /// `Refused` is tried first, and comes exactly where the rules alone refuse the batch. Then come `BitsDiffer`, where
-    /// the live ranges aren't those of the rules, and where the device shows no stage of the commit what is wrong with
-    /// it, in the order of `readback::find_stage`. `Memory` may come before any of these but `Refused`. With each the parts
-    /// come back as they were. The device stays as it is in each case.
+    /// `Refused` is tried first, and comes exactly where the rules alone refuse the batch. Then `Stage` tells what is wrong
+    /// with the parts and the device, in the order of `readback::find_stage`: `BitsDiffer`, where the live ranges aren't
+    /// those of the rules, and what keeps the device from showing a stage of the commit. Its `Memory` may come before any
+    /// of these. With each fault the parts come back as they were. The device stays as it is in each case.
     pub fn restart<D: ReadBack>(
         alloc: Global,
         slots: u32,
@@ -101,7 +102,7 @@ impl Manager {
         }
         let shown = match show_commit(alloc, &parts, batch, slots, mode, device) {
             Ok(shown) => shown,
-            Err(fault) => return Err((restart_fault(fault), parts)),
+            Err(fault) => return Err((RestartFault::Stage(fault), parts)),
         };
         let mut parts = parts;
         match resume(
@@ -116,7 +117,7 @@ impl Manager {
                 arrangement: resumed.arrangement,
                 held: Some(resumed.held),
             }),
-            Err(AllocError) => Err((RestartFault::Memory, parts)),
+            Err(AllocError) => Err((RestartFault::Stage(StageFault::Memory), parts)),
         }
     }
 }

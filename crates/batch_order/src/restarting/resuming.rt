@@ -4,7 +4,7 @@ ghost use Rattle.std.specs.Prelude.{◌≡◌, ◌≤◌, ◌+◌, ◌*◌, ◌&
 ghost use Rattle.std.specs.List.{AllByRecursion};
 ghost use Rattle.rule_store.specs.declared.Mode.TheVariants as modes;
 ghost use Rattle.rule_store.specs.Verdict.{Accepted, verdict};
-ghost use Rattle.ternary_word.specs.Entry.{IsEncodable};
+ghost use Rattle.rule_model.specs.Entry.{IsEncodable};
 ghost use Rattle.tcam_device.specs.State.{IsState, replay};
 ghost use Rattle.readback.specs.Found.{IsShown};
 ghost use Rattle.readback.specs.Laws.{CanCommit};
@@ -26,12 +26,12 @@ use crate::restarting::rest::{parts_left, plan_rest, plan_twin};
 use crate::restarting::standing::{Standing, arrangement_with_twin, standing_in};
 use crate::restarting::words::read_translation;
 use crate::translation::{Translation, gives_bits, plan_words};
+use commit_writes::FieldBits;
 use readback::{Parts, Shown};
 use rule_store::{Batch, Mode, Store};
 use slot_pool::Arrangement;
 use std::alloc::{AllocError, Global};
 use tcam_device::ReadBack;
-use translation_tables::FieldBits;
 
 /// What a rebuilt manager keeps beside its rules.
 #[derive(Drop)]

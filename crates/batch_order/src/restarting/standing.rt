@@ -5,7 +5,7 @@ ghost use Rattle.slot_order.specs.Order as order;
 ghost use Rattle.batch_order.specs.Standing.{AreEncodable, AreStanding, HasPieceOf, IsWithTwin, without_twin};
 
 use crate::entries::LiveEntries;
-use batch_pieces::Ranked;
+use commit_writes::Ranked;
 use slot_pool::Arrangement;
 use std::alloc::{AllocError, Global};
 

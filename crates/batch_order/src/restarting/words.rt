@@ -9,12 +9,12 @@ ghost use Rattle.batch_order.specs.Restart.{bits_in};
 
 use crate::Field;
 use crate::translation::Translation;
+use commit_writes::{FieldBits, Tables};
 use range_bits::BitMap;
 use readback::Parts;
 use rule_store::Mode;
 use std::alloc::{AllocError, Global};
 use tcam_device::ReadBack;
-use translation_tables::{FieldBits, Tables};
 
 /// What was kept of a device's translation, read back.
 pub(crate) fn read_translation<D: ReadBack>(

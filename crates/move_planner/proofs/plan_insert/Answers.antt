@@ -1,9 +1,9 @@
 use Rattle.std.proofs.Common.{◌≡◌, ◌+◌, ◌-◌, ◌*◌, ◌≤◌, arith, sym, subst}
-use Rattle.overlap_index.specs.Live.{is_above}
-use Rattle.slot_order.specs.Cuts.{wrong_side}
-use Rattle.move_planner.specs.Placement.{span_of}
-use Rattle.move_planner.specs.Insertion.{StandOnce, IsLive, moves_since}
-use Rattle.move_planner.proofs.Readied.{ready_from}
+use Rattle.placement.specs.Live.{is_above}
+use Rattle.slot_moves.specs.Cuts.{wrong_side}
+use Rattle.placement.specs.Placement.{span_of}
+use Rattle.placement.specs.Insertion.{StandOnce, IsLive, moves_since}
+use Rattle.placement.proofs.Readied.{ready_from}
 use Rattle.move_planner.proofs.Inserted.{wholly, counted}
 use Rattle.move_planner.proofs.Alone.{placement_alone}
 use Rattle.move_planner.proofs.plan_insert.Goals as goal

@@ -1,7 +1,7 @@
 use Rattle.std.proofs.Common.{◌≡◌, ◌∙◌, ◌++◌, ◌-◌, List, length, take, set, IsFalse, subst, None}
 use Rattle.std.specs.Option.{option_to_list}
-use Rattle.overlap_index.specs.declared.LivePiece.{LivePiece}
-use Rattle.overlap_index.specs.Live.{is_live, without_id}
+use Rattle.placement.specs.declared.LivePiece.{LivePiece}
+use Rattle.placement.specs.Live.{is_live, without_id}
 use Rattle.batch_order.specs.Entries.{KeepEntries}
 use Rattle.batch_order.proofs.Entered.{kept_set, gone_first}
 use Rattle.batch_order.proofs.Settled.{last_is_live, forget_last}

@@ -2,15 +2,15 @@ use Rattle.std.proofs.Common.{rules, ◌≡◌, ◌≤◌, ◌+◌, ◌-◌, ◌
 use Rattle.std.specs.Prelude.{vec_capacity}
 use Rattle.std.proofs.lemmas.Grind.{common_steps}
 use Rattle.std.proofs.lemmas.List.{map-append, length-take-le}
-use Rattle.ternary_word.specs.Entry.{RankedPiece}
-use Rattle.overlap_index.specs.declared.LivePiece.{LivePiece}
+use Rattle.rule_model.specs.Entry.{RankedPiece}
+use Rattle.placement.specs.declared.LivePiece.{LivePiece}
 use Rattle.batch_order.specs.Entries.{Entries, AddsIds}
-use Rattle.move_planner.specs.declared.Aim.{Aim}
+use Rattle.placement.specs.declared.Aim.{Aim}
 use Rattle.batch_order.specs.Placing.{aim_of, aims_from}
 use Rattle.batch_order.specs.Planning.{ArePlannedSince, IsPlannable}
 use Rattle.batch_order.proofs.Aimed.{aims_more}
 use Rattle.batch_order.proofs.Since.{planned_then}
-use Rattle.batch_pieces.proofs.Walked.{take_next}
+use Rattle.commit_writes.proofs.Walked.{take_next}
 use Rattle.batch_order.proofs.insertions.plan_more.Goals as goal
 
 -- some ids became live after others

@@ -2,13 +2,13 @@ use Rattle.std.proofs.Common.{◌≡◌, ◌<◌, ◌∙◌, ◌++◌, List, ℕ
 use Rattle.std.specs.List.{AllByRecursion}
 use Rattle.std.proofs.lemmas.List.{take_all}
 use Rattle.slot_order.proofs.Lists.{all_append}
-use Rattle.overlap_index.specs.Live.{is_above}
+use Rattle.placement.specs.Live.{is_above}
 use Rattle.slot_pool.specs.Arrangement.{Slots}
-use Rattle.move_planner.specs.declared.Aim.{Aim}
-use Rattle.move_planner.specs.declared.Move.{Move}
-use Rattle.move_planner.specs.Placement.{IsPlacement, IsInOrder, after_moves, span_of}
-use Rattle.move_planner.specs.Insertion.{IsLive, StandOnce, free_slots, moves_since}
-use Rattle.move_planner.specs.Steps.{IsReady}
+use Rattle.placement.specs.declared.Aim.{Aim}
+use Rattle.placement.specs.declared.Move.{Move}
+use Rattle.placement.specs.Placement.{IsPlacement, IsInOrder, after_moves, span_of}
+use Rattle.placement.specs.Insertion.{IsLive, StandOnce, free_slots, moves_since}
+use Rattle.placement.specs.Ready.{IsReady}
 use Rattle.batch_order.specs.Entries.{Entries}
 use Rattle.batch_order.specs.declared.planned_writes.PlannedWrite.TheVariants.{Moved}
 use Rattle.batch_order.specs.Planning.{IsInside, IsLastLive, IsWithin}

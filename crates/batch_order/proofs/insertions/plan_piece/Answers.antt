@@ -1,7 +1,7 @@
 use Rattle.std.proofs.Common.{◌≡◌, ◌∙◌, ◌++◌, [], ◌∷◌, refl, subst, ap, true}
-use Rattle.overlap_index.specs.declared.LivePiece.{LivePiece}
-use Rattle.overlap_index.specs.Live.{is_live, without_id}
-use Rattle.ternary_word.specs.Entry.{RankedPiece}
+use Rattle.placement.specs.declared.LivePiece.{LivePiece}
+use Rattle.placement.specs.Live.{is_live, without_id}
+use Rattle.rule_model.specs.Entry.{RankedPiece}
 use Rattle.batch_order.specs.Planning.{ArePlannedSince}
 use Rattle.batch_order.proofs.Since.{planned_one}
 use Rattle.batch_order.proofs.Entered.{kept_set}

@@ -1,5 +1,5 @@
 use Rattle.std.proofs.Common.{ℕ, Option, Some, None, IsSome, IsNone, ◌∙◌, refl, sym, ap}
-use Rattle.ternary_word.specs.Entry.{RankedPiece}
+use Rattle.rule_model.specs.Entry.{RankedPiece}
 use Rattle.batch_order.proofs.parts.id_of.Goals as goal
 
 some_id : (found : Option ℕ) → (IsNone found → ⊥) → IsSome found

@@ -1,9 +1,9 @@
 use Rattle.std.proofs.Common.{◌∙◌, List, subst, sym}
 use Rattle.std.specs.List.{AllByRecursion, AllZip}
-use Rattle.ternary_word.specs.Entry.{RankedPiece, IsEncodable}
+use Rattle.rule_model.specs.Entry.{RankedPiece, IsEncodable}
 use Rattle.commit_writes.specs.PlannedBatch.{IsIdOf, IsRewriteOf}
 use Rattle.commit_writes.proofs.BatchRules.{IsSoundChange}
-use Rattle.batch_pieces.specs.Changes.{coded_by, during_of}
+use Rattle.commit_writes.specs.Changes.{coded_by, during_of}
 use Rattle.batch_order.specs.Entries.{HaveIds}
 use Rattle.batch_order.proofs.Parted.{rewritten_have_ids, erased_have_ids}
 use Rattle.batch_order.proofs.parts.parts_of.Goals as goal

@@ -4,7 +4,7 @@ use Rattle.std.proofs.lemmas.List.{take_all}
 use Rattle.slot_order.proofs.Lists.{all_append}
 use Rattle.slot_pool.specs.Arrangement.{home_of}
 use Rattle.tcam_device.specs.declared.Write.TheVariants.{Slot}
-use Rattle.move_planner.specs.declared.Move.TheVariants.{Erase}
+use Rattle.placement.specs.declared.Move.TheVariants.{Erase}
 use Rattle.commit_writes.specs.PlannedBatch.{erase_write}
 use Rattle.batch_order.specs.declared.planned_writes.PlannedWrite.TheVariants.{Moved}
 use Rattle.batch_order.specs.Planning.{IsStanding, IsWithin, as_writes}

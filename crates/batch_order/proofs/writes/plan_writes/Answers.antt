@@ -1,7 +1,7 @@
 use Rattle.std.proofs.Common.{◌≡◌, ℕ, IsTrue, List, length, sym, ap, subst, ◌∙◌}
 use Rattle.std.specs.List.{AllByRecursion}
-use Rattle.overlap_index.specs.declared.LivePiece.{LivePiece}
-use Rattle.overlap_index.specs.Live.{is_live}
+use Rattle.placement.specs.declared.LivePiece.{LivePiece}
+use Rattle.placement.specs.Live.{is_live}
 use Rattle.rule_store.specs.Verdict.{entries_of}
 use Rattle.rule_store.specs.declared.Mode.{Mode}
 use Rattle.commit_writes.specs.Undo.{restorings}

@@ -3,7 +3,7 @@ use Rattle.std.specs.Prelude.{slice_index}
 use Rattle.std.proofs.lemmas.Grind.{replicate_next}
 use Rattle.tcam_device.specs.State.{replay, table_of}
 use Rattle.tcam_device.proofs.Kept.{blank_table-is}
-use Rattle.translation_tables.proofs.ReadBack.{table_size, next_word, all_words}
+use Rattle.commit_writes.proofs.ReadBack.{table_size, next_word, all_words}
 use Rattle.driven_device.proofs.driven.is_blank.Goals as goal
 
 -- one more word is 0

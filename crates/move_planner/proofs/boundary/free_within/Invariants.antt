@@ -1,5 +1,5 @@
 use Rattle.std.proofs.Common.{◌≡◌, ◌+◌, ◌-◌, ◌<◌, ◌≤◌}
-use Rattle.slot_order.specs.Cuts.{free_behind}
+use Rattle.slot_moves.specs.Cuts.{free_behind}
 use Rattle.move_planner.proofs.boundary.free_within.Given as goal
 
 -- the free slots up to the last one that was found

@@ -1,10 +1,10 @@
 use Rattle.std.proofs.Common.{◌≡◌, ◌∙◌, ◌++◌, ◌∷◌, [], append-nil, append_assoc, ap, arith, refl, sym}
 use Rattle.slot_pool.specs.Arrangement.{first_slot}
-use Rattle.overlap_index.specs.Live.{is_above}
-use Rattle.overlap_index.proofs.Above.{rank_in, ids_below_are}
+use Rattle.placement.specs.Live.{is_above}
+use Rattle.placement.proofs.Above.{rank_in, ids_below_are}
 use Rattle.move_planner.specs.Steps.{lesser}
 use Rattle.move_planner.proofs.Ends.{among, first_of_none, first_of_more, first_of_all, both_are}
-use Rattle.move_planner.proofs.Orders.{ranked}
+use Rattle.placement.proofs.Orders.{ranked}
 use Rattle.move_planner.proofs.Sought.{no_lower_on, down_found, down_free, down_ended}
 use Rattle.move_planner.proofs.chains.step_down.Goals as goal
 

@@ -1,10 +1,10 @@
 use Rattle.std.proofs.Common.{◌≡◌, ◌∙◌, ◌++◌, ◌∷◌, [], append-nil, append_assoc, ap, arith, refl, sym}
 use Rattle.slot_pool.specs.Arrangement.{last_slot}
-use Rattle.overlap_index.specs.Live.{is_above}
-use Rattle.overlap_index.proofs.Above.{rank_in, ids_above_are}
+use Rattle.placement.specs.Live.{is_above}
+use Rattle.placement.proofs.Above.{rank_in, ids_above_are}
 use Rattle.move_planner.specs.Steps.{greater}
 use Rattle.move_planner.proofs.Ends.{among, last_of_none, last_of_more, last_of_all, both_are}
-use Rattle.move_planner.proofs.Orders.{ranked}
+use Rattle.placement.proofs.Orders.{ranked}
 use Rattle.move_planner.proofs.Sought.{no_upper_on, up_found, up_free, up_ended}
 use Rattle.move_planner.proofs.chains.step_up.Goals as goal
 

@@ -1,6 +1,6 @@
 use Rattle.std.proofs.Common.{◌≡◌, ◌<◌, ◌≤◌, ◌++◌}
 use Rattle.slot_pool.specs.Arrangement.{last_slot}
-use Rattle.overlap_index.specs.Live.{is_above}
+use Rattle.placement.specs.Live.{is_above}
 use Rattle.move_planner.proofs.Ends.{among}
 use Rattle.move_planner.proofs.Sought.{HoldNoUpper}
 use Rattle.move_planner.proofs.chains.step_up.Given as goal

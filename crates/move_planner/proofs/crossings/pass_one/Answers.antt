@@ -1,10 +1,10 @@
 use Rattle.std.proofs.Common.{ℕ, Bool, Option, None, Some, sym, ◌≡◌, ◌⊎◌, refl, subst}
-use Rattle.overlap_index.specs.Live.{is_above}
+use Rattle.placement.specs.Live.{is_above}
 use Rattle.slot_pool.specs.Arrangement.{Slots}
 use Rattle.move_planner.specs.declared.chains.Chain.{Chain}
 use Rattle.move_planner.specs.declared.sides.Sides.{Sides}
 use Rattle.move_planner.specs.declared.crossings.Cut.{Cut}
-use Rattle.move_planner.specs.Placement.{Above}
+use Rattle.placement.specs.Placement.{Above}
 use Rattle.move_planner.specs.Steps.{FindsPasser, EarlyPasses, LatePasses, NonePass, OnePassed}
 use Rattle.move_planner.proofs.Underway.{passer_shifts, passer_passed}
 use Rattle.move_planner.proofs.crossings.pass_one.Goals as goal

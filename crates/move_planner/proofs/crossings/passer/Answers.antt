@@ -1,4 +1,4 @@
-use Rattle.overlap_index.specs.Live.{is_above}
+use Rattle.placement.specs.Live.{is_above}
 use Rattle.move_planner.specs.Steps.{FindsShorter}
 use Rattle.move_planner.proofs.Outcomes.{if_ok}
 use Rattle.move_planner.proofs.Underway.{early_goes, late_goes, passer_is}

@@ -1,13 +1,13 @@
 use Rattle.std.proofs.Common.{◌≡◌, ℕ, Bool, List, Option, None, Some, arith, refl, subst}
-use Rattle.overlap_index.specs.Live.{LivePieces, is_above}
+use Rattle.placement.specs.Live.{LivePieces, is_above}
 use Rattle.slot_pool.specs.Arrangement.{Slots}
-use Rattle.move_planner.specs.declared.Move.{Move}
+use Rattle.placement.specs.declared.Move.{Move}
 use Rattle.move_planner.specs.declared.sides.Sides.{Sides}
 use Rattle.move_planner.specs.declared.crossings.Cut.{Cut}
 use Rattle.move_planner.specs.Steps.{MayPass, OnePassed, NonePasses, AreFoundSides}
 use Rattle.move_planner.proofs.Outcomes.{on_err}
-use Rattle.move_planner.proofs.Readied.{start_inside}
-use Rattle.move_planner.proofs.Reach.{is_behind, is_before}
+use Rattle.placement.proofs.Readied.{start_inside}
+use Rattle.placement.proofs.Reach.{is_behind, is_before}
 use Rattle.move_planner.proofs.Begun.{IsBegun, some_boundary}
 use Rattle.move_planner.proofs.Uncrossing.{uncrossing_none, uncrossing_more, uncrossed_all, made_uncrossing}
 use Rattle.move_planner.proofs.crossings.uncross.Goals as goal

@@ -1,7 +1,7 @@
 use Rattle.std.proofs.Common.{◌≡◌, ◌≤◌, arith, ap, length}
-use Rattle.overlap_index.specs.Live.{is_above}
-use Rattle.move_planner.specs.Placement.{next_slot, gap_start}
-use Rattle.move_planner.proofs.Readied.{start_inside}
+use Rattle.placement.specs.Live.{is_above}
+use Rattle.placement.specs.Placement.{next_slot, gap_start}
+use Rattle.placement.proofs.Readied.{start_inside}
 use Rattle.move_planner.proofs.Placed.{end_is, start_is}
 use Rattle.move_planner.proofs.places.find_gap.Goals as goal
 

@@ -1,7 +1,7 @@
 use Rattle.std.proofs.Common.{◌≡◌, ◌∙◌, ◌++◌, ◌∷◌, [], append-nil, append_assoc, ap, refl, sym}
 use Rattle.slot_pool.specs.Arrangement.{first_slot}
-use Rattle.overlap_index.specs.Live.{is_above}
-use Rattle.overlap_index.proofs.Above.{ids_below_are}
+use Rattle.placement.specs.Live.{is_above}
+use Rattle.placement.proofs.Above.{ids_below_are}
 use Rattle.move_planner.specs.Steps.{lesser}
 use Rattle.move_planner.proofs.Ends.{among, first_of_none, first_of_more, first_of_all, both_are}
 use Rattle.move_planner.proofs.places.first_lower.Goals as goal

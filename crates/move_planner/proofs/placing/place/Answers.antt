@@ -1,9 +1,9 @@
 use Rattle.std.proofs.Common.{◌≤◌, [], ◌∷◌, ◌++◌, length, inl, sym, ◌∙◌, subst, ap}
-use Rattle.move_planner.specs.declared.Move.TheVariants.{Put}
-use Rattle.overlap_index.specs.Live.{is_above}
-use Rattle.move_planner.specs.Placement.{after_move}
+use Rattle.placement.specs.declared.Move.TheVariants.{Put}
+use Rattle.placement.specs.Live.{is_above}
+use Rattle.placement.specs.Placement.{after_move}
 use Rattle.move_planner.proofs.Outcomes.{on_ok_both}
-use Rattle.move_planner.proofs.Readied.{end_inside}
+use Rattle.placement.proofs.Readied.{end_inside}
 use Rattle.move_planner.proofs.Ways.{way_shifts}
 use Rattle.move_planner.proofs.Placed.{chosen, no_slot, gap_free, placed_in_gap, placed_by_way}
 use Rattle.move_planner.proofs.placing.place.Goals as goal

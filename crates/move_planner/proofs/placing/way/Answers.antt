@@ -1,5 +1,5 @@
 use Rattle.std.proofs.Common.{subst}
-use Rattle.overlap_index.specs.Live.{is_above}
+use Rattle.placement.specs.Live.{is_above}
 use Rattle.move_planner.specs.Steps.{FindsShorter}
 use Rattle.move_planner.proofs.Ways.{low_inside, high_inside, can_go_down, can_go_up, way_is, some_way}
 use Rattle.move_planner.proofs.placing.way.Goals as goal

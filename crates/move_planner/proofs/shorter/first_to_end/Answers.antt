@@ -1,5 +1,5 @@
 use Rattle.std.proofs.Common.{◌∷◌, [], length, inl, inr, arith, refl, sym, ◌∙◌, ap, length-append}
-use Rattle.overlap_index.specs.Live.{is_above}
+use Rattle.placement.specs.Live.{is_above}
 use Rattle.move_planner.proofs.Walked.{walked_down_none, walked_down_on, walked_down_end, walked_down_least, walked_up_none, walked_up_on, walked_up_end, walked_up_least}
 use Rattle.move_planner.proofs.shorter.first_to_end.Goals as goal
 

@@ -1,5 +1,5 @@
 use Rattle.std.proofs.Common.{◌≡◌, ◌-◌, length}
-use Rattle.overlap_index.specs.Live.{is_above}
+use Rattle.placement.specs.Live.{is_above}
 use Rattle.move_planner.proofs.Walked.{IsWalkedDown, IsWalkedUp}
 use Rattle.move_planner.proofs.shorter.first_to_end.Given as goal
 

@@ -1,5 +1,5 @@
 use Rattle.std.proofs.Common.{refl}
-use Rattle.overlap_index.specs.Live.{is_above}
+use Rattle.placement.specs.Live.{is_above}
 use Rattle.move_planner.proofs.Walked.{walked_down_none, walked_down_on, walked_down_end}
 use Rattle.move_planner.proofs.shorter.walk_down.Goals as goal
 

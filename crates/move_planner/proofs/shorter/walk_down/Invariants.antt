@@ -1,5 +1,5 @@
 use Rattle.std.proofs.Common.{◌-◌}
-use Rattle.overlap_index.specs.Live.{is_above}
+use Rattle.placement.specs.Live.{is_above}
 use Rattle.move_planner.proofs.Walked.{IsWalkedDown}
 use Rattle.move_planner.proofs.shorter.walk_down.Given as goal
 

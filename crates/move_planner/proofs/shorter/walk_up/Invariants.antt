@@ -1,4 +1,4 @@
-use Rattle.overlap_index.specs.Live.{is_above}
+use Rattle.placement.specs.Live.{is_above}
 use Rattle.move_planner.proofs.Walked.{IsWalkedUp}
 use Rattle.move_planner.proofs.shorter.walk_up.Given as goal
 

@@ -1,6 +1,6 @@
 use Rattle.std.proofs.Common.{arith}
-use Rattle.overlap_index.specs.Live.{is_above}
-use Rattle.move_planner.proofs.Readied.{start_inside}
+use Rattle.placement.specs.Live.{is_above}
+use Rattle.placement.proofs.Readied.{start_inside}
 use Rattle.move_planner.proofs.sides.find_sides.Goals as goal
 
 pub mark_behind-requires-clause-inside : goal.mark_behind-requires-clause-inside

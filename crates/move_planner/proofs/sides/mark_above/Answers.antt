@@ -1,5 +1,5 @@
-use Rattle.overlap_index.specs.Live.{is_above}
-use Rattle.overlap_index.proofs.Above.{ids_above_are}
+use Rattle.placement.specs.Live.{is_above}
+use Rattle.placement.proofs.Above.{ids_above_are}
 use Rattle.move_planner.proofs.Ends.{both_are}
 use Rattle.move_planner.proofs.Marks.{reached}
 use Rattle.move_planner.proofs.sides.mark_above.Goals as goal

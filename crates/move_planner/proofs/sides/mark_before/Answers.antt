@@ -1,7 +1,7 @@
 use Rattle.std.proofs.Common.{◌≡◌, ◌+◌, ◌-◌, false, replicate, length, le_refl, arith, sym, ◌∙◌, subst, ap}
 use Rattle.std.proofs.lemmas.Bool.{both_ways}
 use Rattle.std.proofs.lemmas.List.{length-replicate}
-use Rattle.overlap_index.specs.Live.{is_above}
+use Rattle.placement.specs.Live.{is_above}
 use Rattle.move_planner.proofs.Pushed.{lead_start, lead_skip, lead_step, lead_end}
 use Rattle.move_planner.proofs.Marks.{Hit, no_hit, hit_is, hit_from}
 use Rattle.move_planner.proofs.sides.mark_before.Goals as goal

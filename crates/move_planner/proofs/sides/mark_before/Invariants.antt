@@ -1,5 +1,5 @@
 use Rattle.std.proofs.Common.{◌-◌, ◌≤◌}
-use Rattle.overlap_index.specs.Live.{is_above}
+use Rattle.placement.specs.Live.{is_above}
 use Rattle.move_planner.proofs.Pushed.{LeadSoFar}
 use Rattle.move_planner.proofs.sides.mark_before.Given as goal
 

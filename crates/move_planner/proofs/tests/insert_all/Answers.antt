@@ -1,6 +1,6 @@
 use Rattle.std.proofs.Common.{◌+◌, ap}
-use Rattle.overlap_index.specs.declared.LivePiece.{LivePiece}
-use Rattle.move_planner.specs.Insertion.{moves_since}
+use Rattle.placement.specs.declared.LivePiece.{LivePiece}
+use Rattle.placement.specs.Insertion.{moves_since}
 use Rattle.move_planner.proofs.Filled.{next_absent, next_of, filled_more}
 use Rattle.move_planner.proofs.tests.insert_all.Goals as goal
 

@@ -1,6 +1,6 @@
 use Rattle.std.proofs.Common.{◌≡◌, ◌<◌, true, subst, sym}
 use Rattle.overlap_index.specs.Changes.{live_after}
-use Rattle.overlap_index.specs.Live.{AreApart, is_live}
+use Rattle.placement.specs.Live.{AreApart, is_live}
 use Rattle.overlap_index.specs.Linked.{AreLinked}
 use Rattle.overlap_index.proofs.Linked.{linked_above, live_small}
 use Rattle.overlap_index.proofs.Index.above.Goals as goal

@@ -2,14 +2,14 @@ use Rattle.std.proofs.Common.{◌≡◌, ℕ, ◌<◌, false, inl, inr, refl, sy
 use Rattle.std.proofs.lemmas.Grind.{common_steps}
 use Rattle.rule_model.specs.declared.Piece.{Piece}
 use Rattle.overlap_index.specs.declared.Change.TheVariants.{Came}
-use Rattle.overlap_index.specs.declared.LivePiece.{LivePiece}
+use Rattle.placement.specs.declared.LivePiece.{LivePiece}
 use Rattle.overlap_index.specs.declared.scan.Side.TheVariants.{Above, Below}
 use Rattle.overlap_index.specs.Changes.{live_after}
-use Rattle.overlap_index.specs.Live.{is_live}
+use Rattle.placement.specs.Live.{is_live}
 use Rattle.overlap_index.specs.Linked.{AreParts}
 use Rattle.overlap_index.specs.Sides.{AreOn}
 use Rattle.overlap_index.proofs.Linked.{on_others, pieces_size, not_upper, not_lower}
-use Rattle.overlap_index.proofs.Live.{live_more}
+use Rattle.overlap_index.proofs.Came.{live_more}
 use Rattle.overlap_index.proofs.Parts.{parts_roomy, parts_more}
 use Rattle.overlap_index.proofs.Index.add.Goals as goal
 

@@ -1,6 +1,6 @@
 use Rattle.std.proofs.Common.{sym, subst, Contains}
 use Rattle.std.proofs.lemmas.Option.{IfSome_then}
-use Rattle.overlap_index.specs.declared.LivePiece.{LivePiece}
+use Rattle.placement.specs.declared.LivePiece.{LivePiece}
 use Rattle.overlap_index.proofs.Index.id_of.Goals as goal
 
 pub id_of-requires : goal.id_of-requires

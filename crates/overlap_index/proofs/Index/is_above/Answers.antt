@@ -1,6 +1,6 @@
 use Rattle.std.proofs.Common.{◌∙◌, ap₂}
-use Rattle.overlap_index.specs.Live.{is_above}
-use Rattle.overlap_index.proofs.Above.{above_of}
+use Rattle.placement.specs.Live.{is_above}
+use Rattle.placement.proofs.Above.{above_of}
 use Rattle.overlap_index.proofs.Index.is_above.Goals as goal
 
 pub returns : goal.returns

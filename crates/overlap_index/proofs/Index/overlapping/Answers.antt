@@ -2,8 +2,7 @@ use Rattle.std.proofs.Common.{◌∙◌, ap, subst, IfOk}
 use Rattle.std.proofs.lemmas.Result.{IfOk-weaker}
 use Rattle.overlap_index.specs.declared.scan.Side.TheVariants.{Above, Below}
 use Rattle.overlap_index.specs.Changes.{live_after}
-use Rattle.overlap_index.specs.Live.{ids_on}
-use Rattle.overlap_index.specs.Sides.{AreOn}
+use Rattle.overlap_index.specs.Sides.{ids_on, AreOn}
 use Rattle.overlap_index.proofs.Linked.{on_found}
 use Rattle.overlap_index.proofs.Index.overlapping.Goals as goal
 

@@ -1,7 +1,7 @@
 use Rattle.std.proofs.Common.{◌≡◌, true, Contains, arith, subst, sym}
 use Rattle.std.proofs.lemmas.Grind.{common_steps}
 use Rattle.overlap_index.specs.Changes.{live_after}
-use Rattle.overlap_index.specs.Live.{AreApart, is_live}
+use Rattle.placement.specs.Live.{AreApart, is_live}
 use Rattle.overlap_index.proofs.Linked.{live_small}
 use Rattle.overlap_index.proofs.Placed.{FoundAt, found_at, reads_place}
 use Rattle.overlap_index.proofs.Index.piece_of.Goals as goal

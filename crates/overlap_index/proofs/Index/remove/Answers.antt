@@ -2,9 +2,9 @@ use Rattle.std.proofs.Common.{◌≡◌, ◌<◌, ◌-◌, ◌∙◌, true, leng
 use Rattle.std.proofs.lemmas.Grind.{common_steps}
 use Rattle.overlap_index.specs.declared.Change.TheVariants.{Went}
 use Rattle.overlap_index.specs.Changes.{live_after}
-use Rattle.overlap_index.specs.Live.{is_live, without_id}
+use Rattle.placement.specs.Live.{is_live, without_id}
 use Rattle.overlap_index.proofs.Linked.{live_small}
-use Rattle.overlap_index.proofs.Live.{live_more}
+use Rattle.overlap_index.proofs.Came.{live_more}
 use Rattle.overlap_index.proofs.Parts.{parts_less}
 use Rattle.overlap_index.proofs.Placed.{Closes, reads_place, last_small}
 use Rattle.overlap_index.proofs.Rows.{columns_size}

@@ -1,6 +1,6 @@
 use Rattle.std.proofs.Common.{◌≡◌, ◌≤◌, ◌-◌, ◌++◌, length, drop}
 use Rattle.overlap_index.specs.declared.scan.Side.TheVariants.{Above, Below}
-use Rattle.overlap_index.specs.Live.{ids_on}
+use Rattle.overlap_index.specs.Sides.{ids_on}
 use Rattle.overlap_index.proofs.scan.overlapping.Given as goal
 
 -- with those of the pieces that weren't looked at yet, the ids that were found are all there are

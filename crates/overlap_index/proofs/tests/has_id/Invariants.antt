@@ -1,5 +1,5 @@
 use Rattle.std.proofs.Common.{◌≡◌, false, take}
-use Rattle.overlap_index.specs.Live.{is_live}
+use Rattle.placement.specs.Live.{is_live}
 use Rattle.overlap_index.proofs.tests.has_id.Given as goal
 
 -- none so far has the id

@@ -1,6 +1,6 @@
 use Rattle.std.proofs.Common.{◌∙◌, ap}
 use Rattle.overlap_index.specs.Changes.{live_after}
-use Rattle.overlap_index.specs.Live.{is_live}
+use Rattle.placement.specs.Live.{is_live}
 use Rattle.overlap_index.proofs.Placed.{live_in_both}
 use Rattle.overlap_index.proofs.tests.is_live.Goals as goal
 

@@ -1,6 +1,6 @@
 use Rattle.std.proofs.Common.{sym}
 use Rattle.slot_order.proofs.Lists.{AllByRecursion-member}
-use Rattle.ternary_word.specs.Entry.{RankedPiece, IsEncodable}
+use Rattle.rule_model.specs.Entry.{RankedPiece, IsEncodable}
 use Rattle.readback.proofs.commit.changing.Goals as goal
 
 pub with_entry-requires : goal.with_entry-requires

@@ -1,7 +1,7 @@
 use Rattle.std.proofs.Common.{◌≡◌, ◌≤◌, ◌<◌, ℕ, Some, None, sym, ◌∙◌, subst}
 use Rattle.slot_order.specs.Order.{slot}
 use Rattle.rule_model.specs.Piece.{PiecesOverlap}
-use Rattle.ternary_word.specs.Entry.{RankedPiece}
+use Rattle.rule_model.specs.Entry.{RankedPiece}
 use Rattle.readback.proofs.Pairs.{below_next}
 use Rattle.readback.proofs.Walks.{slot_read}
 use Rattle.readback.proofs.crossing.crossed.Goals as goal

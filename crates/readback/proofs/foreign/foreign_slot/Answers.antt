@@ -1,8 +1,8 @@
 use Rattle.std.proofs.Common.{◌≡◌, ◌<◌, Some, inl, inr, sym, ◌∙◌, arith}
 use Rattle.std.proofs.lemmas.Bool.{ltb-false, ltb-true}
 use Rattle.slot_order.specs.Order.{slot}
-use Rattle.ternary_word.specs.declared.Entry.{Entry}
-use Rattle.ternary_word.specs.Entry.{RankedPiece}
+use Rattle.rule_model.specs.declared.words.Entry.{Entry}
+use Rattle.rule_model.specs.Entry.{RankedPiece}
 use Rattle.readback.proofs.Pairs.{below_next}
 use Rattle.readback.proofs.Walks.{slot_read}
 use Rattle.readback.proofs.foreign.foreign_slot.Goals as goal

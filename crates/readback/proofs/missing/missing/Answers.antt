@@ -1,5 +1,5 @@
 use Rattle.std.proofs.Common.{◌≡◌, ◌⊎◌, ◌<◌, true, Contains, length, get_or, inl, inr, sym, ◌∙◌, ap, subst}
-use Rattle.ternary_word.specs.Entry.{RankedPiece, entry_for}
+use Rattle.rule_model.specs.Entry.{RankedPiece, entry_for}
 use Rattle.readback.specs.Tasks.{CommitPieces, stands_in}
 use Rattle.readback.proofs.Pairs.{below_next}
 use Rattle.readback.proofs.Walks.{one_read}

@@ -1,6 +1,6 @@
 use Rattle.std.proofs.Common.{◌≡◌, ◌<◌, length, get_or, ◌∙◌, ap}
 use Rattle.std.proofs.lemmas.Bool.{both_ways}
-use Rattle.ternary_word.specs.Entry.{RankedPiece, entry_for}
+use Rattle.rule_model.specs.Entry.{RankedPiece, entry_for}
 use Rattle.readback.proofs.Pairs.{below_next}
 use Rattle.readback.proofs.Walks.{one_read}
 use Rattle.readback.proofs.reading.find.Goals as goal

@@ -1,5 +1,5 @@
 use Rattle.std.proofs.Common.{◌≡◌, ℕ, ◌<◌, get_or, length}
-use Rattle.ternary_word.specs.Entry.{RankedPiece, entry_for}
+use Rattle.rule_model.specs.Entry.{RankedPiece, entry_for}
 use Rattle.readback.proofs.reading.find.Given as goal
 
 -- none of the first ones has it

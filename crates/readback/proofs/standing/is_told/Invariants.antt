@@ -1,6 +1,6 @@
 use Rattle.std.proofs.Common.{◌≡◌, false, take}
 use Rattle.std.specs.List.{list_any}
-use Rattle.ternary_word.specs.Entry.{entry_for}
+use Rattle.rule_model.specs.Entry.{entry_for}
 use Rattle.readback.specs.Tasks.{holds_told}
 use Rattle.readback.proofs.standing.is_told.Given as goal
 

@@ -1,5 +1,5 @@
 use Rattle.std.proofs.Common.{◌≡◌, sym, ◌∙◌, ap}
-use Rattle.ternary_word.specs.Entry.{entry_for}
+use Rattle.rule_model.specs.Entry.{entry_for}
 use Rattle.tcam_device.specs.Insertion.{holds_match}
 use Rattle.readback.proofs.Walks.{any_at, none_yet}
 use Rattle.readback.proofs.standing.stands.Goals as goal

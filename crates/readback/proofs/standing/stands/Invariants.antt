@@ -1,6 +1,6 @@
 use Rattle.std.proofs.Common.{◌≡◌, false, take}
 use Rattle.std.specs.List.{list_any}
-use Rattle.ternary_word.specs.Entry.{entry_for}
+use Rattle.rule_model.specs.Entry.{entry_for}
 use Rattle.tcam_device.specs.Insertion.{holds_match}
 use Rattle.readback.proofs.standing.stands.Given as goal
 

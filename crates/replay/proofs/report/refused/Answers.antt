@@ -8,4 +8,4 @@ use Rattle.replay.proofs.report.refused.Goals as goal
 pub returns-clause-text : goal.returns-clause-text
 returns-clause-text c =
     rw (c.reason.ensures.text, c.word.ensures.text, c.number.ensures.text, c.new.ensures, c.from.ensures)
-    (with_words-line (codes "commit") (decimal c.args.commit ∷ codes "refused" ∷ reason_words c.args.family (verdict_told c.args.refusal.now)))
+    (with_words-line (codes "commit") (decimal c.args.commit ∷ codes "refused" ∷ reason_words c.args.family (verdict_told c.args.rejection.now)))

@@ -1,4 +1,4 @@
-use Rattle.std.proofs.Common.{true, Bool, Err, ◌≡◌, ◌*◌, ◌∷◌, List, length, refl, ap, sym, ◌∙◌, subst, arith}
+use Rattle.std.proofs.Common.{true, Bool, Err, ◌≡◌, ◌*◌, ◌∷◌, List, length, refl, ap, sym, ◌∙◌, subst, arith, rules}
 use Rattle.script_lines.specs.Given.{counted}
 use Rattle.rule_gen.specs.Batches.{AreBatches}
 use Rattle.rule_gen.specs.Made.{made_commands}
@@ -56,10 +56,13 @@ acts-smaller g c =
     let one = ap length c.in-Some.ensures.next in
     omega (arith, one)
 
-pub status_of_fault-requires : goal.status_of_fault-requires
-status_of_fault-requires g c =
+-- there is room for each, and no commit is unfinished
+pub unreachable-requires : goal.unreachable-requires
+unreachable-requires g c =
     let most = c.requires.most_rules in
-    made-fits (2 * c.args.rules) _ _ c.in-Some.made _ _ _ (Err c.in-Err.fault) c.in-Some.ensures.next c.act_of_made.ensures.act c.acts.invariant.room (omega (arith, most)) (c.in-Err.ensures.limit c.acts.invariant.idle)
+    let why = c.in-Err.field-0 in
+    let none = made-fits (2 * c.args.rules) _ _ c.in-Some.made _ _ _ (Err why) c.in-Some.ensures.next c.act_of_made.ensures.act c.acts.invariant.room (omega (arith, most)) (c.in-Err.ensures.limit c.acts.invariant.idle) in
+    search rules
 
 pub acts-preserved : goal.acts-preserved
 acts-preserved g c =
@@ -100,26 +103,23 @@ returns-in_default-clause-leaves g c =
     let i = c.acts.invariant in
     leaves-then _ _ _ _ _ _ _ _ _ _ _ ⊥ ⊥ _ _ (λ e. e) (λ e. e) i.leaves (closed-leaves _ _ _ _ _ g.K.Sink.accepted _ _ c.acts.device _ _ _ c.finish.ensures.kind.2 (c.finish.ensures.closes 0))
 
-pub returns-in-Err-clause-carried_out : goal.returns-in-Err-clause-carried_out
-returns-in-Err-clause-carried_out g c = λ which source.
+pub returns-in-Err-Stopped-clause-carried_out : goal.returns-in-Err-Stopped-clause-carried_out
+returns-in-Err-Stopped-clause-carried_out g c = λ which source.
     let i = c.acts.invariant in
-    let most = c.requires.most_rules in
-    let why = c.in-Err.fault in
+    let why = c.in-Err-Stopped.why in
     let next = c.in-Some.ensures.next in
-    let none = made-fits (2 * c.args.rules) _ _ c.in-Some.made _ _ _ (Err why) next c.act_of_made.ensures.act i.room (omega (arith, most)) (c.in-Err.ensures.limit c.acts.invariant.idle) in
     let slots = g.D.Writable.slot_count c.acts.device in
     let here : MadeSoFar (setting_of c.acts.run) slots (made_commands c.args.seed c.args.rules c.args.batches) (c.in-Some.made ∷ c.next.new.self) (progress_of slots c.acts.run) (g.D.Writable.events c.acts.device)
     (counted which (g.K.Sink.taken c.args.sink.now) (g.K.Sink.accepted c.args.sink.now)) (counted which (g.K.Sink.taken c.acts.sink) (g.K.Sink.accepted c.acts.sink)) = rw (i.setting, i.leaves.slot_count, ← next) (i.made which) in
     let is : Stops slots (setting_of c.acts.run) (progress_of slots c.acts.run) (made_act c.in-Some.made) why (g.D.Writable.events c.acts.device) (g.D.Writable.events c.apply.new.device)
     (counted which (g.K.Sink.taken c.acts.sink) (g.K.Sink.accepted c.acts.sink)) (counted which (g.K.Sink.taken c.apply.new.sink) (g.K.Sink.accepted c.apply.new.sink)) =
-    rw (← c.act_of_made.ensures.act) (stops _ _ _ _ why _ _ _ _ (c.in-Err.ensures.acts which)) in
-    rw (c.status_of_fault.ensures.status, ← i.setting, ← i.leaves.slot_count)
-    (made-stopped (setting_of c.acts.run) slots c.args.seed c.args.rules c.args.batches c.next.new.self c.in-Some.made (progress_of slots c.acts.run) _ _ _ _ _ why here none is source)
+    rw (← c.act_of_made.ensures.act) (stops slots c.acts.run c.act_of_made.result c.apply.new.self why (g.D.Writable.events c.acts.device) (g.D.Writable.events c.apply.new.device)
+    (counted which (g.K.Sink.taken c.acts.sink) (g.K.Sink.accepted c.acts.sink)) (counted which (g.K.Sink.taken c.apply.new.sink) (g.K.Sink.accepted c.apply.new.sink)) (rw c.in-Err-Stopped.field-0-is at (c.in-Err-Stopped.ensures.acts which))) in
+    rw (c.status_of_fault.ensures.status, c.in-Err-Stopped.field-0-is, ← i.setting, ← i.leaves.slot_count)
+    (made-stopped (setting_of c.acts.run) slots c.args.seed c.args.rules c.args.batches c.next.new.self c.in-Some.made (progress_of slots c.acts.run) _ _ _ _ _ why here is source)
 
-pub returns-in-Err-clause-leaves : goal.returns-in-Err-clause-leaves
-returns-in-Err-clause-leaves g c =
+pub returns-in-Err-Stopped-clause-leaves : goal.returns-in-Err-Stopped-clause-leaves
+returns-in-Err-Stopped-clause-leaves g c =
     let i = c.acts.invariant in
-    let most = c.requires.most_rules in
-    let why = c.in-Err.fault in
-    let none = made-fits (2 * c.args.rules) _ _ c.in-Some.made _ _ _ (Err why) c.in-Some.ensures.next c.act_of_made.ensures.act i.room (omega (arith, most)) (c.in-Err.ensures.limit c.acts.invariant.idle) in
-    rw c.status_of_fault.ensures.status (leaves-then _ _ _ _ _ _ _ _ _ _ _ ⊥ ⊥ _ _ (λ e. e) (λ e. e) i.leaves (stopped-leaves _ _ _ _ _ _ _ _ _ why none c.in-Err.ensures.leaves))
+    let why = c.in-Err-Stopped.why in
+    rw (c.status_of_fault.ensures.status, c.in-Err-Stopped.field-0-is) (leaves-then _ _ _ _ _ _ _ _ _ _ _ ⊥ ⊥ _ _ (λ e. e) (λ e. e) i.leaves (stopped-leaves _ _ _ _ _ _ _ _ _ why (rw c.in-Err-Stopped.field-0-is at c.in-Err-Stopped.ensures.leaves)))

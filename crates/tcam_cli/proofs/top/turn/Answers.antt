@@ -1,5 +1,4 @@
-use Rattle.std.proofs.Common.{rules, ◌≡◌, None, Err, ap, sym, ◌∙◌, Ok, refl}
-use Rattle.replay.specs.Running.{limit_text}
+use Rattle.std.proofs.Common.{Err, ap, sym, ◌∙◌, Ok, refl}
 use Rattle.tcam_cli.proofs.FaultCounts.{closed-leaves, closes-leaves, some-leaves, stopped-leaves}
 use Rattle.tcam_cli.proofs.Outcomes.{stops, stops-grows, stops-memory}
 use Rattle.tcam_cli.proofs.Exits.{exit-bytes, exit-end, exit-read, goes-none, exit-word, exit-full, goes-on, exit-stopped, wants-next}
@@ -119,34 +118,36 @@ returns-in-Err-ProbesFull-clause-gives g c =
           taken _ _ _ _ (c.in-Ok-Some-read_act.ensures.ok ∙ ap Ok c.in-Ok-Some-read_act.field-0-is) (sym (rw c.in-Err-ProbesFull.field-0-is at (c.in-Err-ProbesFull.ensures.limit c.requires.stands.idle))) (rw same.report at (c.fault-in-Err-ProbesFull.ensures.closes.closes which)))),
     )
 
-pub returns-in-Err-apply-clause-gives : goal.returns-in-Err-apply-clause-gives
-returns-in-Err-apply-clause-gives g c =
+pub returns-in-Err-Stopped-clause-gives : goal.returns-in-Err-Stopped-clause-gives
+returns-in-Err-Stopped-clause-gives g c =
     let h = c.in-Ok-Some in
-    let why = c.in-Err-apply.fault in
-    let taken = rw c.requires.stands.idle at c.in-Err-apply.ensures.held in
-    let none : limit_text (Err why) ≡ None = search rules in
-    let full = sym (c.in-Err-apply.ensures.limit c.requires.stands.idle) ∙ none in (
+    let why = c.in-Err-Stopped.why in
+    let is = c.in-Err-Stopped.field-0-is in
+    let full = sym (rw is at (c.in-Err-Stopped.ensures.limit c.requires.stands.idle)) in (
       h.ensures.gives.0,
       h.ensures.gives.1,
       λ which.
-          let comes = stops _ _ _ _ why _ _ _ _ (c.in-Err-apply.ensures.acts which) in
-          rw c.status_of_fault.ensures.status (turns-stopped _ _ _ _ _ _ _ why _ _ _ _ _ _ h.ensures.gives.2 none
-          (λ bytes left now start may s. stops-grows _ _ _ _ why _ _ _ _ none (so-far-at _ _ _ _ _ _ _ _ _ s) comes)
+          let comes = stops _ _ _ _ why _ _ _ _ (rw is at (c.in-Err-Stopped.ensures.acts which)) in
+          rw c.status_of_fault.ensures.status (turns-stopped _ _ _ _ _ _ _ why _ _ _ _ _ _ h.ensures.gives.2
+          (λ bytes left now start may s. stops-grows _ _ _ _ why _ _ _ _ (so-far-at _ _ _ _ _ _ _ _ _ s) comes)
           (λ bytes taken begun now start may parts s.
           exit-stopped _ _ bytes _ begun _ _ start _ s h.line c.next.new.self now (rw h.field-0-is at h.ensures.again) (λ going. rw h.field-0-is at (h.ensures.gives.2.hands going begun now may))
-          _ (c.in-Ok-Some-read_act.ensures.ok ∙ ap Ok c.in-Ok-Some-read_act.field-0-is) full _ _ taken why none comes)
+          _ (c.in-Ok-Some-read_act.ensures.ok ∙ ap Ok c.in-Ok-Some-read_act.field-0-is) full _ _ taken why comes)
           (λ memory bytes left now start may s.
           wants-next _ _ bytes _ left _ _ start _ s h.line c.next.new.self now (rw h.field-0-is at h.ensures.again) (λ going. rw h.field-0-is at (h.ensures.gives.2.hands going left now may))
           _ (c.in-Ok-Some-read_act.ensures.ok ∙ ap Ok c.in-Ok-Some-read_act.field-0-is) full _ _
           (stops-memory _ _ _ _ why _ _ _ _ memory (so-far-at _ _ _ _ _ _ _ _ _ s) comes))),
     )
 
-pub returns-in-Err-apply-clause-leaves : goal.returns-in-Err-apply-clause-leaves
-returns-in-Err-apply-clause-leaves g c =
-    let why = c.in-Err-apply.fault in
-    let taken = rw c.requires.stands.idle at c.in-Err-apply.ensures.held in
-    let none : limit_text (Err why) ≡ None = search rules in
-    some-leaves _ _ _ _ _ _ _ _ _ _ (rw c.status_of_fault.ensures.status (stopped-leaves _ _ _ _ _ _ _ _ _ why none c.in-Err-apply.ensures.leaves))
+pub returns-in-Err-Stopped-clause-leaves : goal.returns-in-Err-Stopped-clause-leaves
+returns-in-Err-Stopped-clause-leaves g c =
+    some-leaves _ _ _ _ _ _ _ _ _ _ (rw c.status_of_fault.ensures.status (stopped-leaves _ _ _ _ _ _ _ _ _ c.in-Err-Stopped.why (rw c.in-Err-Stopped.field-0-is at c.in-Err-Stopped.ensures.leaves)))
+
+-- no commit is unfinished
+pub unreachable-requires : goal.unreachable-requires
+unreachable-requires g c =
+    let taken = rw c.requires.stands.idle at c.in-Err-Held.ensures.held in
+    taken c.in-Err-Held.field-0-0 (ap Err c.in-Err-Held.field-0-is)
 
 pub returns-in-Err-ScriptTooLong-clause-leaves : goal.returns-in-Err-ScriptTooLong-clause-leaves
 returns-in-Err-ScriptTooLong-clause-leaves g c = some-leaves _ _ _ _ _ _ _ _ _ _ (closed-leaves _ _ _ _ _ g.K.Sink.accepted _ _ c.args.device.now _ _ _ c.fault.ensures.kind.2 c.fault.ensures.closes)

@@ -1,5 +1,5 @@
 use Rattle.std.proofs.Common.{subst}
-use Rattle.overlap_index.specs.Live.{AreApart}
+use Rattle.placement.specs.Live.{AreApart}
 use Rattle.batch_order.specs.Entries.{Entries}
 use Rattle.batch_order.proofs.entries.LiveEntries.are_apart.Goals as goal
 

@@ -1,6 +1,6 @@
 use Rattle.std.proofs.Common.{rules, ◌≡◌, ◌<◌, length, None, slice_set, true}
 use Rattle.std.proofs.lemmas.List.{length-set}
-use Rattle.overlap_index.specs.Live.{is_live}
+use Rattle.placement.specs.Live.{is_live}
 use Rattle.batch_order.proofs.Ids.{kept_less, live_small}
 use Rattle.batch_order.proofs.entries.LiveEntries.forget.Goals as goal
 

@@ -1,7 +1,7 @@
 use Rattle.std.proofs.Common.{◌∙◌, IsTrue, Option, List, None, take, get_or, set, arith, subst, sym, ap}
-use Rattle.ternary_word.specs.declared.Entry.{Entry}
-use Rattle.overlap_index.specs.declared.LivePiece.{LivePiece}
-use Rattle.overlap_index.specs.Live.{is_live, without_id}
+use Rattle.rule_model.specs.declared.words.Entry.{Entry}
+use Rattle.placement.specs.declared.LivePiece.{LivePiece}
+use Rattle.placement.specs.Live.{is_live, without_id}
 use Rattle.commit_writes.specs.PlannedBatch.{erased_live}
 use Rattle.batch_order.specs.Entries.{KeepEntries}
 use Rattle.batch_order.proofs.Walked.{next_number}

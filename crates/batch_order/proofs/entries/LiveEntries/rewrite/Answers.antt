@@ -1,5 +1,5 @@
 use Rattle.std.proofs.Common.{rules, ◌≡◌, ◌<◌, length, true}
-use Rattle.overlap_index.specs.Live.{is_live}
+use Rattle.placement.specs.Live.{is_live}
 use Rattle.batch_order.proofs.Ids.{live_small}
 use Rattle.batch_order.proofs.entries.LiveEntries.rewrite.Goals as goal
 

@@ -1,8 +1,8 @@
 use Rattle.std.proofs.Common.{◌≡◌, Some, None, Err, IfErr, OnOk, sym, subst}
 use Rattle.rule_store.specs.Batch.{batch_fault}
 use Rattle.rule_store.specs.Verdict.{Accepted, Verdict, slots_verdict, verdict}
+use Rattle.readback.specs.Judged.{judgement}
 use Rattle.batch_order.specs.Kept.{IsManaged}
-use Rattle.batch_order.specs.Managed.{Answers}
 use Rattle.batch_order.proofs.Judged.{bits_answer, dst_answer, src_answer}
 use Rattle.batch_order.proofs.manager.Manager.check_room.Goals as goal
 
@@ -44,4 +44,4 @@ returns-in-Ok-check_field-clause-short c =
     let sound : batch_fault i.rules.rules c.args.batch.now ≡ None = rw (← c.self.view_is) at c.requires.sound in
     let same : verdict c.args.self.now.slots c.args.self.now.mode c.args.self.now.rules c.args.batch.now ≡ slots_verdict c.args.self.now.slots c.args.self.now.mode c.args.self.now.rules c.args.batch.now =
     rw (← c.self.view_is, is) (bits_answer t i.rules i.live i.arrangement i.held c.args.batch.now managed sound c.in-Ok.ensures.fits c.in-Ok-check_field.ensures.fits) in
-    subst (λ (v : Verdict). IfErr c.check_slots-in-Ok-check_field.result (λ refusal. Answers v (Err refusal))) (sym same) c.check_slots-in-Ok-check_field.ensures.short
+    subst (λ (v : Verdict). IfErr c.check_slots-in-Ok-check_field.result (λ rejection. judgement v ≡ Err rejection)) (sym same) c.check_slots-in-Ok-check_field.ensures.short

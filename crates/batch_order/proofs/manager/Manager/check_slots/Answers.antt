@@ -2,7 +2,7 @@ use Rattle.std.proofs.Common.{◌≡◌, ◌<◌, ◌≤◌, None, ap, ◌∙◌
 use Rattle.std.specs.Prelude.{option_map}
 use Rattle.rule_store.specs.declared.Mode.{Mode}
 use Rattle.rule_store.specs.Verdict.{entries_added}
-use Rattle.move_planner.specs.Insertion.{free_slots}
+use Rattle.placement.specs.Insertion.{free_slots}
 use Rattle.batch_order.specs.Kept.{held_of, mode_of}
 use Rattle.batch_order.proofs.Judged.{short_answer, enough_slots}
 use Rattle.batch_order.proofs.manager.Manager.check_slots.Goals as goal

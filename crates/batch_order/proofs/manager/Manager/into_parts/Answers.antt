@@ -3,8 +3,7 @@ use Rattle.rule_store.specs.declared.Mode.TheVariants.{Cover}
 use Rattle.commit_writes.specs.Bits.{FieldBits}
 use Rattle.readback.specs.Fault.{AreSetBits}
 use Rattle.batch_order.specs.Kept.{bits_of, mode_of, tables_of}
-use Rattle.batch_order.specs.Managed.{Managed}
-use Rattle.batch_order.specs.Managed.{HasBlankTables}
+use Rattle.batch_order.specs.Managed.{Managed, HasBlankTables}
 use Rattle.batch_order.proofs.Carried.{view_of}
 use Rattle.batch_order.proofs.Leaves.{set_bits_of}
 use Rattle.batch_order.proofs.Plain.{blank_by_covers}

@@ -3,19 +3,19 @@ use Rattle.std.specs.List.{AllByRecursion, AllZip}
 use Rattle.std.proofs.lemmas.List.{length-map}
 use Rattle.slot_pool.specs.Arrangement.{Slots}
 use Rattle.rule_model.specs.declared.Rule.{Rule}
-use Rattle.overlap_index.specs.declared.LivePiece.{LivePiece}
+use Rattle.placement.specs.declared.LivePiece.{LivePiece}
 use Rattle.rule_store.specs.declared.Mode.{Mode}
 use Rattle.rule_store.specs.declared.Command.{Command}
 use Rattle.rule_store.specs.Store.{StoredRules}
 use Rattle.rule_store.specs.Batch.{ChangesRules, batch_fault}
 use Rattle.rule_store.specs.Verdict.{verdict, Accepted, entries_of}
-use Rattle.ternary_word.specs.Entry.{RankedPiece, IsEncodable}
+use Rattle.rule_model.specs.Entry.{RankedPiece, IsEncodable}
 use Rattle.commit_writes.specs.declared.Rewrite.{Rewrite}
 use Rattle.commit_writes.specs.Bits.{FieldBits, bits_with, new_bits}
 use Rattle.commit_writes.specs.Shape.{set_pieces, inserted_pieces, rewritten_pieces, erased_pieces}
 use Rattle.commit_writes.specs.PlannedBatch.{IsIdOf, IsRewriteOf, erased_slots}
 use Rattle.commit_writes.proofs.TableWrites.{bit_writes-tables, tables_in_use}
-use Rattle.batch_pieces.specs.Changes.{coded_by, during_of}
+use Rattle.commit_writes.specs.Changes.{coded_by, during_of}
 use Rattle.batch_order.specs.declared.Placement.{Placement}
 use Rattle.batch_order.specs.declared.held.Held.{Held}
 use Rattle.batch_order.specs.declared.plan.Plan.{Plan}
@@ -268,10 +268,10 @@ returns-clause-ready g c =
     let none = idle_held (held_of i.translation i.arrangement i.rules.rules i.live.entries) i.held (rw (← c.self.view_is) at c.requires.idle) in
     let view : view_of i.placement i.translation i.rules i.live i.arrangement i.held ≡ c.args.self.now = c.self.view_is in
     let new = view_of i.placement i.translation c.reserve.new.self c.plan_writes.new.live i.arrangement (Some (held_now g c)) in
-    let holds : Holds (view_of i.placement i.translation i.rules i.live i.arrangement None) batch c.ready.result new =
-    holds_plan i.placement i.translation i.rules c.reserve.new.self i.live c.plan_writes.new.live i.arrangement c.plan_writes.new.arrangement batch (held_now g c) (plan_now g c) c.ready.result c.ready.ensures in
-    subst (λ (old : Managed). Holds old batch c.ready.result new) view
-    (subst (λ (h : Option Held). Holds (view_of i.placement i.translation i.rules i.live i.arrangement h) batch c.ready.result new) (sym none) holds)
+    let holds : Holds (view_of i.placement i.translation i.rules i.live i.arrangement None) batch c.counts-counts.result new =
+    holds_plan i.placement i.translation i.rules c.reserve.new.self i.live c.plan_writes.new.live i.arrangement c.plan_writes.new.arrangement batch (held_now g c) (plan_now g c) in
+    subst (λ (old : Managed). Holds old batch c.counts-counts.result new) view
+    (subst (λ (h : Option Held). Holds (view_of i.placement i.translation i.rules i.live i.arrangement h) batch c.counts-counts.result new) (sym none) holds)
 
 pub returns-clause-reserved : goal.returns-clause-reserved
 returns-clause-reserved g c =
@@ -283,5 +283,4 @@ pub returns-clause-enough : goal.returns-clause-enough
 returns-clause-enough g c =
     let enough : 2 * length c.plan_writes.new.plan.writes.items + 1 ≤ g.D.Writable.spare c.plan_writes.new.device = c.in_ok-planned.ensures.enough in
     let number : c.counts-counts.result.writes ≡ length c.plan_writes.new.plan.writes.items = c.counts-counts.ensures.writes in
-    let same : c.ready.result.writes ≡ c.counts-counts.result.writes = ap (λ r. r.writes) c.ready.ensures in
     omega arith

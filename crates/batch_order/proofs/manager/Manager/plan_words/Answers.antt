@@ -3,7 +3,7 @@ use Rattle.std.proofs.lemmas.Result.{on_ok_weaker}
 use Rattle.commit_writes.specs.Bits.{FieldBits, bits_with, new_bits}
 use Rattle.commit_writes.specs.Serving.{HaveFreeBits}
 use Rattle.commit_writes.specs.Shape.{bit_writes}
-use Rattle.batch_pieces.specs.Changes.{coded_by, during_of}
+use Rattle.commit_writes.specs.Changes.{coded_by, during_of}
 use Rattle.batch_order.specs.declared.held.Held.{Held}
 use Rattle.batch_order.specs.declared.planned_writes.PlannedWrite.TheVariants.{Tabled}
 use Rattle.batch_order.specs.Kept.{bits_of, held_of, mode_of, needed_by, tables_of}

@@ -1,10 +1,13 @@
-use Rattle.std.proofs.Common.{◌≡◌, List, length, ℕ, Option, Some, None, Err, refl, sym, subst}
+use Rattle.std.proofs.Common.{◌≡◌, List, length, ℕ, Option, Some, None, Err, refl, sym, ap, subst}
 use Rattle.std.specs.Prelude.{option_map}
 use Rattle.rule_store.specs.declared.Command.{Command}
-use Rattle.rule_store.specs.declared.BatchFault.{BatchFault}
 use Rattle.rule_store.specs.Batch.{batch_fault}
-use Rattle.rule_store.specs.Verdict.{verdict_by, room_verdict}
-use Rattle.batch_order.specs.Managed.{Managed, HeldCommit, Judges, Answers, refusal_of, writes_due}
+use Rattle.rule_store.specs.Verdict.{verdict, verdict_by, room_verdict}
+use Rattle.readback.specs.declared.Rejection.{Rejection}
+use Rattle.readback.specs.declared.Rejection.TheVariants as rejection
+use Rattle.readback.specs.Judged.{judgement}
+use Rattle.batch_order.specs.declared.Refusal.TheVariants as refusal
+use Rattle.batch_order.specs.Managed.{Managed, HeldCommit, Judges, Answers, writes_due}
 use Rattle.batch_order.proofs.Ahead.{by_journal}
 use Rattle.batch_order.proofs.manager.Manager.prepare.Goals as goal
 
@@ -13,18 +16,26 @@ idle_from : (held : Option HeldCommit) (left : Option ℕ) → left ≡ option_m
 idle_from None left is none = refl
 idle_from (Some held) left is none = absurd (none (length (writes_due held)) is)
 
--- an unsound batch is refused for its fault
-unsound_answer : (manager : Managed) (held : Option HeldCommit) (batch : List Command) (fault : BatchFault) → held ≡ None → batch_fault manager.rules batch ≡ Some fault
-    → Judges manager held batch (Err (refusal_of fault))
-unsound_answer manager held batch fault none is =
-    subst (λ h. Judges manager h batch (Err (refusal_of fault))) (sym none)
-    (subst (λ f. Answers (verdict_by f (room_verdict manager.slots manager.mode manager.rules batch)) (Err (refusal_of fault))) (sym is) refl)
+-- a batch is rejected as it is judged
+rejected_answer : (manager : Managed) (held : Option HeldCommit) (batch : List Command) (rejection : Rejection) → held ≡ None
+    → judgement (verdict manager.slots manager.mode manager.rules batch) ≡ Err rejection → Judges manager held batch (Err (refusal.Rejected rejection))
+rejected_answer manager held batch rejection none is =
+    subst (λ h. Judges manager h batch (Err (refusal.Rejected rejection))) (sym none)
+    (subst (λ judged. Answers judged (Err (refusal.Rejected rejection))) (sym is) refl)
 
 pub returns-in-Err-clause-judged : goal.returns-in-Err-clause-judged
 returns-in-Err-clause-judged g c =
-    let idle = idle_from c.args.self.now.held c.left.result c.left.ensures (λ n is. c.in_default.not-Some n is) in
-    let fault : batch_fault c.args.self.now.rules c.args.batch.now ≡ Some c.in-Err.fault = subst (λ (m : Managed). batch_fault m.rules c.args.batch.now ≡ Some c.in-Err.fault) c.self.view_is c.in-Err.ensures in
-    rw c.refusal_of.ensures (unsound_answer c.args.self.now c.args.self.now.held c.args.batch.now c.in-Err.fault idle fault)
+    let now = c.args.self.now in
+    let idle = idle_from now.held c.left.result c.left.ensures (λ n is. c.in_default.not-Some n is) in
+    let fault : batch_fault now.rules c.args.batch.now ≡ Some c.in-Err.fault = subst (λ (m : Managed). batch_fault m.rules c.args.batch.now ≡ Some c.in-Err.fault) c.self.view_is c.in-Err.ensures in
+    rejected_answer now now.held c.args.batch.now (rejection.Unsound c.in-Err.fault) idle
+    (ap (λ one. judgement (verdict_by one (room_verdict now.slots now.mode now.rules c.args.batch.now))) fault)
+
+pub returns-in-Err-check_room-clause-judged : goal.returns-in-Err-check_room-clause-judged
+returns-in-Err-check_room-clause-judged g c =
+    let now = c.args.self.now in
+    let idle = idle_from now.held c.left.result c.left.ensures (λ n is. c.in_default.not-Some n is) in
+    rejected_answer now now.held c.args.batch.now c.in-Err-check_room.rejection idle c.in-Err-check_room.ensures.short
 
 pub returns-in-Some-clause-serves : goal.returns-in-Some-clause-serves
 returns-in-Some-clause-serves g c =

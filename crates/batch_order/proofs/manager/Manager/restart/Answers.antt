@@ -1,22 +1,19 @@
-use Rattle.std.proofs.Common.{◌≡◌, ℕ, List, Some, sym, ◌∙◌, refl, subst, ap₂}
+use Rattle.std.proofs.Common.{◌≡◌, ℕ, List, Some, sym, subst, ap₂}
 use Rattle.rule_store.specs.declared.Mode.{Mode}
 use Rattle.rule_store.specs.declared.Command.{Command}
 use Rattle.tcam_device.specs.State.{State, replay}
 use Rattle.readback.specs.declared.Parts.{Parts}
 use Rattle.batch_order.specs.declared.Placement.{Placement}
 use Rattle.batch_order.specs.Managed.{Managed, Serves}
-use Rattle.batch_order.specs.Restart.{IsRestartFault, Resumes}
+use Rattle.batch_order.specs.Restart.{Resumes}
 use Rattle.batch_order.specs.Standing.{managed_by}
 use Rattle.batch_order.proofs.RestartFaults.{memory_answers, stage_answers}
 use Rattle.batch_order.proofs.manager.Manager.restart.Goals as goal
 
 pub returns-in-Err-show_commit-clause-answers : goal.returns-in-Err-show_commit-clause-answers
 returns-in-Err-show_commit-clause-answers g c =
-    let state : State = replay (g.D.Writable.slot_count c.args.device.now) (g.D.Writable.journal c.args.device.now) in
-    let answers = stage_answers c.args.slots c.args.mode c.args.placement c.args.parts c.args.batch.now (g.D.Writable.slot_count c.args.device.now) state c.in-Err-show_commit.fault
-    c.in-Ok.ensures.accepted c.in-Err-show_commit.ensures.stage in
-    let is = c.restart_fault.ensures in
-    (refl, subst (IsRestartFault c.args.slots c.args.mode c.args.parts c.args.batch.now state) (sym is) answers.1, λ accepted bits stage. is ∙ answers.2 accepted bits stage)
+    stage_answers c.args.slots c.args.mode c.args.placement c.args.parts c.args.batch.now (g.D.Writable.slot_count c.args.device.now)
+    (replay (g.D.Writable.slot_count c.args.device.now) (g.D.Writable.journal c.args.device.now)) c.in-Err-show_commit.fault c.in-Ok.ensures.accepted c.in-Err-show_commit.ensures.stage
 
 pub returns-clause-answers : goal.returns-clause-answers
 returns-clause-answers g c =

@@ -1,7 +1,7 @@
 use Rattle.std.proofs.Common.{ℕ, IsTrue, List, sym, subst}
 use Rattle.std.specs.List.{AllByRecursion}
-use Rattle.overlap_index.specs.declared.LivePiece.{LivePiece}
-use Rattle.overlap_index.specs.Live.{is_live}
+use Rattle.placement.specs.declared.LivePiece.{LivePiece}
+use Rattle.placement.specs.Live.{is_live}
 use Rattle.batch_order.specs.Planning.{IsWithin}
 use Rattle.batch_order.proofs.Cleared.{all_stand}
 use Rattle.batch_order.proofs.Leading.{changed_stand, still_changed, still_live}

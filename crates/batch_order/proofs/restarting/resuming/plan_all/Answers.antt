@@ -1,6 +1,6 @@
 use Rattle.std.proofs.Common.{◌≡◌, ◌+◌, ◌-◌, List, drop, length, refl, subst, ◌∙◌}
 use Rattle.tcam_device.specs.State.{State, replay}
-use Rattle.ternary_word.specs.Entry.{RankedPiece}
+use Rattle.rule_model.specs.Entry.{RankedPiece}
 use Rattle.commit_writes.specs.PlannedBatch.{erased_slots}
 use Rattle.readback.proofs.ReadSlots.{replay_slots}
 use Rattle.batch_order.specs.declared.plan.Plan.{Plan}

@@ -1,5 +1,5 @@
 use Rattle.std.proofs.Common.{◌≡◌, ◌≤◌, List, Option, length, sym, subst, arith}
-use Rattle.ternary_word.specs.Entry.{RankedPiece}
+use Rattle.rule_model.specs.Entry.{RankedPiece}
 use Rattle.tcam_device.specs.State.{replay}
 use Rattle.batch_order.specs.Standing.{AreEncodable, AreStanding, HasPieceOf, without_twin}
 use Rattle.batch_order.proofs.ReadAgain.{has_piece_of}

@@ -1,6 +1,6 @@
 use Rattle.std.proofs.Common.{◌≡◌, ℕ, ◌<◌, IfSome, Option, Some, length, sym, ◌∙◌, ap, subst, arith}
 use Rattle.slot_order.specs.Order.{slot}
-use Rattle.ternary_word.specs.Entry.{RankedPiece}
+use Rattle.rule_model.specs.Entry.{RankedPiece}
 use Rattle.batch_order.proofs.Twinned.{read_slot, twin_id, some_found}
 use Rattle.batch_order.proofs.restarting.standing.arrangement_with_twin.Goals as goal
 

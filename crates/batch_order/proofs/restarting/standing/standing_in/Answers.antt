@@ -2,8 +2,8 @@ use Rattle.std.proofs.Common.{◌≡◌, ◌+◌, ◌<◌, ◌∷◌, ◌++◌, 
 use Rattle.slot_order.specs.Order.{slot}
 use Rattle.slot_order.proofs.Writes.{slot_other}
 use Rattle.slot_pool.specs.Arrangement.{Slots}
-use Rattle.ternary_word.specs.Entry.{RankedPiece, entry_for}
-use Rattle.overlap_index.specs.declared.LivePiece.{LivePiece}
+use Rattle.rule_model.specs.Entry.{RankedPiece, entry_for}
+use Rattle.placement.specs.declared.LivePiece.{LivePiece}
 use Rattle.commit_writes.specs.Planned.{entry_at}
 use Rattle.batch_order.specs.Entries.{Entries}
 use Rattle.batch_order.specs.Standing.{AreStanding, without_twin}

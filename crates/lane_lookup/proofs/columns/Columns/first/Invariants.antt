@@ -1,6 +1,6 @@
 use Rattle.std.proofs.Common.{◌≡◌, ◌<◌, ◌*◌, ℕ, false}
 use Rattle.slot_order.specs.Order.{slot}
-use Rattle.ternary_word.specs.Entry.{slot_hits}
+use Rattle.rule_model.specs.Entry.{slot_hits}
 use Rattle.lane_lookup.proofs.columns.Columns.first.Given as goal
 
 abbrev pub invariant-loop-step : goal.invariant-loop-step

@@ -1,6 +1,6 @@
 use Rattle.std.proofs.Common.{◌≡◌, ◌<◌, None, length, true, arith, sym, ◌∙◌, subst}
 use Rattle.std.proofs.lemmas.List.{get_or_default}
-use Rattle.ternary_word.specs.Entry.{slot_hits}
+use Rattle.rule_model.specs.Entry.{slot_hits}
 use Rattle.slot_order.proofs.Lists.{position_found, position_none}
 use Rattle.lane_lookup.proofs.columns.Columns.first_from.Goals as goal
 

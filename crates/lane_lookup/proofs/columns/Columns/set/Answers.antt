@@ -1,5 +1,5 @@
 use Rattle.std.proofs.Common.{◌<◌, ◌∙◌, List, Option, length, sym, ap, subst, arith}
-use Rattle.ternary_word.specs.declared.Entry.{Entry}
+use Rattle.rule_model.specs.declared.words.Entry.{Entry}
 use Rattle.lane_lookup.specs.Columns.{used_from}
 use Rattle.lane_lookup.proofs.Rows.{columns_put, count_put}
 use Rattle.lane_lookup.proofs.Used.{zeros_put}

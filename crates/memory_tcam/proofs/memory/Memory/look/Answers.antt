@@ -1,6 +1,6 @@
 use Rattle.std.proofs.Common.{◌∙◌, ap}
 use Rattle.slot_order.specs.Order.{first_hit}
-use Rattle.ternary_word.specs.Entry.{hits}
+use Rattle.rule_model.specs.Entry.{hits}
 use Rattle.tcam_device.specs.State.{State, told}
 use Rattle.tcam_device.proofs.Flights.{made_now}
 use Rattle.memory_tcam.proofs.memory.Memory.look.Goals as goal

@@ -1,10 +1,12 @@
 -- What the manager holds is the commit of the batch, and what it refuses is refused by the verdict.
-use Rattle.std.proofs.Common.{◌≡◌, None, rules, sym, ap, subst, ◌∙◌}
-use Rattle.replay.specs.Running.{Running}
+use Rattle.std.proofs.Common.{◌≡◌, None, refl, sym, ap, subst, ◌∙◌}
+use Rattle.replay.specs.declared.RunFault.TheVariants as fault
+use Rattle.replay.specs.Running.{Running, act_outcome_of}
 use Rattle.replay.specs.Unfinished.{StaysInStep}
 use Rattle.replay.proofs.Exits.{refused-acts, taken-acts, taken-run, taken-stays}
 use Rattle.replay.proofs.InStep.{in-step-kept, in-step-taken, memory_wanted-so}
-use Rattle.replay.proofs.Leaving.{leaves-line, line-counted, no-write}
+use Rattle.replay.proofs.Leaving.{leaves-as, leaves-line, leaves-then, line-counted, no-write, outcome-fails, outcome-ok, outcome-room, outcome-taken, uncounted}
+use Rattle.replay.proofs.Refusals.{never-busy}
 use Rattle.replay.proofs.Leftover.{left-taken, words-from, words-kept}
 use Rattle.replay.proofs.run.Run.commit.Goals as goal
 
@@ -16,22 +18,22 @@ invariant_of-self g c =
 pub returns-in-Ok-clause-acts : goal.returns-in-Ok-clause-acts
 returns-in-Ok-clause-acts g c = λ which.
     let idle = subst (λ (run : Running). run.manager.held ≡ None) (sym c.self.view_is) c.requires.idle in
-    taken-acts _ c.in-Ok.field-0 c.prepare.new.self c.self.invariant idle c.in-Ok.ensures.ready c.in-Ok.ensures.judged c.args.fate c.requires.first _ c.args.self.now _ c.self.view_is _ _ _ _ (c.prepare.ensures.flight ∙ c.requires.none_in_flight) _ _ c.carry_out.result c.carry_out.ensures.setting
-    c.carry_out.ensures.kind c.carry_out.ensures.broken (rw (c.prepare.ensures.slot_count, c.prepare.ensures.events) at (c.carry_out.ensures.resumes which))
+    rw c.act_outcome.ensures (taken-acts _ c.in-Ok.field-0 c.prepare.new.self c.self.invariant idle c.in-Ok.ensures.ready c.in-Ok.ensures.judged c.args.fate c.requires.first _ c.args.self.now _ c.self.view_is _ _ _ _ (c.prepare.ensures.flight ∙ c.requires.none_in_flight) _ _ c.carry_out.result c.carry_out.ensures.setting
+    c.carry_out.ensures.kind c.carry_out.ensures.broken (rw (c.prepare.ensures.slot_count, c.prepare.ensures.events) at (c.carry_out.ensures.resumes which)))
 
 pub returns-in-Ok-clause-unfinished : goal.returns-in-Ok-clause-unfinished
-returns-in-Ok-clause-unfinished g c = λ which.
+returns-in-Ok-clause-unfinished g c = λ which cut.
     let idle = subst (λ (run : Running). run.manager.held ≡ None) (sym c.self.view_is) c.requires.idle in
     taken-stays _ c.in-Ok.field-0 c.prepare.new.self c.self.invariant idle c.in-Ok.ensures.ready c.in-Ok.ensures.judged c.args.fate c.requires.first _ c.args.self.now _ c.self.view_is _ _ _ _ (c.prepare.ensures.flight ∙ c.requires.none_in_flight) _ _ c.carry_out.result
-    (rw (c.prepare.ensures.slot_count, c.prepare.ensures.events) at (c.carry_out.ensures.resumes which))
+    (rw (c.prepare.ensures.slot_count, c.prepare.ensures.events) at (c.carry_out.ensures.resumes which)) (outcome-fails c.carry_out.result fault.Device (sym c.act_outcome.ensures ∙ cut))
 
-pub returns-in-Err-clause-acts : goal.returns-in-Err-clause-acts
-returns-in-Err-clause-acts g c = λ which.
-    refused-acts c.args.fate c.refuse.result _ _ c.args.self.now c.refuse.new.self c.in-Err.refusal c.prepare.new.self _ _ _ _ c.self.view_is c.requires.idle c.in-Err.ensures.judged
-    (search rules) c.in-Err.ensures.refused c.prepare.ensures.events c.refuse.ensures.refused c.refuse.ensures.kind (c.refuse.ensures.line.whole which) (c.refuse.ensures.line.part which)
+pub returns-in-Err-Rejected-clause-acts : goal.returns-in-Err-Rejected-clause-acts
+returns-in-Err-Rejected-clause-acts g c = λ which.
+    refused-acts c.args.fate c.refuse.result _ _ c.args.self.now c.refuse.new.self c.in-Err-Rejected.rejection c.prepare.new.self _ _ _ _ c.self.view_is c.requires.idle (rw c.in-Err-Rejected.field-0-is at c.in-Err-Rejected.ensures.judged)
+    c.in-Err-Rejected.ensures.refused c.prepare.ensures.events c.refuse.ensures.refused c.refuse.ensures.kind (rw c.in-Err-Rejected.field-0-is at (c.refuse.ensures.line.whole which)) (rw c.in-Err-Rejected.field-0-is at (c.refuse.ensures.line.part which))
 
-pub returns-in-Err-clause-leaves : goal.returns-in-Err-clause-leaves
-returns-in-Err-clause-leaves g c =
+pub returns-in-Err-Rejected-clause-leaves : goal.returns-in-Err-Rejected-clause-leaves
+returns-in-Err-Rejected-clause-leaves g c =
     let line = c.refuse.ensures.line in
     leaves-line _ _ _ _ _ _ _ _ _ _ _ line.told c.prepare.ensures.slot_count c.prepare.ensures.journal c.prepare.ensures.faults
     (line-counted c.refuse.result _ _ c.refuse.ensures.kind line.cause) (no-write c.refuse.result c.refuse.ensures.kind)
@@ -42,13 +44,13 @@ carry_out-requires-clause-in_flight g c =
     left-taken _ c.prepare.new.self c.args.fate _ c.self.invariant idle (c.prepare.ensures.flight ∙ c.requires.none_in_flight)
 
 pub returns-in-Ok-clause-in_flight : goal.returns-in-Ok-clause-in_flight
-returns-in-Ok-clause-in_flight g c = words-from c.carry_out.new.self c.carry_out.result (g.D.Writable.flight c.prepare.new.device) (g.D.Writable.flight c.args.device.now) (g.D.Writable.flight c.carry_out.new.device) c.prepare.ensures.flight c.carry_out.ensures.in_flight
+returns-in-Ok-clause-in_flight g c = rw c.act_outcome.ensures (words-from c.carry_out.new.self (act_outcome_of c.carry_out.result) (g.D.Writable.flight c.prepare.new.device) (g.D.Writable.flight c.args.device.now) (g.D.Writable.flight c.carry_out.new.device) c.prepare.ensures.flight c.carry_out.ensures.in_flight)
 
-pub returns-in-Err-clause-in_flight : goal.returns-in-Err-clause-in_flight
-returns-in-Err-clause-in_flight g c = words-kept c.refuse.new.self c.refuse.result (g.D.Writable.flight c.args.device.now) (g.D.Writable.flight c.prepare.new.device) c.prepare.ensures.flight c.requires.none_in_flight (no-write c.refuse.result c.refuse.ensures.kind)
+pub returns-in-Err-Rejected-clause-in_flight : goal.returns-in-Err-Rejected-clause-in_flight
+returns-in-Err-Rejected-clause-in_flight g c = words-kept c.refuse.new.self c.refuse.result (g.D.Writable.flight c.args.device.now) (g.D.Writable.flight c.prepare.new.device) c.prepare.ensures.flight c.requires.none_in_flight (no-write c.refuse.result c.refuse.ensures.kind)
 
 pub returns-in-Ok-clause-broken : goal.returns-in-Ok-clause-broken
-returns-in-Ok-clause-broken g c = memory_wanted-so c.args.fate c.carry_out.result c.carry_out.new.self.broken c.carry_out.ensures.broken c.carry_out.ensures.kind
+returns-in-Ok-clause-broken g c = rw c.act_outcome.ensures (memory_wanted-so c.args.fate c.carry_out.result c.carry_out.new.self.broken c.carry_out.ensures.broken c.carry_out.ensures.kind)
 
 pub returns-in-Ok-clause-in_step : goal.returns-in-Ok-clause-in_step
 returns-in-Ok-clause-in_step g c = λ not_sink.
@@ -60,10 +62,34 @@ returns-in-Ok-clause-in_step g c = λ not_sink.
     let flight_new = g.D.Writable.flight c.carry_out.new.device in
     subst (λ (run : Running). StaysInStep slots run new events events_new flight flight_new) c.self.view_is
     (in-step-taken slots _ c.self.invariant c.prepare.new.self c.args.fate new c.in-Ok.field-0 events events_new flight (g.D.Writable.flight c.prepare.new.device) flight_new c.in-Ok.ensures.ready
-    (c.prepare.ensures.flight ∙ c.requires.none_in_flight) (rw (c.prepare.ensures.slot_count, c.prepare.ensures.events) at (c.carry_out.ensures.in_step not_sink)))
+    (c.prepare.ensures.flight ∙ c.requires.none_in_flight) (rw (c.prepare.ensures.slot_count, c.prepare.ensures.events) at (c.carry_out.ensures.in_step (λ sink. not_sink (c.act_outcome.ensures ∙ ap act_outcome_of sink)))))
 
-pub returns-in-Err-clause-in_step : goal.returns-in-Err-clause-in_step
-returns-in-Err-clause-in_step g c = λ not_sink.
+pub returns-in-Err-Rejected-clause-in_step : goal.returns-in-Err-Rejected-clause-in_step
+returns-in-Err-Rejected-clause-in_step g c = λ not_sink.
     rw (c.prepare.ensures.events, c.prepare.ensures.flight)
     (in-step-kept (g.D.Writable.slot_count c.args.device.now) c.args.self.now c.refuse.new.self (g.D.Writable.events c.args.device.now) (g.D.Writable.flight c.args.device.now)
-    (ap (λ (run : Running). run.manager) c.refuse.ensures.refused ∙ c.in-Err.ensures.refused ∙ ap (λ (run : Running). run.manager) c.self.view_is))
+    (ap (λ (run : Running). run.manager) c.refuse.ensures.refused ∙ c.in-Err-Rejected.ensures.refused ∙ ap (λ (run : Running). run.manager) c.self.view_is))
+
+pub returns-in-Ok-clause-taken : goal.returns-in-Ok-clause-taken
+returns-in-Ok-clause-taken g c = rw c.act_outcome.ensures (outcome-taken c.carry_out.result)
+
+pub returns-in-Ok-clause-limit : goal.returns-in-Ok-clause-limit
+returns-in-Ok-clause-limit g c = rw c.act_outcome.ensures (outcome-room c.carry_out.result)
+
+pub returns-in-Ok-clause-idle : goal.returns-in-Ok-clause-idle
+returns-in-Ok-clause-idle g c = rw c.act_outcome.ensures (outcome-ok _ c.carry_out.result c.carry_out.ensures.idle)
+
+pub returns-in-Ok-clause-leaves : goal.returns-in-Ok-clause-leaves
+returns-in-Ok-clause-leaves g c =
+    rw c.act_outcome.ensures (leaves-as _ _ _ _ _ _ _ _ _ _ _ _ _
+    (outcome-fails c.carry_out.result fault.Sink) (ap act_outcome_of) (outcome-fails c.carry_out.result fault.Device) (ap act_outcome_of)
+    (leaves-then _ _ _ _ _ c.args.sink.now c.args.sink.now c.carry_out.new.sink c.args.device.now c.prepare.new.device c.carry_out.new.device ⊥ ⊥ _ _ (λ never. never) (λ never. never)
+    (leaves-line _ _ _ _ _ c.args.sink.now c.args.sink.now c.args.device.now c.prepare.new.device ⊥ ⊥ (λ some. some) c.prepare.ensures.slot_count c.prepare.ensures.journal c.prepare.ensures.faults
+    (uncounted ⊥ _ _ (λ never. never) refl) (λ never. never))
+    c.carry_out.ensures.leaves))
+
+pub unreachable-requires : goal.unreachable-requires
+unreachable-requires g c =
+    let inside = c.self.inside in
+    let idle = ap (λ (run : Running). run.manager.held) c.self.view_is ∙ c.requires.idle in
+    never-busy _ _ (rw (c.in-Err-Busy.field-0-is, idle) at c.in-Err-Busy.ensures.judged)

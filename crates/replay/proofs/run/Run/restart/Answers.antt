@@ -1,5 +1,6 @@
 -- Another manager goes on with the commit, or there is no memory for that.
 use Rattle.std.proofs.Common.{◌≡◌, true, rules, ◌∙◌}
+use Rattle.readback.specs.declared.StageFault.TheVariants as stage_faults
 use Rattle.batch_order.specs.declared.restarting.fault.RestartFault.TheVariants as restart_faults
 use Rattle.replay.proofs.Anew.{blank-shown, current-gone, is-gone, is-lost, memory-shown, progress-gone, run-gone, run-lost, setting-gone, unfinished-gone, wants-shown}
 use Rattle.replay.proofs.Over.{setting-lost}
@@ -44,19 +45,19 @@ returns-in-Ok-restart-clause-current g c =
     _ _ _ c.setting-slots.ensures.slots c.setting-slots.ensures.mode c.setting-slots.ensures.placement c.replace.result c.replace.ensures.value c.into_parts-parts.result c.into_parts-parts.ensures.parts
     c.in-Ok-restart.manager c.in-Ok-restart.ensures.answers c.serving.ensures.right (g.D.Writable.flight c.args.device.now) (g.D.Writable.flight c.restart.new.device) c.in-Ok-restart.ensures.flight
 
-pub invariant_of-self-in-Err-Memory-default : goal.invariant_of-self-in-Err-Memory-default
-invariant_of-self-in-Err-Memory-default g c =
+pub invariant_of-self-in-Err-Stage-Memory-default : goal.invariant_of-self-in-Err-Stage-Memory-default
+invariant_of-self-in-Err-Stage-Memory-default g c =
     run-lost _ c.args.after _ c.args.self.now c.self.view_is c.self.invariant c.requires.at_crash c.requires.slots _ (g.D.Writable.events c.args.device.now) (g.met.D.Writable.agrees c.args.device.now) c.requires.stands
     _ _ _ c.setting-slots.ensures.slots c.setting-slots.ensures.mode c.setting-slots.ensures.placement c.replace.new.dest (c.replace.ensures.after ∙ c.in-Ok.ensures.fresh)
 
-pub returns-in-Err-Memory-default-clause-lost : goal.returns-in-Err-Memory-default-clause-lost
-returns-in-Err-Memory-default-clause-lost g c =
+pub returns-in-Err-Stage-Memory-default-clause-lost : goal.returns-in-Err-Stage-Memory-default-clause-lost
+returns-in-Err-Stage-Memory-default-clause-lost g c =
     is-lost _ c.args.after _ c.args.self.now c.self.view_is c.self.invariant c.requires.at_crash c.requires.slots _ (g.D.Writable.events c.args.device.now) (g.met.D.Writable.agrees c.args.device.now) c.requires.stands
     _ _ _ c.setting-slots.ensures.slots c.setting-slots.ensures.mode c.setting-slots.ensures.placement c.replace.new.dest (c.replace.ensures.after ∙ c.in-Ok.ensures.fresh)
 
 pub unreachable-requires : goal.unreachable-requires
 unreachable-requires g c =
-    let memory : c.in-Err-restart.field-0.0 ≡ restart_faults.Memory =
+    let memory : c.in-Err-restart.field-0.0 ≡ restart_faults.Stage stage_faults.Memory =
     memory-shown _ c.args.after _ c.args.self.now c.self.view_is c.self.invariant c.requires.at_crash c.requires.slots _ (g.D.Writable.events c.args.device.now) (g.met.D.Writable.agrees c.args.device.now) c.requires.stands
     _ _ _ c.setting-slots.ensures.slots c.setting-slots.ensures.mode c.setting-slots.ensures.placement c.replace.result c.replace.ensures.value c.into_parts-parts.result c.into_parts-parts.ensures.parts
     c.in-Err-restart.field-0.0 c.in-Err-restart.field-0.1 c.in-Err-restart.ensures.answers in
@@ -68,8 +69,8 @@ returns-in-Ok-restart-clause-setting g c =
     _ _ _ c.setting-slots.ensures.slots c.setting-slots.ensures.mode c.setting-slots.ensures.placement c.replace.result c.replace.ensures.value c.into_parts-parts.result c.into_parts-parts.ensures.parts
     c.in-Ok-restart.manager c.in-Ok-restart.ensures.answers
 
-pub returns-in-Err-Memory-default-clause-setting : goal.returns-in-Err-Memory-default-clause-setting
-returns-in-Err-Memory-default-clause-setting g c =
+pub returns-in-Err-Stage-Memory-default-clause-setting : goal.returns-in-Err-Stage-Memory-default-clause-setting
+returns-in-Err-Stage-Memory-default-clause-setting g c =
     setting-lost c.args.self.now _ (is-lost _ c.args.after _ c.args.self.now c.self.view_is c.self.invariant c.requires.at_crash c.requires.slots _ (g.D.Writable.events c.args.device.now) (g.met.D.Writable.agrees c.args.device.now) c.requires.stands
     _ _ _ c.setting-slots.ensures.slots c.setting-slots.ensures.mode c.setting-slots.ensures.placement c.replace.new.dest (c.replace.ensures.after ∙ c.in-Ok.ensures.fresh))
 
@@ -77,6 +78,6 @@ pub returns-in-Err-clause-wants : goal.returns-in-Err-clause-wants
 returns-in-Err-clause-wants g c =
     wants-shown _ c.args.after _ c.args.self.now c.self.view_is c.self.invariant c.requires.at_crash c.requires.slots _ (g.D.Writable.events c.args.device.now) (g.met.D.Writable.agrees c.args.device.now) c.requires.stands
 
-pub returns-in-Err-Memory-default-clause-wants : goal.returns-in-Err-Memory-default-clause-wants
-returns-in-Err-Memory-default-clause-wants g c =
+pub returns-in-Err-Stage-Memory-default-clause-wants : goal.returns-in-Err-Stage-Memory-default-clause-wants
+returns-in-Err-Stage-Memory-default-clause-wants g c =
     wants-shown _ c.args.after _ c.args.self.now c.self.view_is c.self.invariant c.requires.at_crash c.requires.slots _ (g.D.Writable.events c.args.device.now) (g.met.D.Writable.agrees c.args.device.now) c.requires.stands

@@ -1,7 +1,0 @@
-use Rattle.std.proofs.Common.{take}
-use Rattle.batch_pieces.specs.Changes.{AreLastCommands}
-use Rattle.batch_pieces.proofs.changes.last_commands.Given as goal
-
--- of the first commands
-abbrev pub invariant-loop-place : goal.invariant-loop-place
-invariant-loop-place l = AreLastCommands l.batch (take l.place l.batch) l.last

@@ -1,7 +1,0 @@
-use Rattle.std.proofs.Common.{◌≡◌, ◌++◌, take}
-use Rattle.batch_pieces.specs.Changes.{chosen_pieces}
-use Rattle.batch_pieces.proofs.pieces.push_pieces.Given as goal
-
--- those of the first pieces that are meant
-abbrev pub invariant-loop-piece : goal.invariant-loop-piece
-invariant-loop-piece l = l.ranked.items ≡ l.fn.ranked.items ++ chosen_pieces l.choice l.others (take l.piece-index l.pieces)

@@ -1,0 +1,10 @@
+use Rattle.std.proofs.Common.{◌≡◌, ℕ, ◌<◌, ◌^◌, take}
+use Rattle.std.specs.Prelude.{slice_index}
+use Rattle.tcam_device.specs.State.{replay, table_of}
+use Rattle.commit_writes.proofs.translation.tables.read_table.Given as goal
+
+-- the first words are read
+abbrev pub invariant-loop-port : goal.invariant-loop-port
+invariant-loop-port g l =
+    (l.words.items ≡ take l.port (table_of l.field (replay (g.D.Writable.slot_count l.device) (g.D.Writable.journal l.device))))
+    × ((port : ℕ) → slice_index l.words.items port < 2 ^ 16)

@@ -1,0 +1,11 @@
+pub mod Live
+pub mod Above
+pub mod Chain
+pub mod Cutting
+pub mod Leading
+pub mod Orders
+pub mod Planned
+pub mod Planner
+pub mod Reach
+pub mod Readied
+pub mod Settled

@@ -1,0 +1,130 @@
+-- An arrangement in which an id is to be placed, in slot_order's words.
+use Rattle.std.proofs.Common.{◌≡◌, ℕ, zero, suc, ◌+◌, ◌<◌, ◌≤◌, Option, None, Some, List, [], ◌∷◌, length, inl, inr, arith, le_refl, refl}
+use Rattle.std.specs.Prelude.{slice_index_or, IsTrue}
+use Rattle.std.proofs.lemmas.Bool.{false_from_ne_true, both_ways}
+use Rattle.slot_order.specs.Order.{slot, Ordered}
+use Rattle.slot_moves.specs.Moves.{IsDownChain, IsUpChain}
+use Rattle.slot_pool.specs.Arrangement.{Slots}
+use Rattle.placement.specs.Live.{LivePieces, AreApart, is_live, is_above}
+use Rattle.placement.proofs.Above.{rank_in}
+use Rattle.std.specs.Option.{unwrap_or}
+use Rattle.slot_pool.proofs.Places.{first_slot_is}
+use Rattle.slot_pool.proofs.Scan.{last_slot_is}
+use Rattle.placement.specs.Placement.{Above, first_lower, last_upper, next_slot, gap_start, gap_end, IsInOrder}
+use Rattle.placement.specs.Insertion.{IsOther, StandOnce, free_slots}
+use Rattle.placement.specs.Ready.{IsTaken, CanShift, IsReady}
+use Rattle.placement.proofs.Planner.{IsRanked, Related}
+use Rattle.placement.proofs.Orders.{ranked}
+
+pub ready_from : (index : LivePieces) (id : ℕ) (slots : Slots) → length slots ≤ 4096 → 0 < free_slots slots → IsTrue (is_live index.live id) → AreApart index.slots index.live
+    → StandOnce (IsOther index.live id) slots → IsInOrder (is_above index.live) slots → IsReady index id slots
+ready_from index id slots few free live apart standing order = record { few = few; free = free; live = live; apart = apart; standing = standing; order = order }
+
+pub ready_ordered : (index : LivePieces) (id : ℕ) (slots : Slots) → IsReady index id slots
+    → Ordered (Related (is_above index.live)) (rank_in index.live) (IsOther index.live id) slots
+ready_ordered index id slots ready = record {
+  within = ready.standing.within;
+  placed = ready.standing.placed;
+  sorted = λ i j a b l s t v. elim v [
+    | inl e ↦ let k = ranked index ready.apart a b e in omega arith
+    | inr e ↦ absurd (both_ways (is_above index.live b a) (ready.order i j a b l s t) e)
+  ];
+}
+
+-- and back
+pub order_from : (above : Above) (rank : ℕ → ℕ) (P : ℕ → Type 0) (slots : Slots) → IsRanked above rank → Ordered (Related above) rank P slots → IsInOrder above slots
+order_from above rank P slots ranked o i j a b l s t = false_from_ne_true (above b a) (λ e.
+    let k = ranked b a e in
+    let m = o.sorted i j a b l s t (inr e) in
+    absurd (omega arith))
+
+-- the slots of a chain rise, so there are no more than there are slots before the free one
+pub down_size : (over : ℕ → ℕ → Type 0) (tag : ℕ → ℕ) (slots : Slots) (free first : ℕ) (rest : List ℕ) → IsDownChain over tag slots free first rest
+    → length rest + 1 + first ≤ free
+down_size over tag slots free first [] c = let l = c.2 in omega arith
+down_size over tag slots free first (next ∷ rest) c = let h = down_size over tag slots free next rest c.1 in let l = c.0.2 in omega arith
+
+pub up_size : (over : ℕ → ℕ → Type 0) (tag : ℕ → ℕ) (slots : Slots) (free first : ℕ) (rest : List ℕ) → IsUpChain over tag slots free first rest
+    → length rest + 1 + free ≤ first
+up_size over tag slots free first [] c = let l = c.2 in omega arith
+up_size over tag slots free first (next ∷ rest) c = let h = up_size over tag slots free next rest c.1 in let l = c.0.2 in omega arith
+
+down_rises : (over : ℕ → ℕ → Type 0) (tag : ℕ → ℕ) (slots : Slots) (free first : ℕ) (rest : List ℕ) → IsDownChain over tag slots free first rest
+    → (k : ℕ) → k < length (first ∷ rest) → first ≤ slice_index_or (first ∷ rest) k free
+down_rises over tag slots free first rest c zero l = omega arith
+down_rises over tag slots free first [] c (suc k) l = absurd (omega arith)
+down_rises over tag slots free first (next ∷ rest) c (suc k) l =
+    let h = down_rises over tag slots free next rest c.1 k (omega arith) in let m = c.0.2 in omega arith
+
+up_falls : (over : ℕ → ℕ → Type 0) (tag : ℕ → ℕ) (slots : Slots) (free first : ℕ) (rest : List ℕ) → IsUpChain over tag slots free first rest
+    → (k : ℕ) → k < length (first ∷ rest) → slice_index_or (first ∷ rest) k free ≤ first
+up_falls over tag slots free first rest c zero l = omega arith
+up_falls over tag slots free first [] c (suc k) l = absurd (omega arith)
+up_falls over tag slots free first (next ∷ rest) c (suc k) l =
+    let h = up_falls over tag slots free next rest c.1 k (omega arith) in let m = c.0.2 in omega arith
+
+down_taken : (over : ℕ → ℕ → Type 0) (tag : ℕ → ℕ) (slots : Slots) (free first : ℕ) (rest : List ℕ) → IsDownChain over tag slots free first rest
+    → (k : ℕ) → k < length (first ∷ rest) → IsTaken slots (slice_index_or (first ∷ rest) k free)
+down_taken over tag slots free first [] c zero l = (c.0, c.1)
+down_taken over tag slots free first (next ∷ rest) c zero l = (c.0.0, c.0.1)
+down_taken over tag slots free first [] c (suc k) l = absurd (omega arith)
+down_taken over tag slots free first (next ∷ rest) c (suc k) l = down_taken over tag slots free next rest c.1 k (omega arith)
+
+up_taken : (over : ℕ → ℕ → Type 0) (tag : ℕ → ℕ) (slots : Slots) (free first : ℕ) (rest : List ℕ) → IsUpChain over tag slots free first rest
+    → (k : ℕ) → k < length (first ∷ rest) → IsTaken slots (slice_index_or (first ∷ rest) k free)
+up_taken over tag slots free first [] c zero l = (c.0, c.1)
+up_taken over tag slots free first (next ∷ rest) c zero l = (c.0.0, c.0.1)
+up_taken over tag slots free first [] c (suc k) l = absurd (omega arith)
+up_taken over tag slots free first (next ∷ rest) c (suc k) l = up_taken over tag slots free next rest c.1 k (omega arith)
+
+down_apart : (over : ℕ → ℕ → Type 0) (tag : ℕ → ℕ) (slots : Slots) (free first : ℕ) (rest : List ℕ) → IsDownChain over tag slots free first rest
+    → (j k : ℕ) → j < k → k < length (first ∷ rest) → slice_index_or (first ∷ rest) j free < slice_index_or (first ∷ rest) k free
+down_apart over tag slots free first rest c j zero l m = absurd (omega arith)
+down_apart over tag slots free first [] c j (suc k) l m = absurd (omega arith)
+down_apart over tag slots free first (next ∷ rest) c zero (suc k) l m =
+    let h = down_rises over tag slots free next rest c.1 k (omega arith) in let n = c.0.2 in omega arith
+down_apart over tag slots free first (next ∷ rest) c (suc j) (suc k) l m = down_apart over tag slots free next rest c.1 j k (omega arith) (omega arith)
+
+up_apart : (over : ℕ → ℕ → Type 0) (tag : ℕ → ℕ) (slots : Slots) (free first : ℕ) (rest : List ℕ) → IsUpChain over tag slots free first rest
+    → (j k : ℕ) → j < k → k < length (first ∷ rest) → slice_index_or (first ∷ rest) k free < slice_index_or (first ∷ rest) j free
+up_apart over tag slots free first rest c j zero l m = absurd (omega arith)
+up_apart over tag slots free first [] c j (suc k) l m = absurd (omega arith)
+up_apart over tag slots free first (next ∷ rest) c zero (suc k) l m =
+    let h = up_falls over tag slots free next rest c.1 k (omega arith) in let n = c.0.2 in omega arith
+up_apart over tag slots free first (next ∷ rest) c (suc j) (suc k) l m = up_apart over tag slots free next rest c.1 j k (omega arith) (omega arith)
+
+-- so they can move
+pub down_can_shift : (over : ℕ → ℕ → Type 0) (tag : ℕ → ℕ) (slots : Slots) (free first : ℕ) (rest : List ℕ) → IsDownChain over tag slots free first rest
+    → free < length slots → slot slots free ≡ None → CanShift slots free (first ∷ rest)
+down_can_shift over tag slots free first rest c room empty = record {
+  some = omega arith;
+  room = room;
+  empty = empty;
+  taken = down_taken over tag slots free first rest c;
+  apart = λ j k l m e. let h = down_apart over tag slots free first rest c j k l m in omega arith;
+}
+
+pub up_can_shift : (over : ℕ → ℕ → Type 0) (tag : ℕ → ℕ) (slots : Slots) (free first : ℕ) (rest : List ℕ) → IsUpChain over tag slots free first rest
+    → free < length slots → slot slots free ≡ None → CanShift slots free (first ∷ rest)
+up_can_shift over tag slots free first rest c room empty = record {
+  some = omega arith;
+  room = room;
+  empty = empty;
+  taken = up_taken over tag slots free first rest c;
+  apart = λ j k l m e. let h = up_apart over tag slots free first rest c j k l m in omega arith;
+}
+
+-- the gap begins with a slot, or past the last one
+pub start_inside : (above : Above) (slots : Slots) (id : ℕ) → gap_start above slots id ≤ length slots
+start_inside above slots id = go (last_upper above slots id) refl
+  where
+    go : (found : Option ℕ) → last_upper above slots id ≡ found → next_slot found ≤ length slots
+    go None e = omega arith
+    go (Some at) e = let h = (last_slot_is (λ other. above other id) slots at e).inside in let k : at < 0 + length slots = h in omega arith
+
+pub end_inside : (above : Above) (slots : Slots) (id : ℕ) → gap_end above slots id ≤ length slots
+end_inside above slots id = go (first_lower above slots id) refl
+  where
+    go : (found : Option ℕ) → first_lower above slots id ≡ found → unwrap_or found (length slots) ≤ length slots
+    go None e = le_refl (length slots)
+    go (Some at) e = let h = (first_slot_is (λ other. above id other) slots at e).inside in let k : at < 0 + length slots = h in omega arith

@@ -1,0 +1,4 @@
+pub mod Live
+pub mod Placement
+pub mod Insertion
+pub mod Ready

@@ -1,5 +1,0 @@
-use Rattle.planned_rests.proofs.AtRest.{restarts_come_to_rest}
-use Rattle.planned_rests.proofs.laws.planned_restarts_come_to_rest.Goals as goal
-
-pub returns : goal.returns
-returns c = restarts_come_to_rest

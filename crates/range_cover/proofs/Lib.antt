@@ -1,3 +1,0 @@
-pub mod Greedy
-pub mod Levels
-pub mod Rest

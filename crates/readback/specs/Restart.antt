@@ -1,0 +1,60 @@
+-- A planned restart: the table words that differ, the erase of the twin, if there is one, and then the planned rest.
+use Rattle.std.specs.Prelude.{ℕ, Option, List, length}
+use Rattle.std.specs.List.{AllByRecursion}
+use Rattle.slot_pool.specs.Arrangement.{Slots}
+use Rattle.rule_model.specs.declared.Rule.{Rule}
+use Rattle.rule_model.specs.declared.IpVersion.{IpVersion}
+use Rattle.rule_store.specs.declared.Mode.{Mode}
+use Rattle.rule_store.specs.declared.Command.{Command}
+use Rattle.rule_store.specs.Batch.{additions}
+use Rattle.placement.specs.declared.LivePiece.{LivePiece}
+use Rattle.tcam_device.specs.State.{State, IsState, state_after, on_device}
+use Rattle.tcam_device.specs.Insertion.{IsUncrossed}
+use Rattle.commit_writes.specs.declared.Done.{Done}
+use Rattle.commit_writes.specs.declared.Rewrite.{Rewrite}
+use Rattle.commit_writes.specs.Bits.{FieldBits}
+use Rattle.commit_writes.specs.Planned.{IdEntries, Planned}
+use Rattle.commit_writes.specs.PlannedBatch.{AreNumbersOf}
+use Rattle.commit_writes.specs.Routes.{IsRoute, prefix_lengths}
+use Rattle.readback.specs.Tasks.{Task}
+use Rattle.readback.specs.Stage.{IsCommitAt, IsTwinSlot}
+use Rattle.readback.specs.Going.{GoesOn, HasRestShape, AreRestCounts, twin_writes, rest_insertions}
+use Rattle.readback.specs.Laws.{CanCommit}
+use Rattle.readback.specs.PlannedRest.{IsPlannedRest, restart_writes}
+
+-- A restart as it was planned, on a device with so many slots, of which as many as are arranged are in use: with these tasks
+-- done and left the device shows a stage, with this twin or none; and once the twin is erased the rest is planned.
+pub record IsPlannedRestart (device_slots : ℕ) (mode : Mode) (bits : FieldBits) (rules : List Rule) (batch : List Command) (state : State) (done left : List Task) (twin : Option ℕ)
+    (live : List LivePiece) (slots : Slots) (entries : IdEntries) (planned : List Planned) (rewrites : List Rewrite) (erased : List ℕ) : Type 0 where
+  pub can : CanCommit mode bits rules batch
+  pub is_state : IsState (length state.slots) state
+  pub stage : IsCommitAt (length slots) mode bits rules batch (on_device device_slots state) done left
+  pub is_twin : IsTwinSlot (on_device device_slots state).slots twin
+  pub rest : IsPlannedRest mode bits rules batch (state_after state (twin_writes twin)) left live slots entries planned rewrites erased
+
+-- such a restart goes on to the new set: hitless after every write, through stages, and within the bounds;
+abbrev pub PlannedRestartsGoOn : Type 0
+PlannedRestartsGoOn =
+    (device_slots : ℕ) (mode : Mode) (bits : FieldBits) (rules : List Rule) (batch : List Command) (state : State) (done left : List Task) (twin : Option ℕ)
+    (live : List LivePiece) (slots : Slots) (entries : IdEntries) (planned : List Planned) (rewrites : List Rewrite) (erased : List ℕ)
+    → IsPlannedRestart device_slots mode bits rules batch state done left twin live slots entries planned rewrites erased
+    → GoesOn (length slots) mode bits rules batch (on_device device_slots state) left twin (restart_writes mode bits rules batch state twin entries slots planned rewrites erased)
+
+-- its numbers are those of its plan;
+abbrev pub PlannedRestartsAreCounted : Type 0
+PlannedRestartsAreCounted =
+    (device_slots : ℕ) (mode : Mode) (bits : FieldBits) (rules : List Rule) (batch : List Command) (state : State) (done left : List Task) (twin : Option ℕ)
+    (live : List LivePiece) (slots : Slots) (entries : IdEntries) (planned : List Planned) (rewrites : List Rewrite) (erased : List ℕ) (counts : Done)
+    → IsPlannedRestart device_slots mode bits rules batch state done left twin live slots entries planned rewrites erased
+    → AreNumbersOf (restart_writes mode bits rules batch state twin entries slots planned rewrites erased) planned counts
+    → AreRestCounts mode bits rules batch (on_device device_slots state) left twin (restart_writes mode bits rules batch state twin entries slots planned rewrites erased) counts
+
+-- and of routes no insertion crosses others, and none takes more writes than a prefix may have lengths
+abbrev pub PlannedRestartsCrossNothing : Type 0
+PlannedRestartsCrossNothing =
+    (device_slots : ℕ) (mode : Mode) (bits : FieldBits) (rules : List Rule) (batch : List Command) (state : State) (done left : List Task) (twin : Option ℕ)
+    (live : List LivePiece) (slots : Slots) (entries : IdEntries) (planned : List Planned) (rewrites : List Rewrite) (erased : List ℕ) (version : IpVersion)
+    → IsPlannedRestart device_slots mode bits rules batch state done left twin live slots entries planned rewrites erased
+    → AllByRecursion (IsRoute version) rules → AllByRecursion (IsRoute version) (additions batch)
+    → (shape : HasRestShape mode bits rules batch (on_device device_slots state) left twin (restart_writes mode bits rules batch state twin entries slots planned rewrites erased))
+    → IsUncrossed (prefix_lengths version) (rest_insertions shape)

@@ -1,9 +1,0 @@
-use Rattle.std.proofs.Common.{◌≡◌, drop}
-use Rattle.ternary_word.specs.Entry.{lanes_match}
-use Rattle.ternary_word.proofs.hits.Given as goal
-
--- the lanes before i agree
-abbrev pub invariant-loop-i : goal.invariant-loop-i
-invariant-loop-i l =
-    lanes_match l.word.lane l.entry.value.lane l.entry.mask.lane
-    ≡ lanes_match (drop l.i l.word.lane) (drop l.i l.entry.value.lane) (drop l.i l.entry.mask.lane)
