@@ -33,7 +33,7 @@ use Rattle.commit_writes.specs.Changes.{coded_by, during_of}
 use Rattle.batch_order.specs.declared.held.Held.{Held}
 use Rattle.batch_order.specs.declared.translation.Translation.{Translation}
 use Rattle.batch_order.specs.Entries.{AreLast, Entries}
-use Rattle.batch_order.specs.Planning.{IsSettled, as_writes}
+use Rattle.batch_order.specs.Planning.{IsSettled, as_writes, all_writes}
 use Rattle.batch_order.specs.Managed.{HeldCommit}
 
 -- What a manager keeps of its device's translation: by covers nothing, and by bits the live ranges and both tables.
@@ -64,7 +64,7 @@ translated_by (Some kept) (Some bits) rules writes =
 
 -- the device writes of a commit under way, while the ids have these entries
 abbrev pub held_writes : List (Option Entry) → Held → List Write
-held_writes entries held = as_writes entries held.rewrites.items held.writes.items
+held_writes entries held = as_writes entries held.rewrites.items (all_writes held.writes)
 
 -- what is kept after a commit under way
 abbrev pub translation_after : Option Translation → List Rule → List (Option Entry) → Held → Option Translation
@@ -114,7 +114,7 @@ state_of translation entries slots (Some held) =
 
 -- how many writes it has left, forward or back
 abbrev pub left_of : Held → ℕ
-left_of held = elim held.turned [ None ↦ length held.writes.items - held.made | Some undone ↦ held.made ]
+left_of held = elim held.turned [ None ↦ length (all_writes held.writes) - held.made | Some undone ↦ held.made ]
 
 -- a commit as it is turned round
 abbrev pub turned_at : Held → Held
@@ -185,7 +185,7 @@ pub record IsHeld (translation : Option Translation) (rules : StoredRules) (kept
   pub late : held.drained ≡ true → held.counts.words ≤ held.made
   pub undrained : held.drained ≡ false → (held.made ≤ held.counts.words) ⊎ (have_bits (new_bits (bits_of translation) (during_of held.bits)) ≡ false)
   pub drains : held.turned ≡ None → held.awaits ≡ false → held.drained ≡ false → have_bits (new_bits (bits_of translation) (during_of held.bits)) ≡ false
-  pub made : held.made ≤ length held.writes.items
+  pub made : held.made ≤ length (all_writes held.writes)
   pub in_use : AllByRecursion (IsInUse (length slots)) (held_writes kept.entries held)
   -- the batch can be applied to the set, without memory
   pub right : AllByRecursion HasConditions (set_after rules.rules held.batch)

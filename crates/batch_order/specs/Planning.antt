@@ -1,5 +1,5 @@
 -- What a plan needs and keeps: entries that stand once and in order, and writes within the slots in use.
-use Rattle.std.specs.Prelude.{◌≡◌, ℕ, ◌+◌, ◌<◌, ◌≤◌, IsTrue, IsSome, Some, List, ◌++◌, length, flat_map, fold, map, max, option_map, slice_get}
+use Rattle.std.specs.Prelude.{◌≡◌, ℕ, ◌+◌, ◌<◌, ◌≤◌, IsTrue, IsSome, Some, List, [], ◌++◌, length, flat_map, fold, map, max, option_map, slice_get}
 use Rattle.std.specs.List.{AllByRecursion}
 use Rattle.slot_pool.specs.Arrangement.{Slots, home_of}
 use Rattle.rule_model.specs.Entry.{RankedPiece, entry_for}
@@ -17,6 +17,7 @@ use Rattle.commit_writes.specs.PlannedBatch.{erase_write, rewrite_write}
 use Rattle.commit_writes.specs.Planned.{IdEntries, Planned, ArePlanned, ranked_of, live_after, slots_after, write_for, entry_at}
 use Rattle.batch_order.specs.declared.plan.Plan.{Plan}
 use Rattle.batch_order.specs.declared.planned_writes.PlannedWrite.{PlannedWrite}
+use Rattle.batch_order.specs.declared.planned_writes.PlannedWrites.{PlannedWrites}
 use Rattle.batch_order.specs.declared.planned_writes.PlannedWrite.TheVariants.{Tabled, Moved, Rewritten}
 use Rattle.batch_order.specs.Entries.{Entries, KeepEntries}
 
@@ -28,6 +29,10 @@ IsStanding slots id = IsSome (home_of slots id)
 abbrev pub IsInside : ℕ → Move → Type 0
 IsInside slots (Put slot id) = slot < slots
 IsInside slots (Erase slot) = slot < slots
+
+-- the writes of a plan in the order in which they are made
+abbrev pub all_writes : PlannedWrites → List PlannedWrite
+all_writes writes = map Tabled writes.words.items ++ (map Moved writes.moves ++ writes.changes.items)
 
 -- the device write that a planned one is, by the entries of the ids and the new entries of the commit
 abbrev pub as_write : IdEntries → List Rewrite → PlannedWrite → Write
@@ -57,10 +62,11 @@ pub record IsSettled (kept : Entries) (slots : Slots) : Type 0 where
   pub order : IsInOrder (is_above kept.live) slots
   pub count : free_slots slots + length kept.live ≡ kept.slots
 
--- and the writes that lead there are within the slots in use
-pub record IsPlannable (kept : Entries) (slots : Slots) (writes : List PlannedWrite) : Type 0 where
+-- and the writes that lead there are within the slots in use, and none is planned yet that comes behind the moves
+pub record IsPlannable (kept : Entries) (slots : Slots) (writes : PlannedWrites) : Type 0 where
   pub settled : IsSettled kept slots
-  pub within : AllByRecursion (IsWithin kept.slots) writes
+  pub within : AllByRecursion (IsWithin kept.slots) (all_writes writes)
+  pub no_changes : writes.changes.items ≡ []
 
 -- the others are settled, and this live id is still to be placed
 pub record IsLastLive (kept : Entries) (slots : Slots) (id : ℕ) : Type 0 where
@@ -79,7 +85,7 @@ pub record IsInserted (kept : Entries) (slots slots' : Slots) (aim : Aim) (id : 
   pub moves : List Move
   pub placement : IsPlacement (is_above kept.live) aim id slots moves
   pub slots_are : slots' ≡ after_moves slots moves
-  pub writes : plan'.writes.items ≡ plan.writes.items ++ map Moved moves
+  pub writes : all_writes plan'.writes ≡ all_writes plan.writes ++ map Moved moves
   pub words : plan'.words ≡ plan.words
   pub most : plan'.most ≡ max plan.most (length moves)
   pub span : plan'.span ≡ max plan.span (span_of (is_above kept.live) slots id)
@@ -94,7 +100,7 @@ pub record ArePlannedSince (old new : Entries) (slots slots' : Slots) (plan plan
   pub slots_are : slots' ≡ slots_after slots planned
   pub have_entries : AllByRecursion (λ insertion. entry_at new.entries insertion.one.id ≡ Some (entry_for (ranked_of insertion))) planned
   pub kept : KeepEntries old.live old.entries new.entries
-  pub writes : plan'.writes.items ≡ plan.writes.items ++ planned_moves planned
+  pub writes : all_writes plan'.writes ≡ all_writes plan.writes ++ planned_moves planned
   pub words : plan'.words ≡ plan.words
   pub most : plan'.most ≡ fold max plan.most (map (λ insertion. length insertion.moves) planned)
   pub span : plan'.span ≡ fold max plan.span (map (λ insertion. insertion.span) planned)
@@ -106,9 +112,9 @@ pub record AreAllPlanned (old new : Entries) (slots slots' : Slots) (plan plan' 
   pub between : Plan
   pub inserted : ArePlannedSince old new slots slots' plan between pieces aims
   pub settled : IsSettled new slots'
-  pub within : AllByRecursion (IsWithin (length slots')) plan'.writes.items
-  pub writes : (entries : IdEntries) → as_writes entries rewrites plan'.writes.items
-      ≡ as_writes entries rewrites between.writes.items ++ (map (rewrite_write slots') rewrites ++ map (erase_write slots') erased)
+  pub within : AllByRecursion (IsWithin (length slots')) (all_writes plan'.writes)
+  pub writes : (entries : IdEntries) → as_writes entries rewrites (all_writes plan'.writes)
+      ≡ as_writes entries rewrites (all_writes between.writes) ++ (map (rewrite_write slots') rewrites ++ map (erase_write slots') erased)
   pub words : plan'.words ≡ between.words
   pub most : plan'.most ≡ between.most
   pub span : plan'.span ≡ between.span

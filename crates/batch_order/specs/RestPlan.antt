@@ -20,14 +20,14 @@ use Rattle.readback.specs.Restart.{IsPlannedRestart}
 use Rattle.readback.specs.Standing.{AreReadIds}
 use Rattle.batch_order.specs.declared.plan.Plan.{Plan}
 use Rattle.batch_order.specs.Entries.{Entries}
-use Rattle.batch_order.specs.Planning.{AreAllPlanned, as_writes}
+use Rattle.batch_order.specs.Planning.{AreAllPlanned, as_writes, all_writes}
 
 -- all that is planned at a restart is a planned restart, with these aims, and its writes are the plan's
 pub record IsRestPlan (device_slots : ℕ) (mode : Mode) (bits : FieldBits) (rules : List Rule) (batch : List Command) (state : State) (done left : List Task) (twin : Option ℕ) (old new : Entries) (slots : Slots) (plan' : Plan) (aims : List Aim) (rewrites : List Rewrite) (erased : List ℕ) : Type 0 where
   pub planned : List Planned
   pub restart : IsPlannedRestart device_slots mode bits rules batch state done left twin old.live slots new.entries planned rewrites erased
   pub aims_are : map (λ insertion. insertion.aim) planned ≡ aims
-  pub writes_are : as_writes new.entries rewrites plan'.writes.items ≡ restart_writes mode bits rules batch state twin new.entries slots planned rewrites erased
+  pub writes_are : as_writes new.entries rewrites (all_writes plan'.writes) ≡ restart_writes mode bits rules batch state twin new.entries slots planned rewrites erased
 
 abbrev pub PlansRest : Type 0
 PlansRest =
@@ -36,7 +36,7 @@ PlansRest =
     → CanCommit mode bits rules batch → IsState (length state.slots) state
     → IsCommitAt (length slots) mode bits rules batch (on_device device_slots state) done left → IsTwinSlot (on_device device_slots state).slots twin
     → AreReadIds (commit_pieces mode bits rules batch) (state_after state (twin_writes twin)).slots old.live slots old.entries
-    → as_writes new.entries rewrites plan.writes.items ≡ rest_words mode bits rules batch state ++ twin_writes twin
+    → as_writes new.entries rewrites (all_writes plan.writes) ≡ rest_words mode bits rules batch state ++ twin_writes twin
     → AreAllPlanned old new slots middle plan plan' (filter_map inserted_by left) aims rewrites erased
     → AllZip (IsRewriteOf old.live) (filter_map rewritten_by left) rewrites → AllZip (IsIdOf old.live) (filter_map erased_by left) erased
     → IsRestPlan device_slots mode bits rules batch state done left twin old new slots plan' aims rewrites erased

@@ -32,7 +32,7 @@ use Rattle.batch_order.specs.declared.restarting.resuming.Rest.{Rest}
 use Rattle.batch_order.specs.Entries.{AddsIds, Entries, HaveIds, KeepEntries}
 use Rattle.batch_order.specs.Kept.{changed_by}
 use Rattle.batch_order.specs.Placing.{aims_left}
-use Rattle.batch_order.specs.Planning.{IsSettled, IsWithin, as_writes}
+use Rattle.batch_order.specs.Planning.{IsSettled, IsWithin, as_writes, all_writes}
 use Rattle.batch_order.specs.Restart.{in_use}
 use Rattle.batch_order.specs.RestPlan.{IsRestPlan}
 
@@ -67,7 +67,7 @@ pub record IsAsFound (state : State) (kept : Entries) (slots : Slots) : Type 0 w
 
 -- the numbers of a plan
 abbrev pub counts_of : Plan → Done
-counts_of plan = record { writes = length plan.writes.items; words = plan.words; most = plan.most; span = plan.span }
+counts_of plan = record { writes = length (all_writes plan.writes); words = plan.words; most = plan.most; span = plan.span }
 
 -- What is held of a plan before its first write, with its drain, its batch, and where the entries stand in the end: it isn't prepared.
 abbrev pub held_from : Rest → Bool → Bool → List Command → Slots → Vec PlannedWrite Global → Held
@@ -95,7 +95,7 @@ pub record IsPlannedOn (placement : Placement) (device_slots : ℕ) (mode : Mode
   pub stage : IsCommitAt (length slots) mode bits rules batch state done left
   pub plan : IsRestPlan device_slots mode bits rules batch (in_use (length slots) state) done left shown.stage.twin old new slots rest.plan
       (aims_left placement mode bits (length slots) rules batch done) rest.left.rewrites.items rest.left.erased.items
-  pub numbers : AreNumbersOf (as_writes new.entries rest.left.rewrites.items rest.plan.writes.items) plan.planned (counts_of rest.plan)
+  pub numbers : AreNumbersOf (as_writes new.entries rest.left.rewrites.items (all_writes rest.plan.writes)) plan.planned (counts_of rest.plan)
   pub coded : coded_by rest.bits ≡ mode
   pub during : during_of rest.bits ≡ bits_with mode rules batch bits
   pub adds : AddsIds old new rest.ids.items
@@ -103,7 +103,7 @@ pub record IsPlannedOn (placement : Placement) (device_slots : ℕ) (mode : Mode
   pub kept : KeepEntries old.live old.entries new.entries
   pub arranged : slots' ≡ erased_slots (slots_after slots plan.planned) rest.left.erased.items
   pub settled : IsSettled (changed_by new rest.left.rewrites.items rest.left.erased.items) slots'
-  pub within : AllByRecursion (IsWithin (length slots)) rest.plan.writes.items
+  pub within : AllByRecursion (IsWithin (length slots)) (all_writes rest.plan.writes)
   -- what it rewrites and erases are live ids, each erased once
   pub changed : AllByRecursion (λ rewrite. IsTrue (is_live new.live rewrite.id)) rest.left.rewrites.items
   pub gone : AllByRecursion (λ id. IsTrue (is_live new.live id)) rest.left.erased.items

@@ -2,8 +2,9 @@
 
 ghost use Rattle.std.specs.Prelude.{◌≡◌, ◌≤◌, true, false, None, Ok, Err, IsSome, length};
 ghost use Rattle.batch_order.specs.Kept.{drains_at, left_of, one_less, turned_at};
+ghost use Rattle.batch_order.specs.Planning.{all_writes};
 
-use crate::planned_writes::PlannedWrite;
+use crate::planned_writes::{PlannedWrite, PlannedWrites};
 use crate::{AbortFault, Done};
 use commit_writes::{FieldBits, Rewrite};
 use rule_store::Batch;
@@ -16,7 +17,7 @@ use slot_pool::Arrangement;
 pub(crate) struct Held {
     /// Whether `prepare` planned it. What stood before a commit that a restart goes on with isn't known.
     pub(crate) prepared: bool,
-    pub(crate) writes: Vec<PlannedWrite>,
+    pub(crate) writes: PlannedWrites,
     /// What restores each of the writes, in their order, where it is prepared.
     pub(crate) undo: Vec<PlannedWrite>,
     /// How many of the writes stand: it falls once the plan is turned round.
@@ -48,7 +49,7 @@ impl Held {
 
     /// How many writes are left, forward or back.
     pub(crate) fn left(&self) -> usize
-        requires { self.now.made ≤ length self.now.writes.items }
+        requires { self.now.made ≤ length (all_writes self.now.writes) }
         ensures { result ≡ left_of self.now }
     {
         match self.turned {

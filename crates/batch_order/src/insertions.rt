@@ -7,15 +7,14 @@ ghost use Rattle.rule_model.specs.Entry.{IsEncodable};
 ghost use Rattle.placement.specs.Live.{is_live};
 ghost use Rattle.batch_order.specs.Entries.{AddsIds, AreLast, KeepEntries};
 ghost use Rattle.batch_order.specs.Placing.{aims_from, aims_of};
-ghost use Rattle.batch_order.specs.Planning.{IsPlannable, IsLastLive, IsWithin, IsInserted, ArePlannedSince};
+ghost use Rattle.batch_order.specs.Planning.{IsPlannable, IsLastLive, IsWithin, IsInserted, ArePlannedSince, all_writes};
 
 use crate::Placement;
 use crate::aims::aim_of;
 use crate::entries::LiveEntries;
 use crate::plan::Plan;
-use crate::planned_writes::PlannedWrite;
 use commit_writes::Ranked;
-use move_planner::{Moves, plan_insert};
+use move_planner::plan_insert;
 use placement::Aim;
 use rule_store::{Mode, Store};
 use slot_pool::Arrangement;
@@ -36,8 +35,8 @@ pub(crate) fn plan_additions(
     requires standing { length live.old.live ≡ entries_of mode rules.now.rules }
     requires room { length live.old.live + length pieces.now ≤ live.old.slots }
     requires encodable { AllByRecursion (λ ranked. IsEncodable ranked.piece) pieces.now }
-    requires plannable { IsPlannable live.old arrangement.old plan.old.writes.items }
-    ensures plannable { OnOk result (IsPlannable live.new arrangement.new plan.new.writes.items) }
+    requires plannable { IsPlannable live.old arrangement.old plan.old.writes }
+    ensures plannable { OnOk result (IsPlannable live.new arrangement.new plan.new.writes) }
     ensures planned { OnOk result (ArePlannedSince live.old live.new arrangement.old arrangement.new plan.old plan.new pieces.now
         (aims_of placement mode (length arrangement.old) rules.now.rules pieces.now)) }
     ensures adds { IfOk result (λ ids. AddsIds live.old live.new ids.items) }
@@ -75,8 +74,8 @@ pub(crate) fn plan_more(
     requires standing { length live.old.live ≡ entries_of mode rules.now.rules + made }
     requires room { length live.old.live + length pieces.now ≤ live.old.slots }
     requires encodable { AllByRecursion (λ ranked. IsEncodable ranked.piece) pieces.now }
-    requires plannable { IsPlannable live.old arrangement.old plan.old.writes.items }
-    ensures plannable { OnOk result (IsPlannable live.new arrangement.new plan.new.writes.items) }
+    requires plannable { IsPlannable live.old arrangement.old plan.old.writes }
+    ensures plannable { OnOk result (IsPlannable live.new arrangement.new plan.new.writes) }
     ensures planned { OnOk result (ArePlannedSince live.old live.new arrangement.old arrangement.new plan.old plan.new pieces.now
         (aims_from placement mode (length arrangement.old) rules.now.rules (length live.old.live + length pieces.now) made pieces.now)) }
     ensures adds { IfOk result (λ ids. AddsIds live.old live.new ids.items) }
@@ -132,8 +131,8 @@ fn plan_piece(
 ) -> Result<u32, AllocError>
     requires room { length live.old.live < live.old.slots }
     requires encodable { IsEncodable ranked.now.piece }
-    requires plannable { IsPlannable live.old arrangement.old plan.old.writes.items }
-    ensures plannable { OnOk result (IsPlannable live.new arrangement.new plan.new.writes.items) }
+    requires plannable { IsPlannable live.old arrangement.old plan.old.writes }
+    ensures plannable { OnOk result (IsPlannable live.new arrangement.new plan.new.writes) }
     ensures planned { OnOk result (ArePlannedSince live.old live.new arrangement.old arrangement.new plan.old plan.new (ranked.now ∷ []) (aim ∷ [])) }
     ensures adds { IfOk result (λ id. AddsIds live.old live.new (id ∷ [])) }
     ensures refused { OnErr result (live.new.live ≡ live.old.live) }
@@ -150,7 +149,7 @@ fn plan_piece(
     }
 }
 
-/// Plans the insertion of a live id with an aim, each of its moves a write.
+/// Plans the insertion of a live id with an aim, its moves straight behind those of the plan.
 fn plan_moves(
     alloc: Global,
     id: u32,
@@ -160,23 +159,13 @@ fn plan_moves(
     plan: &mut Plan,
 ) -> Result<(), AllocError>
     requires new { IsLastLive live.now arrangement.old id }
-    requires within { AllByRecursion (IsWithin live.now.slots) plan.old.writes.items }
-    ensures plannable { OnOk result (IsPlannable live.now arrangement.new plan.new.writes.items) }
+    requires within { AllByRecursion (IsWithin live.now.slots) (all_writes plan.old.writes) }
+    requires no_changes { plan.old.writes.changes.items ≡ [] }
+    ensures plannable { OnOk result (IsPlannable live.now arrangement.new plan.new.writes) }
     ensures inserted { OnOk result (IsInserted live.now arrangement.old arrangement.new aim id plan.old plan.new) }
 {
-    let mut moves = Moves::new(alloc);
-    let insert = plan_insert(alloc, arrangement, live.index(), id, aim, &mut moves)?;
-    push_all(&moves, &mut plan.writes)?;
+    let moves = &mut plan.writes.moves;
+    let insert = plan_insert(alloc, arrangement, live.index(), id, aim, moves)?;
     plan.count(insert);
-    Ok(())
-}
-
-/// Puts some moves behind planned writes.
-fn push_all(moves: &Moves, writes: &mut Vec<PlannedWrite>) -> Result<(), AllocError>
-    ensures { OnOk result (writes.new.items ≡ writes.old.items ++ map PlannedWrite.Moved moves.now) }
-{
-    for place in 0..moves.len() {
-        writes.push(PlannedWrite::Moved(moves.at(place)))?;
-    }
     Ok(())
 }

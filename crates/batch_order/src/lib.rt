@@ -27,7 +27,7 @@
 //! **A plan is small.** A device write has a whole entry, and a commit may take millions of them. So a plan names the
 //! entry of each by its id, and `planned_writes` makes the device write when its turn comes. It is the write that was
 //! planned: what stands at a live id changes only once the commit has finished, and the new entries of ids wait beside
-//! the plan.
+//! the plan. There is a list of each kind of write, so an insertion pushes its moves straight into the plan.
 //!
 //! **Port ranges.** By covers a rule takes an entry for each pair of blocks of its ranges' covers. A rule that replaces
 //! another keeps the entries that both have, and only the others are put in and erased. By bits a rule takes one entry:
@@ -63,7 +63,7 @@
 //!   wrote over `step`, and proved by an invariant of ten parts. The count of failures is bounded from both sides
 //!   (`IsTried`), since nobody counts the tries that failed before one that didn't; with one try it is `HasCause`. So a
 //!   body that gives up after as many failures of several writes meets the clauses; that each write has tries of its
-//!   own is only tested (`tried_each` and `tried_no_more` in `stopped_commit_tests`). With no commit under way nothing
+//!   own is only tested (`tried_each` and `tried_no_more` in `tests/stopped_commits`). With no commit under way nothing
 //!   happens and the numbers are 0, so it may be called at any time. Whoever knows what `prepare` ensured (`Holds`) has
 //!   the rules after the batch as a clause. The premise of room has a name, `HasRoomLeft`, and `prepare` keeps it.
 //! - **`carry_out` stops where it would wait** (`Unfinished::Waiting`), since to wait in a loop would hang a caller who
@@ -107,11 +107,16 @@
 //!   The manager's view tells device writes (`held_of` and `state_of` in `specs/Kept`). All writes are planned by one
 //!   function (`plan_writes`, `AreAllPlanned`), and what undoes them, with the new ids forgotten on want of memory in
 //!   one place.
+//! - **A plan has a list of each kind of write** (`PlannedWrites`): the words of the tables, the moves of all insertions,
+//!   and the new entries and erases behind them, where each insertion once had a list that was copied. All writes in
+//!   their order are `all_writes` of the three. The price: what is planned by moves asks that no change is planned yet
+//!   (`IsPlannable`), a write is found by comparing its place with two lengths, and the planner's `Moves` may be pushed
+//!   to by others, as the erase of a restart's twin is.
 //! - **A refusal's text names its rule as a report does** (`RuleName`): one that says no more than that a priority is
 //!   taken leaves a user to look for the rule. The priority alone tells a route from a rule of an access list, since a
 //!   route of length 0 has low part 0, which is that of no number. It doesn't tell the version of IP, so that is asked
 //!   for: `Refusal::for_version`, of which `Display` has the text for IPv4. An IPv6 address is in groups alone, as
-//!   reports have it. A text has no contract, so it is tested (`refusals` in `integration_tests`). The faults of
+//!   reports have it. A text has no contract, so it is tested (`tests/refusals`). The faults of
 //!   batches, stages and restarts, which stand below or aren't a script's, write a priority by its two numbers.
 #![tactic(auto)]
 

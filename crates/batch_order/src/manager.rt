@@ -18,6 +18,7 @@ ghost use Rattle.batch_order.specs.Passed.{GoesBackFrom, WayBackFrom};
 ghost use Rattle.commit_writes.specs.Bits.{bits_with};
 ghost use Rattle.commit_writes.specs.Serving.{HaveFreeBits};
 ghost use Rattle.batch_order.specs.Placing.{words_of};
+ghost use Rattle.batch_order.specs.Planning.{all_writes};
 ghost use Rattle.batch_order.specs.CarriedOut.{GoesForward, HasRoomBothWays, HasRoomLeft, IsServed, IsStuckBy, IsTried, StopsBy, actions_left, ahead, done_of, finished, writes_left};
 
 use crate::entries::LiveEntries;
@@ -298,16 +299,17 @@ impl Manager {
     fn plan_words(&self, batch: &Batch, plan: &mut Plan) -> Result<Option<FieldBits>, AllocError>
         requires idle { self.now.held ≡ None }
         requires free { HaveFreeBits self.now.mode self.now.rules batch.now }
-        requires empty { plan.old.writes.items ≡ [] }
+        requires empty { all_writes plan.old.writes ≡ [] }
         requires none { plan.old.words ≡ 0 }
         ensures bits { IfOk result (λ bits. (coded_by bits ≡ self.now.mode) × (during_of bits ≡ bits_with self.now.mode self.now.rules batch.now self.now.bits)) }
-        ensures writes { OnOk result (plan.new.writes.items ≡ map PlannedWrite.Tabled (words_of self.now.mode self.now.bits self.now.rules batch.now self.now.state)) }
-        ensures words { OnOk result (plan.new.words ≡ length plan.new.writes.items) }
-        ensures few { OnOk result (length plan.new.writes.items ≤ 2 * 2 ^ 16) }
+        ensures writes { OnOk result (all_writes plan.new.writes ≡ map PlannedWrite.Tabled (words_of self.now.mode self.now.bits self.now.rules batch.now self.now.state)) }
+        ensures no_changes { plan.new.writes.changes.items ≡ plan.old.writes.changes.items }
+        ensures words { OnOk result (plan.new.words ≡ length (all_writes plan.new.writes)) }
+        ensures few { OnOk result (length (all_writes plan.new.writes) ≤ 2 * 2 ^ 16) }
         ensures most { plan.new.most ≡ plan.old.most }
         ensures span { plan.new.span ≡ plan.old.span }
     {
-        plan_words(self.alloc, &self.translation, batch, plan)
+        plan_words(&self.translation, batch, plan)
     }
 
     /// Makes the next write of the commit under way, over the device that `prepare` or `restart` reserved, with room

@@ -1,16 +1,16 @@
 //! The plan of a commit: its writes, planned before the first of them goes out.
 
-ghost use Rattle.std.specs.Prelude.{◌≡◌, ◌+◌, ◌≤◌, ◌*◌, ◌^◌, ◌++◌, [], OnOk, List, length, map, max, nat_eq};
+ghost use Rattle.std.specs.Prelude.{◌≡◌, ◌+◌, ◌≤◌, ◌*◌, ◌++◌, [], OnOk, List, length, map, max, nat_eq};
 ghost use Rattle.std.specs.List.{AllByRecursion, IsDistinct};
 ghost use Rattle.commit_writes.specs.declared.Rewrite.{Rewrite};
 ghost use Rattle.commit_writes.specs.Planned.{IdEntries};
 ghost use Rattle.commit_writes.specs.PlannedBatch.{erase_write, erased_slots, rewrite_write};
-ghost use Rattle.batch_order.specs.Planning.{IsStanding, IsWithin, as_writes};
+ghost use Rattle.batch_order.specs.Planning.{IsStanding, IsWithin, as_writes, all_writes};
 
 use crate::Done;
 use crate::parts::CommitParts;
-use crate::planned_writes::PlannedWrite;
-use commit_writes::{Rewrite, TableWord};
+use crate::planned_writes::{PlannedWrite, PlannedWrites};
+use commit_writes::Rewrite;
 use move_planner::Insert;
 use placement::Move;
 use slot_pool::Arrangement;
@@ -21,7 +21,7 @@ use tcam_device::Writable;
 /// and the greatest span of one.
 #[derive(Drop)]
 pub(crate) struct Plan {
-    pub(crate) writes: Vec<PlannedWrite>,
+    pub(crate) writes: PlannedWrites,
     pub(crate) words: u32,
     pub(crate) most: u32,
     pub(crate) span: u32,
@@ -30,34 +30,23 @@ pub(crate) struct Plan {
 impl Plan {
     /// A plan of no writes.
     pub(crate) fn new(alloc: Global) -> Plan
-        ensures writes { result.writes.items ≡ [] }
+        ensures writes { all_writes result.writes ≡ [] }
+        ensures no_changes { result.writes.changes.items ≡ [] }
         ensures words { result.words ≡ 0 }
         ensures most { result.most ≡ 0 }
         ensures span { result.span ≡ 0 }
     {
         Plan {
-            writes: Vec::new(alloc),
+            writes: PlannedWrites::new(alloc),
             words: 0,
             most: 0,
             span: 0,
         }
     }
 
-    /// Puts the words of the tables into a plan of no writes.
-    pub(crate) fn push_words(&mut self, words: &[TableWord]) -> Result<(), AllocError>
-        requires few { length words.now ≤ 2 * 2 ^ 16 }
-        ensures writes { OnOk result (self.new.writes.items ≡ self.old.writes.items ++ map PlannedWrite.Tabled words.now) }
-        ensures words { OnOk result (self.new.words ≡ length words.now) }
-        ensures most { self.new.most ≡ self.old.most }
-        ensures span { self.new.span ≡ self.old.span }
-    {
-        self.words = words.len() as u32;
-        push_all(words, &mut self.writes)
-    }
-
     /// Counts an insertion whose writes were pushed.
     pub(crate) fn count(&mut self, insert: Insert)
-        ensures writes { self.new.writes.items ≡ self.old.writes.items }
+        ensures writes { self.new.writes ≡ self.old.writes }
         ensures words { self.new.words ≡ self.old.words }
         ensures most { self.new.most ≡ max self.old.most insert.writes }
         ensures span { self.new.span ≡ max self.old.span insert.span }
@@ -68,7 +57,7 @@ impl Plan {
 
     /// The numbers of a commit of which no write was made yet, which are those after its last.
     pub(crate) fn counts(&self) -> Done
-        ensures writes { result.writes ≡ length self.now.writes.items }
+        ensures writes { result.writes ≡ length (all_writes self.now.writes) }
         ensures words { result.words ≡ self.now.words }
         ensures most { result.most ≡ self.now.most }
         ensures span { result.span ≡ self.now.span }
@@ -82,16 +71,6 @@ impl Plan {
     }
 }
 
-/// Puts some words behind planned writes.
-fn push_all(words: &[TableWord], writes: &mut Vec<PlannedWrite>) -> Result<(), AllocError>
-    ensures { OnOk result (writes.new.items ≡ writes.old.items ++ map PlannedWrite.Tabled words.now) }
-{
-    for word in words {
-        writes.push(PlannedWrite::Tabled(*word))?;
-    }
-    Ok(())
-}
-
 /// Plans the writes behind the insertions, the new entries before the erases, and reserves the device for all.
 pub(crate) fn plan_changes<D: Writable>(
     parts: &CommitParts,
@@ -102,14 +81,14 @@ pub(crate) fn plan_changes<D: Writable>(
     requires few { length parts.now.rewrites.items ≤ 4096 }
     requires rewritten { AllByRecursion (λ rewrite. IsStanding arrangement.now rewrite.id) parts.now.rewrites.items }
     requires erased { AllByRecursion (IsStanding arrangement.now) parts.now.erased.items }
-    requires within { AllByRecursion (IsWithin (length arrangement.now)) plan.old.writes.items }
-    ensures within { OnOk result (AllByRecursion (IsWithin (length arrangement.now)) plan.new.writes.items) }
-    ensures writes { OnOk result ((entries : IdEntries) → as_writes entries parts.now.rewrites.items plan.new.writes.items
-        ≡ as_writes entries parts.now.rewrites.items plan.old.writes.items ++ (map (rewrite_write arrangement.now) parts.now.rewrites.items ++ map (erase_write arrangement.now) parts.now.erased.items)) }
+    requires within { AllByRecursion (IsWithin (length arrangement.now)) (all_writes plan.old.writes) }
+    ensures within { OnOk result (AllByRecursion (IsWithin (length arrangement.now)) (all_writes plan.new.writes)) }
+    ensures writes { OnOk result ((entries : IdEntries) → as_writes entries parts.now.rewrites.items (all_writes plan.new.writes)
+        ≡ as_writes entries parts.now.rewrites.items (all_writes plan.old.writes) ++ (map (rewrite_write arrangement.now) parts.now.rewrites.items ++ map (erase_write arrangement.now) parts.now.erased.items)) }
     ensures words { OnOk result (plan.new.words ≡ plan.old.words) }
     ensures most { OnOk result (plan.new.most ≡ plan.old.most) }
     ensures span { OnOk result (plan.new.span ≡ plan.old.span) }
-    ensures enough { OnOk result (2 * length plan.new.writes.items + 1 ≤ D.spare device.new) }
+    ensures enough { OnOk result (2 * length (all_writes plan.new.writes) + 1 ≤ D.spare device.new) }
     ensures least { D.spare device.old ≤ D.spare device.new }
     ensures journal { D.journal device.new ≡ D.journal device.old }
     ensures events { D.events device.new ≡ D.events device.old }
@@ -117,8 +96,9 @@ pub(crate) fn plan_changes<D: Writable>(
     ensures slot_count { D.slot_count device.new ≡ D.slot_count device.old }
     ensures faults { D.faults device.new ≡ D.faults device.old }
 {
-    plan_rewrites(&parts.rewrites, arrangement, &mut plan.writes)?;
-    plan_erases(&parts.erased, arrangement, &mut plan.writes)?;
+    let changes = &mut plan.writes.changes;
+    plan_rewrites(&parts.rewrites, arrangement, changes)?;
+    plan_erases(&parts.erased, arrangement, changes)?;
     // The writes, those that undo them, and a drain.
     device.reserve(2 * plan.writes.len() as u64 + 1)
 }

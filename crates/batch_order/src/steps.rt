@@ -55,7 +55,7 @@ impl Manager {
                 }
                 match held.writes.get(held.made) {
                     None => None,
-                    Some(planned) => Some(write_of(planned, &self.live, &held.rewrites)),
+                    Some(planned) => Some(write_of(&planned, &self.live, &held.rewrites)),
                 }
             }
         }
@@ -104,7 +104,10 @@ impl Manager {
     {
         match &mut self.held {
             None => {}
-            Some(held) => held.made += 1,
+            Some(held) => {
+                prove!(held.made < held.writes.len());
+                held.made += 1;
+            }
         }
     }
 

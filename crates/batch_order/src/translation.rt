@@ -12,10 +12,10 @@ ghost use Rattle.commit_writes.specs.Shape.{bit_writes};
 ghost use Rattle.commit_writes.specs.Needed.{ranges_needed};
 ghost use Rattle.commit_writes.specs.Changes.{coded_by, during_of};
 ghost use Rattle.batch_order.specs.Kept.{bits_of, mode_of, needed_by, tables_of, translated_by};
-ghost use Rattle.batch_order.specs.Planning.{as_write, as_writes};
+ghost use Rattle.batch_order.specs.Planning.{all_writes, as_write, as_writes};
 
 use crate::plan::Plan;
-use crate::planned_writes::PlannedWrite;
+use crate::planned_writes::{PlannedWrite, PlannedWrites};
 use crate::{Field, Rejection};
 use commit_writes::{FieldBits, Tables};
 use rule_store::{Batch, Mode, Store};
@@ -84,21 +84,21 @@ pub(crate) fn check_field(bits: &FieldBits, field: Field, batch: &Batch) -> Resu
 /// Gives a batch's new port ranges their bits, for which as many are free, and plans the words of the tables that
 /// differ by them. Answers the live ranges while the commit is made, none by covers.
 pub(crate) fn plan_words(
-    alloc: Global,
     translation: &Option<Translation>,
     batch: &Batch,
     plan: &mut Plan,
 ) -> Result<Option<FieldBits>, AllocError>
     requires src { IfSome translation.now (λ kept. live_count (ranges_in Field.Src kept.bits) + length (ranges_needed Field.Src kept.bits batch.now) ≤ field_bits) }
     requires dst { IfSome translation.now (λ kept. live_count (ranges_in Field.Dst kept.bits) + length (ranges_needed Field.Dst kept.bits batch.now) ≤ field_bits) }
-    requires empty { plan.old.writes.items ≡ [] }
+    requires empty { all_writes plan.old.writes ≡ [] }
     requires none { plan.old.words ≡ 0 }
     ensures coded { IfOk result (λ bits. coded_by bits ≡ mode_of translation.now) }
     ensures during { IfOk result (λ bits. during_of bits ≡ needed_by translation.now batch.now) }
-    ensures writes { OnOk result (plan.new.writes.items
+    ensures writes { OnOk result (all_writes plan.new.writes
         ≡ map PlannedWrite.Tabled (bit_writes (tables_of translation.now) (new_bits (bits_of translation.now) (needed_by translation.now batch.now)))) }
-    ensures words { OnOk result (plan.new.words ≡ length plan.new.writes.items) }
-    ensures few { OnOk result (length plan.new.writes.items ≤ 2 * 2 ^ 16) }
+    ensures no_changes { plan.new.writes.changes.items ≡ plan.old.writes.changes.items }
+    ensures words { OnOk result (plan.new.words ≡ length (all_writes plan.new.writes)) }
+    ensures few { OnOk result (length (all_writes plan.new.writes) ≤ 2 * 2 ^ 16) }
     ensures most { plan.new.most ≡ plan.old.most }
     ensures span { plan.new.span ≡ plan.old.span }
 {
@@ -106,10 +106,9 @@ pub(crate) fn plan_words(
         return Ok(None);
     };
     let bits = kept.bits.with_new(batch);
-    let mut words = Vec::new(alloc);
-    kept.tables
-        .plan_words(&bits.new_since(&kept.bits), &mut words)?;
-    plan.push_words(&words)?;
+    let words = &mut plan.writes.words;
+    kept.tables.plan_words(&bits.new_since(&kept.bits), words)?;
+    plan.words = plan.writes.words.len() as u32;
     Ok(Some(bits))
 }
 
@@ -119,10 +118,10 @@ pub(crate) fn translate(
     translation: &mut Option<Translation>,
     bits: &Option<FieldBits>,
     rules: &Store,
-    writes: &[PlannedWrite],
+    writes: &PlannedWrites,
 )
     requires { IsState 0 (tables_of translation.old) }
-    ensures { (entries : IdEntries) → (rewrites : List Rewrite) → translation.new ≡ translated_by translation.old bits.now rules.now.rules (as_writes entries rewrites writes.now) }
+    ensures { (entries : IdEntries) → (rewrites : List Rewrite) → translation.new ≡ translated_by translation.old bits.now rules.now.rules (as_writes entries rewrites (all_writes writes.now)) }
 {
     match (translation, bits) {
         (Some(kept), Some(bits)) => {
@@ -134,12 +133,12 @@ pub(crate) fn translate(
 }
 
 /// The tables get the words that are among some writes, in their order.
-fn set_words(tables: &mut Tables, writes: &[PlannedWrite])
+fn set_words(tables: &mut Tables, writes: &PlannedWrites)
     requires { IsState 0 tables.old }
-    ensures { (entries : IdEntries) → (rewrites : List Rewrite) → tables.new ≡ state_after tables.old (as_writes entries rewrites writes.now) }
+    ensures { (entries : IdEntries) → (rewrites : List Rewrite) → tables.new ≡ state_after tables.old (as_writes entries rewrites (all_writes writes.now)) }
 {
-    for write in writes {
-        set_word(tables, *write);
+    for place in 0..writes.len() {
+        set_word(tables, writes.get(place).unwrap());
     }
 }
 

@@ -10,10 +10,10 @@ ghost use Rattle.tcam_device.specs.State.{apply};
 ghost use Rattle.commit_writes.specs.declared.Rewrite.{Rewrite};
 ghost use Rattle.commit_writes.specs.Planned.{IdEntries, contents};
 ghost use Rattle.commit_writes.specs.Undo.{restoring};
-ghost use Rattle.batch_order.specs.Planning.{IsWithin};
+ghost use Rattle.batch_order.specs.Planning.{IsWithin, all_writes};
 ghost use Rattle.batch_order.specs.Undoing.{AreRestoring, Each, IsPut, Replaces, tables_then};
 
-use crate::planned_writes::PlannedWrite;
+use crate::planned_writes::{PlannedWrite, PlannedWrites};
 use crate::translation::Translation;
 use commit_writes::{TableWord, Tables};
 use placement::Move;
@@ -26,16 +26,17 @@ pub(crate) fn plan_undo(
     alloc: Global,
     translation: &Option<Translation>,
     arrangement: &Arrangement,
-    writes: &[PlannedWrite],
+    writes: &PlannedWrites,
 ) -> Result<Vec<PlannedWrite>, AllocError>
-    requires within { AllByRecursion (IsWithin (length arrangement.now)) writes.now }
-    ensures { IfOk result (λ undo. AreRestoring translation.now arrangement.now writes.now undo.items) }
+    requires within { AllByRecursion (IsWithin (length arrangement.now)) (all_writes writes.now) }
+    ensures { IfOk result (λ undo. AreRestoring translation.now arrangement.now (all_writes writes.now) undo.items) }
 {
     let mut slots = contents_of(alloc, arrangement)?;
     let mut tables = None;
     let mut undo = Vec::with_capacity(alloc, writes.len())?;
-    for write in writes {
-        let before = replace(alloc, translation, write, &mut slots, &mut tables)?;
+    for place in 0..writes.len() {
+        let write = writes.get(place).unwrap();
+        let before = replace(alloc, translation, &write, &mut slots, &mut tables)?;
         undo.push_reserved(before);
     }
     Ok(undo)

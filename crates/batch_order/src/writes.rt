@@ -8,7 +8,7 @@ ghost use Rattle.placement.specs.Live.{is_live};
 ghost use Rattle.batch_order.specs.Entries.{AddsIds, KeepEntries};
 ghost use Rattle.batch_order.specs.Kept.{mode_of};
 ghost use Rattle.batch_order.specs.Placing.{aims_of};
-ghost use Rattle.batch_order.specs.Planning.{AreAllPlanned, IsPlannable};
+ghost use Rattle.batch_order.specs.Planning.{AreAllPlanned, IsPlannable, all_writes};
 ghost use Rattle.batch_order.specs.Undoing.{AreRestoring};
 
 use crate::Placement;
@@ -48,7 +48,7 @@ pub(crate) fn plan_writes<D: Writable>(
     requires standing { length live.old.live ≡ entries_of (mode_of translation.now) rules.now.rules }
     requires room { length live.old.live + length parts.now.inserted.items ≤ live.old.slots }
     requires encodable { AllByRecursion (λ ranked. IsEncodable ranked.piece) parts.now.inserted.items }
-    requires plannable { IsPlannable live.old arrangement.old plan.old.writes.items }
+    requires plannable { IsPlannable live.old arrangement.old plan.old.writes }
     requires size { length before.now ≡ live.old.slots }
     requires few { length parts.now.rewrites.items ≤ 4096 }
     requires rewritten { AllByRecursion (λ rewrite. IsTrue (is_live live.old.live rewrite.id)) parts.now.rewrites.items }
@@ -56,8 +56,8 @@ pub(crate) fn plan_writes<D: Writable>(
     ensures planned { OnOk result (AreAllPlanned live.old live.new arrangement.old arrangement.new plan.old plan.new parts.now.inserted.items
         (aims_of placement (mode_of translation.now) (length arrangement.old) rules.now.rules parts.now.inserted.items) parts.now.rewrites.items parts.now.erased.items) }
     ensures adds { IfOk result (λ planned. AddsIds live.old live.new planned.ids.items) }
-    ensures undo { IfOk result (λ planned. AreRestoring translation.now before.now plan.new.writes.items planned.undo.items) }
-    ensures enough { OnOk result (2 * length plan.new.writes.items + 1 ≤ D.spare device.new) }
+    ensures undo { IfOk result (λ planned. AreRestoring translation.now before.now (all_writes plan.new.writes) planned.undo.items) }
+    ensures enough { OnOk result (2 * length (all_writes plan.new.writes) + 1 ≤ D.spare device.new) }
     ensures refused { OnErr result (live.new.live ≡ live.old.live) }
     ensures kept { KeepEntries live.old.live live.old.entries live.new.entries }
     ensures slots { live.new.slots ≡ live.old.slots }

@@ -115,7 +115,7 @@
 //!   and 164 µs so (two runs of each). The price is `is_above` of two ids in `overlap_index`.
 #![tactic(auto)]
 
-ghost use Rattle.std.specs.Prelude.{◌≡◌, ℕ, ◌+◌, ◌*◌, ◌<◌, ◌≤◌, ◌++◌, ◌∷◌, [], List, Bool, IsTrue, IfOk, OnOk, OnErr, length, take, slice_index_or};
+ghost use Rattle.std.specs.Prelude.{◌≡◌, ℕ, ◌+◌, ◌*◌, ◌^◌, ◌<◌, ◌≤◌, ◌++◌, ◌∷◌, [], List, Bool, IsTrue, IfOk, OnOk, OnErr, length, take, slice_index_or};
 ghost use Rattle.placement.specs.Live.{is_live, is_above};
 ghost use Rattle.slot_moves.specs.Cuts.{wrong_side, HasRoomNear};
 ghost use Rattle.placement.specs.Placement.{AreSides, IsCut, IsPlacement, IsInOrder, first_lower, last_upper, gap_start, gap_end, span_of, after_move, after_moves};
@@ -130,8 +130,6 @@ mod places;
 mod placing;
 mod shorter;
 mod sides;
-#[cfg(test)]
-mod tests;
 
 use crossings::uncross;
 use overlap_index::Index;
@@ -178,9 +176,11 @@ impl Moves {
 
     /// The number of moves.
     pub fn len(&self) -> u64
-        ensures { result ≡ length self.now }
+        ensures count { result ≡ length self.now }
+        ensures small { result < 2 ^ 60 }
     {
-        self.moves.len() as u64
+        // A slice tells how many of its items there can be.
+        self.moves.as_slice().len() as u64
     }
 
     /// The move with a number, from 0 on.
@@ -189,6 +189,14 @@ impl Moves {
         ensures { result ≡ slice_index_or self.now i result }
     {
         self.moves[i as usize]
+    }
+
+    /// Puts a move behind the others. After a refusal the plan is as before.
+    pub fn push(&mut self, step: Move) -> Result<(), AllocError>
+        ensures pushed { OnOk result (self.new ≡ self.old ++ step ∷ []) }
+        ensures same { OnErr result (self.new ≡ self.old) }
+    {
+        Ok(self.moves.push(step)?)
     }
 
     /// Makes a move, as the last of the plan and in the arrangement. After a refusal both are as
@@ -200,7 +208,7 @@ impl Moves {
         ensures same_plan { OnErr result (self.new ≡ self.old) }
         ensures same_slots { OnErr result (slots.new ≡ slots.old) }
     {
-        self.moves.push(step)?;
+        self.push(step)?;
         match step {
             Move::Put(slot, id) => {
                 if slots.at(slot).is_none() {

@@ -41,8 +41,6 @@ mod chains;
 mod node;
 mod partners;
 mod raw;
-#[cfg(test)]
-mod tests;
 
 use block::Block;
 use chains::{NIL, Side};

@@ -61,8 +61,6 @@ mod links;
 mod near;
 mod overlaps;
 mod scan;
-#[cfg(test)]
-mod tests;
 
 use call_history::History;
 use columns::Columns;

@@ -19,8 +19,6 @@
 #![tactic(auto)]
 
 mod laws;
-#[cfg(test)]
-mod tests;
 
 ghost use Rattle.std.specs.Prelude.{◌≡◌, ◌≢◌, ℕ, ◌+◌, ◌<◌, ◌≤◌, ◌↔◌, None, Some, [], ◌∷◌, IsSome, IsNone, IsErr, IfSome, IfOk, OnErr, IsTrue, slice_set};
 ghost use Rattle.rule_model.specs.PortRange.{PortRange, IsPortRange, is_bit_set, range_holds};

@@ -35,8 +35,6 @@
 mod laws;
 mod port_covers;
 mod priorities;
-#[cfg(test)]
-mod tests;
 mod text;
 mod words;
 

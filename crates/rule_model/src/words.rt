@@ -186,6 +186,3 @@ fn bit_mask(bit: Option<u8>) -> u16
         Some(number) => 1 << number,
     }
 }
-
-#[cfg(test)]
-mod tests;

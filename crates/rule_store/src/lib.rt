@@ -27,8 +27,6 @@ mod entries;
 mod laws;
 mod pending;
 mod stored;
-#[cfg(test)]
-mod tests;
 
 pub use entries::entries_needed;
 pub use laws::{has_added_and_kept_rules, is_a_set_afterward};

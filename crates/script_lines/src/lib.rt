@@ -30,8 +30,6 @@ mod reader;
 mod scan;
 mod sink;
 mod source;
-#[cfg(test)]
-mod tests;
 
 pub use adapters::{ReadFrom, WriteTo};
 pub use fake::{FailSink, FailSource};

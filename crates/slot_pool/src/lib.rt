@@ -28,8 +28,6 @@ mod copies;
 mod free;
 mod homes;
 mod mark_row;
-#[cfg(test)]
-mod tests;
 
 pub use mark_row::Marks;
 use std::alloc::{AllocError, Global};

@@ -14,7 +14,7 @@ use Rattle.memory_tcam.specs.Tcam.Call.{Put, Drain}
 use Rattle.batch_order.specs.declared.Placement.{Placement}
 use Rattle.batch_order.specs.Managed.{Managed, IsOn, Serves, fresh}
 use Rattle.batch_order.specs.Steps.{next_of}
-use Rattle.batch_order.proofs.Ahead.{ahead_by_journal, by_journal}
+use Rattle.batch_order.proofs.served.Ahead.{ahead_by_journal, by_journal}
 use Rattle.tcam_c.specs.Calls.{IsServing, IsServingAhead, fresh_driven}
 use Rattle.tcam_c.specs.Driven.{due_of}
 use Rattle.tcam_c.proofs.Ways.{due_next}

@@ -10,7 +10,7 @@ use Rattle.batch_order.specs.Managed.{Managed, HeldCommit, actions_due, writes_d
 use Rattle.batch_order.specs.CarriedOut.{GoesForward}
 use Rattle.batch_order.specs.Steps.{awaits_drain, due_write, is_drain_next, next_of}
 use Rattle.batch_order.specs.Passed.{WayBackFrom}
-use Rattle.batch_order.proofs.Passed.{goes_back}
+use Rattle.batch_order.proofs.back.Passed.{goes_back}
 use Rattle.tcam_c.specs.declared.steps.DueKind.TheVariants as kind
 use Rattle.tcam_c.specs.Driven.{HasDue, KeepsWayBack, due_of, first_of, kind_of_due, settled_by, settled_of}
 

@@ -17,9 +17,9 @@ use Rattle.replay.specs.declared.Act.TheVariants.{Command, Probe, Packet, Commit
 use Rattle.replay.specs.Effects.{Setting, Effect, written}
 use Rattle.replay.specs.Run.{Progress, start, Commits, Returns, Restarts, Refuses, Tries, Crashes, Judged, HasEffects, Run, Runs}
 use Rattle.tcam_cli.specs.AllTheWay.{sets_through, ShowsSetOrNext, AnswersAllTheWay, EndsAtLast}
-use Rattle.replay.proofs.Effects.{written-append}
-use Rattle.replay.proofs.Crashed.{joined, written-restarts}
-use Rattle.replay.proofs.Written.{written-return, written-segment}
+use Rattle.replay.proofs.lines.Effects.{written-append}
+use Rattle.replay.proofs.crash.Crashed.{joined, written-restarts}
+use Rattle.replay.proofs.lines.Written.{written-return, written-segment}
 use Rattle.commit_writes.specs.Undo.{undo_writes}
 use Rattle.commit_writes.proofs.Undone.{length-undo_writes, undo_ends, undo_passes}
 use Rattle.tcam_cli.specs.Headline.{is_back}

@@ -12,7 +12,7 @@ use Rattle.replay.specs.declared.Act.TheVariants.{Commit}
 use Rattle.replay.specs.Effects.{Setting, Effect, Prints, effects_of, flushed, waiting_after}
 use Rattle.replay.specs.Run.{Progress, Commits, CrashesIn, HasEffects, IsCutBeforeCrash, Judged, StopsAtCrash, actions_before, actions_for, after_segment}
 use Rattle.replay.specs.Text.{accepted_line}
-use Rattle.replay.proofs.Effects.{effects-append}
+use Rattle.replay.proofs.lines.Effects.{effects-append}
 
 -- the actions behind so many writes
 rest-after : ℕ → List Action → List Action

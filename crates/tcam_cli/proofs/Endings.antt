@@ -15,7 +15,7 @@ use Rattle.script_lines.specs.Reader.{HeldBytes, HandsWhole, HandsLast, KeepsAll
 use Rattle.tcam_cli.specs.Turns.{onto_all, acts_next, IsGoing, IsAllRead, IsRead, acts_only}
 use Rattle.script_lines.proofs.FirstLines.{lines-whole, lines-pending, lines-last}
 use Rattle.tcam_cli.proofs.WholeLines.{whole-line, whole-none}
-use Rattle.replay.proofs.Effects.{events-append, printed-append}
+use Rattle.replay.proofs.lines.Effects.{events-append, printed-append}
 
 -- ---- what a line does to the script
 

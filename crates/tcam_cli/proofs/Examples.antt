@@ -206,6 +206,7 @@ nothing-made =
       order =
           record {
             inserting = λ n within. (0, rw take-nil blank-holds);
+            rising = λ n m now later more. omega arith;
             finishing = λ n past. (
               [],
               record { known = λ ranked member. absurd (contains_none ranked member); kept = λ was is old. absurd (contains_none was old) },

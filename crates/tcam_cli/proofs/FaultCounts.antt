@@ -7,7 +7,7 @@ use Rattle.replay.specs.declared.ActFault.TheVariants.{Stopped}
 use Rattle.replay.specs.declared.RunFault.{RunFault}
 use Rattle.replay.specs.declared.RunFault.TheVariants as fault
 use Rattle.replay.specs.Outside.{Leaves}
-use Rattle.replay.proofs.Leaving.{leaves-as, leaves-line, leaves-then}
+use Rattle.replay.proofs.between.Leaving.{leaves-as, leaves-line, leaves-then}
 use Rattle.tcam_cli.specs.declared.Status.{Status}
 use Rattle.tcam_cli.specs.declared.Status.TheVariants.{WriteFault, DeviceFault}
 use Rattle.tcam_cli.specs.Turns.{ClosesReport, status_of_fault}

@@ -20,7 +20,7 @@ use Rattle.tcam_cli.specs.Headline.{Job, NoJob, Tells, Reads, Makes, acts_of, sc
 use Rattle.tcam_cli.specs.MadeScript.{made_script}
 use Rattle.tcam_cli.specs.Readings.{reading}
 use Rattle.tcam_cli.specs.AllTheWay.{sets_through, sets_of, AnswersAllTheWay, EndsAtLast, EndsAfter, CrashesNowhere, EndsAfterSome, IsNoProbe, TellsNoWrite, IsHitlessRun, IsHitlessJob}
-use Rattle.replay.proofs.Effects.{written-append}
+use Rattle.replay.proofs.lines.Effects.{written-append}
 use Rattle.tcam_cli.proofs.OneMore.{run-more, none-probed}
 use Rattle.tcam_cli.proofs.AllTheWay.{RunGoes, cut-answers, more-sets, run-goes, same-sets, wider}
 use Rattle.tcam_cli.proofs.CutCrash.{AsCommit, cut-as_commit, stops-as_commit}

@@ -13,9 +13,9 @@ use Rattle.replay.specs.Effects.{Setting, Effect, events_in, written, printed}
 use Rattle.replay.specs.Run.{Progress, start, Commits, Tries, Crashes, Judged, HasEffects, Run, Runs}
 use Rattle.replay.specs.Carried.{IsAt, Does}
 use Rattle.tcam_device.proofs.Spans.{state_after-append}
-use Rattle.replay.proofs.Effects.{events-append, written-append, printed-append}
-use Rattle.replay.proofs.Crashed.{written-restarts}
-use Rattle.replay.proofs.Written.{written-return, written-segment}
+use Rattle.replay.proofs.lines.Effects.{events-append, written-append, printed-append}
+use Rattle.replay.proofs.crash.Crashed.{written-restarts}
+use Rattle.replay.proofs.lines.Written.{written-return, written-segment}
 use Rattle.commit_writes.proofs.Undone.{undo_ends}
 use Rattle.std.specs.List.{AllByRecursion}
 use Rattle.tcam_cli.specs.AllTheWay.{IsNoProbe}

@@ -12,14 +12,14 @@ use Rattle.tcam_device.specs.declared.Write.TheVariants.{Slot}
 use Rattle.tcam_device.specs.declared.Action.TheVariants.{Written}
 use Rattle.tcam_device.specs.Flight.{writes_in}
 use Rattle.commit_writes.specs.Bits.{no_bits}
-use Rattle.batch_order.proofs.Padded.{one-write}
+use Rattle.batch_order.proofs.planning.Padded.{one-write}
 use Rattle.rule_store.specs.declared.Mode.TheVariants.{Cover}
 use Rattle.batch_order.specs.declared.Placement.TheVariants.{Middle}
 use Rattle.replay.specs.declared.Family.TheVariants.{Route}
 use Rattle.replay.specs.Effects.{Setting, Effect, Prints, written}
 use Rattle.replay.specs.Run.{Progress, Commits, Judged, start, slots_in_use}
-use Rattle.replay.proofs.Effects.{written-append}
-use Rattle.replay.proofs.Written.{written-segment}
+use Rattle.replay.proofs.lines.Effects.{written-append}
+use Rattle.replay.proofs.lines.Written.{written-segment}
 use Rattle.tcam_cli.specs.declared.Status.TheVariants.{Done}
 use Rattle.tcam_cli.specs.CommandLine.{script_setting}
 use Rattle.tcam_cli.specs.Headline.{Reads, IsCarriedOut}

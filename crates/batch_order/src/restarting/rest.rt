@@ -1,6 +1,6 @@
 //! What is left of a commit, planned over the pieces that stand.
 
-ghost use Rattle.std.specs.Prelude.{◌≡◌, ◌+◌, ◌-◌, ◌*◌, ◌≤◌, ◌++◌, ◌⊎◌, IsTrue, IfOk, OnOk, drop, length};
+ghost use Rattle.std.specs.Prelude.{◌≡◌, ◌+◌, ◌-◌, ◌*◌, ◌≤◌, ◌++◌, ◌⊎◌, [], IsTrue, IfOk, OnOk, drop, length};
 ghost use Rattle.std.specs.List.{AllByRecursion, AllZip};
 ghost use Rattle.rule_store.specs.Verdict.{entries_of};
 ghost use Rattle.rule_model.specs.Entry.{IsEncodable};
@@ -8,7 +8,7 @@ ghost use Rattle.placement.specs.Live.{is_live};
 ghost use Rattle.commit_writes.specs.PlannedBatch.{IsIdOf, IsRewriteOf};
 ghost use Rattle.batch_order.specs.Entries.{AddsIds, HaveIds};
 ghost use Rattle.batch_order.specs.Placing.{aims_from};
-ghost use Rattle.batch_order.specs.Planning.{AreAllPlanned, ArePlannedSince, IsPlannable};
+ghost use Rattle.batch_order.specs.Planning.{AreAllPlanned, ArePlannedSince, IsPlannable, all_writes};
 ghost use Rattle.batch_order.specs.Standing.{planned_twin};
 
 use crate::Placement;
@@ -16,7 +16,7 @@ use crate::entries::LiveEntries;
 use crate::insertions::plan_more;
 use crate::parts::{CommitParts, ids_of, rewrites};
 use crate::plan::{Plan, plan_changes};
-use crate::planned_writes::PlannedWrite;
+use crate::planned_writes::PlannedWrites;
 use commit_writes::Ranked;
 use placement::Move;
 use readback::{Coded, Shown};
@@ -66,12 +66,14 @@ fn pieces_behind(alloc: Global, pieces: &[Coded], done: usize) -> Result<Vec<Ran
 }
 
 /// Plans the erase of the twin, if there is one.
-pub(crate) fn plan_twin(twin: Option<u32>, writes: &mut Vec<PlannedWrite>) -> Result<(), AllocError>
-    ensures { OnOk result (writes.new.items ≡ writes.old.items ++ planned_twin twin) }
+pub(crate) fn plan_twin(twin: Option<u32>, writes: &mut PlannedWrites) -> Result<(), AllocError>
+    requires no_changes { writes.old.changes.items ≡ [] }
+    ensures writes { OnOk result (all_writes writes.new ≡ all_writes writes.old ++ planned_twin twin) }
+    ensures no_changes { writes.new.changes.items ≡ [] }
 {
     match twin {
         None => Ok(()),
-        Some(slot) => Ok(writes.push(PlannedWrite::Moved(Move::Erase(slot)))?),
+        Some(slot) => writes.moves.push(Move::Erase(slot)),
     }
 }
 
@@ -92,7 +94,7 @@ pub(crate) fn plan_rest<D: Writable>(
     requires standing { (length parts.now.inserted.items ≡ 0) ⊎ (length live.old.live ≡ entries_of mode rules.now.rules + made) }
     requires room { length live.old.live + length parts.now.inserted.items ≤ live.old.slots }
     requires encodable { AllByRecursion (λ ranked. IsEncodable ranked.piece) parts.now.inserted.items }
-    requires plannable { IsPlannable live.old arrangement.old plan.old.writes.items }
+    requires plannable { IsPlannable live.old arrangement.old plan.old.writes }
     requires few { length parts.now.rewrites.items ≤ 4096 }
     requires rewritten { AllByRecursion (λ rewrite. IsTrue (is_live live.old.live rewrite.id)) parts.now.rewrites.items }
     requires erased { AllByRecursion (λ id. IsTrue (is_live live.old.live id)) parts.now.erased.items }
@@ -100,7 +102,7 @@ pub(crate) fn plan_rest<D: Writable>(
         (aims_from placement mode (length arrangement.old) rules.now.rules (length live.old.live + length parts.now.inserted.items) made parts.now.inserted.items)
         parts.now.rewrites.items parts.now.erased.items) }
     ensures adds { IfOk result (λ ids. AddsIds live.old live.new ids.items) }
-    ensures enough { OnOk result (2 * length plan.new.writes.items + 1 ≤ D.spare device.new) }
+    ensures enough { OnOk result (2 * length (all_writes plan.new.writes) + 1 ≤ D.spare device.new) }
     ensures slots { live.new.slots ≡ live.old.slots }
     ensures least { D.spare device.old ≤ D.spare device.new }
     ensures journal { D.journal device.new ≡ D.journal device.old }
@@ -140,8 +142,8 @@ fn plan_insertions(
     requires standing { (length pieces.now ≡ 0) ⊎ (length live.old.live ≡ entries_of mode rules.now.rules + made) }
     requires room { length live.old.live + length pieces.now ≤ live.old.slots }
     requires encodable { AllByRecursion (λ ranked. IsEncodable ranked.piece) pieces.now }
-    requires plannable { IsPlannable live.old arrangement.old plan.old.writes.items }
-    ensures plannable { OnOk result (IsPlannable live.new arrangement.new plan.new.writes.items) }
+    requires plannable { IsPlannable live.old arrangement.old plan.old.writes }
+    ensures plannable { OnOk result (IsPlannable live.new arrangement.new plan.new.writes) }
     ensures planned { OnOk result (ArePlannedSince live.old live.new arrangement.old arrangement.new plan.old plan.new pieces.now
         (aims_from placement mode (length arrangement.old) rules.now.rules (length live.old.live + length pieces.now) made pieces.now)) }
     ensures adds { IfOk result (λ ids. AddsIds live.old live.new ids.items) }

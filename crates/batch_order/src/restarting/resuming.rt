@@ -12,6 +12,7 @@ ghost use Rattle.readback.specs.Stage.{Finds};
 ghost use Rattle.readback.specs.Tasks.{commit_pieces, known_pieces};
 ghost use Rattle.batch_order.specs.CarriedOut.{HasRoomBothWays, HasRoomLeft};
 ghost use Rattle.batch_order.specs.Kept.{IsManaged, bits_of, mode_of, tables_of};
+ghost use Rattle.batch_order.specs.Planning.{all_writes};
 ghost use Rattle.batch_order.specs.Restart.{Resumes, bits_in};
 ghost use Rattle.batch_order.specs.Managed.{HasBlankTables};
 ghost use Rattle.batch_order.specs.Standing.{managed_by};
@@ -186,7 +187,7 @@ fn plan_all<D: ReadBack>(
     requires read { IsReadAgain mode (bits_of translation.now) rules.now.rules batch.now (replay (D.slot_count device.old) (D.journal device.old)) shown.now standing.old.live standing.old.arrangement }
     ensures planned { IfOk result (IsPlannedOn placement (D.slot_count device.old) mode (bits_of translation.now) rules.now.rules batch.now
         (replay (D.slot_count device.old) (D.journal device.old)) shown.now standing.old.live standing.new.live standing.old.arrangement standing.new.arrangement) }
-    ensures enough { IfOk result (λ rest. 2 * length rest.plan.writes.items + 1 ≤ D.spare device.new) }
+    ensures enough { IfOk result (λ rest. 2 * length (all_writes rest.plan.writes) + 1 ≤ D.spare device.new) }
     ensures least { D.spare device.old ≤ D.spare device.new }
     ensures journal { D.journal device.new ≡ D.journal device.old }
     ensures events { D.events device.new ≡ D.events device.old }
@@ -195,7 +196,7 @@ fn plan_all<D: ReadBack>(
     ensures faults { D.faults device.new ≡ D.faults device.old }
 {
     let mut plan = Plan::new(alloc);
-    let bits = plan_words(alloc, translation, batch, &mut plan)?;
+    let bits = plan_words(translation, batch, &mut plan)?;
     plan_twin(shown.stage.twin, &mut plan.writes)?;
     let left = parts_left(alloc, &standing.live, shown)?;
     let ids = plan_rest(

@@ -1,5 +1,5 @@
 use Rattle.std.proofs.Common.{rules, ◌≡◌, [], ◌∷◌, ◌++◌}
-use Rattle.batch_order.proofs.Ids.{all_none, all_more}
+use Rattle.batch_order.proofs.ids.Ids.{all_none, all_more}
 use Rattle.batch_order.proofs.entries.all_ids.Goals as goal
 
 pub loop-id-init : goal.loop-id-init

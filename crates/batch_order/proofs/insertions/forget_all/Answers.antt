@@ -3,8 +3,8 @@ use Rattle.std.specs.Option.{option_to_list}
 use Rattle.placement.specs.declared.LivePiece.{LivePiece}
 use Rattle.placement.specs.Live.{is_live, without_id}
 use Rattle.batch_order.specs.Entries.{KeepEntries}
-use Rattle.batch_order.proofs.Entered.{kept_set, gone_first}
-use Rattle.batch_order.proofs.Settled.{last_is_live, forget_last}
+use Rattle.batch_order.proofs.arranged.Entered.{kept_set, gone_first}
+use Rattle.batch_order.proofs.arranged.Settled.{last_is_live, forget_last}
 use Rattle.batch_order.proofs.insertions.forget_all.Goals as goal
 
 pub forget-requires : goal.forget-requires

@@ -8,8 +8,8 @@ use Rattle.batch_order.specs.Entries.{Entries, AddsIds}
 use Rattle.placement.specs.declared.Aim.{Aim}
 use Rattle.batch_order.specs.Placing.{aim_of, aims_from}
 use Rattle.batch_order.specs.Planning.{ArePlannedSince, IsPlannable}
-use Rattle.batch_order.proofs.Aimed.{aims_more}
-use Rattle.batch_order.proofs.Since.{planned_then}
+use Rattle.batch_order.proofs.planning.Aimed.{aims_more}
+use Rattle.batch_order.proofs.planning.Since.{planned_then}
 use Rattle.commit_writes.proofs.Walked.{take_next}
 use Rattle.batch_order.proofs.insertions.plan_more.Goals as goal
 
@@ -39,7 +39,7 @@ loop-ranked-preserved c =
     ∙ (sym (aims_more c.args.placement c.args.mode slots set all c.args.made some one) ∙ ap (aims_from c.args.placement c.args.mode slots set all c.args.made) (sym more)) in
     let planned = planned_then c.args.live.now c.loop-ranked.live c.plan_piece.new.live c.args.arrangement.now c.loop-ranked.arrangement c.plan_piece.new.arrangement
     c.args.plan.now c.loop-ranked.plan c.plan_piece.new.plan some (one ∷ []) (aims_from c.args.placement c.args.mode slots set all c.args.made some) (c.aim_of-aim.result ∷ []) was.4 c.in-Ok.ensures.planned in
-    let plannable : IsPlannable c.plan_piece.new.live c.plan_piece.new.arrangement c.plan_piece.new.plan.writes.items = c.in-Ok.ensures.plannable in
+    let plannable : IsPlannable c.plan_piece.new.live c.plan_piece.new.arrangement c.plan_piece.new.plan.writes = c.in-Ok.ensures.plannable in
     let items : c.push_reserved.new.self.items ≡ c.loop-ranked.ids.items ++ c.in-Ok.id ∷ [] = search rules in
     let adds : AddsIds c.args.live.now c.plan_piece.new.live c.push_reserved.new.self.items =
     subst (AddsIds c.args.live.now c.plan_piece.new.live) (sym items) (adds_then c.args.live.now c.loop-ranked.live c.plan_piece.new.live c.loop-ranked.ids.items (c.in-Ok.id ∷ []) was.1 c.in-Ok.ensures.adds) in

@@ -6,7 +6,7 @@ use Rattle.batch_order.specs.Planning.{IsPlannable, ArePlannedSince}
 use Rattle.batch_order.proofs.insertions.plan_more.Given as goal
 
 abbrev pub invariant-loop-ranked : goal.invariant-loop-ranked
-invariant-loop-ranked l = IsPlannable l.live l.arrangement l.plan.writes.items
+invariant-loop-ranked l = IsPlannable l.live l.arrangement l.plan.writes
     × AddsIds l.fn.live l.live l.ids.items
     × (length l.ids.items ≡ l.ranked-index)
     × (length l.pieces ≤ vec_capacity l.ids)

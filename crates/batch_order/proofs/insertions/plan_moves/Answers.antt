@@ -11,10 +11,12 @@ use Rattle.placement.specs.Insertion.{IsLive, StandOnce, free_slots, moves_since
 use Rattle.placement.specs.Ready.{IsReady}
 use Rattle.batch_order.specs.Entries.{Entries}
 use Rattle.batch_order.specs.declared.planned_writes.PlannedWrite.TheVariants.{Moved}
-use Rattle.batch_order.specs.Planning.{IsInside, IsLastLive, IsWithin}
-use Rattle.batch_order.proofs.Inside.{moves_inside}
-use Rattle.batch_order.proofs.Meant.{moves_within}
-use Rattle.batch_order.proofs.Settled.{settled_again, size_after}
+use Rattle.batch_order.specs.declared.planned_writes.PlannedWrites.{PlannedWrites}
+use Rattle.batch_order.specs.Planning.{IsInside, IsLastLive, IsWithin, all_writes}
+use Rattle.batch_order.proofs.arranged.Inside.{moves_inside}
+use Rattle.batch_order.proofs.Listed.{more_moved}
+use Rattle.batch_order.proofs.planning.Meant.{moves_within}
+use Rattle.batch_order.proofs.arranged.Settled.{settled_again, size_after}
 use Rattle.batch_order.proofs.insertions.plan_moves.Goals as goal
 
 free_one : (kept : Entries) (slots : Slots) (id : ℕ) → IsLastLive kept slots id → 0 < free_slots slots
@@ -43,12 +45,12 @@ pub returns : goal.returns
 returns c =
     let kept = c.args.live.now in
     let slots = c.args.arrangement.now in
-    let m = moves_since c.new-moves.result c.plan_insert.new.plan in
-    let all : c.plan_insert.new.plan ≡ m = c.plan_insert.ensures.plan ∙ ap (λ p. p ++ m) c.new-moves.ensures in
+    let old = c.args.plan.now.writes in
+    let m = moves_since old.moves c.plan_insert.new.plan in
     let live = c.index.ensures.live in
     let placement : IsPlacement (is_above kept.live) c.args.aim c.args.id slots m = subst (λ l. IsPlacement (is_above l) c.args.aim c.args.id slots m) live c.in_ok-insert.ensures.placement in
-    let pushed : c.count.new.self.writes.items ≡ c.args.plan.now.writes.items ++ map Moved m =
-    c.count.ensures.writes ∙ (c.in_ok-push_all.ensures ∙ ap (λ (p : List Move). c.args.plan.now.writes.items ++ map Moved p) all) in
+    let pushed : all_writes c.count.new.self.writes ≡ all_writes old ++ map Moved m =
+    ap all_writes c.count.ensures.writes ∙ more_moved old.words.items old.moves c.plan_insert.new.plan m old.changes.items c.requires.no_changes c.plan_insert.ensures.plan in
     let after : c.plan_insert.new.slots ≡ after_moves slots m = c.plan_insert.ensures.slots in
     let order : IsInOrder (is_above kept.live) c.plan_insert.new.slots =
     subst (λ l. IsInOrder (is_above l) c.plan_insert.new.slots) live
@@ -57,8 +59,9 @@ returns c =
       plannable = record {
         settled = settled_again kept slots c.plan_insert.new.slots c.args.id c.requires.new (ap length after ∙ size_after slots m)
             (subst (λ l. StandOnce (IsLive l) c.plan_insert.new.slots) live c.in_ok-insert.ensures.standing) order c.in_ok-insert.ensures.free;
+        no_changes = ap (λ (writes : PlannedWrites). writes.changes.items) c.count.ensures.writes ∙ c.requires.no_changes;
         within = subst (AllByRecursion (IsWithin kept.slots)) (sym pushed)
-            (all_append (IsWithin kept.slots) c.args.plan.now.writes.items (map Moved m) c.requires.within (moves_within kept.slots m (inside kept slots c.args.aim c.args.id m c.requires.new placement)));
+            (all_append (IsWithin kept.slots) (all_writes old) (map Moved m) c.requires.within (moves_within kept.slots m (inside kept slots c.args.aim c.args.id m c.requires.new placement)));
       };
       inserted = record {
         moves = m;

@@ -3,9 +3,9 @@ use Rattle.placement.specs.declared.LivePiece.{LivePiece}
 use Rattle.placement.specs.Live.{is_live, without_id}
 use Rattle.rule_model.specs.Entry.{RankedPiece}
 use Rattle.batch_order.specs.Planning.{ArePlannedSince}
-use Rattle.batch_order.proofs.Since.{planned_one}
-use Rattle.batch_order.proofs.Entered.{kept_set}
-use Rattle.batch_order.proofs.Settled.{last_live, live_new, without_last}
+use Rattle.batch_order.proofs.planning.Since.{planned_one}
+use Rattle.batch_order.proofs.arranged.Entered.{kept_set}
+use Rattle.batch_order.proofs.arranged.Settled.{last_live, live_new, without_last}
 use Rattle.batch_order.proofs.insertions.plan_piece.Goals as goal
 
 pub plan_moves-requires-clause-new : goal.plan_moves-requires-clause-new

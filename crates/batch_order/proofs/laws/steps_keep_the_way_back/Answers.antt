@@ -1,4 +1,4 @@
-use Rattle.batch_order.proofs.WayBack.{steps_keep_the_way_back}
+use Rattle.batch_order.proofs.back.WayBack.{steps_keep_the_way_back}
 use Rattle.batch_order.proofs.laws.steps_keep_the_way_back.Goals as goal
 
 pub returns : goal.returns

@@ -1,7 +1,7 @@
 use Rattle.std.proofs.Common.{◌+◌, ℕ, List, take, arith, subst, sym}
 use Rattle.std.specs.List.{AllZip}
 use Rattle.commit_writes.specs.PlannedBatch.{IsIdOf}
-use Rattle.batch_order.proofs.Walked.{zip_next}
+use Rattle.batch_order.proofs.arranged.Walked.{zip_next}
 use Rattle.batch_order.proofs.parts.ids_of.Goals as goal
 
 pub loop-ranked-preserved : goal.loop-ranked-preserved

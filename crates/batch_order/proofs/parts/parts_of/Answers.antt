@@ -5,7 +5,7 @@ use Rattle.commit_writes.specs.PlannedBatch.{IsIdOf, IsRewriteOf}
 use Rattle.commit_writes.proofs.BatchRules.{IsSoundChange}
 use Rattle.commit_writes.specs.Changes.{coded_by, during_of}
 use Rattle.batch_order.specs.Entries.{HaveIds}
-use Rattle.batch_order.proofs.Parted.{rewritten_have_ids, erased_have_ids}
+use Rattle.batch_order.proofs.planning.Parted.{rewritten_have_ids, erased_have_ids}
 use Rattle.batch_order.proofs.parts.parts_of.Goals as goal
 
 pub rewrites-requires : goal.rewrites-requires

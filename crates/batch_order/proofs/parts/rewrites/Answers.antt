@@ -2,7 +2,7 @@ use Rattle.std.proofs.Common.{◌+◌, List, take, arith, subst, sym}
 use Rattle.std.specs.List.{AllZip}
 use Rattle.commit_writes.specs.declared.Rewrite.{Rewrite}
 use Rattle.commit_writes.specs.PlannedBatch.{IsRewriteOf}
-use Rattle.batch_order.proofs.Walked.{zip_next}
+use Rattle.batch_order.proofs.arranged.Walked.{zip_next}
 use Rattle.batch_order.proofs.parts.rewrites.Goals as goal
 
 pub loop-ranked-preserved : goal.loop-ranked-preserved

@@ -1,8 +1,8 @@
 use Rattle.std.proofs.Common.{◌∙◌, None, IsSome, take, get_or, set, arith, subst, sym, ap}
 use Rattle.commit_writes.specs.PlannedBatch.{home_slot, erased_slots}
 use Rattle.batch_order.specs.Planning.{IsStanding}
-use Rattle.batch_order.proofs.Walked.{next_number}
-use Rattle.batch_order.proofs.Standing.{home_inside, home_is, stands_still, erased_next}
+use Rattle.batch_order.proofs.arranged.Walked.{next_number}
+use Rattle.batch_order.proofs.ids.Standing.{home_inside, home_is, stands_still, erased_next}
 use Rattle.batch_order.proofs.plan.erase_all.Goals as goal
 
 pub unwrap-slot-requires : goal.unwrap-slot-requires

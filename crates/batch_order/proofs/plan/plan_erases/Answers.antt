@@ -8,9 +8,9 @@ use Rattle.placement.specs.declared.Move.TheVariants.{Erase}
 use Rattle.commit_writes.specs.PlannedBatch.{erase_write}
 use Rattle.batch_order.specs.declared.planned_writes.PlannedWrite.TheVariants.{Moved}
 use Rattle.batch_order.specs.Planning.{IsStanding, IsWithin, as_writes}
-use Rattle.batch_order.proofs.Meant.{as_append}
-use Rattle.batch_order.proofs.Walked.{all_at, number_is}
-use Rattle.batch_order.proofs.Standing.{home_inside, home_is, write_next}
+use Rattle.batch_order.proofs.planning.Meant.{as_append}
+use Rattle.batch_order.proofs.arranged.Walked.{all_at, number_is}
+use Rattle.batch_order.proofs.ids.Standing.{home_inside, home_is, write_next}
 use Rattle.batch_order.proofs.plan.plan_erases.Goals as goal
 
 pub unwrap-slot-requires : goal.unwrap-slot-requires

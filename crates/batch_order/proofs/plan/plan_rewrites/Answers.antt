@@ -10,8 +10,8 @@ use Rattle.commit_writes.specs.declared.Rewrite.{Rewrite}
 use Rattle.commit_writes.specs.PlannedBatch.{rewrite_write}
 use Rattle.batch_order.specs.declared.planned_writes.PlannedWrite.TheVariants.{Rewritten}
 use Rattle.batch_order.specs.Planning.{IsWithin, as_writes}
-use Rattle.batch_order.proofs.Meant.{as_append}
-use Rattle.batch_order.proofs.Standing.{home_inside, home_is, write_next}
+use Rattle.batch_order.proofs.planning.Meant.{as_append}
+use Rattle.batch_order.proofs.ids.Standing.{home_inside, home_is, write_next}
 use Rattle.batch_order.proofs.plan.plan_rewrites.Goals as goal
 
 pub loop-place-preserved : goal.loop-place-preserved

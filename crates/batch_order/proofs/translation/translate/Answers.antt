@@ -5,7 +5,7 @@ use Rattle.tcam_device.specs.State.{State, state_after}
 use Rattle.commit_writes.specs.Bits.{FieldBits, bits_left}
 use Rattle.batch_order.specs.declared.translation.Translation.{Translation}
 use Rattle.batch_order.specs.Kept.{translated_by}
-use Rattle.batch_order.specs.Planning.{as_writes}
+use Rattle.batch_order.specs.Planning.{all_writes, as_writes}
 use Rattle.batch_order.proofs.translation.translate.Goals as goal
 use Rattle.batch_order.proofs.translation.translate.Goals.{in-Some-Some, in-Some+in-None-1, in-None-1}
 
@@ -28,7 +28,7 @@ returns c = λ entries rewrites.
     let old = c.args.translation.now in
     let bits = c.args.bits.now in
     let rules = c.args.rules.now.rules in
-    let writes = as_writes entries rewrites c.args.writes.now in
+    let writes = as_writes entries rewrites (all_writes c.args.writes.now) in
     elim c.match-translation.branch [
       | in-Some-Some w ↦ w.translation-is ∙ sym (with_bits old bits rules writes w.in-Some-Some.kept w.in-Some-Some.bits w.released-kept.result w.set_words.new.tables w.in-Some-Some.is-0 w.in-Some-Some.is-1 w.released-kept.ensures (w.set_words.ensures entries rewrites))
       | in-Some+in-None-1 w ↦ w.translation-is ∙ sym (without_bits old bits rules writes w.kept-1.given.0.0 w.kept-1.given.1 w.enum_told_at-in_default-1.given.1)

@@ -4,13 +4,10 @@ use Rattle.placement.specs.declared.LivePiece.{LivePiece}
 use Rattle.placement.specs.Live.{is_live}
 use Rattle.rule_store.specs.Verdict.{entries_of}
 use Rattle.rule_store.specs.declared.Mode.{Mode}
-use Rattle.commit_writes.specs.Undo.{restorings}
-use Rattle.batch_order.specs.declared.planned_writes.PlannedWrite.{PlannedWrite}
-use Rattle.batch_order.specs.Kept.{settled_state}
-use Rattle.batch_order.specs.Planning.{IsWithin, as_writes}
-use Rattle.batch_order.proofs.Cleared.{all_stand}
-use Rattle.batch_order.proofs.Leading.{changed_stand, still_changed, still_live}
-use Rattle.batch_order.proofs.Refused.{adds_first, kept_back}
+use Rattle.batch_order.specs.Planning.{IsWithin, all_writes}
+use Rattle.batch_order.proofs.arranged.Cleared.{all_stand}
+use Rattle.batch_order.proofs.planning.Leading.{changed_stand, still_changed, still_live}
+use Rattle.batch_order.proofs.planning.Refused.{adds_first, kept_back}
 use Rattle.batch_order.proofs.writes.plan_writes.Goals as goal
 
 pub plan_additions-requires : goal.plan_additions-requires
@@ -36,14 +33,14 @@ plan_changes-requires g c =
       few = c.requires.few;
       rewritten = changed_stand new c.plan_additions.new.arrangement parts.rewrites.items plannable.settled changed;
       erased = all_stand new c.plan_additions.new.arrangement parts.erased.items plannable.settled gone;
-      within = subst (λ (n : ℕ). AllByRecursion (IsWithin n) c.plan_additions.new.plan.writes.items) (sym plannable.settled.size) plannable.within;
+      within = subst (λ (n : ℕ). AllByRecursion (IsWithin n) (all_writes c.plan_additions.new.plan.writes)) (sym plannable.settled.size) plannable.within;
     }
 
 pub plan_undo-requires : goal.plan_undo-requires
 plan_undo-requires g c =
     let size : length c.plan_additions.new.arrangement ≡ length c.args.before.now =
     c.in_ok-ids.ensures.plannable.settled.size ∙ c.plan_additions.ensures.slots ∙ sym c.requires.size in
-    record { within = rw c.deref-2.ensures.value (subst (λ (n : ℕ). AllByRecursion (IsWithin n) c.plan_changes.new.plan.writes.items) size c.in-Ok.ensures.within) }
+    record { within = subst (λ (n : ℕ). AllByRecursion (IsWithin n) (all_writes c.plan_changes.new.plan.writes)) size c.in-Ok.ensures.within }
 
 pub returns-in-Ok-plan_undo-clause-planned : goal.returns-in-Ok-plan_undo-clause-planned
 returns-in-Ok-plan_undo-clause-planned g c =
@@ -61,9 +58,7 @@ returns-in-Ok-plan_undo-clause-planned g c =
     }
 
 pub returns-in-Ok-plan_undo-clause-undo : goal.returns-in-Ok-plan_undo-clause-undo
-returns-in-Ok-plan_undo-clause-undo g c entries rewrites =
-    c.in-Ok-plan_undo.ensures entries rewrites
-    ∙ ap (λ (some : List PlannedWrite). restorings (settled_state c.args.translation.now entries c.args.before.now) (as_writes entries rewrites some)) c.deref-2.ensures.value
+returns-in-Ok-plan_undo-clause-undo g c = c.in-Ok-plan_undo.ensures
 
 pub returns-in-Err-plan_undo-clause-kept : goal.returns-in-Err-plan_undo-clause-kept
 returns-in-Err-plan_undo-clause-kept g c =

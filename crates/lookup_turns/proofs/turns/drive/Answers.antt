@@ -1,7 +1,7 @@
 use Rattle.std.proofs.Common.{Some, ap, ◌+◌, ◌≤◌, ◌∙◌, ℕ, List, take, length, get_or, sym, subst}
 use Rattle.std.proofs.lemmas.List.{get_or_default}
 use Rattle.std.proofs.lemmas.Option.{slice_get-get_or}
-use Rattle.batch_order.proofs.Passed.{goes_back}
+use Rattle.batch_order.proofs.back.Passed.{goes_back}
 use Rattle.lookup_turns.specs.declared.Turn.{Turn}
 use Rattle.rule_model.specs.RuleSet.{Answer}
 use Rattle.lookup_turns.specs.declared.Turn.TheVariants.{Step}

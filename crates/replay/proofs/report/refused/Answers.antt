@@ -2,7 +2,7 @@
 use Rattle.std.proofs.Common.{◌∷◌, codes, decimal}
 use Rattle.replay.specs.Text.{reason_words}
 use Rattle.replay.specs.Told.{verdict_told}
-use Rattle.replay.proofs.Lines.{with_words-line}
+use Rattle.replay.proofs.lines.Lines.{with_words-line}
 use Rattle.replay.proofs.report.refused.Goals as goal
 
 pub returns-clause-text : goal.returns-clause-text

@@ -1,5 +1,5 @@
 -- The bytes handed over are those of the text.
-use Rattle.replay.proofs.Handing.{writes-line}
+use Rattle.replay.proofs.lines.Handing.{writes-line}
 use Rattle.replay.proofs.report.write_text.Goals as goal
 
 pub returns : goal.returns

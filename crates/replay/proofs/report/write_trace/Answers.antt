@@ -1,7 +1,7 @@
 -- The number and the words of the write stand behind the first word.
 use Rattle.std.proofs.Common.{◌≡◌, [], ◌∷◌, ◌++◌, codes, decimal}
 use Rattle.replay.specs.Text.{trace_line, write_words}
-use Rattle.replay.proofs.Lines.{with_words-line}
+use Rattle.replay.proofs.lines.Lines.{with_words-line}
 use Rattle.replay.proofs.report.write_trace.Goals as goal
 
 pub returns : goal.returns

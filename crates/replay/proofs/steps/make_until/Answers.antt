@@ -12,14 +12,14 @@ use Rattle.replay.specs.Effects.{printed, traced}
 use Rattle.replay.specs.InFlight.{IsSeen}
 use Rattle.replay.specs.Outside.{CutsLines}
 use Rattle.replay.specs.Text.{trace_line}
-use Rattle.replay.proofs.Acting.{some-slots}
-use Rattle.replay.proofs.Leaving.{uncounted, leaves-line, leaves-writes, leaves-then}
-use Rattle.replay.proofs.Making.{come-drained, drained-acts, drained-none, few-written, fewer-drained, fewer-passed, fewer-written, goes-idle, left-now, making-drained, making-none, making-passed, making-turned, making-written, may-now, more-left, passed-acts, turned-straight, waits-left, wrote-acts}
-use Rattle.replay.proofs.Reported.{cuts-before, cuts-drain, cuts-write, tells-drain, tells-write}
-use Rattle.replay.proofs.Seeing.{as-searched, as-written, empty-flight, lines-empty, seen-empty, seen-ended, seen-turned, seen-written}
-use Rattle.replay.proofs.Stopping.{making-cut, making-finished, making-reverted, making-stops, making-stops_behind}
+use Rattle.replay.proofs.making.Acting.{some-slots}
+use Rattle.replay.proofs.between.Leaving.{uncounted, leaves-line, leaves-writes, leaves-then}
+use Rattle.replay.proofs.making.Making.{come-drained, drained-acts, drained-none, few-written, fewer-drained, fewer-passed, fewer-written, goes-idle, left-now, making-drained, making-none, making-passed, making-turned, making-written, may-now, more-left, passed-acts, turned-straight, waits-left, wrote-acts}
+use Rattle.replay.proofs.making.Reported.{cuts-before, cuts-drain, cuts-write, tells-drain, tells-write}
+use Rattle.replay.proofs.flight.Seeing.{as-searched, as-written, empty-flight, lines-empty, seen-empty, seen-ended, seen-turned, seen-written}
+use Rattle.replay.proofs.making.Stopping.{making-cut, making-finished, making-reverted, making-stops, making-stops_behind}
 use Rattle.commit_writes.specs.Actions.{up_to_writes}
-use Rattle.replay.proofs.Upto.{all-some, before-none, before-one, below-written, drain-next, early-due, early-within, making-pauses, with-some, within-same, within-written}
+use Rattle.replay.proofs.making.Upto.{all-some, before-none, before-one, below-written, drain-next, early-due, early-within, making-pauses, with-some, within-same, within-written}
 use Rattle.replay.proofs.steps.make_until.Goals as goal
 
 pub making-init : goal.making-init

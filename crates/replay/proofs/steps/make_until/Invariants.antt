@@ -4,7 +4,7 @@ use Rattle.replay.specs.InFlight.{IsSeen}
 use Rattle.replay.specs.Outside.{Leaves}
 use Rattle.replay.specs.Fates.{IsBefore, IsWithinCrash}
 use Rattle.replay.specs.Running.{Tells, rest_of}
-use Rattle.replay.proofs.Making.{IsMaking, left_number}
+use Rattle.replay.proofs.making.Making.{IsMaking, left_number}
 use Rattle.replay.proofs.steps.make_until.Given as goal
 
 abbrev pub invariant-making : goal.invariant-making

@@ -1,6 +1,6 @@
 -- Where a commit has more writes than come before its crash the loop comes to that, or a part before it fails.
 use Rattle.std.proofs.Common.{true, refl}
-use Rattle.replay.proofs.Wrapped.{few-forward, not-ended}
+use Rattle.replay.proofs.making.Wrapped.{few-forward, not-ended}
 use Rattle.replay.proofs.steps.make_up_to.Goals as goal
 
 pub make_until-requires-clause-forward : goal.make_until-requires-clause-forward

@@ -1,6 +1,6 @@
 -- With no crash to stop for the loop comes to the end of the commit, or a part of it fails.
 use Rattle.std.proofs.Common.{true, refl}
-use Rattle.replay.proofs.Wrapped.{stops-whole}
+use Rattle.replay.proofs.making.Wrapped.{stops-whole}
 use Rattle.replay.proofs.steps.make_writes.Goals as goal
 
 pub make_until-requires-clause-forward : goal.make_until-requires-clause-forward

@@ -1,7 +1,7 @@
 use Rattle.std.proofs.Common.{◌≡◌, ◌∙◌, None, refl, sym, ap, arith}
 use Rattle.tcam_device.specs.Flight.{writes_in}
 use Rattle.batch_order.specs.Managed.{Managed}
-use Rattle.batch_order.proofs.Ahead.{by_journal}
+use Rattle.batch_order.proofs.served.Ahead.{by_journal}
 use Rattle.tcam_c.specs.Driven.{due_of, kind_of_due}
 use Rattle.tcam_c.proofs.Ways.{due_settles, has_due, keeps_back}
 use Rattle.tcam_c.proofs.steps.settle.Goals as goal

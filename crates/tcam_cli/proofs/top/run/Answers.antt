@@ -6,7 +6,7 @@ use Rattle.tcam_cli.specs.OwnTexts.{version_text}
 use Rattle.replay.specs.declared.Family.TheVariants.{Acl}
 use Rattle.tcam_cli.specs.Headline.{Makes, Reads, Tells}
 use Rattle.tcam_cli.proofs.Begun.{begins}
-use Rattle.replay.proofs.Leaving.{uncounted}
+use Rattle.replay.proofs.between.Leaving.{uncounted}
 use Rattle.tcam_device.specs.Flight.{writes_in}
 use Rattle.tcam_cli.proofs.FaultCounts.{made-tried}
 use Rattle.tcam_cli.proofs.MadeRuns.{made-ends}

@@ -9,7 +9,7 @@ use Rattle.replay.specs.Run.{Progress}
 use Rattle.replay.specs.Fates.{IsCrash}
 use Rattle.replay.specs.Running.{IsActOf, progress_of, setting_of}
 use Rattle.replay.specs.Carried.{Carries}
-use Rattle.replay.proofs.Leaving.{leaves-line, leaves-then, uncounted}
+use Rattle.replay.proofs.between.Leaving.{leaves-line, leaves-then, uncounted}
 use Rattle.tcam_cli.specs.MadeScript.{made_act}
 use Rattle.tcam_cli.proofs.FaultCounts.{closed-leaves, leaves-none, stopped-leaves}
 use Rattle.tcam_cli.proofs.MadeRuns.{MadeSoFar, made-at, made-ended, made-first, made-fits, made-more, made-pending, made-stopped, never-crash}

@@ -7,7 +7,7 @@ use Rattle.script_lines.specs.Reader.{HeldBytes}
 use Rattle.replay.specs.Run.{Progress}
 use Rattle.replay.specs.Running.{progress_of, setting_of}
 use Rattle.replay.specs.Outside.{Leaves}
-use Rattle.replay.proofs.Leaving.{leaves-line, leaves-then, uncounted}
+use Rattle.replay.proofs.between.Leaving.{leaves-line, leaves-then, uncounted}
 use Rattle.tcam_cli.specs.declared.Status.TheVariants.{WriteFault, DeviceFault}
 use Rattle.tcam_device.specs.Flight.{writes_in}
 use Rattle.tcam_device.specs.State.{replay}

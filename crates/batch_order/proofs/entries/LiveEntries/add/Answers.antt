@@ -2,7 +2,7 @@ use Rattle.std.proofs.Common.{rules, ◌≡◌, ◌<◌, ◌+◌, [], ◌∷◌,
 use Rattle.std.specs.Option.{option_to_list}
 use Rattle.std.proofs.lemmas.List.{length-set}
 use Rattle.placement.specs.declared.LivePiece.{LivePiece}
-use Rattle.batch_order.proofs.Ids.{kept_more}
+use Rattle.batch_order.proofs.ids.Ids.{kept_more}
 use Rattle.batch_order.specs.Entries.{AreKept}
 use Rattle.batch_order.proofs.entries.LiveEntries.add.Goals as goal
 

@@ -1,7 +1,7 @@
 use Rattle.std.proofs.Common.{rules, ◌≡◌, ◌<◌, length, None, slice_set, true}
 use Rattle.std.proofs.lemmas.List.{length-set}
 use Rattle.placement.specs.Live.{is_live}
-use Rattle.batch_order.proofs.Ids.{kept_less, live_small}
+use Rattle.batch_order.proofs.ids.Ids.{kept_less, live_small}
 use Rattle.batch_order.proofs.entries.LiveEntries.forget.Goals as goal
 
 pub index_mut-requires : goal.index_mut-requires

@@ -4,8 +4,8 @@ use Rattle.placement.specs.declared.LivePiece.{LivePiece}
 use Rattle.placement.specs.Live.{is_live, without_id}
 use Rattle.commit_writes.specs.PlannedBatch.{erased_live}
 use Rattle.batch_order.specs.Entries.{KeepEntries}
-use Rattle.batch_order.proofs.Walked.{next_number}
-use Rattle.batch_order.proofs.Erased.{lives_still, erased_more, kept_without}
+use Rattle.batch_order.proofs.arranged.Walked.{next_number}
+use Rattle.batch_order.proofs.arranged.Erased.{lives_still, erased_more, kept_without}
 use Rattle.batch_order.proofs.entries.LiveEntries.forget_each.Goals as goal
 
 pub forget-requires : goal.forget-requires

@@ -1,6 +1,6 @@
 use Rattle.std.proofs.Common.{rules, ◌≡◌, ◌<◌, length, true}
 use Rattle.placement.specs.Live.{is_live}
-use Rattle.batch_order.proofs.Ids.{live_small}
+use Rattle.batch_order.proofs.ids.Ids.{live_small}
 use Rattle.batch_order.proofs.entries.LiveEntries.rewrite.Goals as goal
 
 pub index_mut-requires : goal.index_mut-requires

@@ -4,9 +4,9 @@ use Rattle.batch_order.specs.declared.AbortFault.TheVariants as abort_fault
 use Rattle.batch_order.specs.Kept.{IsManaged}
 use Rattle.batch_order.specs.Managed.{Managed}
 use Rattle.batch_order.specs.Steps.{Aborts}
-use Rattle.batch_order.proofs.Aborted.{KeepsOn, aborts_by, keeps_on, managed_by}
-use Rattle.batch_order.proofs.Carried.{view_of}
-use Rattle.batch_order.proofs.Passed.{goes_back}
+use Rattle.batch_order.proofs.back.Aborted.{KeepsOn, aborts_by, keeps_on, managed_by}
+use Rattle.batch_order.proofs.under_way.Carried.{view_of}
+use Rattle.batch_order.proofs.back.Passed.{goes_back}
 use Rattle.batch_order.proofs.manager.Manager.abort.Goals as goal
 use Rattle.batch_order.proofs.manager.Manager.abort.Goals.{in-None, in-Some}
 

@@ -11,11 +11,11 @@ use Rattle.batch_order.specs.declared.Step.TheVariants as step
 use Rattle.batch_order.specs.Managed.{Managed, HeldCommit, writes_due}
 use Rattle.batch_order.specs.Steps.{Steps, actions_of, next_of}
 use Rattle.batch_order.specs.CarriedOut.{IsServed, ahead, writes_left}
-use Rattle.batch_order.proofs.Ahead.{by_journal}
-use Rattle.batch_order.proofs.Onward.{IsSame, reverted, same}
-use Rattle.batch_order.proofs.Served.{at-first, either, more}
-use Rattle.batch_order.proofs.Stepped.{none_drained}
-use Rattle.batch_order.proofs.Tried.{done_and_still_left, goes-drained, goes-start, goes-wrote}
+use Rattle.batch_order.proofs.served.Ahead.{by_journal}
+use Rattle.batch_order.proofs.under_way.Onward.{IsSame, reverted, same}
+use Rattle.batch_order.proofs.served.Served.{at-first, either, more}
+use Rattle.batch_order.proofs.under_way.Stepped.{none_drained}
+use Rattle.batch_order.proofs.under_way.Tried.{done_and_still_left, goes-drained, goes-start, goes-wrote}
 use Rattle.batch_order.proofs.manager.Manager.carry_out.Goals as goal
 
 pub carrying-init : goal.carrying-init

@@ -4,7 +4,7 @@ use Rattle.batch_order.specs.Managed.{IsOn}
 use Rattle.batch_order.specs.Steps.{next_of}
 use Rattle.batch_order.specs.Passed.{WayBackFrom}
 use Rattle.batch_order.specs.CarriedOut.{GoesForward, HasRoomBothWays, HasRoomLeft, IsServed, actions_left, ahead}
-use Rattle.batch_order.proofs.Tried.{Goes}
+use Rattle.batch_order.proofs.under_way.Tried.{Goes}
 use Rattle.batch_order.proofs.manager.Manager.carry_out.Given as goal
 
 abbrev pub invariant-carrying : goal.invariant-carrying

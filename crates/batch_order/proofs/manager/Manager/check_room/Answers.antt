@@ -3,7 +3,7 @@ use Rattle.rule_store.specs.Batch.{batch_fault}
 use Rattle.rule_store.specs.Verdict.{Accepted, Verdict, slots_verdict, verdict}
 use Rattle.readback.specs.Judged.{judgement}
 use Rattle.batch_order.specs.Kept.{IsManaged}
-use Rattle.batch_order.proofs.Judged.{bits_answer, dst_answer, src_answer}
+use Rattle.batch_order.proofs.planning.Judged.{bits_answer, dst_answer, src_answer}
 use Rattle.batch_order.proofs.manager.Manager.check_room.Goals as goal
 
 pub returns-in-Err-clause-short : goal.returns-in-Err-clause-short

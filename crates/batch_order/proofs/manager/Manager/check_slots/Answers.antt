@@ -4,7 +4,7 @@ use Rattle.rule_store.specs.declared.Mode.{Mode}
 use Rattle.rule_store.specs.Verdict.{entries_added}
 use Rattle.placement.specs.Insertion.{free_slots}
 use Rattle.batch_order.specs.Kept.{held_of, mode_of}
-use Rattle.batch_order.proofs.Judged.{short_answer, enough_slots}
+use Rattle.batch_order.proofs.planning.Judged.{short_answer, enough_slots}
 use Rattle.batch_order.proofs.manager.Manager.check_slots.Goals as goal
 
 pub returns-then-need-free-clause-short : goal.returns-then-need-free-clause-short

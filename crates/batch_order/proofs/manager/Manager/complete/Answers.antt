@@ -1,15 +1,13 @@
-use Rattle.std.proofs.Common.{◌≡◌, false, [], List, Option, Some, None, drop, sym, ap₂, subst, ◌∙◌}
+use Rattle.std.proofs.Common.{◌≡◌, false, [], List, Option, Some, None, drop, sym, ap, subst, ◌∙◌}
 use Rattle.rule_model.specs.declared.Rule.{Rule}
 use Rattle.commit_writes.specs.Actions.{with_drain}
 use Rattle.batch_order.specs.declared.Step.TheVariants.{Finished}
 use Rattle.batch_order.specs.declared.held.Held.{Held}
-use Rattle.batch_order.specs.declared.planned_writes.PlannedWrite.{PlannedWrite}
 use Rattle.batch_order.specs.Kept.{IsManaged, held_of, held_writes, translated_by, translation_after}
-use Rattle.batch_order.specs.Planning.{as_writes}
 use Rattle.batch_order.specs.Managed.{Managed}
 use Rattle.batch_order.specs.Steps.{IsAllMade, Steps, is_turned}
-use Rattle.batch_order.proofs.Carried.{view_of, managed_after, finish_steps, IsFinished}
-use Rattle.batch_order.proofs.Left.{forward_actions, forward_due, forward_of, steps_forward}
+use Rattle.batch_order.proofs.under_way.Carried.{view_of, managed_after, finish_steps, IsFinished}
+use Rattle.batch_order.proofs.under_way.Left.{forward_actions, forward_due, forward_of, steps_forward}
 use Rattle.batch_order.proofs.manager.Manager.complete.Goals as goal
 
 pub apply-requires-clause-sound : goal.apply-requires-clause-sound
@@ -28,19 +26,19 @@ pub rewrite_all-requires : goal.rewrite_all-requires
 rewrite_all-requires c =
     let was : c.self.inside.held ≡ Some c.in-Some.held = cc in
     let before = subst (IsManaged c.self.inside.translation c.self.inside.rules c.self.inside.live c.self.inside.arrangement) was c.self.invariant in
-    rw c.deref-in-Some.ensures.value before.carried.changed
+    rw c.deref.ensures.value before.carried.changed
 
 pub forget_each-requires-clause-distinct : goal.forget_each-requires-clause-distinct
 forget_each-requires-clause-distinct c =
     let was : c.self.inside.held ≡ Some c.in-Some.held = cc in
     let before = subst (IsManaged c.self.inside.translation c.self.inside.rules c.self.inside.live c.self.inside.arrangement) was c.self.invariant in
-    rw c.deref-in-Some-2.ensures.value before.carried.once
+    rw c.deref-in-Some.ensures.value before.carried.once
 
 pub forget_each-requires-clause-live : goal.forget_each-requires-clause-live
 forget_each-requires-clause-live c =
     let was : c.self.inside.held ≡ Some c.in-Some.held = cc in
     let before = subst (IsManaged c.self.inside.translation c.self.inside.rules c.self.inside.live c.self.inside.arrangement) was c.self.invariant in
-    rw (c.deref-in-Some-2.ensures.value, c.rewrite_all.ensures.live) before.carried.gone
+    rw (c.deref-in-Some.ensures.value, c.rewrite_all.ensures.live) before.carried.gone
 
 pub invariant_of-self-in-Some : goal.invariant_of-self-in-Some
 invariant_of-self-in-Some c =
@@ -49,13 +47,13 @@ invariant_of-self-in-Some c =
     let was : i.held ≡ Some held = cc in
     let before = subst (IsManaged i.translation i.rules i.live i.arrangement) was c.self.invariant in
     let finished : IsFinished i.live c.forget_each.new.self held = record {
-      live = rw (← c.deref-in-Some-2.ensures.value, ← c.rewrite_all.ensures.live) c.forget_each.ensures.live;
-      entries = rw (← c.deref-in-Some.ensures.value, ← c.rewrite_all.ensures.entries) c.forget_each.ensures.kept;
+      live = rw (← c.deref-in-Some.ensures.value, ← c.rewrite_all.ensures.live) c.forget_each.ensures.live;
+      entries = rw (← c.deref.ensures.value, ← c.rewrite_all.ensures.entries) c.forget_each.ensures.kept;
       slots = c.forget_each.ensures.slots ∙ c.rewrite_all.ensures.slots;
     } in
     let turned : c.translate.new.translation ≡ translation_after i.translation i.rules.rules i.live.entries held =
     c.translate.ensures i.live.entries held.rewrites.items
-    ∙ ap₂ (λ (rules : List Rule) (writes : List PlannedWrite). translated_by i.translation held.bits rules (as_writes i.live.entries held.rewrites.items writes)) c.apply.ensures.rules c.deref.ensures.value in
+    ∙ ap (λ (rules : List Rule). translated_by i.translation held.bits rules (held_writes i.live.entries held)) c.apply.ensures.rules in
     rw c.take.ensures.after (managed_after i.translation c.translate.new.translation i.rules c.apply.new.self i.live c.forget_each.new.self i.arrangement held before turned c.apply.ensures.rules finished)
 
 pub returns-in-Some : goal.returns-in-Some
@@ -65,13 +63,13 @@ returns-in-Some c words =
     let was : i.held ≡ Some held = cc in
     let before = subst (IsManaged i.translation i.rules i.live i.arrangement) was c.self.invariant in
     let finished : IsFinished i.live c.forget_each.new.self held = record {
-      live = rw (← c.deref-in-Some-2.ensures.value, ← c.rewrite_all.ensures.live) c.forget_each.ensures.live;
-      entries = rw (← c.deref-in-Some.ensures.value, ← c.rewrite_all.ensures.entries) c.forget_each.ensures.kept;
+      live = rw (← c.deref-in-Some.ensures.value, ← c.rewrite_all.ensures.live) c.forget_each.ensures.live;
+      entries = rw (← c.deref.ensures.value, ← c.rewrite_all.ensures.entries) c.forget_each.ensures.kept;
       slots = c.forget_each.ensures.slots ∙ c.rewrite_all.ensures.slots;
     } in
     let turned : c.translate.new.translation ≡ translation_after i.translation i.rules.rules i.live.entries held =
     c.translate.ensures i.live.entries held.rewrites.items
-    ∙ ap₂ (λ (rules : List Rule) (writes : List PlannedWrite). translated_by i.translation held.bits rules (as_writes i.live.entries held.rewrites.items writes)) c.apply.ensures.rules c.deref.ensures.value in
+    ∙ ap (λ (rules : List Rule). translated_by i.translation held.bits rules (held_writes i.live.entries held)) c.apply.ensures.rules in
     let view : view_of i.placement i.translation i.rules i.live i.arrangement i.held ≡ c.args.self.now = c.self.view_is in
     let requires : IsAllMade (view_of i.placement i.translation i.rules i.live i.arrangement i.held).held = rw (← c.self.view_is) at c.requires.made in
     let straight : is_turned (view_of i.placement i.translation i.rules i.live i.arrangement i.held).held ≡ false = rw (← c.self.view_is) at c.requires.forward in

@@ -3,8 +3,8 @@ use Rattle.batch_order.specs.declared.held.Held.{Held}
 use Rattle.batch_order.specs.Kept.{IsManaged}
 use Rattle.batch_order.specs.Managed.{Managed}
 use Rattle.batch_order.specs.Steps.{awaits_drain}
-use Rattle.batch_order.proofs.Carried.{view_of}
-use Rattle.batch_order.proofs.Left.{forward_drains}
+use Rattle.batch_order.proofs.under_way.Carried.{view_of}
+use Rattle.batch_order.proofs.under_way.Left.{forward_drains}
 use Rattle.batch_order.proofs.manager.Manager.drains_next.Goals as goal
 
 pub returns-in-None-turned : goal.returns-in-None-turned

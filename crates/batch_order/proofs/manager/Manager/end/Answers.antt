@@ -6,7 +6,7 @@ use Rattle.tcam_device.specs.Flight.{writes_in}
 use Rattle.batch_order.specs.declared.Step.{Step}
 use Rattle.batch_order.specs.Managed.{Managed, HeldCommit}
 use Rattle.batch_order.specs.Steps.{Steps, StepsBack, StepsEither, StepsOn, actions_of, awaits_drain, due_write, is_drain_next, next_of}
-use Rattle.batch_order.proofs.Left.{none_left}
+use Rattle.batch_order.proofs.under_way.Left.{none_left}
 use Rattle.batch_order.proofs.manager.Manager.end.Given.{Over}
 use Rattle.batch_order.proofs.manager.Manager.end.Goals as goal
 

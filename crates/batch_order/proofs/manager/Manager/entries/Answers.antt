@@ -2,7 +2,7 @@ use Rattle.std.proofs.Common.{◌≡◌, ◌≤◌, ◌∙◌, ap, arith}
 use Rattle.rule_store.specs.declared.Mode.{Mode}
 use Rattle.rule_store.specs.Verdict.{entries_of}
 use Rattle.batch_order.specs.Kept.{mode_of}
-use Rattle.batch_order.proofs.Judged.{entries_few}
+use Rattle.batch_order.proofs.planning.Judged.{entries_few}
 use Rattle.batch_order.proofs.manager.Manager.entries.Goals as goal
 
 pub overflow_cast-result : goal.overflow_cast-result

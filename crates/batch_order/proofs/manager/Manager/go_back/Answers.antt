@@ -4,8 +4,8 @@ use Rattle.batch_order.specs.declared.held.Held.{Held}
 use Rattle.batch_order.specs.Kept.{IsManaged, one_less}
 use Rattle.batch_order.specs.Managed.{Managed}
 use Rattle.batch_order.specs.Steps.{Steps, is_turned, next_of}
-use Rattle.batch_order.proofs.Carried.{view_of}
-use Rattle.batch_order.proofs.Back.{back_after, back_steps, turned_of}
+use Rattle.batch_order.proofs.under_way.Carried.{view_of}
+use Rattle.batch_order.proofs.back.Back.{back_after, back_steps, turned_of}
 use Rattle.batch_order.proofs.manager.Manager.go_back.Goals as goal
 use Rattle.batch_order.proofs.manager.Manager.go_back.Goals.{in-None, in-Some}
 

@@ -4,15 +4,15 @@ use Rattle.batch_order.specs.declared.held.Held.{Held}
 use Rattle.batch_order.specs.Kept.{IsManaged}
 use Rattle.batch_order.specs.Managed.{Managed}
 use Rattle.batch_order.specs.Steps.{Steps, is_turned, next_of}
-use Rattle.batch_order.proofs.Carried.{view_of}
-use Rattle.batch_order.proofs.Left.{forward_of, made_after, made_steps}
+use Rattle.batch_order.proofs.under_way.Carried.{view_of}
+use Rattle.batch_order.proofs.under_way.Left.{forward_of, made_after, made_steps}
 use Rattle.batch_order.proofs.manager.Manager.go_on.Goals as goal
-use Rattle.batch_order.proofs.manager.Manager.go_on.Goals.{in-None, in-Some}
+use Rattle.batch_order.proofs.manager.Manager.go_on.Goals.{in-None, in-Some+else-prove}
 
 pub invariant_of-self : goal.invariant_of-self
 invariant_of-self c = elim c.match-self.branch [
   | in-None w ↦ rw w.self-inside-is c.self.invariant
-  | in-Some w ↦
+  | in-Some+else-prove w ↦
       let i = c.self.inside in
       let held = w.in-Some.held in
       let requires : IsSome (next_of (view_of i.placement i.translation i.rules i.live i.arrangement i.held).held) = rw (← c.self.view_is) at c.requires.next in
@@ -30,7 +30,7 @@ returns c words write due = elim c.match-self.branch [
       let clash : IsSome (next_of (view_of i.placement i.translation i.rules i.live i.arrangement None).held) =
       subst (λ (h : Option Held). IsSome (next_of (view_of i.placement i.translation i.rules i.live i.arrangement h).held)) w.in-None.is requires in
       absurd (cc)
-  | in-Some w ↦
+  | in-Some+else-prove w ↦
       let i = c.self.inside in
       let held = w.in-Some.held in
       let view : view_of i.placement i.translation i.rules i.live i.arrangement i.held ≡ c.args.self.now = c.self.view_is in

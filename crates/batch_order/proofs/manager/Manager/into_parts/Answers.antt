@@ -4,9 +4,9 @@ use Rattle.commit_writes.specs.Bits.{FieldBits}
 use Rattle.readback.specs.Fault.{AreSetBits}
 use Rattle.batch_order.specs.Kept.{bits_of, mode_of, tables_of}
 use Rattle.batch_order.specs.Managed.{Managed, HasBlankTables}
-use Rattle.batch_order.proofs.Carried.{view_of}
-use Rattle.batch_order.proofs.Leaves.{set_bits_of}
-use Rattle.batch_order.proofs.Plain.{blank_by_covers}
+use Rattle.batch_order.proofs.under_way.Carried.{view_of}
+use Rattle.batch_order.proofs.served.Leaves.{set_bits_of}
+use Rattle.batch_order.proofs.served.Plain.{blank_by_covers}
 use Rattle.batch_order.proofs.manager.Manager.into_parts.Goals as goal
 
 pub returns-clause-plain : goal.returns-clause-plain

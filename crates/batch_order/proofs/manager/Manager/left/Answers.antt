@@ -3,8 +3,8 @@ use Rattle.std.specs.Prelude.{option_map}
 use Rattle.batch_order.specs.declared.held.Held.{Held}
 use Rattle.batch_order.specs.Kept.{IsManaged}
 use Rattle.batch_order.specs.Managed.{HeldCommit, Managed, writes_due}
-use Rattle.batch_order.proofs.Aborted.{left_is}
-use Rattle.batch_order.proofs.Carried.{view_of}
+use Rattle.batch_order.proofs.back.Aborted.{left_is}
+use Rattle.batch_order.proofs.under_way.Carried.{view_of}
 use Rattle.batch_order.proofs.manager.Manager.left.Goals as goal
 
 pub left-requires : goal.left-requires

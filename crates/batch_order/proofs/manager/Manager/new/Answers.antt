@@ -1,7 +1,7 @@
 use Rattle.std.proofs.Common.{ℕ, ◌≤◌, [], sym, subst}
 use Rattle.batch_order.specs.Managed.{Managed, IsOn}
-use Rattle.batch_order.proofs.Begun.{begun_managed}
-use Rattle.batch_order.proofs.Carried.{fresh_view, on_blank}
+use Rattle.batch_order.proofs.under_way.Begun.{begun_managed}
+use Rattle.batch_order.proofs.under_way.Carried.{fresh_view, on_blank}
 use Rattle.batch_order.proofs.manager.Manager.new.Goals as goal
 
 pub invariant_of-result : goal.invariant_of-result

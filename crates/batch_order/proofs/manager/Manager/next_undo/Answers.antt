@@ -10,8 +10,8 @@ use Rattle.batch_order.specs.Kept.{IsManaged}
 use Rattle.batch_order.specs.Managed.{Managed}
 use Rattle.batch_order.specs.Planning.{as_write, as_writes}
 use Rattle.batch_order.specs.Steps.{is_turned, next_of}
-use Rattle.batch_order.proofs.Back.{next_back, turned_of, undo_there}
-use Rattle.batch_order.proofs.Carried.{state_size, view_of}
+use Rattle.batch_order.proofs.back.Back.{next_back, turned_of, undo_there}
+use Rattle.batch_order.proofs.under_way.Carried.{state_size, view_of}
 use Rattle.batch_order.proofs.manager.Manager.next_undo.Goals as goal
 
 -- the write that is answered is the one that undoes the last that stands

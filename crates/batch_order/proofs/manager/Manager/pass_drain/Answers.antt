@@ -4,8 +4,8 @@ use Rattle.batch_order.specs.declared.held.Held.{Held}
 use Rattle.batch_order.specs.Kept.{IsManaged}
 use Rattle.batch_order.specs.Managed.{Managed}
 use Rattle.batch_order.specs.Steps.{Steps, awaits_drain}
-use Rattle.batch_order.proofs.Carried.{view_of}
-use Rattle.batch_order.proofs.Left.{drain_forward, drained_steps, managed_drained}
+use Rattle.batch_order.proofs.under_way.Carried.{view_of}
+use Rattle.batch_order.proofs.under_way.Left.{drain_forward, drained_steps, managed_drained}
 use Rattle.batch_order.proofs.manager.Manager.pass_drain.Goals as goal
 use Rattle.batch_order.proofs.manager.Manager.pass_drain.Goals.{in-None, in-Some}
 

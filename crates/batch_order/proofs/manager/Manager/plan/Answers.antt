@@ -25,18 +25,18 @@ use Rattle.batch_order.specs.declared.translation.Translation.{Translation}
 use Rattle.batch_order.specs.Entries.{AddsIds, Entries, HaveIds}
 use Rattle.batch_order.specs.Kept.{IsManaged, bits_of, held_of, mode_of, settled_state}
 use Rattle.batch_order.specs.Placing.{aims_of, words_of}
-use Rattle.batch_order.specs.Planning.{ArePlannedSince}
+use Rattle.batch_order.specs.Planning.{ArePlannedSince, all_writes}
 use Rattle.batch_order.specs.Managed.{Managed, Holds}
-use Rattle.batch_order.proofs.Parted.{inserted_encodable, rewritten_encodable}
-use Rattle.batch_order.proofs.Numbered.{arranged_number}
-use Rattle.batch_order.proofs.Needed.{rules_entries}
-use Rattle.batch_order.proofs.Judged.{accepted_room, entries_few, idle_held}
-use Rattle.batch_order.proofs.Cleared.{all_stand}
-use Rattle.batch_order.proofs.Carried.{view_of}
-use Rattle.batch_order.proofs.Refused.{managed_same, view_same}
-use Rattle.batch_order.proofs.Taken.{ArePartsOf, IsCoded, IsTaken, behind_by, behind_serves, during_by, inserted_room, kept_so, pieces_have_ids, plan_made, plan_words, said_so, words_by}
-use Rattle.batch_order.proofs.Leading.{AreLiveParts, few_rewrites, live_parts, parts_live_before}
-use Rattle.batch_order.proofs.Holding.{IsHeldPlan, held_room, holds_plan, managed_held}
+use Rattle.batch_order.proofs.planning.Parted.{inserted_encodable, rewritten_encodable}
+use Rattle.batch_order.proofs.ids.Numbered.{arranged_number}
+use Rattle.batch_order.proofs.ids.Needed.{rules_entries}
+use Rattle.batch_order.proofs.planning.Judged.{accepted_room, entries_few, idle_held}
+use Rattle.batch_order.proofs.arranged.Cleared.{all_stand}
+use Rattle.batch_order.proofs.under_way.Carried.{view_of}
+use Rattle.batch_order.proofs.planning.Refused.{managed_same, view_same}
+use Rattle.batch_order.proofs.planning.Taken.{ArePartsOf, IsCoded, IsTaken, behind_by, behind_serves, during_by, inserted_room, kept_so, pieces_have_ids, plan_made, plan_words, said_so, words_by}
+use Rattle.batch_order.proofs.planning.Leading.{AreLiveParts, few_rewrites, live_parts, parts_live_before}
+use Rattle.batch_order.proofs.planning.Holding.{IsHeldPlan, held_room, holds_plan, managed_held}
 use Rattle.batch_order.proofs.manager.Manager.plan.Given.{Over}
 use Rattle.batch_order.proofs.manager.Manager.plan.Goals as goal
 
@@ -114,7 +114,7 @@ plan_writes-requires g c =
     let batch = c.args.batch.now in
     let t = taken_as i.placement i.translation i.rules i.live i.arrangement i.held c.args.self.now batch c.self.invariant c.self.view_is c.requires.idle c.requires.changes c.requires.sound c.requires.fits in
     let coded = coded_as i.placement i.translation i.rules i.live i.arrangement i.held c.args.self.now batch c.in_ok-bits.bits c.self.view_is c.in_ok-bits.ensures.bits in
-    let words = words_as i.placement i.translation i.rules i.live i.arrangement i.held c.args.self.now batch c.plan_words.new.plan.writes.items c.self.view_is c.requires.idle c.in_ok-bits.ensures.writes in
+    let words = words_as i.placement i.translation i.rules i.live i.arrangement i.held c.args.self.now batch (all_writes c.plan_words.new.plan.writes) c.self.view_is c.requires.idle c.in_ok-bits.ensures.writes in
     let during = during_by i.translation i.rules batch in
     let rewrites = c.in_ok-parts.parts.rewrites.items in
     let erased = c.in_ok-parts.parts.erased.items in
@@ -128,7 +128,7 @@ plan_writes-requires g c =
           ∙ ap (entries_of (mode_of i.translation)) (sym c.reserve.ensures.rules);
       room = rw c.in_ok-parts.ensures.inserted room;
       encodable = rw c.in_ok-parts.ensures.inserted encodable;
-      plannable = rw (c.in_ok-arrangement.ensures, words) (plan_words i.live i.arrangement (words_by i.translation i.rules i.live i.arrangement batch) t.managed.carried.settled
+      plannable = rw c.in_ok-arrangement.ensures (plan_words i.live i.arrangement c.plan_words.new.plan.writes (words_by i.translation i.rules i.live i.arrangement batch) words (c.plan_words.ensures.no_changes ∙ c.new-plan.ensures.no_changes) t.managed.carried.settled
           (tables_in_use i.live.slots (words_by i.translation i.rules i.live i.arrangement batch) (bit_writes-tables (settled_state i.translation i.live.entries i.arrangement) (new_bits (bits_of i.translation) during))));
       size = t.managed.carried.settled.size;
       few =
@@ -216,7 +216,7 @@ plan_now g c =
     let parts = c.in_ok-parts.parts in
     let t = taken_as i.placement i.translation i.rules i.live i.arrangement i.held c.args.self.now batch c.self.invariant c.self.view_is c.requires.idle c.requires.changes c.requires.sound c.requires.fits in
     let coded = coded_as i.placement i.translation i.rules i.live i.arrangement i.held c.args.self.now batch bits c.self.view_is c.in_ok-bits.ensures.bits in
-    let words = words_as i.placement i.translation i.rules i.live i.arrangement i.held c.args.self.now batch c.plan_words.new.plan.writes.items c.self.view_is c.requires.idle c.in_ok-bits.ensures.writes in
+    let words = words_as i.placement i.translation i.rules i.live i.arrangement i.held c.args.self.now batch (all_writes c.plan_words.new.plan.writes) c.self.view_is c.requires.idle c.in_ok-bits.ensures.writes in
     let size = length-map (words_by i.translation i.rules i.live i.arrangement batch) Tabled in
     let all = c.in_ok-planned.ensures.planned in
     let pieces = said_so i.translation i.rules batch bits coded (λ m b. parts.inserted.items ≡ inserted_pieces m b i.rules.rules batch) c.in_ok-parts.ensures.inserted in
@@ -224,7 +224,7 @@ plan_now g c =
     i.rules.rules c.reserve.new.self.rules (inserted_pieces (mode_of i.translation) (during_by i.translation i.rules batch) i.rules.rules batch) parts.inserted.items c.in_ok-arrangement.ensures c.reserve.ensures.rules pieces all.inserted in
     record {
       plan = plan_made i.placement i.translation i.rules i.live c.plan_writes.new.live i.arrangement c.plan_writes.new.arrangement batch parts.rewrites.items parts.erased.items c.plan_words.new.plan all.between
-          c.plan_writes.new.plan.writes.items c.counts-counts.result t
+          (all_writes c.plan_writes.new.plan.writes) c.counts-counts.result t
           (parts_as i.translation i.rules batch bits i.live.live parts.rewrites.items parts.erased.items coded c.in_ok-parts.ensures.rewrites c.in_ok-parts.ensures.erased)
           c.plan_writes.ensures.slots c.in_ok-planned.ensures.planned.settled since
           record {
@@ -281,6 +281,6 @@ returns-clause-reserved g c =
 
 pub returns-clause-enough : goal.returns-clause-enough
 returns-clause-enough g c =
-    let enough : 2 * length c.plan_writes.new.plan.writes.items + 1 ≤ g.D.Writable.spare c.plan_writes.new.device = c.in_ok-planned.ensures.enough in
-    let number : c.counts-counts.result.writes ≡ length c.plan_writes.new.plan.writes.items = c.counts-counts.ensures.writes in
+    let enough : 2 * length (all_writes c.plan_writes.new.plan.writes) + 1 ≤ g.D.Writable.spare c.plan_writes.new.device = c.in_ok-planned.ensures.enough in
+    let number : c.counts-counts.result.writes ≡ length (all_writes c.plan_writes.new.plan.writes) = c.counts-counts.ensures.writes in
     omega arith

@@ -9,8 +9,8 @@ use Rattle.batch_order.specs.declared.planned_writes.PlannedWrite.TheVariants.{T
 use Rattle.batch_order.specs.Kept.{bits_of, held_of, mode_of, needed_by, tables_of}
 use Rattle.batch_order.specs.Managed.{Managed}
 use Rattle.batch_order.specs.Placing.{words_of}
-use Rattle.batch_order.proofs.Carried.{view_of}
-use Rattle.batch_order.proofs.Judged.{fits_both, idle_held, ranges_needed_are}
+use Rattle.batch_order.proofs.under_way.Carried.{view_of}
+use Rattle.batch_order.proofs.planning.Judged.{fits_both, idle_held, ranges_needed_are}
 use Rattle.batch_order.proofs.manager.Manager.plan_words.Goals as goal
 
 -- what follows of a value from two things that hold of it

@@ -8,7 +8,7 @@ use Rattle.readback.specs.declared.Rejection.TheVariants as rejection
 use Rattle.readback.specs.Judged.{judgement}
 use Rattle.batch_order.specs.declared.Refusal.TheVariants as refusal
 use Rattle.batch_order.specs.Managed.{Managed, HeldCommit, Judges, Answers, writes_due}
-use Rattle.batch_order.proofs.Ahead.{by_journal}
+use Rattle.batch_order.proofs.served.Ahead.{by_journal}
 use Rattle.batch_order.proofs.manager.Manager.prepare.Goals as goal
 
 -- no commit is under way where none has a number of writes left

@@ -7,7 +7,7 @@ use Rattle.batch_order.specs.declared.Placement.{Placement}
 use Rattle.batch_order.specs.Managed.{Managed, Serves}
 use Rattle.batch_order.specs.Restart.{Resumes}
 use Rattle.batch_order.specs.Standing.{managed_by}
-use Rattle.batch_order.proofs.RestartFaults.{memory_answers, stage_answers}
+use Rattle.batch_order.proofs.restarted.RestartFaults.{memory_answers, stage_answers}
 use Rattle.batch_order.proofs.manager.Manager.restart.Goals as goal
 
 pub returns-in-Err-show_commit-clause-answers : goal.returns-in-Err-show_commit-clause-answers

@@ -5,9 +5,9 @@ use Rattle.batch_order.specs.declared.Step.TheVariants as step
 use Rattle.batch_order.specs.Kept.{IsManaged}
 use Rattle.batch_order.specs.Managed.{Managed}
 use Rattle.batch_order.specs.Steps.{IsAllMade, Steps, is_turned}
-use Rattle.batch_order.proofs.Back.{turned_of, way}
-use Rattle.batch_order.proofs.Carried.{view_of}
-use Rattle.batch_order.proofs.Reverted.{IsReverted, managed_reverted, revert_steps}
+use Rattle.batch_order.proofs.back.Back.{turned_of, way}
+use Rattle.batch_order.proofs.under_way.Carried.{view_of}
+use Rattle.batch_order.proofs.back.Reverted.{IsReverted, managed_reverted, revert_steps}
 use Rattle.batch_order.proofs.manager.Manager.revert.Goals as goal
 
 pub forget_all-requires : goal.forget_all-requires

@@ -6,9 +6,9 @@ use Rattle.batch_order.specs.declared.held.Held.{Held}
 use Rattle.batch_order.specs.Kept.{IsManaged}
 use Rattle.batch_order.specs.Managed.{Managed}
 use Rattle.batch_order.specs.Steps.{ServesNow}
-use Rattle.batch_order.proofs.Carried.{view_of}
-use Rattle.batch_order.proofs.Resting.{serves_now}
-use Rattle.batch_order.proofs.Answered.{idle_answers, held_answers}
+use Rattle.batch_order.proofs.under_way.Carried.{view_of}
+use Rattle.batch_order.proofs.served.Resting.{serves_now}
+use Rattle.batch_order.proofs.served.Answered.{idle_answers, held_answers}
 use Rattle.batch_order.proofs.manager.Manager.rules.Goals as goal
 
 pub returns-clause-answers : goal.returns-clause-answers

@@ -4,9 +4,9 @@ use Rattle.tcam_device.specs.State.{apply, on_device}
 use Rattle.batch_order.specs.Managed.{Managed, Serves}
 use Rattle.batch_order.specs.Steps.{ServesNow, next_of}
 use Rattle.batch_order.specs.Turning.{IsHeldRight}
-use Rattle.batch_order.proofs.Ahead.{serves, serves_ahead}
-use Rattle.batch_order.proofs.Carried.{view_of}
-use Rattle.batch_order.proofs.Resting.{right_now, serves_now}
+use Rattle.batch_order.proofs.served.Ahead.{serves, serves_ahead}
+use Rattle.batch_order.proofs.under_way.Carried.{view_of}
+use Rattle.batch_order.proofs.served.Resting.{right_now, serves_now}
 use Rattle.batch_order.proofs.manager.Manager.serving.Goals as goal
 
 pub returns-clause-serves : goal.returns-clause-serves

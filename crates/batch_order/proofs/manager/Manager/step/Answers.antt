@@ -2,11 +2,11 @@ use Rattle.std.proofs.Common.{◌≡◌, refl, ◌≤◌, Some, IfSome, Result, 
 use Rattle.tcam_device.specs.State.{apply, replay}
 use Rattle.batch_order.specs.Managed.{Managed, IsOn, Serves}
 use Rattle.batch_order.specs.Steps.{Steps, actions_of, next_of}
-use Rattle.batch_order.proofs.Carried.{on_same, on_written}
-use Rattle.batch_order.proofs.Passed.{goes_back, steps_keep_way_back}
-use Rattle.batch_order.proofs.Stepped.{both_after, forward_after, made_state, room_after, same_slots}
-use Rattle.batch_order.proofs.Turned.{steps_keep_current}
-use Rattle.batch_order.proofs.Ahead.{by_journal, ahead_by_journal}
+use Rattle.batch_order.proofs.under_way.Carried.{on_same, on_written}
+use Rattle.batch_order.proofs.back.Passed.{goes_back, steps_keep_way_back}
+use Rattle.batch_order.proofs.under_way.Stepped.{both_after, forward_after, made_state, room_after, same_slots}
+use Rattle.batch_order.proofs.back.Turned.{steps_keep_current}
+use Rattle.batch_order.proofs.served.Ahead.{by_journal, ahead_by_journal}
 use Rattle.batch_order.proofs.manager.Manager.step.Given.{Over}
 use Rattle.batch_order.proofs.manager.Manager.step.Goals as goal
 

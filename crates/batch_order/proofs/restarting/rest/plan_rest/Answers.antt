@@ -2,9 +2,9 @@ use Rattle.std.proofs.Common.{ℕ, IsTrue, List, sym, subst}
 use Rattle.std.specs.List.{AllByRecursion}
 use Rattle.placement.specs.declared.LivePiece.{LivePiece}
 use Rattle.placement.specs.Live.{is_live}
-use Rattle.batch_order.specs.Planning.{IsWithin}
-use Rattle.batch_order.proofs.Cleared.{all_stand}
-use Rattle.batch_order.proofs.Leading.{changed_stand, still_changed, still_live}
+use Rattle.batch_order.specs.Planning.{IsWithin, all_writes}
+use Rattle.batch_order.proofs.arranged.Cleared.{all_stand}
+use Rattle.batch_order.proofs.planning.Leading.{changed_stand, still_changed, still_live}
 use Rattle.batch_order.proofs.restarting.rest.plan_rest.Goals as goal
 
 pub plan_changes-requires-clause-rewritten : goal.plan_changes-requires-clause-rewritten
@@ -30,7 +30,7 @@ plan_changes-requires-clause-erased g c =
 pub plan_changes-requires-clause-within : goal.plan_changes-requires-clause-within
 plan_changes-requires-clause-within g c =
     let plannable = c.in_ok-ids.ensures.plannable in
-    subst (λ (n : ℕ). AllByRecursion (IsWithin n) c.plan_insertions.new.plan.writes.items) (sym plannable.settled.size) plannable.within
+    subst (λ (n : ℕ). AllByRecursion (IsWithin n) (all_writes c.plan_insertions.new.plan.writes)) (sym plannable.settled.size) plannable.within
 
 pub returns-clause-planned : goal.returns-clause-planned
 returns-clause-planned g c =

@@ -8,9 +8,9 @@ use Rattle.batch_order.specs.declared.restarting.resuming.Rest.{Rest}
 use Rattle.batch_order.specs.Kept.{bits_of}
 use Rattle.batch_order.specs.Placing.{aims_from}
 use Rattle.batch_order.specs.Planning.{AreAllPlanned}
-use Rattle.batch_order.proofs.Cleared.{all_stand}
-use Rattle.batch_order.proofs.PlannedOn.{all_planned_on, erased_apart, erased_still, first_plannable, first_planned, fits_kept, inserted_encodable, needed_meanwhile, rewrites_few, rewritten_encodable}
-use Rattle.batch_order.proofs.Taken.{ids_live, rewrites_live}
+use Rattle.batch_order.proofs.arranged.Cleared.{all_stand}
+use Rattle.batch_order.proofs.restarted.PlannedOn.{all_planned_on, erased_apart, erased_still, first_plannable, first_planned, fits_kept, inserted_encodable, needed_meanwhile, rewrites_few, rewritten_encodable}
+use Rattle.batch_order.proofs.planning.Taken.{ids_live, rewrites_live}
 use Rattle.batch_order.proofs.restarting.resuming.plan_all.Goals as goal
 
 pub plan_words-requires-clause-src : goal.plan_words-requires-clause-src
@@ -41,7 +41,7 @@ plan_rest-requires-clause-plannable g c =
     first_plannable c.args.mode (bits_of c.args.translation.now) c.args.rules.now.rules c.args.batch.now state c.args.shown.now was.live was.arrangement c.requires.stopped c.requires.read plan
     (first_planned c.args.translation.now c.args.mode c.args.rules.now.rules c.args.batch.now state c.args.shown.now.stage.twin begun plan c.requires.mode c.requires.stopped.can c.requires.tables
     c.in_ok-bits.ensures.writes c.in_ok-bits.ensures.words (c.plan_words.ensures.most ∙ c.new-plan.ensures.most) (c.plan_words.ensures.span ∙ c.new-plan.ensures.span)
-    c.in_ok-plan_twin.ensures refl refl refl)
+    c.in_ok-plan_twin.ensures.writes c.plan_twin.ensures.no_changes refl refl refl)
 
 pub plan_rest-requires-clause-few : goal.plan_rest-requires-clause-few
 plan_rest-requires-clause-few g c =
@@ -93,7 +93,7 @@ returns-clause-planned g c =
     c.args.placement size (replay_slots size (g.D.Writable.journal c.args.device.now)) c.plan_rest.new.live c.plan_rest.new.arrangement c.erase_all.new.arrangement plan rest
     (first_planned c.args.translation.now c.args.mode c.args.rules.now.rules c.args.batch.now state shown.stage.twin begun plan c.requires.mode c.requires.stopped.can c.requires.tables
     c.in_ok-bits.ensures.writes c.in_ok-bits.ensures.words (c.plan_words.ensures.most ∙ c.new-plan.ensures.most) (c.plan_words.ensures.span ∙ c.new-plan.ensures.span)
-    c.in_ok-plan_twin.ensures refl refl refl)
+    c.in_ok-plan_twin.ensures.writes c.plan_twin.ensures.no_changes refl refl refl)
     (subst (λ (some : List RankedPiece). AreAllPlanned was.live c.plan_rest.new.live was.arrangement c.plan_rest.new.arrangement plan c.plan_rest.new.plan some
     (aims_from c.args.placement c.args.mode (length was.arrangement) c.args.rules.now.rules (length was.live.live + length some) shown.stage.done some) left.rewrites.items left.erased.items)
     c.in_ok-left.ensures.inserted c.in_ok-ids.ensures.planned)

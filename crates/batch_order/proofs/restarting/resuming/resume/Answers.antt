@@ -2,8 +2,8 @@ use Rattle.std.proofs.Common.{◌≡◌, ◌≤◌, List, Option, length, sym, s
 use Rattle.rule_model.specs.Entry.{RankedPiece}
 use Rattle.tcam_device.specs.State.{replay}
 use Rattle.batch_order.specs.Standing.{AreEncodable, AreStanding, HasPieceOf, without_twin}
-use Rattle.batch_order.proofs.ReadAgain.{has_piece_of}
-use Rattle.batch_order.proofs.Restarts.{IsMade, few_rules, made_now, places_encodable, places_many, read_now, stopped_by, stopped_now}
+use Rattle.batch_order.proofs.restarted.ReadAgain.{has_piece_of}
+use Rattle.batch_order.proofs.restarted.Restarts.{IsMade, few_rules, made_now, places_encodable, places_many, read_now, stopped_by, stopped_now}
 use Rattle.batch_order.proofs.restarting.resuming.resume.Given.{Over}
 use Rattle.batch_order.proofs.restarting.resuming.resume.Goals as goal
 use Rattle.batch_order.proofs.restarting.resuming.resume.Goals.{After-hold-held}

@@ -1,7 +1,7 @@
 use Rattle.std.proofs.Common.{◌≡◌, ℕ, ◌<◌, IfSome, Option, Some, length, sym, ◌∙◌, ap, subst, arith}
 use Rattle.slot_order.specs.Order.{slot}
 use Rattle.rule_model.specs.Entry.{RankedPiece}
-use Rattle.batch_order.proofs.Twinned.{read_slot, twin_id, some_found}
+use Rattle.batch_order.proofs.restarted.Twinned.{read_slot, twin_id, some_found}
 use Rattle.batch_order.proofs.restarting.standing.arrangement_with_twin.Goals as goal
 
 pub unwrap-id-requires : goal.unwrap-id-requires

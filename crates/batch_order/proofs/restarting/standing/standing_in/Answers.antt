@@ -7,8 +7,8 @@ use Rattle.placement.specs.declared.LivePiece.{LivePiece}
 use Rattle.commit_writes.specs.Planned.{entry_at}
 use Rattle.batch_order.specs.Entries.{Entries}
 use Rattle.batch_order.specs.Standing.{AreStanding, without_twin}
-use Rattle.batch_order.proofs.Placed.{placed_more, placed_over}
-use Rattle.batch_order.proofs.Twinned.{of_all}
+use Rattle.batch_order.proofs.ids.Placed.{placed_more, placed_over}
+use Rattle.batch_order.proofs.restarted.Twinned.{of_all}
 use Rattle.batch_order.proofs.restarting.standing.standing_in.Goals.{in-Some+in_ok-id, in_default}
 use Rattle.batch_order.proofs.restarting.standing.standing_in.Goals as goal
 

@@ -1,5 +1,5 @@
 -- The parts of the address stand one behind the other.
-use Rattle.replay.proofs.Lines.{four_parts}
+use Rattle.replay.proofs.lines.Lines.{four_parts}
 use Rattle.replay.proofs.report_line.ReportLine.dotted.Goals as goal
 
 pub returns-clause-text : goal.returns-clause-text

@@ -1,7 +1,7 @@
 -- The lanes stand one behind the other.
 use Rattle.std.proofs.Common.{slice_index}
 use Rattle.replay.specs.Text.{lane_text}
-use Rattle.replay.proofs.Lines.{five_parts}
+use Rattle.replay.proofs.lines.Lines.{five_parts}
 use Rattle.replay.proofs.report_line.ReportLine.ipv4_lanes.Goals as goal
 
 pub returns-clause-text : goal.returns-clause-text

@@ -2,7 +2,7 @@
 use Rattle.std.proofs.Common.{decimal}
 use Rattle.rule_model.proofs.Ranks.{high_of-rank_of, low_of-rank_of}
 use Rattle.replay.specs.Text.{dotted}
-use Rattle.replay.proofs.Lines.{address_and_length}
+use Rattle.replay.proofs.lines.Lines.{address_and_length}
 use Rattle.replay.proofs.report_line.ReportLine.ipv4_prefix.Goals as goal
 
 pub returns-clause-text : goal.returns-clause-text

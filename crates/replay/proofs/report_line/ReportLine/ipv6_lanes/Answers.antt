@@ -2,7 +2,7 @@
 use Rattle.std.proofs.Common.{List, ℕ}
 use Rattle.std.specs.Prelude.{slice_index}
 use Rattle.replay.specs.Text.{lane_text}
-use Rattle.replay.proofs.Lines.{eleven_parts}
+use Rattle.replay.proofs.lines.Lines.{eleven_parts}
 use Rattle.replay.proofs.report_line.ReportLine.ipv6_lanes.Goals as goal
 
 pub returns-clause-text : goal.returns-clause-text

@@ -2,7 +2,7 @@
 use Rattle.std.proofs.Common.{decimal}
 use Rattle.rule_model.proofs.Ranks.{high_of-rank_of, low_of-rank_of}
 use Rattle.line_words.specs.Shown.{ipv6_text}
-use Rattle.replay.proofs.Lines.{address_and_length}
+use Rattle.replay.proofs.lines.Lines.{address_and_length}
 use Rattle.replay.proofs.report_line.ReportLine.ipv6_prefix.Goals as goal
 
 pub returns-clause-text : goal.returns-clause-text

@@ -1,7 +1,7 @@
 -- The last digit stands behind the others.
 use Rattle.std.proofs.Common.{rules, arith, ◌≡◌, ◌<◌, ◌^◌, ◌*◌, ◌+◌}
 use Rattle.rule_model.proofs.Ranks.{high_of-rank_of, low_of-rank_of}
-use Rattle.replay.proofs.Lines.{last_digit}
+use Rattle.replay.proofs.lines.Lines.{last_digit}
 use Rattle.replay.proofs.report_line.ReportLine.tag_number.Goals as goal
 
 pub returns-else-tens-eq0-clause-text : goal.returns-else-tens-eq0-clause-text

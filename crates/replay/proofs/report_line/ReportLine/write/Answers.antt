@@ -1,6 +1,6 @@
 -- The bytes handed over are the line with its line feed.
 use Rattle.std.proofs.Common.{◌∙◌}
-use Rattle.replay.proofs.Handing.{writes-line}
+use Rattle.replay.proofs.lines.Handing.{writes-line}
 use Rattle.replay.proofs.report_line.ReportLine.write.Goals as goal
 
 pub returns : goal.returns

@@ -1,8 +1,8 @@
 -- What an act comes to, once it is marked whether the sink failed.
 use Rattle.std.proofs.Common.{ap}
 use Rattle.replay.specs.Running.{Running}
-use Rattle.replay.proofs.InStep.{sink_failed-marked, comes-marked, in-step-marked, stays-marked}
-use Rattle.replay.proofs.Leftover.{words-marked}
+use Rattle.replay.proofs.between.InStep.{sink_failed-marked, comes-marked, in-step-marked, stays-marked}
+use Rattle.replay.proofs.flight.Leftover.{words-marked}
 use Rattle.replay.proofs.run.Run.apply.Goals as goal
 
 pub returns-clause-acts : goal.returns-clause-acts

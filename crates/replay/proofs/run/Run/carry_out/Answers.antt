@@ -9,10 +9,10 @@ use Rattle.replay.specs.Carried.{IsAt}
 use Rattle.replay.specs.Effects.{Effect, Setting}
 use Rattle.replay.specs.Running.{AreLeft, Running, progress_of, setting_of}
 use Rattle.replay.specs.Unfinished.{IsUnfinished, ResumesTo, StaysInStep}
-use Rattle.replay.proofs.InStep.{in-step-gone, in-step-then}
-use Rattle.replay.proofs.Leaving.{leaves-line, leaves-then, uncounted}
-use Rattle.replay.proofs.Leftover.{left-gone}
-use Rattle.replay.proofs.Over.{carried-over, fate-crashes, runs-out}
+use Rattle.replay.proofs.between.InStep.{in-step-gone, in-step-then}
+use Rattle.replay.proofs.between.Leaving.{leaves-line, leaves-then, uncounted}
+use Rattle.replay.proofs.flight.Leftover.{left-gone}
+use Rattle.replay.proofs.crash.Over.{carried-over, fate-crashes, runs-out}
 use Rattle.replay.proofs.run.Run.carry_out.Goals as goal
 use Rattle.replay.proofs.run.Run.carry_out.Goals.{in-Some+in-Ok+in-Ok-restart, in_default}
 

@@ -1,7 +1,7 @@
 -- Its writes are made up to its crash, or up to what failed before.
 use Rattle.std.proofs.Common.{true}
-use Rattle.replay.proofs.Coming.{asks-few, asks-forward, asks-more, asks-waiting, at-first, comes-first, kind-first, left-first, run-first, setting-first, stands-first}
-use Rattle.replay.proofs.InStep.{in-step-cut}
+use Rattle.replay.proofs.crash.Coming.{asks-few, asks-forward, asks-more, asks-waiting, at-first, comes-first, kind-first, left-first, run-first, setting-first, stands-first}
+use Rattle.replay.proofs.between.InStep.{in-step-cut}
 use Rattle.replay.proofs.run.Run.come_to_crash.Goals as goal
 
 pub make_up_to-requires-clause-waiting : goal.make_up_to-requires-clause-waiting

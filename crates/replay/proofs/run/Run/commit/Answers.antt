@@ -3,11 +3,11 @@ use Rattle.std.proofs.Common.{◌≡◌, None, refl, sym, ap, subst, ◌∙◌}
 use Rattle.replay.specs.declared.RunFault.TheVariants as fault
 use Rattle.replay.specs.Running.{Running, act_outcome_of}
 use Rattle.replay.specs.Unfinished.{StaysInStep}
-use Rattle.replay.proofs.Exits.{refused-acts, taken-acts, taken-run, taken-stays}
-use Rattle.replay.proofs.InStep.{in-step-kept, in-step-taken, memory_wanted-so}
-use Rattle.replay.proofs.Leaving.{leaves-as, leaves-line, leaves-then, line-counted, no-write, outcome-fails, outcome-ok, outcome-room, outcome-taken, uncounted}
-use Rattle.replay.proofs.Refusals.{never-busy}
-use Rattle.replay.proofs.Leftover.{left-taken, words-from, words-kept}
+use Rattle.replay.proofs.between.Exits.{refused-acts, taken-acts, taken-run, taken-stays}
+use Rattle.replay.proofs.between.InStep.{in-step-kept, in-step-taken, memory_wanted-so}
+use Rattle.replay.proofs.between.Leaving.{leaves-as, leaves-line, leaves-then, line-counted, no-write, outcome-fails, outcome-ok, outcome-room, outcome-taken, uncounted}
+use Rattle.replay.proofs.between.Refusals.{never-busy}
+use Rattle.replay.proofs.flight.Leftover.{left-taken, words-from, words-kept}
 use Rattle.replay.proofs.run.Run.commit.Goals as goal
 
 pub invariant_of-self : goal.invariant_of-self

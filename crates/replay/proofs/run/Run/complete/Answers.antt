@@ -8,12 +8,12 @@ use Rattle.replay.specs.Outside.{CutsLines}
 use Rattle.replay.specs.InFlight.{AreOf}
 use Rattle.replay.specs.Running.{IsRun, Running, setting_of}
 use Rattle.replay.specs.Unfinished.{IsUnfinished}
-use Rattle.replay.proofs.Acting.{some-held}
-use Rattle.replay.proofs.Exits.{as-last, cut-held, cut-setting, cut-some, is-seen, resumes-cut, resumes-all, resumes-last, resumes-searching}
-use Rattle.replay.proofs.InStep.{in-step-cut, in-step-done}
-use Rattle.replay.proofs.Leftover.{are-of-left, words-cut_run}
-use Rattle.replay.proofs.Rest.{HasNoCrash}
-use Rattle.replay.proofs.RestOf.{any-now, rest-of}
+use Rattle.replay.proofs.making.Acting.{some-held}
+use Rattle.replay.proofs.between.Exits.{as-last, cut-held, cut-setting, cut-some, is-seen, resumes-cut, resumes-all, resumes-last, resumes-searching}
+use Rattle.replay.proofs.between.InStep.{in-step-cut, in-step-done}
+use Rattle.replay.proofs.flight.Leftover.{are-of-left, words-cut_run}
+use Rattle.replay.proofs.course.Rest.{HasNoCrash}
+use Rattle.replay.proofs.course.RestOf.{any-now, rest-of}
 use Rattle.replay.proofs.run.Run.complete.Goals as goal
 use Rattle.replay.proofs.run.Run.complete.Goals.{in-Ok-write_ended, in-Err-write_ended}
 

@@ -1,6 +1,6 @@
 -- Few writes are made and left, so their number fits.
 use Rattle.std.proofs.Common.{◌+◌, ◌^◌, ◌≤◌, rules}
-use Rattle.replay.proofs.Coming.{few-told}
+use Rattle.replay.proofs.crash.Coming.{few-told}
 use Rattle.replay.proofs.run.Run.crash_ahead.Goals as goal
 
 pub overflow_add-self-inside : goal.overflow_add-self-inside

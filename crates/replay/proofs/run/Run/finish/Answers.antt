@@ -1,7 +1,7 @@
 -- The numbers are those of the run.
 use Rattle.std.proofs.Common.{◌≡◌, length}
-use Rattle.replay.proofs.Exits.{ending-same}
-use Rattle.replay.proofs.Handing.{hands-ok, hands-err}
+use Rattle.replay.proofs.between.Exits.{ending-same}
+use Rattle.replay.proofs.lines.Handing.{hands-ok, hands-err}
 use Rattle.replay.proofs.run.Run.finish.Goals as goal
 use Rattle.replay.proofs.run.Run.finish.Goals.{in-Ok, in-Err}
 

@@ -1,5 +1,5 @@
 -- Whether the sink failed makes no difference to what a run is.
-use Rattle.replay.proofs.Runs.{marked-run}
+use Rattle.replay.proofs.between.Runs.{marked-run}
 use Rattle.replay.proofs.run.Run.mark.Goals as goal
 
 pub invariant_of-self : goal.invariant_of-self

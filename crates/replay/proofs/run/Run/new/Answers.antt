@@ -1,5 +1,5 @@
 -- A run before its first act shows the set of no rules.
-use Rattle.replay.proofs.Runs.{begun-run}
+use Rattle.replay.proofs.between.Runs.{begun-run}
 use Rattle.replay.proofs.run.Run.new.Goals as goal
 
 pub invariant_of-result : goal.invariant_of-result

@@ -1,7 +1,7 @@
 -- The device answers as the set, and the line is written, or a part of it.
 use Rattle.std.proofs.Common.{ap, subst, ◌∙◌}
 use Rattle.replay.specs.Running.{Running, ShowsRules}
-use Rattle.replay.proofs.Acts.{packet-carries, packet-cuts}
+use Rattle.replay.proofs.between.Acts.{packet-carries, packet-cuts}
 use Rattle.replay.proofs.run.Run.packet.Goals as goal
 
 pub returns-in-Ok-clause-acts : goal.returns-in-Ok-clause-acts

@@ -1,9 +1,9 @@
 -- A change that joins the batch, and a key that is probed.
 use Rattle.std.proofs.Common.{refl, ◌++◌, ◌∷◌, []}
-use Rattle.replay.proofs.Acts.{push-acts, probe-acts}
-use Rattle.replay.proofs.InStep.{in-step-kept, kept-manager}
-use Rattle.replay.proofs.Leaving.{leaves-line, line-counted, no-fault, no-write, uncounted}
-use Rattle.replay.proofs.Leftover.{words-kept}
+use Rattle.replay.proofs.between.Acts.{push-acts, probe-acts}
+use Rattle.replay.proofs.between.InStep.{in-step-kept, kept-manager}
+use Rattle.replay.proofs.between.Leaving.{leaves-line, line-counted, no-fault, no-write, uncounted}
+use Rattle.replay.proofs.flight.Leftover.{words-kept}
 use Rattle.replay.proofs.run.Run.perform.Goals as goal
 
 pub returns-in-Command-clause-acts : goal.returns-in-Command-clause-acts

@@ -1,7 +1,7 @@
 -- What a change leaves of the run.
 use Rattle.std.proofs.Common.{◌≡◌, None, sym, subst}
 use Rattle.replay.specs.Running.{Running, IsChangeOf}
-use Rattle.replay.proofs.Runs.{pushed-run}
+use Rattle.replay.proofs.between.Runs.{pushed-run}
 use Rattle.replay.proofs.run.Run.push.Goals as goal
 
 pub invariant_of-self : goal.invariant_of-self

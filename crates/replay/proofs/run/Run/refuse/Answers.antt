@@ -3,7 +3,7 @@ use Rattle.std.proofs.Common.{◌≡◌, ◌+◌, ap, ◌∙◌}
 use Rattle.replay.specs.Text.{refused_line}
 use Rattle.replay.specs.Told.{verdict_told}
 use Rattle.replay.specs.Running.{Running}
-use Rattle.replay.proofs.Handing.{hands-ok, hands-err}
+use Rattle.replay.proofs.lines.Handing.{hands-ok, hands-err}
 use Rattle.replay.proofs.run.Run.refuse.Goals as goal
 use Rattle.replay.proofs.run.Run.refuse.Goals.{in-Ok, in-Err}
 

@@ -2,9 +2,9 @@
 use Rattle.std.proofs.Common.{◌≡◌, true, rules, ◌∙◌}
 use Rattle.readback.specs.declared.StageFault.TheVariants as stage_faults
 use Rattle.batch_order.specs.declared.restarting.fault.RestartFault.TheVariants as restart_faults
-use Rattle.replay.proofs.Anew.{blank-shown, current-gone, is-gone, is-lost, memory-shown, progress-gone, run-gone, run-lost, setting-gone, unfinished-gone, wants-shown}
-use Rattle.replay.proofs.Over.{setting-lost}
-use Rattle.replay.proofs.Runs.{marked-run}
+use Rattle.replay.proofs.crash.Anew.{blank-shown, current-gone, is-gone, is-lost, memory-shown, progress-gone, run-gone, run-lost, setting-gone, unfinished-gone, wants-shown}
+use Rattle.replay.proofs.crash.Over.{setting-lost}
+use Rattle.replay.proofs.between.Runs.{marked-run}
 use Rattle.replay.proofs.run.Run.restart.Goals as goal
 
 pub invariant_of-self : goal.invariant_of-self

@@ -2,10 +2,10 @@
 use Rattle.std.proofs.Common.{rules, ◌≡◌, None, refl, ap, ◌∙◌}
 use Rattle.std.specs.Prelude.{◌||◌}
 use Rattle.replay.specs.Running.{Running, act_outcome_of, sink_failed}
-use Rattle.replay.proofs.RestOf.{never-idle}
-use Rattle.replay.proofs.Exits.{marked-resumes}
-use Rattle.replay.proofs.InStep.{in-step-kept, in-step-marked}
-use Rattle.replay.proofs.Leftover.{none-of-left, words-marked}
+use Rattle.replay.proofs.course.RestOf.{never-idle}
+use Rattle.replay.proofs.between.Exits.{marked-resumes}
+use Rattle.replay.proofs.between.InStep.{in-step-kept, in-step-marked}
+use Rattle.replay.proofs.flight.Leftover.{none-of-left, words-marked}
 use Rattle.replay.proofs.run.Run.resume.Goals as goal
 
 pub returns-clause-resumes : goal.returns-clause-resumes

@@ -2,7 +2,7 @@
 use Rattle.std.proofs.Common.{rules, ◌≡◌, ◌<◌, ◌∙◌, length, drop, ap, subst, arith}
 use Rattle.tcam_device.specs.State.{replay}
 use Rattle.replay.specs.Running.{Watching}
-use Rattle.replay.proofs.Searching.{search-left, search-more, search-none, search-part}
+use Rattle.replay.proofs.flight.Searching.{search-left, search-more, search-none, search-part}
 use Rattle.replay.proofs.watch.Watch.search.Goals as goal
 
 pub returns-in_err-write_probe-in-Some-clause-lines : goal.returns-in_err-write_probe-in-Some-clause-lines

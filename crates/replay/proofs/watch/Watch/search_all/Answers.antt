@@ -1,7 +1,7 @@
 -- The words of one write after the other are searched, and of the last one a part where the sink fails.
 use Rattle.std.proofs.Common.{rules, ◌<◌, ◌≤◌, ◌∙◌, arith}
 use Rattle.std.proofs.KnownBytes.{Appends-nil}
-use Rattle.replay.proofs.Flushing.{cuts-more, flushing-empty, flushing-enough, flushing-more, flushing-none, flushing-whole, told-more}
+use Rattle.replay.proofs.flight.Flushing.{cuts-more, flushing-empty, flushing-enough, flushing-more, flushing-none, flushing-whole, told-more}
 use Rattle.replay.proofs.watch.Watch.search_all.Goals as goal
 
 pub loop-place-init : goal.loop-place-init

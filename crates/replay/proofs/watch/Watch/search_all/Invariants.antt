@@ -3,7 +3,7 @@ use Rattle.std.specs.Io.KnownBytes.{Appends}
 use Rattle.script_lines.specs.Given.{counted}
 use Rattle.tcam_device.specs.State.{replay}
 use Rattle.replay.specs.Effects.{printed}
-use Rattle.replay.proofs.Flushing.{IsFlushing}
+use Rattle.replay.proofs.flight.Flushing.{IsFlushing}
 use Rattle.replay.proofs.watch.Watch.search_all.Given as goal
 
 abbrev pub invariant-loop-place : goal.invariant-loop-place

@@ -7,8 +7,8 @@ use Rattle.replay.specs.InFlight.{found_after}
 use Rattle.replay.specs.Outside.{CutsLines}
 use Rattle.replay.specs.Running.{Watching}
 use Rattle.replay.specs.Text.{trace_line}
-use Rattle.replay.proofs.InFlight.{found-full, room-of}
-use Rattle.replay.proofs.Telling.{cuts-behind}
+use Rattle.replay.proofs.flight.InFlight.{found-full, room-of}
+use Rattle.replay.proofs.lines.Telling.{cuts-behind}
 use Rattle.replay.proofs.watch.Watch.tell.Goals as goal
 
 pub translate-requires : goal.translate-requires

@@ -1,7 +1,7 @@
 -- The line of the drain may be cut.
 use Rattle.std.proofs.Common.{◌≡◌, true, [], sym, ap, ◌∙◌}
 use Rattle.replay.specs.Running.{Watching}
-use Rattle.replay.proofs.Telling.{line-cut}
+use Rattle.replay.proofs.lines.Telling.{line-cut}
 use Rattle.replay.proofs.watch.Watch.tell_drain.Goals as goal
 
 pub returns-in_err-write_drain : goal.returns-in_err-write_drain

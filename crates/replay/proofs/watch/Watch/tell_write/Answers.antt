@@ -1,7 +1,7 @@
 -- The line of a write names its rule by the family, and may be cut.
 use Rattle.std.proofs.Common.{◌≡◌, true, [], sym, ap, ◌∙◌}
 use Rattle.replay.specs.Running.{Watching}
-use Rattle.replay.proofs.Telling.{line-cut, trace-named}
+use Rattle.replay.proofs.lines.Telling.{line-cut, trace-named}
 use Rattle.replay.proofs.watch.Watch.tell_write.Goals as goal
 
 pub returns-in_err-write_trace : goal.returns-in_err-write_trace

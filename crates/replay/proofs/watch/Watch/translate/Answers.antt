@@ -1,7 +1,7 @@
 -- The word of one probe more follows those in flight.
 use Rattle.std.proofs.Common.{rules, ◌<◌, ◌∙◌, length}
 use Rattle.tcam_device.specs.State.{replay}
-use Rattle.replay.proofs.InFlight.{keys-more, translated}
+use Rattle.replay.proofs.flight.InFlight.{keys-more, translated}
 use Rattle.replay.proofs.watch.Watch.translate.Goals as goal
 
 pub loop-place-preserved : goal.loop-place-preserved

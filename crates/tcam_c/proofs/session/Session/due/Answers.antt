@@ -1,7 +1,7 @@
 use Rattle.std.proofs.Common.{◌≡◌, ◌∙◌, sym, arith}
 use Rattle.tcam_device.specs.Flight.{writes_in}
 use Rattle.batch_order.specs.Managed.{Managed}
-use Rattle.batch_order.proofs.Ahead.{by_journal}
+use Rattle.batch_order.proofs.served.Ahead.{by_journal}
 use Rattle.tcam_c.specs.Driven.{due_of}
 use Rattle.tcam_c.proofs.Due.{due_ahead}
 use Rattle.tcam_c.proofs.Ways.{drain_forward}

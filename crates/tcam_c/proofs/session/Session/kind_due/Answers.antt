@@ -1,7 +1,7 @@
 use Rattle.std.proofs.Common.{arith}
 use Rattle.tcam_device.specs.Flight.{writes_in}
 use Rattle.batch_order.specs.Managed.{Managed}
-use Rattle.batch_order.proofs.Ahead.{by_journal}
+use Rattle.batch_order.proofs.served.Ahead.{by_journal}
 use Rattle.tcam_c.proofs.session.Session.kind_due.Goals as goal
 
 pub returns-clause-serves : goal.returns-clause-serves

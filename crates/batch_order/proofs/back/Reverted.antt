@@ -1,0 +1,76 @@
+-- A commit that was taken back: the manager is as it was before it.
+use Rattle.std.proofs.Common.{◌≡◌, ℕ, zero, suc, ◌-◌, List, [], length, take, map, Option, Some, None, refl, sym, ap, subst, ◌∙◌}
+use Rattle.slot_pool.specs.Arrangement.{Slots}
+use Rattle.rule_store.specs.Store.{StoredRules}
+use Rattle.tcam_device.specs.declared.Write.{Write}
+use Rattle.tcam_device.specs.declared.Action.TheVariants.{Written}
+use Rattle.tcam_device.specs.State.{State, state_after}
+use Rattle.commit_writes.specs.Undo.{undo_writes}
+use Rattle.batch_order.specs.declared.Placement.{Placement}
+use Rattle.batch_order.specs.declared.Step.TheVariants as step
+use Rattle.batch_order.specs.declared.held.Held.{Held}
+use Rattle.batch_order.specs.declared.translation.Translation.{Translation}
+use Rattle.batch_order.specs.Entries.{Entries, KeepEntries}
+use Rattle.batch_order.specs.Kept.{IsManaged, IsPrepared, bits_of, held_of, held_writes, mode_of, settled_state}
+use Rattle.batch_order.specs.Managed.{HeldCommit, Managed, actions_due}
+use Rattle.batch_order.specs.Planning.{as_writes}
+use Rattle.batch_order.specs.Steps.{IsAllMade, Steps, StepsBack, StepsEither}
+use Rattle.batch_order.proofs.back.Back.{last_one}
+use Rattle.batch_order.proofs.under_way.Carried.{view_of}
+use Rattle.batch_order.proofs.planning.Refused.{managed_same, view_same}
+
+-- the new ids are live no more, and the others keep their entries
+pub record IsReverted (kept kept' : Entries) (held : Held) : Type 0 where
+  pub live : kept'.live ≡ take (length kept.live - length held.ids.items) kept.live
+  pub entries : KeepEntries kept'.live kept.entries kept'.entries
+  pub slots : kept'.slots ≡ kept.slots
+
+module _ (translation : Option Translation) (rules : StoredRules) (kept kept' : Entries) (slots : Slots) (held : Held) (managed : IsManaged translation rules kept slots (Some held))
+    (way : IsPrepared translation rules kept slots held.ids.items (held_writes kept.entries held) (as_writes kept.entries held.rewrites.items held.undo.items)) (reverted : IsReverted kept kept' held) where
+  idle : IsManaged translation rules (record kept { live = way.before }) slots None
+  idle = record { right = managed.right; is_set = managed.is_set; tables = managed.tables; translated = managed.translated; carried = way.old }
+
+  same_live : kept'.live ≡ way.before
+  same_live = reverted.live ∙ sym way.before_is
+
+  keeps : KeepEntries way.before kept.entries kept'.entries
+  keeps = subst (λ l. KeepEntries l kept.entries kept'.entries) same_live reverted.entries
+
+  -- no commit is under way
+  pub managed_reverted : IsManaged translation rules kept' slots None
+  managed_reverted = managed_same translation rules rules (record kept { live = way.before }) kept' slots idle refl same_live reverted.slots keeps
+
+  module _ (undone : ℕ) (turned : held.turned ≡ Some undone) (placement : Placement) where
+    due_is : actions_due (held_of translation slots rules.rules kept.entries held) ≡ map Written (undo_writes (settled_state translation kept.entries slots) (take held.made (held_writes kept.entries held)))
+    due_is = ap (λ (t : Option ℕ). elim t [
+      | None ↦ (held_of translation slots rules.rules kept.entries held).actions
+      | Some n ↦ map Written (undo_writes (settled_state translation kept.entries slots) (take held.made (held_writes kept.entries held)))
+    ]) turned
+
+    none_stands : IsAllMade (view_of placement translation rules kept slots (Some held)).held → held.made ≡ 0
+    none_stands all = go held.made refl
+      where
+        go : (n : ℕ) → held.made ≡ n → n ≡ 0
+        go zero is = refl
+        go (suc k) is =
+            let last = last_one translation rules kept slots held managed undone turned k is in
+            let clash = sym (ap (map Written) last.1.undo) ∙ sym due_is ∙ all in absurd (cc)
+
+    pub revert_steps : IsAllMade (view_of placement translation rules kept slots (Some held)).held → (words : ℕ)
+        → Steps (view_of placement translation rules kept slots (Some held)) words (view_of placement translation rules kept slots (Some held)).held (step.Reverted undone) (view_of placement translation rules kept' slots None)
+    revert_steps all words =
+        let old : Managed = view_of placement translation rules kept slots (Some held) in
+        let one : HeldCommit = held_of translation slots rules.rules kept.entries held in
+        let none : held.made ≡ 0 = none_stands all in
+        let undo : undo_writes (settled_state translation kept.entries slots) (take held.made (held_writes kept.entries held)) ≡ [] =
+        ap (λ n. undo_writes (settled_state translation kept.entries slots) (take n (held_writes kept.entries held))) none in
+        let did : StepsBack old one undone [] (step.Reverted undone) (view_of placement translation rules kept' slots None) = (
+          refl,
+          view_same placement translation rules rules (record kept { live = way.before }) kept' slots idle refl keeps
+              ∙ ap (λ n. idle_view (state_after (settled_state translation kept.entries slots) (take n (held_writes kept.entries held)))) (sym none),
+        ) in
+        subst (λ (t : Option ℕ). StepsEither old one words t (step.Reverted undone) (view_of placement translation rules kept' slots None)) (sym turned)
+        (subst (λ (ws : List Write). StepsBack old one undone ws (step.Reverted undone) (view_of placement translation rules kept' slots None)) (sym undo) did)
+      where
+        idle_view : State → Managed
+        idle_view s = record { slots = length slots; mode = mode_of translation; placement = placement; rules = rules.rules; bits = bits_of translation; state = s; held = None }

@@ -1,0 +1,12 @@
+-- What a batch is judged by, what its plan is, and what the plan leads to.
+pub mod Judged
+pub mod Meant
+pub mod Parted
+pub mod Since
+pub mod Aimed
+pub mod Padded
+pub mod Translated
+pub mod Leading
+pub mod Taken
+pub mod Refused
+pub mod Holding

@@ -1,0 +1,167 @@
+-- What is left of an unfinished commit that comes to its end by the manager that it has, whichever that is.
+use Rattle.std.proofs.Common.{◌≡◌, ℕ, ◌+◌, ◌-◌, ◌^◌, ◌<◌, ◌≤◌, inl, List, [], ◌++◌, Option, Some, None, IfSome, length, length-append, refl, sym, ap, ◌∙◌, subst, append_assoc, arith}
+use Rattle.tcam_device.specs.declared.Action.{Action}
+use Rattle.tcam_device.specs.Flight.{writes_in}
+use Rattle.batch_order.specs.Managed.{Managed, HeldCommit, writes_due}
+use Rattle.commit_writes.proofs.WritesIn.{writes_in-append}
+use Rattle.replay.specs.declared.fate.Fate.{Fate}
+use Rattle.replay.specs.declared.fate.Fate.TheVariants as fates
+use Rattle.replay.specs.declared.watch.Count.{Count}
+use Rattle.replay.specs.declared.steps.Ended.{Ended}
+use Rattle.replay.specs.Effects.{Effect, effects_of}
+use Rattle.replay.specs.Run.{Progress}
+use Rattle.replay.specs.Crashing.{HasMoreThan}
+use Rattle.replay.specs.Fates.{IsBefore, IsWithinCrash, crash_of, most_of}
+use Rattle.replay.specs.Running.{Running, Watching, HasCome, IsHalfway, IsRun, MakesAll, MakesSome, MayTurn, ended_line, goes_back, left_of, rest_of, setting_of, watching}
+use Rattle.replay.specs.Unfinished.{IsUnfinished, StandsHalfway}
+use Rattle.replay.proofs.making.Acting.{some-held}
+use Rattle.replay.proofs.course.Course.{Course, Ending, count_of}
+use Rattle.replay.proofs.making.Making.{then-left}
+use Rattle.replay.proofs.making.Upto.{left-writes}
+use Rattle.replay.proofs.course.Returning.{IsWithin}
+use Rattle.replay.proofs.between.Halfway.{actions-left, after-writes, begun-holds, ended-run, few-left, few-made, halfway-more, held_begun, idle-now, line, line-same, made-run_held, may-half, run_ended, slots-now, told-from, whole-forward, whole_actions}
+use Rattle.replay.proofs.flight.Leftover.{few-waiting}
+use Rattle.replay.proofs.course.Resuming.{began, course-half, ending-half, so_far}
+
+-- its actions are made, and it ends so
+pub record EndsWith (run : Running) (now : Managed) (count : Count) (end : Ended) (line : List ℕ) (ended : Running) : Type 0 where
+  pub idle : now.held ≡ None
+  pub same_slots : now.slots ≡ run.manager.slots
+  pub few : count.told ≤ 2 ^ 40 - 1
+  -- what it is before its batch is dropped, and then
+  pub closing : IsRun (record run { manager = now; told = 0; waiting = 0; fate = fates.ToTheEnd })
+  pub ended_is : IsRun ended
+  pub counted : (counted : Running) → counted ≡ record run { manager = now; told = 0; waiting = 0; fate = fates.ToTheEnd; pending = []; commits = run.commits + 1 }
+      → (◌≡◌ {A = Running} (record counted { writes = counted.writes + count.told }) ended) × (ended_line counted.commits run.fate end count.told ≡ line)
+
+-- its course to its end, and what making its actions comes to
+pub record Rest (slots : ℕ) (before : Progress) (front : List Effect) (run : Running) : Type 1 where
+  pub course : Course slots before front run
+  pub line : List ℕ
+  pub ended : Running
+  pub ending : Ending slots before front run course line ended
+  -- few writes are left, and it may be turned round
+  pub few_left : IfSome run.manager.held (λ held. run.told + length (writes_in (left_of (rest_of (most_of run.fate) run.told) run.manager.state held)) ≤ 2 ^ 40)
+  pub may_turn : MayTurn (most_of run.fate) run.manager.held
+  pub few_waiting : run.waiting ≤ run.depth
+  -- the actions that are left are those that are made
+  pub part : (now : Managed) (some : MakesSome (most_of run.fate) run.told run.manager now) → course.left ≡ some.made ++ some.left
+  pub actions : (Seen : Type 0) (watch : Watching) (width : ℕ) (count : Count) (end : Ended) (now : Managed) (events events_now : List Action) (taken taken_now : Option (List ℕ))
+      (all : MakesAll Seen (most_of run.fate) run.manager watch width (count_of run) count end now events events_now taken taken_now) → all.actions ≡ course.left
+  -- with some of them made it is unfinished
+  pub more : (now : Managed) (count : Count) (some : MakesSome (most_of run.fate) run.told run.manager now) → HasCome (watching run) (count_of run) count some.made
+      → IsUnfinished slots before (effects_of (setting_of run) run.probes 0 0 before.state (course.made ++ some.made)) (record run { manager = now; told = count.told; waiting = count.waiting })
+  -- and with all of them it ends
+  pub ends : (Seen : Type 0) (watch : Watching) (width : ℕ) (count : Count) (end : Ended) (now : Managed) (events events_now : List Action) (taken taken_now : Option (List ℕ))
+      → MakesAll Seen (most_of run.fate) run.manager watch width (count_of run) count end now events events_now taken taken_now → EndsWith run now count end line ended
+
+-- ---- by its first manager
+
+-- one that crashes is no trial
+no-most : (fate : Fate) (limit : ℕ) → crash_of fate ≡ Some limit → most_of fate ≡ None
+no-most fates.ToTheEnd limit is = absurd (cc)
+no-most (fates.BackAfter most) limit is = absurd (cc)
+no-most (fates.CrashAfter after) limit is = refl
+no-most (fates.RestartedAfter after) limit is = absurd (cc)
+
+-- it has no more writes than come before its crash
+abbrev pub HasNoCrash : Running → Type 0
+HasNoCrash run = IfSome (crash_of run.fate) (λ after. ¬ (HasMoreThan after run))
+
+module _ (slots : ℕ) (run : Running) (half : IsHalfway run) (is : IsRun run) (inside : run.manager.slots ≤ slots) (none : HasNoCrash run) where
+  -- all its writes, those that were made and those that are left
+  whole-writes : most_of run.fate ≡ None → length (writes_in (whole_actions run half)) ≡ length (begun-holds run half).made
+  whole-writes straight =
+      ap length (whole-forward run half (ap (λ most. goes_back (rest_of most 0) (held_begun run half)) straight)).1
+
+  -- none of them comes past its crash
+  few-writes : (stop : Option ℕ) → crash_of run.fate ≡ stop → IsWithin stop (length (begun-holds run half).made)
+  few-writes None is_none = tt
+  few-writes (Some after) crashes =
+      let straight : most_of run.fate ≡ None = no-most run.fate after crashes in
+      let told = half.told in
+      let all = whole-writes straight in
+      let parts : length (writes_in (whole_actions run half)) ≡ length (writes_in half.some.made) + length (writes_in half.some.left) =
+      ap length (writes_in-append half.some.made half.some.left) ∙ length-append (writes_in half.some.made) (writes_in half.some.left) in
+      let due : length (writes_due half.some.one) ≡ length (writes_in half.some.left) = due-left straight in
+      let never : ¬ (after < run.told + length (writes_due half.some.one)) =
+      subst (λ held. ¬ (IfSome held (λ (one : HeldCommit). after < run.told + length (writes_due one)))) (some-held (most_of run.fate) 0 half.begun run.manager half.some)
+      (subst (λ stop. IfSome stop (λ limit. ¬ (HasMoreThan limit run))) crashes none) in
+      omega (arith, never)
+    where
+      due-left : most_of run.fate ≡ None → length (writes_due half.some.one) ≡ length (writes_in half.some.left)
+      due-left straight = ap length (sym (left-writes run.manager.state half.some.one)) ∙ ap (λ most. length (writes_in (left_of (rest_of most (0 + length (writes_in half.some.made))) run.manager.state half.some.one))) (sym straight)
+          ∙ ap (λ actions. length (writes_in actions)) half.some.left_is
+
+  few : IsWithin (crash_of run.fate) (length (begun-holds run half).made)
+  few = few-writes (crash_of run.fate) refl
+
+  -- where it stands with some of them made, none of them past the crash
+  still-before : (now : Managed) (some : MakesSome (most_of run.fate) run.told run.manager now) → IsBefore (crash_of run.fate) 0 (half.some.made ++ some.made) some.left
+  still-before now some = go (crash_of run.fate) refl
+    where
+      go : (stop : Option ℕ) → crash_of run.fate ≡ stop → IsBefore stop 0 (half.some.made ++ some.made) some.left
+      go None is_none = tt
+      go (Some after) crashes = λ more.
+          let whole = then-left (most_of run.fate) 0 run.told half.begun run.manager now half.some (told-from run half) some in
+          let all : length (writes_in ((half.some.made ++ some.made) ++ some.left)) ≡ length (begun-holds run half).made =
+          ap (λ actions. length (writes_in actions)) (append_assoc half.some.made some.made some.left ∙ ap (λ actions. half.some.made ++ actions) (sym whole)) ∙ whole-writes (no-most run.fate after crashes) in
+          let within = few-writes (Some after) crashes in
+          absurd (omega (arith, more))
+
+  still-within : (now : Managed) (count : Count) (some : MakesSome (most_of run.fate) run.told run.manager now) → HasCome (watching run) (count_of run) count some.made → IsWithinCrash (crash_of run.fate) count.told
+  still-within now count some come = go (crash_of run.fate) refl
+    where
+      go : (stop : Option ℕ) → crash_of run.fate ≡ stop → IsWithinCrash stop count.told
+      go None is_none = tt
+      go (Some after) crashes =
+          let whole = then-left (most_of run.fate) 0 run.told half.begun run.manager now half.some (told-from run half) some in
+          let sizes : length (writes_in half.some.left) ≡ length (writes_in some.made) + length (writes_in some.left) =
+          ap (λ actions. length (writes_in actions)) whole ∙ ap length (writes_in-append some.made some.left) ∙ length-append (writes_in some.made) (writes_in some.left) in
+          let parts : length (writes_in (whole_actions run half)) ≡ length (writes_in half.some.made) + length (writes_in half.some.left) =
+          ap length (writes_in-append half.some.made half.some.left) ∙ length-append (writes_in half.some.made) (writes_in half.some.left) in
+          let all = whole-writes (no-most run.fate after crashes) in
+          let within = few-writes (Some after) crashes in
+          let told = half.told in
+          let told_now = come.told in
+          omega arith
+
+  pub rest-half : Rest slots (began slots run half is inside) (so_far slots run half is inside) run
+  rest-half = record {
+    course = course-half slots run half is inside few;
+    line = line run half;
+    ended = run_ended run half;
+    ending = ending-half slots run half is inside few;
+    part = λ now some. then-left (most_of run.fate) 0 run.told half.begun run.manager now half.some (told-from run half) some;
+    actions = λ Seen watch width count end now events events_now taken taken_now all. actions-left Seen run half watch width count end now events events_now taken taken_now all;
+    more = λ now count some come. inl (record {
+      halfway = halfway-more run now count half some come (still-before now some) (still-within now count some come);
+      before_is = refl;
+      front_is = ap (λ setting. effects_of setting run.probes 0 0 (began slots run half is inside).state (half.some.made ++ some.made)) (setting-more now count some);
+    });
+    few_left = few-left run half;
+    may_turn = may-half run half;
+    few_waiting = few-waiting run half;
+    ends = λ Seen watch width count end now events events_now taken taken_now all. record {
+      idle = idle-now Seen run half watch width count end now events events_now taken taken_now all;
+      same_slots = slots-now Seen run half watch width count end now events events_now taken taken_now all;
+      few = few-made Seen run half watch width count end now events events_now taken taken_now all;
+      closing = made-run_held Seen run half watch width count end now events events_now taken taken_now all is;
+      ended_is = ended-run Seen run half watch width count end now events events_now taken taken_now all is;
+      counted = λ counted closed. (
+        after-writes Seen run half watch width count end now events events_now taken taken_now all counted closed,
+        line-same Seen run half watch width count end now events events_now taken taken_now all counted closed,
+      );
+    };
+  }
+    where
+      setting-more : (now : Managed) (count : Count) → (some : MakesSome (most_of run.fate) run.told run.manager now) → setting_of run ≡ setting_of (record run { manager = now; told = count.told; waiting = count.waiting })
+      setting-more now count some = sym (ap (λ (manager : Managed). setting_of (record run { manager = manager })) some.now_is)
+
+-- what holds of the effects that such a commit had holds of those that are said of it
+pub as-halfway : (slots : ℕ) (before : Progress) (front : List Effect) (run : Running) (stands : StandsHalfway slots before front run) (is : IsRun run) (inside : run.manager.slots ≤ slots) → HasNoCrash run → Rest slots before front run
+as-halfway slots before front run stands is inside none =
+    let half = stands.halfway in
+    subst (λ (at : Progress). Rest slots at front run) (sym stands.before_is)
+    (subst (λ effects. Rest slots (began slots run half is inside) effects run) (sym (stands.front_is ∙ ap (λ (at : Progress). effects_of (setting_of run) run.probes 0 0 at.state half.some.made) stands.before_is))
+    (rest-half slots run half is inside none))

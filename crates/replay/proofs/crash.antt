@@ -1,0 +1,8 @@
+-- A commit that crashes, up to there and over it.
+pub mod Anew
+pub mod Coming
+pub mod Crashed
+pub mod Onward
+pub mod Over
+pub mod RestOnward
+pub mod ToCrash

@@ -1,0 +1,161 @@
+-- What the first part of a commit that crashes comes to, by what the run is before.
+use Rattle.std.proofs.Common.{◌≡◌, ◌≢◌, ◌⊎◌, ℕ, ◌+◌, ◌-◌, ◌^◌, ◌<◌, ◌≤◌, inl, inr, List, ◌++◌, Option, Some, None, IfSome, IsSome, Result, Ok, Err, IfErr, OnOk, length, length-append, refl, sym, ap, ◌∙◌, subst, arith}
+use Rattle.std.specs.Prelude.{option_map}
+use Rattle.tcam_device.specs.declared.Action.{Action}
+use Rattle.tcam_device.specs.Flight.{Flight, writes_in}
+use Rattle.commit_writes.specs.InFlight.{AreCurrent}
+use Rattle.commit_writes.proofs.WritesIn.{writes_in-append}
+use Rattle.batch_order.specs.Managed.{HeldCommit, Managed, live_now, writes_due}
+use Rattle.replay.specs.declared.RunFault.{RunFault}
+use Rattle.replay.specs.declared.RunFault.TheVariants as fault
+use Rattle.replay.specs.declared.fate.Fate.TheVariants as fates
+use Rattle.replay.specs.declared.watch.Count.{Count}
+use Rattle.replay.specs.Effects.{Effect}
+use Rattle.replay.specs.Run.{Progress}
+use Rattle.replay.specs.Carried.{IsAt}
+use Rattle.replay.specs.Fates.{IsUpTo, commit_act}
+use Rattle.replay.specs.InFlight.{AreOf, IsSeen}
+use Rattle.replay.specs.Pausing.{MakesUpTo}
+use Rattle.replay.specs.Running.{Running, AreLeft, HasCome, IsRun, MakesSome, progress_of, setting_of, watching}
+use Rattle.replay.specs.Unfinished.{IsUnfinished}
+use Rattle.replay.specs.Crashing.{ComesToCrash, HasMoreThan, IsAtCrash}
+use Rattle.replay.proofs.making.Acting.{some-held}
+use Rattle.replay.proofs.course.Course.{count_of}
+use Rattle.replay.proofs.between.Halfway.{cut-run}
+use Rattle.replay.proofs.flight.Leftover.{few-waiting, left-of}
+use Rattle.replay.proofs.crash.ToCrash.{IsToStop, comes-to, crashing, few-due, held-few, held-forward, held-more, stands-some, still-half, stop-at}
+use Rattle.replay.proofs.making.Upto.{left-writes}
+
+-- few writes were told and are left, by their number
+pub few-told : (after : ℕ) (base now : Running) → base ≡ now → IsRun base → IsSome now.manager.held → base.fate ≡ fates.CrashAfter after
+    → (left : ℕ) → Some left ≡ option_map (λ held. length (writes_due held)) base.manager.held → base.told + left ≤ 2 ^ 40
+few-told after base now view_is is held fate_is left left_is =
+    go base.manager.held (few-due after base is (subst (λ (r : Running). IsSome r.manager.held) (sym view_is) held) fate_is) left_is
+  where
+    go : (held : Option HeldCommit) → IfSome held (λ one. base.told + length (writes_due one) ≤ 2 ^ 40) → Some left ≡ option_map (λ one. length (writes_due one)) held → base.told + left ≤ 2 ^ 40
+    go (Some one) few some = let same : left ≡ length (writes_due one) = cc in omega arith
+    go None few none = absurd (cc)
+
+-- some actions are made, and none past the crash
+pub record MadeUpTo (after : ℕ) (base : Running) (now : Managed) (count : Count) (events_old events_new : List Action) : Type 0 where
+  pub some : MakesSome None base.told base.manager now
+  pub come : HasCome (watching base) (count_of base) count some.made
+  pub before : IsUpTo (after - base.told) some.made some.left
+  pub few : count.told ≤ after
+  pub events : events_new ≡ events_old ++ some.made
+
+made-up_to : (Seen : Type 0) (slots after : ℕ) (base : Running) (result : Result (Unit {0}) RunFault) (now : Managed) (count : Count) (events_old events_new : List Action) (taken taken_new : Option (List ℕ))
+    → MakesUpTo Seen after base.manager now (watching base) slots (count_of base) count result events_old events_new taken taken_new → MadeUpTo after base now count events_old events_new
+made-up_to Seen slots after base (Ok done) now count events_old events_new taken taken_new pauses =
+    let reached = pauses.reached in
+    record { some = pauses.some; come = pauses.come; before = pauses.before; few = omega arith; events = pauses.events }
+made-up_to Seen slots after base (Err fault.Sink) now count events_old events_new taken taken_new (stops, before, few, cuts) =
+    record { some = stops.some; come = stops.come; before = before; few = few; events = stops.events }
+made-up_to Seen slots after base (Err fault.Device) now count events_old events_new taken taken_new (stops, before, below) =
+    record { some = stops.some; come = stops.come; before = before; few = omega (arith, below); events = stops.events }
+made-up_to Seen slots after base (Err fault.Memory) now count events_old events_new taken taken_new stops = absurd stops
+
+module _ (slots after : ℕ) (base began : Running) (view_is : base ≡ began) (is : IsRun base) (within : began.manager.slots ≤ slots) (held : IsSome began.manager.held) (fate_is : began.fate ≡ fates.CrashAfter after) (more : HasMoreThan after began) where
+  stop : IsToStop after base
+  stop = stop-at after base began view_is is held fate_is more
+
+  more_base : HasMoreThan after base
+  more_base = subst (HasMoreThan after) (sym view_is) more
+
+  inside : base.manager.slots ≤ slots
+  inside = subst (λ (r : Running). r.manager.slots ≤ slots) (sym view_is) within
+
+  -- what its writes are asked for
+  pub asks-waiting : base.waiting ≤ base.depth
+  asks-waiting = few-waiting (crashing after base) stop.half
+
+  pub asks-forward : IfSome base.manager.held (λ one. one.turned ≡ None)
+  asks-forward = held-forward after base stop.half
+
+  pub asks-more : IfSome base.manager.held (λ one. after < base.told + length (writes_in one.actions))
+  asks-more = held-more after base stop.half more_base
+
+  pub asks-few : IfSome base.manager.held (λ one. base.told + length (writes_in one.actions) ≤ 2 ^ 40)
+  asks-few = held-few after base stop.half
+
+  module _ (Seen : Type 0) (result : Result (Unit {0}) RunFault) (now : Managed) (count : Count) (events_old events_new : List Action) (taken taken_new : Option (List ℕ))
+      (makes : MakesUpTo Seen after base.manager now (watching base) slots (count_of base) count result events_old events_new taken taken_new) where
+    abbrev new : Running
+    new = record base { manager = now; told = count.told; waiting = count.waiting }
+
+    made : MadeUpTo after base now count events_old events_new
+    made = made-up_to Seen slots after base result now count events_old events_new taken taken_new makes
+
+    held-now : now.held ≡ Some made.some.one
+    held-now = some-held None base.told base.manager now made.some
+
+    pub run-first : IsRun new
+    run-first =
+        subst IsRun (sym (ap (λ (r : Running). record r { manager = now; told = count.told; waiting = count.waiting }) stop.same))
+        (cut-run (crashing after base) now count stop.is made.some (inl (still-half slots after base stop.half stop.is inside stop.more now count made.some made.come made.before made.few)))
+
+    pub setting-first : setting_of new ≡ setting_of began
+    setting-first = ap (λ (manager : Managed). setting_of (record base { manager = manager })) made.some.now_is ∙ ap setting_of view_is
+
+    pub left-first : (flight : Flight) → (result ≢ Err fault.Sink → AreOf base.probes count.waiting flight) → result ≢ Err fault.Sink → AreLeft new flight
+    left-first flight are not_sink = left-of new flight (subst (λ (one : Option HeldCommit). IsSome one) (sym held-now) refl) (are not_sink)
+
+    -- the device is where the run stands
+    pub stands-first : (slots_new : ℕ) → slots_new ≡ slots → OnOk result (IsAt slots events_old (progress_of slots began) → IsAt slots_new events_new (progress_of slots_new new))
+    stands-first slots_new same = go result
+      where
+        at-new : IsAt slots events_old (progress_of slots began) → IsAt slots events_new (progress_of slots new)
+        at-new at =
+            stands-some slots after base stop.half stop.is inside stop.more now count made.some made.come made.before made.few events_old events_new
+            (subst (λ (r : Running). IsAt slots events_old (progress_of slots r)) (sym view_is) at) made.events
+
+        go : (one : Result (Unit {0}) RunFault) → OnOk one (IsAt slots events_old (progress_of slots began) → IsAt slots_new events_new (progress_of slots_new new))
+        go (Ok done) = λ at. subst (λ n. IsAt n events_new (progress_of n new)) (sym same) (at-new at)
+        go (Err why) = tt
+
+  -- at its crash it has more
+  pub at-first : (Seen : Type 0) (result : Result (Unit {0}) RunFault) (now : Managed) (count : Count) (events_old events_new : List Action) (taken taken_new : Option (List ℕ))
+      → MakesUpTo Seen after base.manager now (watching base) slots (count_of base) count result events_old events_new taken taken_new
+      → OnOk result (IsAtCrash after (record base { manager = now; told = count.told; waiting = count.waiting }))
+  at-first Seen (Ok done) now count events_old events_new taken taken_new pauses =
+      let reached = pauses.reached in
+      let number = pauses.come.told in
+      let some = pauses.more in
+      let parts : length (writes_in (pauses.some.made ++ pauses.some.left)) ≡ length (writes_in pauses.some.made) + length (writes_in pauses.some.left) =
+      ap length (writes_in-append pauses.some.made pauses.some.left) ∙ length-append (writes_in pauses.some.made) (writes_in pauses.some.left) in
+      let due : length (writes_due pauses.some.one) ≡ length (writes_in pauses.some.left) =
+      ap length (sym (left-writes now.state pauses.some.one)) ∙ ap (λ actions. length (writes_in actions)) pauses.some.left_is in
+      let left : after < count.told + length (writes_due pauses.some.one) = omega arith in
+      record {
+        fate_is = ap (λ (r : Running). r.fate) stop.same;
+        told_is = reached;
+        held = subst (λ (one : Option HeldCommit). IsSome one) (sym (some-held None base.told base.manager now pauses.some)) refl;
+        more = subst (λ one. IfSome one (λ (x : HeldCommit). after < count.told + length (writes_due x))) (sym (some-held None base.told base.manager now pauses.some)) left;
+      }
+  at-first Seen (Err why) now count events_old events_new taken taken_new stops = tt
+
+  pub kind-first : (Seen : Type 0) (result : Result (Unit {0}) RunFault) (now : Managed) (count : Count) (events_old events_new : List Action) (taken taken_new : Option (List ℕ))
+      → MakesUpTo Seen after base.manager now (watching base) slots (count_of base) count result events_old events_new taken taken_new
+      → IfErr result (λ why. (why ≡ fault.Sink) ⊎ (why ≡ fault.Device))
+  kind-first Seen (Ok done) now count events_old events_new taken taken_new pauses = tt
+  kind-first Seen (Err fault.Sink) now count events_old events_new taken taken_new stops = inl refl
+  kind-first Seen (Err fault.Device) now count events_old events_new taken taken_new stops = inr refl
+  kind-first Seen (Err fault.Memory) now count events_old events_new taken taken_new stops = absurd stops
+
+  module _ (before : Progress) (front : List Effect) (unfinished : IsUnfinished slots before front began) (events_old : List Action) (flight : Flight) (at : IsAt slots events_old (progress_of slots began)) (current : AreCurrent (live_now began.manager) flight) where
+    at_base : IsAt slots events_old (progress_of slots base)
+    at_base = subst (λ (r : Running). IsAt slots events_old (progress_of slots r)) (sym view_is) at
+
+    current_base : AreCurrent (live_now base.manager) flight
+    current_base = subst (λ (r : Running). AreCurrent (live_now r.manager) flight) (sym view_is) current
+
+    pub comes-first : (result : Result (Unit {0}) RunFault) (now : Managed) (count : Count) (events_new : List Action) (taken taken_new : Option (List ℕ)) (flight_new : Flight)
+        → MakesUpTo (IsSeen slots events_old flight base.manager) after base.manager now (watching base) slots (count_of base) count result events_old events_new taken taken_new
+        → (slots_new : ℕ) → slots_new ≡ slots → (result ≢ Err fault.Sink → IsSeen slots events_old flight base.manager → IsSeen slots_new events_new flight_new now)
+        → ComesToCrash slots before (commit_act began.fate) front (record base { manager = now; told = count.told; waiting = count.waiting }) result events_old events_new flight_new taken taken_new
+    comes-first result now count events_new taken taken_new flight_new makes slots_new same seen_new =
+        let seen : IsSeen slots events_old flight base.manager = record { on = at_base; current = current_base } in
+        let stands : IsUnfinished slots before front base = subst (IsUnfinished slots before front) (sym view_is) unfinished in
+        subst (λ fate. ComesToCrash slots before (commit_act fate) front (record base { manager = now; told = count.told; waiting = count.waiting }) result events_old events_new flight_new taken taken_new)
+        (ap (λ (r : Running). r.fate) view_is)
+        (comes-to slots after base stop more_base inside before front stands events_old events_new flight flight_new at_base current_base result now count taken taken_new makes (λ not_sink. (seen_new not_sink seen).current))

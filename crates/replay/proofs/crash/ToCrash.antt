@@ -1,0 +1,359 @@
+-- The first part of a commit that crashes: its course up to there.
+use Rattle.std.proofs.Common.{◌≡◌, ◌≢◌, ℕ, ◌+◌, ◌-◌, ◌^◌, ◌<◌, ◌≤◌, inl, inr, true, false, List, [], ◌∷◌, ◌++◌, Option, Some, None, IfSome, IsSome, Result, Ok, Err, length, length-append, refl, sym, ap, ◌∙◌, subst, append_assoc, append-nil, arith}
+use Rattle.std.specs.List.{AllByRecursion}
+use Rattle.tcam_device.specs.declared.Action.{Action}
+use Rattle.tcam_device.specs.declared.Action.TheVariants.{Written}
+use Rattle.tcam_device.specs.Flight.{Flight, writes_in}
+use Rattle.tcam_device.specs.State.{IsInUse, on_device}
+use Rattle.tcam_device.proofs.Wider.{all_take}
+use Rattle.commit_writes.specs.Actions.{up_to_writes}
+use Rattle.commit_writes.specs.InFlight.{AreCurrent}
+use Rattle.commit_writes.proofs.WritesIn.{writes_in-append}
+use Rattle.batch_order.specs.Managed.{HeldCommit, Managed, live_now, writes_due}
+use Rattle.replay.specs.declared.RunFault.{RunFault}
+use Rattle.replay.specs.declared.RunFault.TheVariants as fault
+use Rattle.replay.specs.declared.fate.Fate.TheVariants as fates
+use Rattle.replay.specs.declared.watch.Count.{Count}
+use Rattle.replay.specs.Effects.{Setting, Effect, Prints, effects_of}
+use Rattle.rule_store.specs.Verdict.{Accepted, verdict}
+use Rattle.replay.specs.Run.{Progress, Commits, CrashesIn, StopsAtCrash, actions_before, actions_for, carried}
+use Rattle.replay.specs.Text.{accepted_line}
+use Rattle.replay.specs.Carried.{IsAt}
+use Rattle.replay.specs.Fates.{IsUpTo, commit_act}
+use Rattle.replay.specs.Pausing.{MakesUpTo}
+use Rattle.replay.specs.Crashing.{ComesToCrash, HasMoreThan}
+use Rattle.replay.specs.InFlight.{IsSeen}
+use Rattle.replay.specs.Running.{Running, HasCome, IsHalfway, IsRun, IsUnderWay, MakesSome, first_actions, goes_back, left_in, left_of, progress_of, setting_of, turns_in, watching}
+use Rattle.replay.specs.Unfinished.{IsUnfinished, StandsHalfway}
+use Rattle.replay.proofs.course.Course.{Course, at-more, breaks, count_of, does-made, later, stays, told-then}
+use Rattle.replay.proofs.making.Upto.{left-writes, next-up_to}
+use Rattle.replay.proofs.making.Acting.{some-held}
+use Rattle.replay.proofs.between.Halfway.{begun-is, few-left, halfway-more, held-same, held_begun, run_begun, setting-begun, told-from, whole-forward, whole_actions}
+use Rattle.replay.proofs.making.Making.{then-left}
+use Rattle.replay.proofs.course.Resuming.{began, left-in_use, so_far, state-now, within_begun}
+use Rattle.replay.proofs.course.Returning.{writes-up_to}
+use Rattle.replay.proofs.between.Runs.{commits-with, run_after}
+
+-- what comes before a crash does so in two parts
+before-then : (after : ℕ) (first left more rest : List Action) → length (writes_in first) ≤ after → left ≡ more ++ rest → IsUpTo after first left → IsUpTo (after - length (writes_in first)) more rest → IsUpTo after (first ++ more) rest
+before-then after first left more rest within parts was is enough =
+    let whole : (first ++ more) ++ rest ≡ first ++ left = append_assoc first more rest ∙ ap (λ actions. first ++ actions) (sym parts) in
+    let all : after < length (writes_in (first ++ left)) = subst (λ actions. after < length (writes_in actions)) whole enough in
+    let sizes : length (writes_in (first ++ left)) ≡ length (writes_in first) + length (writes_in left) =
+    ap length (writes_in-append first left) ∙ length-append (writes_in first) (writes_in left) in
+    let parts_size : length (writes_in left) ≡ length (writes_in (more ++ rest)) = ap (λ actions. length (writes_in actions)) parts in
+    let both : length (writes_in (first ++ more)) ≡ length (writes_in first) + length (writes_in more) =
+    ap length (writes_in-append first more) ∙ length-append (writes_in first) (writes_in more) in
+    let same : after - length (writes_in first) - length (writes_in more) ≡ after - length (writes_in (first ++ more)) = omega arith in
+    ap (up_to_writes after) whole ∙ was all
+    ∙ ap (λ actions. first ++ up_to_writes (after - length (writes_in first)) actions) parts
+    ∙ ap (λ actions. first ++ actions) (later enough)
+    ∙ sym (append_assoc first more (up_to_writes (after - length (writes_in first) - length (writes_in more)) rest))
+    ∙ ap (λ n. (first ++ more) ++ up_to_writes n rest) same
+  where
+    later : after < length (writes_in ((first ++ more) ++ rest)) → up_to_writes (after - length (writes_in first)) (more ++ rest) ≡ more ++ up_to_writes (after - length (writes_in first) - length (writes_in more)) rest
+    later enough = is (
+        let whole : length (writes_in ((first ++ more) ++ rest)) ≡ length (writes_in first) + length (writes_in (more ++ rest)) =
+        ap (λ actions. length (writes_in actions)) (append_assoc first more rest) ∙ ap length (writes_in-append first (more ++ rest)) ∙ length-append (writes_in first) (writes_in (more ++ rest)) in
+        omega arith)
+
+-- a run whose commit is to crash behind so many writes
+abbrev pub crashing : ℕ → Running → Running
+crashing after base = record base { fate = fates.CrashAfter after }
+
+module _ (slots after : ℕ) (base : Running) (half : IsHalfway (crashing after base)) (is : IsRun (crashing after base)) (inside : base.manager.slots ≤ slots) (more : after < length half.holds.1.made) where
+  abbrev run : Running
+  run = crashing after base
+
+  abbrev first : Progress
+  first = began slots run half is inside
+
+  abbrev begun_setting : Setting
+  begun_setting = setting_of (run_begun run half)
+
+  -- all actions of the commit, those that were made and those that are left
+  whole-commit : whole_actions run half ≡ (held_begun run half).actions
+  whole-commit = (whole-forward run half refl).0
+
+  whole-writes : length (writes_in (whole_actions run half)) ≡ length half.holds.1.made
+  whole-writes = ap length (whole-forward run half refl).1
+
+  first-before : IsUpTo after half.some.made half.some.left
+  first-before =
+      let none : after - 0 ≡ after = omega arith in
+      subst (λ n. IsUpTo n half.some.made half.some.left) none half.before
+
+  -- what is left up to the crash
+  abbrev pub left_first : List Action
+  left_first = up_to_writes (after - length (writes_in half.some.made)) half.some.left
+
+  pub whole-first : half.some.made ++ left_first ≡ actions_before (setting_of run) first after half.holds.1.made
+  whole-first =
+      subst (λ setting. half.some.made ++ left_first ≡ actions_before setting first after half.holds.1.made) (sym (setting-begun run half))
+      (sym (first-before (subst (λ n. after < n) (sym whole-writes) more)) ∙ ap (up_to_writes after) whole-commit)
+
+  pub first-made : half.some.made ++ left_first ≡ first_actions run half.begun half.holds.1.made after
+  first-made = sym (first-before (subst (λ n. after < n) (sym whole-writes) more)) ∙ ap (up_to_writes after) whole-commit
+
+  abbrev whole_commit_effects : List Effect
+  whole_commit_effects = carried begun_setting first (actions_for begun_setting first half.holds.1.made) ++ Prints (accepted_line (run.commits + 1) half.holds.0) ∷ []
+
+  pub crashes-in : CrashesIn (setting_of run) first after half.holds.1.made
+  crashes-in = subst (λ setting. CrashesIn setting first after half.holds.1.made) (sym (setting-begun run half)) (record {
+    segment = commits.segment;
+    placed = commits.placed;
+    of_family = commits.of_family;
+    in_use = commits.in_use;
+    counts = commits.counts;
+    numbers = commits.numbers;
+    more = more;
+  })
+    where
+      commits : Commits begun_setting first whole_commit_effects (progress_of slots (run_after (run_begun run half) half.holds.1.made half.holds.0))
+      commits = commits-with (run_begun run half) half.holds.0 (begun-is run half is) half.holds.1 slots (within_begun slots run half is inside) whole_commit_effects refl
+
+  pub accepted-run : verdict (setting_of run).slots (setting_of run).mode half.begun.rules run.pending ≡ Accepted
+  accepted-run = subst (λ setting. verdict setting.slots setting.mode half.begun.rules run.pending ≡ Accepted) (sym (setting-begun run half)) half.accepted
+
+  abbrev pub course-first : Course slots first (so_far slots run half is inside) run
+  course-first = record {
+    made = half.some.made;
+    left = left_first;
+    probes = refl;
+    front_is = refl;
+    state = state-now slots run half is inside;
+    told = half.told;
+    waiting = half.waiting;
+    size = is.size;
+    in_use = subst (AllByRecursion (IsInUse run.manager.slots)) (sym (writes-up_to (after - length (writes_in half.some.made)) half.some.left))
+        (all_take (IsInUse run.manager.slots) (after - length (writes_in half.some.made)) (writes_in half.some.left) (left-in_use slots run half is inside));
+    cuts = λ some back due parts. inr (record {
+      after = after;
+      act_is = refl;
+      accepted = accepted-run;
+      made = half.holds.1.made;
+      crash = crashes-in;
+      back = back;
+      parts = ap (effects_of (setting_of run) run.probes 0 0 first.state) (sym whole-first) ∙ parts;
+    });
+  }
+
+  -- at the crash its effects are all that come before
+  pub stops-now : left_first ≡ [] → StopsAtCrash (setting_of run) first after (so_far slots run half is inside)
+  stops-now none = record {
+    made = half.holds.1.made;
+    crash = crashes-in;
+    effects_are = ap (effects_of (setting_of run) run.probes 0 0 first.state) (sym (append-nil half.some.made) ∙ ap (λ actions. half.some.made ++ actions) (sym none) ∙ whole-first);
+  }
+
+  -- more writes are left than come before the crash
+  pub enough-left : (now : Managed) (some : MakesSome None run.told run.manager now) → after - run.told < length (writes_in (some.made ++ some.left))
+  enough-left now some =
+      let told = half.told in
+      let within = half.within in
+      let whole = whole-writes in
+      let parts : length (writes_in (whole_actions run half)) ≡ length (writes_in half.some.made) + length (writes_in half.some.left) =
+      ap length (writes_in-append half.some.made half.some.left) ∙ length-append (writes_in half.some.made) (writes_in half.some.left) in
+      let left : length (writes_in half.some.left) ≡ length (writes_in (some.made ++ some.left)) =
+      ap (λ actions. length (writes_in actions)) (then-left None 0 run.told half.begun run.manager now half.some (told-from run half) some) in
+      omega arith
+
+  -- some actions more, none past the crash
+  module _ (now : Managed) (count : Count) (some : MakesSome None run.told run.manager now) (come : HasCome (watching run) (count_of run) count some.made) (before : IsUpTo (after - run.told) some.made some.left) (few : count.told ≤ after) where
+    abbrev pub new : Running
+    new = record run { manager = now; told = count.told; waiting = count.waiting }
+
+    pub parts-first : half.some.left ≡ some.made ++ some.left
+    parts-first = then-left None 0 run.told half.begun run.manager now half.some (told-from run half) some
+
+    pub now-before : IsUpTo (after - 0) (half.some.made ++ some.made) some.left
+    now-before =
+        let told = half.told in
+        let same : after - run.told ≡ after - length (writes_in half.some.made) = omega arith in
+        let none : after ≡ after - 0 = omega arith in
+        let within = half.within in
+        subst (λ n. IsUpTo n (half.some.made ++ some.made) some.left) none
+        (before-then after half.some.made half.some.left some.made some.left (omega arith) parts-first first-before (subst (λ n. IsUpTo n some.made some.left) same before))
+
+    abbrev pub still-half : IsHalfway new
+    still-half = halfway-more run now count half some come now-before few
+
+    -- the actions that are left up to the crash begin with them
+    pub left-first : left_first ≡ some.made ++ up_to_writes (after - run.told - length (writes_in some.made)) some.left
+    left-first =
+        let told = half.told in
+        let same : after - length (writes_in half.some.made) ≡ after - run.told = omega arith in
+        ap (λ n. up_to_writes n half.some.left) same ∙ ap (up_to_writes (after - run.told)) parts-first ∙ before (enough-left now some)
+
+    -- where the device is where the run stands it is so behind them
+    pub stands-some : (events_old events_new : List Action) → IsAt slots events_old (progress_of slots run) → events_new ≡ events_old ++ some.made → IsAt slots events_new (progress_of slots new)
+    stands-some events_old events_new at grown =
+        ap (λ (manager : Managed). on_device slots manager.state) some.now_is
+        ∙ at-more slots first (so_far slots run half is inside) run course-first events_old events_new at some.made (up_to_writes (after - run.told - length (writes_in some.made)) some.left) left-first grown
+
+    setting-new : setting_of new ≡ setting_of run
+    setting-new = ap (λ (manager : Managed). setting_of (record run { manager = manager })) some.now_is
+
+    pub unfinished-new : IsUnfinished slots first (so_far slots run half is inside ++ later slots first (so_far slots run half is inside) run course-first some.made) new
+    unfinished-new = inl (record {
+      halfway = still-half;
+      before_is = refl;
+      front_is = sym (told-then slots first (so_far slots run half is inside) run course-first some.made)
+          ∙ ap (λ setting. effects_of setting run.probes 0 0 first.state (half.some.made ++ some.made)) (sym setting-new);
+    })
+
+  -- what its first part comes to
+  module _ (events_old events_new : List Action) (flight flight_new : Flight) (at : IsAt slots events_old (progress_of slots run)) (current : AreCurrent (live_now run.manager) flight) where
+    abbrev Seen : Type 0
+    Seen = IsSeen slots events_old flight run.manager
+
+    seen : Seen
+    seen = record { on = at; current = current }
+
+    pub comes : (result : Result (Unit {0}) RunFault) (now : Managed) (count : Count) (old taken : Option (List ℕ))
+        → MakesUpTo Seen after run.manager now (watching run) slots (count_of run) count result events_old events_new old taken → (result ≢ Err fault.Sink → AreCurrent (live_now now) flight_new)
+        → ComesToCrash slots first (commit_act run.fate) (so_far slots run half is inside) (record run { manager = now; told = count.told; waiting = count.waiting }) result events_old events_new flight_new old taken
+    comes (Ok done) now count old taken pauses current_new =
+        let few : count.told ≤ after = let reached = pauses.reached in omega arith in
+        record {
+          more = later slots first (so_far slots run half is inside) run course-first pauses.some.made;
+          unfinished = unfinished-new now count pauses.some pauses.come pauses.before few;
+          does = does-made slots first (so_far slots run half is inside) run course-first events_old events_new at pauses.some.made old taken pauses.events (pauses.report seen);
+          stands = stands-some now count pauses.some pauses.come pauses.before few events_old events_new at pauses.events;
+          current = current_new (λ e. absurd (cc));
+        }
+    comes (Err fault.Device) now count old taken (stops, before, below) current_new =
+        let few : count.told ≤ after = omega (arith, below) in
+        let left = left-first now count stops.some stops.come before few in
+        let told = stops.come.told in
+        let ahead = after - run.told - length (writes_in stops.some.made) in
+        let some_left : 0 < ahead = omega (arith, below) in
+        let due : up_to_writes ahead stops.some.left ≡ Written stops.due ∷ up_to_writes (ahead - 1) stops.left =
+        ap (up_to_writes ahead) stops.left_is ∙ next-up_to ahead (Written stops.due) stops.left some_left in
+        stays slots first (so_far slots run half is inside) run course-first events_old events_new at (record run { manager = now; told = count.told; waiting = count.waiting })
+        stops.some.made (up_to_writes (ahead - 1) stops.left) stops.due flight_new old taken
+        (left ∙ ap (λ actions. stops.some.made ++ actions) due)
+        (ap (λ (manager : Managed). setting_of (record run { manager = manager })) stops.some.now_is)
+        refl
+        (ap (λ (manager : Managed). manager.state) stops.some.now_is)
+        stops.next stops.events (stops.report seen) (unfinished-new now count stops.some stops.come before few) (current_new (λ e. absurd (cc)))
+    comes (Err fault.Sink) now count old taken (stops, before, few, cuts) current_new =
+        breaks slots first (so_far slots run half is inside) run course-first events_old events_new at (record run { manager = now; told = count.told; waiting = count.waiting })
+        (stops.some.made ++ up_to_writes (after - run.told - length (writes_in stops.some.made)) stops.some.left) [] old taken
+        (left-first now count stops.some stops.come before few ∙ sym (append-nil (stops.some.made ++ up_to_writes (after - run.told - length (writes_in stops.some.made)) stops.some.left)))
+        (ap (λ (manager : Managed). setting_of (record run { manager = manager })) stops.some.now_is)
+        (cuts (enough-left now stops.some) seen)
+    comes (Err fault.Memory) now count old taken stops current_new = absurd stops
+
+-- one that isn't taken back isn't turned round
+pub goes-straight : (turned : Option ℕ) (actions : List Action) → turns_in turned None actions ≡ false → turned ≡ None
+goes-straight None actions on = refl
+goes-straight (Some undone) actions on = absurd (let bad : true ≡ false = on in cc)
+
+-- so the writes that are due are those of its actions
+module _ (after : ℕ) (run : Running) (half : IsHalfway (crashing after run)) where
+  abbrev one : HeldCommit
+  one = half.some.one
+
+  pub one-turned : one.turned ≡ None
+  one-turned = goes-straight one.turned one.actions (half.some.same.back ∙ ap (goes_back None) (held-same (crashing after run) half))
+
+  held-one : run.manager.held ≡ Some one
+  held-one = some-held None 0 half.begun run.manager half.some
+
+  due-one : writes_due one ≡ writes_in one.actions
+  due-one = ap (λ turned. elim turned [ None ↦ writes_in one.actions | Some undone ↦ one.undo ]) one-turned
+
+  left-one : left_of None run.manager.state one ≡ one.actions
+  left-one = ap (λ turned. left_in turned None run.manager.state one.actions one.undo) one-turned
+
+  pub held-forward : IfSome run.manager.held (λ held. held.turned ≡ None)
+  held-forward = subst (λ held. IfSome held (λ (x : HeldCommit). x.turned ≡ None)) (sym held-one) one-turned
+
+  pub held-more : HasMoreThan after run → IfSome run.manager.held (λ held. after < run.told + length (writes_in held.actions))
+  held-more more =
+      let due : after < run.told + length (writes_due one) = subst (λ held. IfSome held (λ (x : HeldCommit). after < run.told + length (writes_due x))) held-one more in
+      subst (λ held. IfSome held (λ (x : HeldCommit). after < run.told + length (writes_in x.actions))) (sym held-one) (subst (λ writes. after < run.told + length writes) due-one due)
+
+  pub held-few : IfSome run.manager.held (λ held. run.told + length (writes_in held.actions) ≤ 2 ^ 40)
+  held-few =
+      let few : run.told + length (writes_in (left_of None run.manager.state one)) ≤ 2 ^ 40 =
+      subst (λ held. IfSome held (λ (x : HeldCommit). run.told + length (writes_in (left_of None run.manager.state x)) ≤ 2 ^ 40)) held-one (few-left (crashing after run) half) in
+      subst (λ held. IfSome held (λ (x : HeldCommit). run.told + length (writes_in x.actions) ≤ 2 ^ 40)) (sym held-one) (subst (λ actions. run.told + length (writes_in actions) ≤ 2 ^ 40) left-one few)
+
+-- ---- by what a run is
+
+-- the commit of a run that is to crash, and has more writes
+pub record IsToStop (after : ℕ) (run : Running) : Type 0 where
+  pub same : run ≡ crashing after run
+  pub is : IsRun (crashing after run)
+  pub half : IsHalfway (crashing after run)
+  pub more : after < length half.holds.1.made
+
+-- all of its writes are those that were told and those that are left
+pub all-writes : (after : ℕ) (run : Running) (half : IsHalfway (crashing after run)) → length half.holds.1.made ≡ run.told + length (writes_due half.some.one)
+all-writes after run half =
+    let told = half.told in
+    let whole : length (writes_in (whole_actions (crashing after run) half)) ≡ length half.holds.1.made = ap length (whole-forward (crashing after run) half refl).1 in
+    let parts : length (writes_in (whole_actions (crashing after run) half)) ≡ length (writes_in half.some.made) + length (writes_in half.some.left) =
+    ap length (writes_in-append half.some.made half.some.left) ∙ length-append (writes_in half.some.made) (writes_in half.some.left) in
+    let due : length (writes_due half.some.one) ≡ length (writes_in half.some.left) =
+    ap length (sym (left-writes run.manager.state half.some.one)) ∙ ap (λ actions. length (writes_in actions)) half.some.left_is in
+    omega arith
+
+pub more-made : (after : ℕ) (run : Running) (half : IsHalfway (crashing after run)) → HasMoreThan after run → after < length half.holds.1.made
+more-made after run half more =
+    let due : after < run.told + length (writes_due half.some.one) =
+    subst (λ held. IfSome held (λ (one : HeldCommit). after < run.told + length (writes_due one))) (ap (λ (manager : Managed). manager.held) half.some.now_is) more in
+    let all = all-writes after run half in
+    omega arith
+
+-- while it is to crash it has its first manager
+first-half : (after : ℕ) (run : Running) → IsRun (crashing after run) → IsSome run.manager.held → IsHalfway (crashing after run)
+first-half after run is held = go (is.halfway held)
+  where
+    go : IsUnderWay (crashing after run) → IsHalfway (crashing after run)
+    go (inl half) = half
+    go (inr (slots, within, onward)) = absurd (let bad : fates.CrashAfter after ≡ fates.RestartedAfter onward.after = onward.fate_is in cc)
+
+pub to-stop : (after : ℕ) (run : Running) → IsRun run → IsSome run.manager.held → run.fate ≡ fates.CrashAfter after → HasMoreThan after run → IsToStop after run
+to-stop after run is held fate_is more =
+    let same : run ≡ crashing after run = ap (λ fate. record run { fate = fate }) fate_is in
+    let is_crashing : IsRun (crashing after run) = subst IsRun same is in
+    let half = first-half after run is_crashing held in
+    record { same = same; is = is_crashing; half = half; more = more-made after run half more }
+
+-- few writes were told and are left
+pub few-due : (after : ℕ) (run : Running) → IsRun run → IsSome run.manager.held → run.fate ≡ fates.CrashAfter after → IfSome run.manager.held (λ held. run.told + length (writes_due held) ≤ 2 ^ 40)
+few-due after run is held fate_is =
+    let half = first-half after run (subst IsRun (ap (λ fate. record run { fate = fate }) fate_is) is) held in
+    subst (λ held. IfSome held (λ (x : HeldCommit). run.told + length (writes_due x) ≤ 2 ^ 40)) (sym (held-one after run half))
+    (subst (λ writes. run.told + length writes ≤ 2 ^ 40) (left-writes run.manager.state half.some.one)
+    (subst (λ held. IfSome held (λ (x : HeldCommit). run.told + length (writes_in (left_of None run.manager.state x)) ≤ 2 ^ 40)) (held-one after run half) (few-left (crashing after run) half)))
+
+pub stop-at : (after : ℕ) (base now : Running) → base ≡ now → IsRun base → IsSome now.manager.held → now.fate ≡ fates.CrashAfter after → HasMoreThan after now → IsToStop after base
+stop-at after base now same is held fate_is more =
+    to-stop after base is (subst (λ (r : Running). IsSome r.manager.held) (sym same) held) (ap (λ (r : Running). r.fate) same ∙ fate_is) (subst (HasMoreThan after) (sym same) more)
+
+-- what its first part comes to, from where it began
+pub comes-to : (slots after : ℕ) (run : Running) (stop : IsToStop after run) → HasMoreThan after run → run.manager.slots ≤ slots → (before : Progress) (front : List Effect) → IsUnfinished slots before front run
+    → (events_old events_new : List Action) (flight flight_new : Flight) → IsAt slots events_old (progress_of slots run) → AreCurrent (live_now run.manager) flight
+    → (result : Result (Unit {0}) RunFault) (now : Managed) (count : Count) (old taken : Option (List ℕ))
+    → MakesUpTo (IsSeen slots events_old flight run.manager) after run.manager now (watching run) slots (count_of run) count result events_old events_new old taken → (result ≢ Err fault.Sink → AreCurrent (live_now now) flight_new)
+    → ComesToCrash slots before (commit_act run.fate) front (record run { manager = now; told = count.told; waiting = count.waiting }) result events_old events_new flight_new old taken
+comes-to slots after run stop more inside before front (inl stands) events_old events_new flight flight_new at current result now count old taken makes current_new =
+    let first : StandsHalfway slots before front (crashing after run) = subst (StandsHalfway slots before front) stop.same stands in
+    let half = first.halfway in
+    let start : Progress = began slots (crashing after run) half stop.is inside in
+    let so : front ≡ so_far slots (crashing after run) half stop.is inside =
+    first.front_is ∙ ap (λ (progress : Progress). effects_of (setting_of run) run.probes 0 0 progress.state half.some.made) first.before_is in
+    let fate_is : run.fate ≡ fates.CrashAfter after = ap (λ (r : Running). r.fate) stop.same in
+    subst (λ (new : Running). ComesToCrash slots before (commit_act run.fate) front new result events_old events_new flight_new old taken)
+    (sym (ap (λ (r : Running). record r { manager = now; told = count.told; waiting = count.waiting }) stop.same))
+    (subst (λ act. ComesToCrash slots before act front (record (crashing after run) { manager = now; told = count.told; waiting = count.waiting }) result events_old events_new flight_new old taken) (sym (ap commit_act fate_is))
+    (subst (λ progress. ComesToCrash slots progress (commit_act (fates.CrashAfter after)) front (record (crashing after run) { manager = now; told = count.told; waiting = count.waiting }) result events_old events_new flight_new old taken) (sym first.before_is)
+    (subst (λ effects. ComesToCrash slots start (commit_act (fates.CrashAfter after)) effects (record (crashing after run) { manager = now; told = count.told; waiting = count.waiting }) result events_old events_new flight_new old taken) (sym so)
+    (comes slots after run half stop.is inside (more-made after run half more) events_old events_new flight flight_new at current result now count old taken makes current_new))))
+comes-to slots after run stop more inside before front (inr stands) events_old events_new flight flight_new at current result now count old taken makes current_new =
+    absurd (let fate_is : run.fate ≡ fates.CrashAfter after = ap (λ (r : Running). r.fate) stop.same in
+    let bad : fates.CrashAfter after ≡ fates.RestartedAfter stands.onward.after = sym fate_is ∙ stands.onward.fate_is in cc)

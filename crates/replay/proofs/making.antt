@@ -1,0 +1,8 @@
+-- The actions of a commit under way, as they are made and told.
+pub mod Making
+pub mod Acting
+pub mod Upto
+pub mod Stopping
+pub mod Wrapped
+pub mod Tries
+pub mod Reported
