@@ -41,6 +41,57 @@ pub record IsShown (pieces changed : List RankedPiece) (all : List LivePiece) (h
   pub told : IsTold pieces changed all held rewrites one
   pub is : told.now ≡ ranked
 
+-- while pieces are inserted the old ones stand, and a new one leads those still to come
+pub inserting_on_the_way : (mode : Mode) (bits : FieldBits) (rules : List Rule) (batch : List Command) → IsSoundChange rules batch → (count : ℕ)
+    → AreOnTheWay (set_pieces mode bits rules) (set_pieces mode bits (set_after rules batch)) (set_pieces mode bits rules ++ take count (inserted_pieces mode bits rules batch))
+inserting_on_the_way mode bits rules batch change count = record {
+  each = λ ranked member. elim (Contains-append_cases old (take count inserted) ranked member) [
+    | inl stood ↦ inl (stood, λ other is. inl (stands other is))
+    | inr put ↦ put_leads ranked put
+  ];
+  whole = inl stands;
+}
+  where
+    old : List RankedPiece
+    old = set_pieces mode bits rules
+
+    new : List RankedPiece
+    new = set_pieces mode bits (set_after rules batch)
+
+    inserted : List RankedPiece
+    inserted = inserted_pieces mode bits rules batch
+
+    standing : List RankedPiece
+    standing = old ++ take count inserted
+
+    stands : (ranked : RankedPiece) → Contains old ranked → HasPiece standing ranked
+    stands ranked member = itself standing ranked (Contains-append_left old (take count inserted) ranked member)
+
+    in_new : (ranked : RankedPiece) → Contains (take count inserted) ranked → Contains new ranked
+    in_new ranked put = let at = contains_take count inserted ranked put in (inserted_stays mode bits rules batch change ranked (at.0, at.2, at.3)).0
+
+    put_leads : (ranked : RankedPiece) → Contains (take count inserted) ranked → (Contains old ranked × Leads old standing ranked) ⊎ (Contains new ranked × Leads new standing ranked)
+    put_leads ranked put =
+        elim ((adding (λ (r : RankedPiece). r.rank) (Contains old) inserted count (inserted_falls mode bits rules batch change)).above ranked (inr put)) [
+          | inl stood ↦ inl (stood, λ other is. inl (stands other is))
+          | inr least ↦ inr (
+            in_new ranked put,
+            λ other is. elim (new_piece mode bits rules batch change other is) [
+              | inl stays ↦ inl (stands other stays.0)
+              | inr rest ↦ elim rest [
+                | inl changed ↦ let w = rewritten_was mode bits rules batch change other changed in inl (w.0, Contains-append_left old (take count inserted) w.0 w.1, w.2, w.3)
+                | inr fresh ↦ elim (least other (inr fresh)) [
+                  | inl there ↦ inl (elim there [
+                    | inl stood ↦ stands other stood
+                    | inr came ↦ itself standing other (Contains-append_right old (take count inserted) other came)
+                  ])
+                  | inr lower ↦ inr lower
+                ]
+              ]
+            ],
+          )
+        ]
+
 module _ (mode : Mode) (bits : FieldBits) (state : State) (rules : List Rule) (batch : List Command) (live : List LivePiece) (slots : Slots) (entries : IdEntries) (planned : List Planned) (rewrites : List Rewrite) (erased : List ℕ) (plan : IsPlannedBatch mode bits state rules batch live slots entries planned rewrites erased) where
   abbrev old : List RankedPiece
   old = set_pieces mode bits rules
@@ -66,46 +117,9 @@ module _ (mode : Mode) (bits : FieldBits) (state : State) (rules : List Rule) (b
   change : IsSoundChange rules batch
   change = change_of mode bits state rules batch live slots entries planned rewrites erased plan
 
-  -- while pieces are inserted the old ones stand, and a new one leads those still to come
+  -- while pieces are inserted
   pub early_on_the_way : (count : ℕ) → AreOnTheWay old new (old ++ take count inserted)
-  early_on_the_way count = record {
-    each = λ ranked member. elim (Contains-append_cases old (take count inserted) ranked member) [
-      | inl stood ↦ inl (stood, λ other is. inl (stands other is))
-      | inr put ↦ put_leads ranked put
-    ];
-    whole = inl stands;
-  }
-    where
-      standing : List RankedPiece
-      standing = old ++ take count inserted
-
-      stands : (ranked : RankedPiece) → Contains old ranked → HasPiece standing ranked
-      stands ranked member = itself standing ranked (Contains-append_left old (take count inserted) ranked member)
-
-      in_new : (ranked : RankedPiece) → Contains (take count inserted) ranked → Contains new ranked
-      in_new ranked put = let at = contains_take count inserted ranked put in (inserted_stays mode bits rules batch change ranked (at.0, at.2, at.3)).0
-
-      put_leads : (ranked : RankedPiece) → Contains (take count inserted) ranked → (Contains old ranked × Leads old standing ranked) ⊎ (Contains new ranked × Leads new standing ranked)
-      put_leads ranked put =
-          elim ((adding (λ (r : RankedPiece). r.rank) (Contains old) inserted count (inserted_falls mode bits rules batch change)).above ranked (inr put)) [
-            | inl stood ↦ inl (stood, λ other is. inl (stands other is))
-            | inr least ↦ inr (
-              in_new ranked put,
-              λ other is. elim (new_piece mode bits rules batch change other is) [
-                | inl stays ↦ inl (stands other stays.0)
-                | inr rest ↦ elim rest [
-                  | inl changed ↦ let w = rewritten_was mode bits rules batch change other changed in inl (w.0, Contains-append_left old (take count inserted) w.0 w.1, w.2, w.3)
-                  | inr fresh ↦ elim (least other (inr fresh)) [
-                    | inl there ↦ inl (elim there [
-                      | inl stood ↦ stands other stood
-                      | inr came ↦ itself standing other (Contains-append_right old (take count inserted) other came)
-                    ])
-                    | inr lower ↦ inr lower
-                  ]
-                ]
-              ],
-            )
-          ]
+  early_on_the_way count = inserting_on_the_way mode bits rules batch change count
 
   -- all new pieces stand from the last insertion on
   pub new_stands : (told gone : ℕ) (ranked : RankedPiece) → Contains new ranked → HasPiece (late told gone) ranked

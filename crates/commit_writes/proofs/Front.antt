@@ -1,6 +1,6 @@
 -- The words of the tables in front of a commit's other writes: while they are written the slots hold what they held, each bit that
 -- is tested is translated as before, and every key has the old answer; so the whole is a segment.
-use Rattle.std.proofs.Common.{◌≡◌, ℕ, ◌≤◌, ◌+◌, ◌-◌, max, fold, map, List, ◌++◌, length, take, slice_get, Contains, append_assoc, refl, inl, inr, sym, ◌∙◌, ap, subst, arith}
+use Rattle.std.proofs.Common.{◌≡◌, ℕ, ◌<◌, ◌≤◌, ◌⊎◌, ◌+◌, ◌-◌, max, fold, map, List, ◌++◌, length, take, slice_get, Contains, append_assoc, refl, inl, inr, sym, ◌∙◌, ap, subst, arith}
 use Rattle.std.specs.Prelude.{flat_map}
 use Rattle.std.specs.List.{AllByRecursion, AllZip}
 use Rattle.std.proofs.lemmas.Bool.{cases_lt}
@@ -176,16 +176,31 @@ module _ (mode : Mode) (bits : FieldBits) (rules : List Rule) (batch : List Comm
       },
     )
 
+    left_within : table_writes made ≡ 0 → (n : ℕ) → n ≤ insertion_writes state (tables ++ made) → length tables ≤ n → n - length tables ≤ insertion_writes behind made
+    left_within none n within past = let total = as_many none in omega arith
+
+    -- none of the inserted ones with them, and behind them those that the other writes have put,
+    abbrev stands : table_writes made ≡ 0 → KeepsPieces old inserted (set_pieces mode during later) behind made → (n : ℕ) → n ≤ insertion_writes state (tables ++ made)
+        → (n < length tables) ⊎ (length tables ≤ n) → (k : ℕ) × HoldsInOrder (now n) (Contains (old ++ take k inserted))
+    stands none keeps_on n within (inl short) = (0, subst (λ pieces. HoldsInOrder (now n) (Contains pieces)) (sym (append-nil old)) (holds_early n (omega arith)))
+    stands none keeps_on n within (inr past) =
+        let on = keeps_on.inserting (n - length tables) (left_within none n within past) in
+        (on.0, subst (λ at. HoldsInOrder at (Contains (old ++ take on.0 inserted))) (sym (seam n past)) on.1)
+
+    stands_rise : (none : table_writes made ≡ 0) (keeps_on : KeepsPieces old inserted (set_pieces mode during later) behind made) (n m : ℕ)
+        (first : n ≤ insertion_writes state (tables ++ made)) (then : m ≤ insertion_writes state (tables ++ made)) → n ≤ m
+        → (before : (n < length tables) ⊎ (length tables ≤ n)) (after : (m < length tables) ⊎ (length tables ≤ m))
+        → (stands none keeps_on n first before).0 ≤ (stands none keeps_on m then after).0
+    stands_rise none keeps_on n m first then more (inl short) after = omega arith
+    stands_rise none keeps_on n m first then more (inr past) (inl short) = absurd (omega arith)
+    stands_rise none keeps_on n m first then more (inr past) (inr far) =
+        keeps_on.rising (n - length tables) (m - length tables) (left_within none n first past) (left_within none m then far) (omega arith)
+
     front_order : table_writes made ≡ 0 → KeepsPieces old inserted (set_pieces mode during later) behind made
         → KeepsPieces old inserted (set_pieces mode during later) state (tables ++ made)
     front_order none keeps_on = record {
-      inserting = λ n within. elim (cases_lt n (length tables)) [
-        | inl short ↦ (0, subst (λ pieces. HoldsInOrder (now n) (Contains pieces)) (sym (append-nil old)) (holds_early n (omega arith)))
-        | inr past ↦
-            let total = as_many none in
-            let on = keeps_on.inserting (n - length tables) (omega arith) in
-            (on.0, subst (λ at. HoldsInOrder at (Contains (old ++ take on.0 inserted))) (sym (seam n past)) on.1)
-      ];
+      inserting = λ n within. stands none keeps_on n within (cases_lt n (length tables));
+      rising = λ n m first then more. stands_rise none keeps_on n m first then more (cases_lt n (length tables)) (cases_lt m (length tables));
       between = λ k insertion read. keeps_on.between k insertion (ap (λ (all : List Insertion). slice_get all k) (sym front_insertions) ∙ read);
       copies = λ n within. elim (cases_lt n (length tables)) [
         | inl short ↦ subst (λ (at : State). HasOneTwin at.slots) (sym (early n (omega arith))) (subst HasOneTwin (sym (slots_early n)) (keeps_on.copies 0 (omega arith)))

@@ -33,7 +33,7 @@ use Rattle.commit_writes.proofs.Counted.{writes_of_made}
 use Rattle.commit_writes.proofs.BatchSegment.{batch_tables}
 use Rattle.commit_writes.proofs.OnTheWay.{on_the_way_between}
 use Rattle.commit_writes.proofs.Ordered.{planned_ordered, planned_between}
-use Rattle.commit_writes.proofs.Row.{whole_insertions}
+use Rattle.commit_writes.proofs.Row.{whole_insertions, whole_insertions-rise}
 use Rattle.commit_writes.proofs.SlotWrites.{batch_slots, tables_left}
 use Rattle.commit_writes.proofs.Start.{commit_piece, commit_makes, commit_done}
 
@@ -97,7 +97,7 @@ module _ (mode : Mode) (bits : FieldBits) (state : State) (rules : List Rule) (b
       let size = ap length writes in omega arith
 
   -- while they are made, the old set's pieces stand with the first of the inserted ones,
-  early : (n : ℕ) → n ≤ insertion_writes state made → (k : ℕ) × HoldsInOrder (state_after state (take n made)) (Contains (old ++ take k added))
+  abbrev early : (n : ℕ) → n ≤ insertion_writes state made → (k : ℕ) × HoldsInOrder (state_after state (take n made)) (Contains (old ++ take k added))
   early n within =
       let short : n ≤ length inserting = let first = insertions_first in omega arith in
       let count = whole_insertions planned n in (
@@ -131,6 +131,7 @@ module _ (mode : Mode) (bits : FieldBits) (state : State) (rules : List Rule) (b
   pub batch_keeps : KeepsPieces old added new state made
   batch_keeps = record {
     inserting = early;
+    rising = λ n m now later more. whole_insertions-rise planned n m more;
     between = λ k insertion read.
         planned_between state old added live slots entries planned k insertion row
         (ap (λ (some : List Insertion). slice_get some k) (sym (batch_insertions mode bits state rules batch live slots entries planned rewrites erased plan)) ∙ read);

@@ -116,6 +116,7 @@ KeepsOrder-padded more mode bits rules batch state made inside keeps = record {
     w.0,
     subst (λ (now : State). HoldsInOrder now (first w.0)) (sym (reached n)) (HoldsInOrder-padded more (state_after state (take n made)) (first w.0) w.1),
   );
+  rising = λ n m now later further. keeps.rising n m (subst (λ count. n ≤ count) as_many now) (subst (λ count. m ≤ count) as_many later) further;
   between = λ k insertion read.
       let w = map_read (widened more) (insertions state made) k insertion (ap (λ (all : List Insertion). slice_get all k) (sym (insertions-padded more state made inside)) ∙ read) in
       subst (λ (begun : Insertion). StandsOnce begun.before (first k)) w.2 (StandsOnce-padded more w.0.before (first k) (keeps.between k w.0 w.1));

@@ -51,6 +51,8 @@ pub record HoldsInOrder (state : State) (Member : RankedPiece → Type 0) : Type
 pub record KeepsPieces (old inserted new : List RankedPiece) (state : State) (made : List Write) : Type 0 where
   -- while table words and insertions are written: the old pieces and the first of the inserted ones,
   pub inserting : (n : ℕ) → n ≤ insertion_writes state made → (k : ℕ) × HoldsInOrder (state_after state (take n made)) (Contains (old ++ take k inserted))
+  -- whose number never falls: so what stands is put over only where it stands elsewhere too;
+  pub rising : (n m : ℕ) (now : n ≤ insertion_writes state made) (later : m ≤ insertion_writes state made) → n ≤ m → (inserting n now).0 ≤ (inserting m later).0
   -- each of them in one slot where an insertion begins;
   pub between : (k : ℕ) (insertion : Insertion) → slice_get (insertions state made) k ≡ Some insertion
       → StandsOnce insertion.before (Contains (old ++ take k inserted))

@@ -6,7 +6,5 @@
 
 mod changes;
 mod pieces;
-#[cfg(test)]
-mod tests;
 
 pub use pieces::{Pieces, Ranked, batch_pieces, set_pieces};

@@ -26,6 +26,10 @@
 //!   inside it; from the last insertion on, entries on the way from the old set to the new one, each in one slot; in
 //!   the end exactly the new set's. Hitlessness and counts alone would let a commit lose an entry that others shadow,
 //!   leave one twice, or write a new result before its turn and again at it.
+//! - **While insertions are made the number of inserted pieces that stand never falls** (`rising` in `KeepsPieces`): so an
+//!   entry is put over another one only where that one stands in a second slot, and its slot can be erased first. A
+//!   device that holds keys and results apart needs this of each write, and would else have to go back to how the
+//!   segment was planned. Which pieces stand was said of each state by itself.
 //! - **Where no rule is replaced a key's answer turns at most once** (`TurnsOnce`): up to some write it is the old
 //!   set's, from there on the new one's. Hitlessness alone would let a key go back and forth. The premise,
 //!   `ReplacesNone`, is said of the batch alone, and can't be dropped: entries of a replaced rule and of the new one

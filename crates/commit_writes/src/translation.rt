@@ -30,8 +30,6 @@ mod counts;
 mod maps;
 mod ranges;
 mod tables;
-#[cfg(test)]
-mod tests;
 
 pub use counts::{added_ranges, free_bits};
 pub use maps::is_map_of;

@@ -1,0 +1,9 @@
+pub mod Whole
+pub mod Wider
+pub mod Moments
+pub mod Lookups
+pub mod Flights
+pub mod Currents
+pub mod Twice
+mod Examples
+pub mod InMemory

@@ -1,0 +1,7 @@
+pub mod State
+pub mod Flight
+pub mod Drains
+pub mod Waiting
+pub mod Hitless
+pub mod Laws
+pub mod Memory
