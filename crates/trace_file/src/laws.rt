@@ -1,0 +1,17 @@
+//! Laws as calls: each makes nothing, and its contract is the law.
+ghost use Rattle.trace_file.specs.Forms.{LinesAreReadBack, LinesAreUtf8, LinesAreWithin};
+
+/// What is written for a line is read as that line.
+pub fn lines_are_read_back()
+    ensures { LinesAreReadBack }
+{}
+
+/// What is written for a line is UTF-8, where the text of its fault is.
+pub fn lines_are_utf8()
+    ensures { LinesAreUtf8 }
+{}
+
+/// A line that is read has its numbers within their limits.
+pub fn lines_are_within()
+    ensures { LinesAreWithin }
+{}
