@@ -52,6 +52,3 @@ pub enum SplitAction {
     Written(SplitWrite),
     Drained,
 }
-
-#[cfg(test)]
-mod tests;

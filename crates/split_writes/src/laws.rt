@@ -13,7 +13,8 @@ pub fn makes_segments()
 {}
 
 /// While a commit's parts and drains are made in their order, each look-up of three events is one of its key at a moment
-/// between its search and its read, and so gets the old or the new set's answer.
+/// between its search and its read, and gets the old or the new set's answer, where those that waited before the commit
+/// have seen no other set.
 pub fn sees_old_or_new()
     ensures { SeesOldOrNew }
 {}
@@ -38,7 +39,8 @@ pub fn goes_on_by_events()
     ensures { GoesOnByEvents }
 {}
 
-/// From any point of a commit under way each look-up of three events gets the old or the new set's answer.
+/// From any point of a commit under way each look-up of three events is one of its key at a moment between its search and
+/// its read, and gets the old or the new set's answer, where those that waited before have seen no other set.
 pub fn sees_old_or_new_on_the_way()
     ensures { SeesOldOrNewOnTheWay }
 {}

@@ -36,8 +36,6 @@ ghost use Rattle.trace_file.specs.Lines.{IsLineOf};
 
 mod laws;
 mod lines;
-#[cfg(test)]
-mod tests;
 mod values;
 
 pub use laws::{lines_are_read_back, lines_are_utf8, lines_are_within};
@@ -89,8 +87,8 @@ pub enum TraceFault {
     Memory,
 }
 
-/// Reads one line of a trace, from memory that it gives back. Bad comes exactly where the text is no line of one, and
-/// Memory may come of any text.
+/// Reads one line of a trace, from memory that it gives back. Bad comes only where the text is no line of one; Memory may
+/// come of any text.
 pub fn read_line(alloc: Global, line: &Line) -> Result<TraceLine, TraceFault>
     requires { line.now.len ≤ LINE_BYTES }
     ensures line { IfOk result (IsLineOf (take line.now.len line.now.bytes)) }
