@@ -51,6 +51,11 @@
 extern "C" {
 #endif
 
+/* The version of this header, and of the library beside it. */
+#define TCAM_VERSION_MAJOR 0
+#define TCAM_VERSION_MINOR 1
+#define TCAM_VERSION_PATCH 0
+
 /* What a function answers. */
 enum tcam_error {
     TCAM_OK = 0,
