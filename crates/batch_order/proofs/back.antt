@@ -6,3 +6,4 @@ pub mod Back
 pub mod Reverted
 pub mod Restored
 pub mod Aborted
+pub mod Replaced

@@ -10,3 +10,5 @@ pub mod Leading
 pub mod Taken
 pub mod Refused
 pub mod Holding
+pub mod Numbers
+pub mod Prepared

@@ -7,3 +7,4 @@ pub mod Left
 pub mod Stepped
 pub mod Onward
 pub mod Tried
+pub mod Unwritten

@@ -1,6 +1,7 @@
 -- The entries that are live, each under an id.
 use Rattle.std.specs.Prelude.{◌≡◌, ℕ, ◌+◌, ◌<◌, ◌≤◌, IsTrue, IsFalse, Option, List, Contains, ◌++◌, ◌-◌, length, map, drop, nat_eq}
 use Rattle.std.specs.List.{AllByRecursion, IsDistinct}
+use Rattle.slot_order.specs.Order.{most_slots}
 use Rattle.rule_model.specs.declared.words.Entry.{Entry}
 use Rattle.rule_model.specs.Entry.{RankedPiece}
 use Rattle.placement.specs.declared.LivePiece.{LivePiece}
@@ -16,7 +17,7 @@ pub record Entries : Type 0 where
 -- each id has a place, and the ids that aren't live are the spare ones
 pub record AreKept (slots : ℕ) (live : List LivePiece) (entries : List (Option Entry)) (spare : List ℕ) : Type 0 where
   pub places : length entries ≡ slots
-  pub few : slots ≤ 4096
+  pub few : slots ≤ most_slots
   pub count : length spare + length live ≡ slots
   pub small : AllByRecursion (λ id. id < slots) spare
   pub absent : AllByRecursion (λ id. IsFalse (is_live live id)) spare

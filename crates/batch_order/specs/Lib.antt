@@ -12,3 +12,4 @@ pub mod Restart
 pub mod Standing
 pub mod RestPlan
 pub mod Stopped
+pub mod ByParts

@@ -1,6 +1,7 @@
 -- What a plan needs and keeps: entries that stand once and in order, and writes within the slots in use.
 use Rattle.std.specs.Prelude.{◌≡◌, ℕ, ◌+◌, ◌<◌, ◌≤◌, IsTrue, IsSome, Some, List, [], ◌++◌, length, flat_map, fold, map, max, option_map, slice_get}
 use Rattle.std.specs.List.{AllByRecursion}
+use Rattle.slot_order.specs.Order.{most_slots}
 use Rattle.slot_pool.specs.Arrangement.{Slots, home_of}
 use Rattle.rule_model.specs.Entry.{RankedPiece, entry_for}
 use Rattle.placement.specs.Live.{AreApart, is_live, is_above}
@@ -56,7 +57,7 @@ planned_moves planned = flat_map (λ insertion. map Moved insertion.moves) plann
 -- each live id stands in one slot, in order, and the other slots are free
 pub record IsSettled (kept : Entries) (slots : Slots) : Type 0 where
   pub size : length slots ≡ kept.slots
-  pub few : kept.slots ≤ 4096
+  pub few : kept.slots ≤ most_slots
   pub apart : AreApart kept.slots kept.live
   pub standing : StandOnce (IsLive kept.live) slots
   pub order : IsInOrder (is_above kept.live) slots
@@ -71,7 +72,7 @@ pub record IsPlannable (kept : Entries) (slots : Slots) (writes : PlannedWrites)
 -- the others are settled, and this live id is still to be placed
 pub record IsLastLive (kept : Entries) (slots : Slots) (id : ℕ) : Type 0 where
   pub size : length slots ≡ kept.slots
-  pub few : kept.slots ≤ 4096
+  pub few : kept.slots ≤ most_slots
   pub apart : AreApart kept.slots kept.live
   pub live : IsTrue (is_live kept.live id)
   pub standing : StandOnce (IsOther kept.live id) slots

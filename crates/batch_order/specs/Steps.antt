@@ -1,5 +1,5 @@
 -- What the steps of a manager do, forward and back, and what taking a commit back does.
-use Rattle.std.specs.Prelude.{◌≡◌, ℕ, zero, suc, ◌≤◌, Bool, true, false, Result, Ok, Err, Option, Some, None, IfSome, is_some, List, [], ◌∷◌, length, slice_get}
+use Rattle.std.specs.Prelude.{◌≡◌, ℕ, zero, suc, ◌≤◌, Bool, true, false, ◌&&◌, Result, Ok, Err, Option, Some, None, IfSome, is_none, is_some, List, [], ◌∷◌, length, nat_eq, slice_get}
 use Rattle.tcam_device.specs.declared.Write.{Write}
 use Rattle.tcam_device.specs.State.{apply, on_device}
 use Rattle.tcam_device.specs.Insertion.{is_table_write}
@@ -117,3 +117,17 @@ IsAllMade held = IfSome held (λ one. actions_due one ≡ [])
 abbrev pub is_turned : Option HeldCommit → Bool
 is_turned None = false
 is_turned (Some held) = is_some held.turned
+
+-- a commit under way goes forward, and `prepare` planned it
+abbrev pub IsPlainlyForward : Option HeldCommit → Type 0
+IsPlainlyForward held = IfSome held (λ one. (one.prepared ≡ true) × (one.turned ≡ None))
+
+-- it was planned by `prepare` or `plan_commit`, and no write of it was made
+abbrev pub is_unwritten : Option HeldCommit → Bool
+is_unwritten None = false
+is_unwritten (Some held) = (held.prepared && is_none held.turned) && nat_eq (length held.undo) 0
+
+-- where its plan is dropped the manager is idle, and else as it was
+abbrev pub cancelled : Bool → Managed → Managed
+cancelled true old = record old { held = None }
+cancelled false old = old

@@ -2,7 +2,7 @@
 use Rattle.std.specs.Prelude.{◌≡◌, ℕ, ◌-◌, ◌+◌, ◌≤◌, ◌<◌, ◌⊎◌, Bool, false, IsTrue, IfSome, None, Some, List, Vec, length, drop, take, nat_eq}
 use Rattle.std.specs.Global.{Global}
 use Rattle.std.specs.List.{AllByRecursion, IsDistinct}
-use Rattle.slot_order.specs.Order.{slot}
+use Rattle.slot_order.specs.Order.{slot, most_slots}
 use Rattle.slot_pool.specs.Arrangement.{Slots}
 use Rattle.rule_model.specs.declared.Rule.{Rule}
 use Rattle.rule_store.specs.declared.Mode.{Mode}
@@ -39,7 +39,7 @@ use Rattle.batch_order.specs.RestPlan.{IsRestPlan}
 -- What a device shows that was stopped in a commit: a stage, with the piece of each slot and the pieces that the commit is about.
 pub record IsStopped (slots : ℕ) (mode : Mode) (bits : FieldBits) (rules : List Rule) (batch : List Command) (state : State) (shown : Shown) : Type 0 where
   pub least : 1 ≤ slots
-  pub most : slots ≤ 4096
+  pub most : slots ≤ most_slots
   pub wide : slots ≤ length state.slots
   pub is_state : IsState (length state.slots) state
   pub can : CanCommit mode bits rules batch
@@ -86,6 +86,7 @@ held_from rest awaits drained batch slots undo = record {
   erased = rest.left.erased;
   ids = rest.ids;
   arrangement = slots;
+  most_parts = rest.plan.most_parts;
 }
 
 -- All that is left is planned, from the tasks that are done on, each insertion with its aim: the new ids are live, and the slots are arranged as they will stand.
@@ -108,6 +109,6 @@ pub record IsPlannedOn (placement : Placement) (device_slots : ℕ) (mode : Mode
   pub changed : AllByRecursion (λ rewrite. IsTrue (is_live new.live rewrite.id)) rest.left.rewrites.items
   pub gone : AllByRecursion (λ id. IsTrue (is_live new.live id)) rest.left.erased.items
   pub once : IsDistinct nat_eq rest.left.erased.items
-  pub few_planned : length plan.planned ≤ 4096
-  pub few_rewritten : length rest.left.rewrites.items ≤ 4096
-  pub few_erased : length rest.left.erased.items ≤ 4096
+  pub few_planned : length plan.planned ≤ most_slots
+  pub few_rewritten : length rest.left.rewrites.items ≤ most_slots
+  pub few_erased : length rest.left.erased.items ≤ most_slots

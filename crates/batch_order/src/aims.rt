@@ -8,6 +8,7 @@ use crate::Placement;
 use commit_writes::Ranked;
 use placement::Aim;
 use rule_store::{Mode, Store};
+use slot_order::MOST_SLOTS;
 
 /// The aim of a piece that a commit inserts into a set behind so many others of its pieces. `all` counts the entries of
 /// the set and all that the commit inserts.
@@ -20,7 +21,7 @@ pub(crate) fn aim_of(
     place: u32,
     ranked: &Ranked,
 ) -> Aim
-    requires few { slots ≤ 4096 }
+    requires few { slots ≤ MOST_SLOTS }
     requires most { all ≤ slots }
     requires place { entries_of mode rules.now.rules + place < all }
     ensures { result ≡ placing.aim_of placement mode slots rules.now.rules all place ranked.now }
@@ -36,9 +37,9 @@ pub(crate) fn aim_of(
 
 /// Where an entry with so many before it belongs, of so many in all.
 fn rank_slot(slots: u32, before: u32, all: u32) -> u32
-    requires few { slots ≤ 4096 }
+    requires few { slots ≤ MOST_SLOTS }
     requires before { before < all }
-    requires most { all ≤ 4096 }
+    requires most { all ≤ MOST_SLOTS }
     ensures { result ≡ placing.rank_slot slots before all }
 {
     (2 * before + 1) * slots / (2 * all)

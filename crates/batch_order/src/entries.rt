@@ -13,6 +13,7 @@ ghost use Rattle.batch_order.specs.Entries.{AreAll, KeepEntries};
 use commit_writes::Rewrite;
 use overlap_index::Index;
 use rule_model::{Entry, Piece, Rank, entry_of};
+use slot_order::MOST_SLOTS;
 use std::alloc::{AllocError, Global};
 use std::marker::Model;
 
@@ -43,7 +44,7 @@ impl LiveEntries {
     /// No entry, with ids for so many, 1 to 4,096.
     pub(crate) fn new(alloc: Global, slots: u32) -> Result<LiveEntries, AllocError>
         requires least { 1 ≤ slots }
-        requires most { slots ≤ 4096 }
+        requires most { slots ≤ MOST_SLOTS }
         ensures { IfOk result (λ made. made ≡ record { slots = slots; live = []; entries = replicate slots None }) }
     {
         Ok(LiveEntries {

@@ -1,13 +1,13 @@
 //! The commit under way.
 
-ghost use Rattle.std.specs.Prelude.{◌≡◌, ◌≤◌, true, false, None, Ok, Err, IsSome, length};
+ghost use Rattle.std.specs.Prelude.{◌≡◌, ◌≤◌, ◌&&◌, true, false, None, Ok, Err, IsSome, is_none, length, nat_eq};
 ghost use Rattle.batch_order.specs.Kept.{drains_at, left_of, one_less, turned_at};
 ghost use Rattle.batch_order.specs.Planning.{all_writes};
 
 use crate::planned_writes::{PlannedWrite, PlannedWrites};
 use crate::{AbortFault, Done};
 use commit_writes::{FieldBits, Rewrite};
-use rule_store::Batch;
+use rule_store::Commands;
 use slot_pool::Arrangement;
 
 /// A commit under way: its planned writes and how many of them were made, its numbers, and what is to be done once its
@@ -31,12 +31,14 @@ pub(crate) struct Held {
     pub(crate) counts: Done,
     /// The live ranges meanwhile, those of the old set and of the new one: none by covers.
     pub(crate) bits: Option<FieldBits>,
-    pub(crate) batch: Batch,
+    pub(crate) batch: Commands,
     pub(crate) rewrites: Vec<Rewrite>,
     pub(crate) erased: Vec<u32>,
     /// The ids of its new entries.
     pub(crate) ids: Vec<u32>,
     pub(crate) arrangement: Arrangement,
+    /// The parts of its longest insertion, where each write is made by parts.
+    pub(crate) most_parts: u32,
 }
 
 impl Held {
@@ -56,6 +58,13 @@ impl Held {
             None => self.writes.len() - self.made,
             Some(_) => self.made,
         }
+    }
+
+    /// Whether it is prepared and goes forward, and none of its writes stands.
+    pub(crate) fn is_unwritten(&self) -> bool
+        ensures { result ≡ ((self.now.prepared && is_none self.now.turned) && nat_eq self.now.made 0) }
+    {
+        self.prepared && self.turned.is_none() && self.made == 0
     }
 
     /// Turns the plan round, unless it is already or isn't prepared, and answers how many undo writes there are.

@@ -14,8 +14,8 @@ use crate::aims::aim_of;
 use crate::entries::LiveEntries;
 use crate::plan::Plan;
 use commit_writes::Ranked;
-use move_planner::plan_insert;
-use placement::Aim;
+use move_planner::{Moves, plan_insert};
+use placement::{Aim, Move};
 use rule_store::{Mode, Store};
 use slot_pool::Arrangement;
 use std::alloc::{AllocError, Global};
@@ -165,7 +165,20 @@ fn plan_moves(
     ensures inserted { OnOk result (IsInserted live.now arrangement.old arrangement.new aim id plan.old plan.new) }
 {
     let moves = &mut plan.writes.moves;
+    let first = moves.len();
     let insert = plan_insert(alloc, arrangement, live.index(), id, aim, moves)?;
-    plan.count(insert);
+    let puts = puts_from(&plan.writes.moves, first);
+    plan.count(insert, puts);
     Ok(())
+}
+
+/// How many moves put an entry somewhere, from this place on.
+fn puts_from(moves: &Moves, first: u64) -> u32 {
+    let mut puts: u32 = 0;
+    for place in first..moves.len() {
+        if let Move::Put(_, _) = moves.at(place) {
+            puts = puts.saturating_add(1);
+        }
+    }
+    puts
 }

@@ -33,6 +33,7 @@ use crate::writes::plan_writes;
 use crate::{AbortFault, Done, Field, Placement, Refusal, Rejection, Step, Unfinished};
 use commit_writes::FieldBits;
 use rule_store::{Batch, Command, Mode, Store};
+use slot_order::MOST_SLOTS;
 use slot_pool::Arrangement;
 use std::alloc::{AllocError, Global};
 use std::marker::Model;
@@ -96,7 +97,7 @@ impl Manager {
         placement: Placement,
     ) -> Result<Manager, AllocError>
         requires least { 1 ≤ slots }
-        requires most { slots ≤ 4096 }
+        requires most { slots ≤ MOST_SLOTS }
         ensures fresh { IfOk result (λ manager. manager ≡ fresh slots mode placement) }
         ensures on_blank { IfOk result (λ manager. (device_slots : ℕ) → slots ≤ device_slots → IsOn device_slots [] manager) }
     {
@@ -179,6 +180,24 @@ impl Manager {
         ensures serves { IsOn (D.slot_count device.old) (D.journal device.old) self.old → Serves (replay (D.slot_count device.new) (D.journal device.new)) self.old.rules self.old.held }
     {
         self.serving();
+        let counts = self.plan_commit(batch)?;
+        // The writes, those that undo them, and a drain.
+        match device.reserve(2 * counts.writes + 1) {
+            Ok(()) => Ok(counts),
+            Err(AllocError) => {
+                self.cancel();
+                Err(Refusal::Memory)
+            }
+        }
+    }
+
+    /// Judges a batch and plans its writes as `prepare` does, over no device: for whoever makes the writes elsewhere,
+    /// by `next_write`, `drains_next` and `pass`. The answer has the numbers of the writes.
+    pub fn plan_commit(&mut self, batch: &Batch) -> Result<Done, Refusal>
+        ensures judged { Judges self.old self.old.held batch.now result }
+        ensures ready { IfOk result (λ counts. Holds self.old batch.now counts self.new) }
+        ensures refused { OnErr result (self.new ≡ self.old) }
+    {
         if let Some(left) = self.left() {
             return Err(Refusal::Busy { left });
         }
@@ -191,7 +210,7 @@ impl Manager {
             Err(rejection) => return Err(Refusal::Rejected(rejection)),
         }
         batch.changes_rules();
-        match self.plan(batch, device) {
+        match self.plan(batch) {
             Ok(counts) => Ok(counts),
             Err(AllocError) => Err(Refusal::Memory),
         }
@@ -236,28 +255,19 @@ impl Manager {
         Ok(())
     }
 
-    /// Plans the commit of a batch that is taken, on a copy of the arrangement, and reserves the device for it. On
-    /// want of memory all is as it was.
-    fn plan<D: Writable>(&mut self, batch: &Batch, device: &mut D) -> Result<Done, AllocError>
+    /// Plans the commit of a batch that is taken, on a copy of the arrangement. On want of memory all is as it was.
+    fn plan(&mut self, batch: &Batch) -> Result<Done, AllocError>
         requires idle { self.old.held ≡ None }
         requires sound { batch_fault self.old.rules batch.now ≡ None }
         requires fits { verdict self.old.slots self.old.mode self.old.rules batch.now ≡ Accepted }
         requires changes { AllByRecursion ChangesRules batch.now }
         ensures ready { IfOk result (λ counts. Holds self.old batch.now counts self.new) }
         ensures refused { OnErr result (self.new ≡ self.old) }
-        ensures reserved { OnOk result (HasRoomBothWays self.new.held (D.spare device.new)) }
-        ensures enough { IfOk result (λ counts. counts.writes ≤ D.spare device.new) }
-        ensures spare { D.spare device.old ≤ D.spare device.new }
-        ensures journal { D.journal device.new ≡ D.journal device.old }
-        ensures events { D.events device.new ≡ D.events device.old }
-        ensures flight { D.flight device.new ≡ D.flight device.old }
-        ensures slot_count { D.slot_count device.new ≡ D.slot_count device.old }
-        ensures faults { D.faults device.new ≡ D.faults device.old }
     {
         let mut plan = Plan::new(self.alloc);
         let bits = self.plan_words(batch, &mut plan)?;
         let parts = parts_of(self.alloc, &self.rules, &self.live, &bits, batch)?;
-        let copy = batch.try_copy(self.alloc)?;
+        let commands = batch.commands(self.alloc)?;
         self.rules.reserve(batch.len())?;
         let mut arrangement = self.arrangement.try_copy(self.alloc)?;
         let planned = plan_writes(
@@ -270,7 +280,6 @@ impl Manager {
             &mut self.live,
             &mut arrangement,
             &mut plan,
-            device,
         )?;
         erase_all(&mut arrangement, &parts.erased);
         let counts = plan.counts();
@@ -285,11 +294,12 @@ impl Manager {
             drained: false,
             counts,
             bits,
-            batch: copy,
+            batch: commands,
             rewrites: parts.rewrites,
             erased: parts.erased,
             ids: planned.ids,
             arrangement,
+            most_parts: plan.most_parts,
         });
         Ok(counts)
     }

@@ -1,6 +1,6 @@
 //! The plan of a commit: its writes, planned before the first of them goes out.
 
-ghost use Rattle.std.specs.Prelude.{◌≡◌, ◌+◌, ◌≤◌, ◌*◌, ◌++◌, [], OnOk, List, length, map, max, nat_eq};
+ghost use Rattle.std.specs.Prelude.{◌≡◌, ◌≤◌, ◌++◌, [], OnOk, List, length, map, max, nat_eq};
 ghost use Rattle.std.specs.List.{AllByRecursion, IsDistinct};
 ghost use Rattle.commit_writes.specs.declared.Rewrite.{Rewrite};
 ghost use Rattle.commit_writes.specs.Planned.{IdEntries};
@@ -13,9 +13,9 @@ use crate::planned_writes::{PlannedWrite, PlannedWrites};
 use commit_writes::Rewrite;
 use move_planner::Insert;
 use placement::Move;
+use slot_order::MOST_SLOTS;
 use slot_pool::Arrangement;
 use std::alloc::{AllocError, Global};
-use tcam_device::Writable;
 
 /// The writes of a commit still to make, how many of them are words of the tables, the writes of its longest insertion,
 /// and the greatest span of one.
@@ -25,6 +25,8 @@ pub(crate) struct Plan {
     pub(crate) words: u32,
     pub(crate) most: u32,
     pub(crate) span: u32,
+    /// The parts of the longest insertion, where each write is made by parts.
+    pub(crate) most_parts: u32,
 }
 
 impl Plan {
@@ -41,11 +43,13 @@ impl Plan {
             words: 0,
             most: 0,
             span: 0,
+            most_parts: 0,
         }
     }
 
-    /// Counts an insertion whose writes were pushed.
-    pub(crate) fn count(&mut self, insert: Insert)
+    /// Counts an insertion whose writes were pushed, of which so many put an entry somewhere. By parts each of these takes
+    /// two into an empty slot and three over another entry, each erase takes one, and one slot more is filled than emptied.
+    pub(crate) fn count(&mut self, insert: Insert, puts: u32)
         ensures writes { self.new.writes ≡ self.old.writes }
         ensures words { self.new.words ≡ self.old.words }
         ensures most { self.new.most ≡ max self.old.most insert.writes }
@@ -53,6 +57,8 @@ impl Plan {
     {
         self.most = self.most.max(insert.writes);
         self.span = self.span.max(insert.span);
+        let parts = puts.saturating_mul(3).saturating_sub(1);
+        self.most_parts = self.most_parts.max(parts);
     }
 
     /// The numbers of a commit of which no write was made yet, which are those after its last.
@@ -71,14 +77,13 @@ impl Plan {
     }
 }
 
-/// Plans the writes behind the insertions, the new entries before the erases, and reserves the device for all.
-pub(crate) fn plan_changes<D: Writable>(
+/// Plans the writes behind the insertions, the new entries before the erases.
+pub(crate) fn plan_changes(
     parts: &CommitParts,
     arrangement: &Arrangement,
     plan: &mut Plan,
-    device: &mut D,
 ) -> Result<(), AllocError>
-    requires few { length parts.now.rewrites.items ≤ 4096 }
+    requires few { length parts.now.rewrites.items ≤ MOST_SLOTS }
     requires rewritten { AllByRecursion (λ rewrite. IsStanding arrangement.now rewrite.id) parts.now.rewrites.items }
     requires erased { AllByRecursion (IsStanding arrangement.now) parts.now.erased.items }
     requires within { AllByRecursion (IsWithin (length arrangement.now)) (all_writes plan.old.writes) }
@@ -88,19 +93,11 @@ pub(crate) fn plan_changes<D: Writable>(
     ensures words { OnOk result (plan.new.words ≡ plan.old.words) }
     ensures most { OnOk result (plan.new.most ≡ plan.old.most) }
     ensures span { OnOk result (plan.new.span ≡ plan.old.span) }
-    ensures enough { OnOk result (2 * length (all_writes plan.new.writes) + 1 ≤ D.spare device.new) }
-    ensures least { D.spare device.old ≤ D.spare device.new }
-    ensures journal { D.journal device.new ≡ D.journal device.old }
-    ensures events { D.events device.new ≡ D.events device.old }
-    ensures flight { D.flight device.new ≡ D.flight device.old }
-    ensures slot_count { D.slot_count device.new ≡ D.slot_count device.old }
-    ensures faults { D.faults device.new ≡ D.faults device.old }
 {
     let changes = &mut plan.writes.changes;
     plan_rewrites(&parts.rewrites, arrangement, changes)?;
     plan_erases(&parts.erased, arrangement, changes)?;
-    // The writes, those that undo them, and a drain.
-    device.reserve(2 * plan.writes.len() as u64 + 1)
+    Ok(())
 }
 
 /// The write of each new entry to where its id stands.
@@ -109,7 +106,7 @@ fn plan_rewrites(
     arrangement: &Arrangement,
     writes: &mut Vec<PlannedWrite>,
 ) -> Result<(), AllocError>
-    requires few { length rewrites.now ≤ 4096 }
+    requires few { length rewrites.now ≤ MOST_SLOTS }
     requires standing { AllByRecursion (λ rewrite. IsStanding arrangement.now rewrite.id) rewrites.now }
     requires within { AllByRecursion (IsWithin (length arrangement.now)) writes.old.items }
     ensures writes { OnOk result ((entries : IdEntries) → as_writes entries rewrites.now writes.new.items ≡ as_writes entries rewrites.now writes.old.items ++ map (rewrite_write arrangement.now) rewrites.now) }

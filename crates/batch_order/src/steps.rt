@@ -4,7 +4,11 @@
 ghost use Rattle.std.specs.Prelude.{◌≡◌, ◌+◌, ◌++◌, [], ℕ, true, false, Some, None, IfSome, IsSome, IsTrue, length};
 ghost use Rattle.tcam_device.specs.State.{IsInUse};
 ghost use Rattle.tcam_device.specs.Flight.{writes_in};
-ghost use Rattle.batch_order.specs.Steps.{IsAllMade, Steps, actions_of, awaits_drain, is_turned, next_of};
+ghost use Rattle.batch_order.specs.Steps.{IsAllMade, IsPlainlyForward, Steps, actions_of, awaits_drain, cancelled, is_turned, is_unwritten, next_of};
+ghost use Rattle.batch_order.specs.Managed.{live_now};
+ghost use Rattle.commit_writes.specs.InFlight.{ArePartOf};
+ghost use Rattle.commit_writes.specs.Undo.{restoring};
+ghost use Rattle.tcam_device.specs.declared.Write.{Write};
 ghost use Rattle.batch_order.specs.CarriedOut.{HasRoomLeft};
 
 use crate::Step;
@@ -162,6 +166,73 @@ impl Manager {
         }
     }
 
+    /// What is due was made elsewhere, the next write or the drain, with no word in flight: what comes behind it is due
+    /// then. With nothing left the commit ends, forward or back; with none under way the answer is `Idle`.
+    pub fn pass(&mut self) -> Step
+        ensures { Steps self.old 0 self.old.held result self.new }
+    {
+        match self.next_write() {
+            Some(write) => self.advance(write),
+            None => {
+                if self.drains_next() {
+                    return self.pass_drain();
+                }
+                self.finish()
+            }
+        }
+    }
+
+    /// What puts back what the next write replaces, of a commit that `prepare` planned and that goes forward: so it tells
+    /// what stands in that write's slot.
+    pub fn replaced(&self) -> Option<Write>
+        ensures { (write : Write) → IsPlainlyForward self.now.held → next_of self.now.held ≡ Some write → result ≡ Some (restoring self.now.state write) }
+    {
+        match &self.held {
+            None => None,
+            Some(held) => match held.undo.get(held.made) {
+                None => None,
+                Some(planned) => Some(write_of(planned, &self.live, &held.rewrites)),
+            },
+        }
+    }
+
+    /// Drops a plan of which no write was made, unless a restart made it: no commit is under way then, and all else is as
+    /// it was before the plan. False comes exactly where there is no such plan, and nothing changes then. Words in flight
+    /// that were current are so still.
+    pub fn cancel(&mut self) -> bool
+        ensures cancels { result ≡ is_unwritten self.old.held }
+        ensures dropped { self.new ≡ cancelled result self.old }
+        ensures current { ArePartOf (live_now self.new) (live_now self.old) }
+    {
+        self.serving();
+        if !self.is_unwritten() {
+            return false;
+        }
+        self.drop_plan();
+        true
+    }
+
+    /// Whether a plan is held that `prepare` or `plan_commit` made, and of which no write was made.
+    fn is_unwritten(&self) -> bool
+        ensures { result ≡ is_unwritten self.now.held }
+    {
+        match &self.held {
+            None => false,
+            Some(held) => held.is_unwritten(),
+        }
+    }
+
+    /// The plan that is held goes, and the ids of its new entries with it.
+    fn drop_plan(&mut self)
+        requires { is_unwritten self.old.held ≡ true }
+        ensures { self.new ≡ cancelled true self.old }
+    {
+        match self.held.take() {
+            None => {}
+            Some(held) => forget_all(&mut self.live, held.ids),
+        }
+    }
+
     /// The drain was made.
     fn pass_drain(&mut self) -> Step
         requires { IsTrue (awaits_drain self.old.held) }
@@ -214,6 +285,7 @@ impl Manager {
                     erased,
                     ids: _,
                     arrangement,
+                    most_parts: _,
                 } = held;
                 self.rules.apply(&batch);
                 translate(&mut self.translation, &bits, &self.rules, &writes);

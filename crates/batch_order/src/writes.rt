@@ -1,6 +1,6 @@
 //! All writes of a commit behind the words of the tables, and those that undo them.
 
-ghost use Rattle.std.specs.Prelude.{◌≡◌, ◌+◌, ◌*◌, ◌≤◌, IsTrue, IfOk, OnOk, OnErr, length};
+ghost use Rattle.std.specs.Prelude.{◌≡◌, ◌+◌, ◌≤◌, IsTrue, IfOk, OnOk, OnErr, length};
 ghost use Rattle.std.specs.List.{AllByRecursion};
 ghost use Rattle.rule_store.specs.Verdict.{entries_of};
 ghost use Rattle.rule_model.specs.Entry.{IsEncodable};
@@ -20,9 +20,9 @@ use crate::planned_writes::PlannedWrite;
 use crate::translation::{Translation, encoding};
 use crate::undoing::plan_undo;
 use rule_store::Store;
+use slot_order::MOST_SLOTS;
 use slot_pool::Arrangement;
 use std::alloc::{AllocError, Global};
-use tcam_device::Writable;
 
 /// What comes with the planned writes of a commit: the ids of its new entries, and what restores each of the writes.
 #[derive(Drop)]
@@ -32,8 +32,8 @@ pub(crate) struct IdsAndUndo {
 }
 
 /// Plans the insertions over an arrangement, then the new entries and the erases, and what undoes all writes from what
-/// stood before, and reserves the device. On want of memory the live entries are as they were.
-pub(crate) fn plan_writes<D: Writable>(
+/// stood before. On want of memory the live entries are as they were.
+pub(crate) fn plan_writes(
     alloc: Global,
     placement: Placement,
     translation: &Option<Translation>,
@@ -43,30 +43,22 @@ pub(crate) fn plan_writes<D: Writable>(
     live: &mut LiveEntries,
     arrangement: &mut Arrangement,
     plan: &mut Plan,
-    device: &mut D,
 ) -> Result<IdsAndUndo, AllocError>
     requires standing { length live.old.live ≡ entries_of (mode_of translation.now) rules.now.rules }
     requires room { length live.old.live + length parts.now.inserted.items ≤ live.old.slots }
     requires encodable { AllByRecursion (λ ranked. IsEncodable ranked.piece) parts.now.inserted.items }
     requires plannable { IsPlannable live.old arrangement.old plan.old.writes }
     requires size { length before.now ≡ live.old.slots }
-    requires few { length parts.now.rewrites.items ≤ 4096 }
+    requires few { length parts.now.rewrites.items ≤ MOST_SLOTS }
     requires rewritten { AllByRecursion (λ rewrite. IsTrue (is_live live.old.live rewrite.id)) parts.now.rewrites.items }
     requires erased { AllByRecursion (λ id. IsTrue (is_live live.old.live id)) parts.now.erased.items }
     ensures planned { OnOk result (AreAllPlanned live.old live.new arrangement.old arrangement.new plan.old plan.new parts.now.inserted.items
         (aims_of placement (mode_of translation.now) (length arrangement.old) rules.now.rules parts.now.inserted.items) parts.now.rewrites.items parts.now.erased.items) }
     ensures adds { IfOk result (λ planned. AddsIds live.old live.new planned.ids.items) }
     ensures undo { IfOk result (λ planned. AreRestoring translation.now before.now (all_writes plan.new.writes) planned.undo.items) }
-    ensures enough { OnOk result (2 * length (all_writes plan.new.writes) + 1 ≤ D.spare device.new) }
     ensures refused { OnErr result (live.new.live ≡ live.old.live) }
     ensures kept { KeepEntries live.old.live live.old.entries live.new.entries }
     ensures slots { live.new.slots ≡ live.old.slots }
-    ensures least { D.spare device.old ≤ D.spare device.new }
-    ensures journal { D.journal device.new ≡ D.journal device.old }
-    ensures events { D.events device.new ≡ D.events device.old }
-    ensures flight { D.flight device.new ≡ D.flight device.old }
-    ensures slot_count { D.slot_count device.new ≡ D.slot_count device.old }
-    ensures faults { D.faults device.new ≡ D.faults device.old }
 {
     let ids = plan_additions(
         alloc,
@@ -78,7 +70,7 @@ pub(crate) fn plan_writes<D: Writable>(
         arrangement,
         plan,
     )?;
-    match plan_changes(parts, arrangement, plan, device) {
+    match plan_changes(parts, arrangement, plan) {
         Ok(()) => {}
         Err(fault) => {
             forget_all(live, ids);

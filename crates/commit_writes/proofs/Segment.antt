@@ -4,6 +4,7 @@ use Rattle.std.specs.List.{AllByRecursion, AllZip}
 use Rattle.std.proofs.Math.Nat.{mul-le-mul}
 use Rattle.std.specs.Prelude.{flat_map}
 use Rattle.std.proofs.lemmas.List.{length-map}
+use Rattle.slot_order.specs.Order.{most_slots}
 use Rattle.slot_order.specs.Chains.{BoundsMemberChains}
 use Rattle.slot_order.proofs.Lists.{contains_head, contains_tail}
 use Rattle.slot_pool.specs.Arrangement.{Slots}
@@ -105,13 +106,13 @@ few_made piece all entries size (p ∷ planned) (n ∷ made) are spans bound =
 
 -- which is one of the slots alone, as all ids that were live stand in the end
 pub planned_few : (state : State) (standing inserted : List RankedPiece) (live : List LivePiece) (slots : Slots) (entries : IdEntries) (planned : List Planned)
-    → IsPlannedRow state standing inserted live slots entries planned → length (planned_writes entries planned) ≤ 4096 * 4097 * length planned
+    → IsPlannedRow state standing inserted live slots entries planned → length (planned_writes entries planned) ≤ most_slots * (1 + most_slots) * length planned
 planned_few state standing inserted live slots entries planned row =
-    let few : length slots ≤ 4096 = row.arranged.few in
+    let few : length slots ≤ most_slots = row.arranged.few in
     let most : length (planned_writes entries planned) ≤ length slots * (1 + length slots) * length planned =
     few_made piece all entries (length slots) planned (made_by entries piece state planned) done.as_planned (planned_spans live slots planned row.are_planned) bound in
-    let wide : length slots * (1 + length slots) ≤ 4096 * 4097 = wider (length slots) few in
-    let all_of_them : length slots * (1 + length slots) * length planned ≤ 4096 * 4097 * length planned = mul-le-mul_right (length planned) wide in
+    let wide : length slots * (1 + length slots) ≤ most_slots * (1 + most_slots) = wider (length slots) few in
+    let all_of_them : length slots * (1 + length slots) * length planned ≤ most_slots * (1 + most_slots) * length planned = mul-le-mul_right (length planned) wide in
     omega arith
   where
     piece : ℕ → RankedPiece
@@ -123,8 +124,8 @@ planned_few state standing inserted live slots entries planned row =
     done : AreDone entries piece all live slots state planned
     done = commit_done state standing inserted live slots entries planned row
 
-    wider : (size : ℕ) → size ≤ 4096 → size * (1 + size) ≤ 4096 * 4097
-    wider size few = mul-le-mul few (let more : 1 + size ≤ 4097 = omega arith in more)
+    wider : (size : ℕ) → size ≤ most_slots → size * (1 + size) ≤ most_slots * (1 + most_slots)
+    wider size few = mul-le-mul few (let more : 1 + size ≤ (1 + most_slots) = omega arith in more)
 
     bound : BoundsMemberChains (over piece) (rank piece) (IsLive all) (length slots)
     bound = subst (BoundsMemberChains (over piece) (rank piece) (IsLive all)) (slots_kept slots planned) (standing_bound (over piece) (rank piece) (IsLive all) (slots_after slots planned) done.placed)

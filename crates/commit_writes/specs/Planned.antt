@@ -1,6 +1,7 @@
 -- Insertions as they are planned, over ids in slots, and what they mean on the device.
 use Rattle.std.specs.Prelude.{◌≡◌, ℕ, ◌<◌, ◌≤◌, IsFalse, Option, Some, None, List, [], ◌∷◌, ◌++◌, Contains, AllPairs, length, map, flat_map, fold, max, slice_index_or}
 use Rattle.std.specs.List.{AllByRecursion}
+use Rattle.slot_order.specs.Order.{most_slots}
 use Rattle.slot_order.specs.Chains.{BoundsMemberChains}
 use Rattle.slot_pool.specs.Arrangement.{Slots}
 use Rattle.rule_model.specs.Rule.{AreConditions}
@@ -97,7 +98,7 @@ pub record AreEntriesOf (pieces : List RankedPiece) (live : List LivePiece) (ent
 
 -- each live id stands in one slot of so many, in order
 pub record AreArranged (live : List LivePiece) (slots : Slots) : Type 0 where
-  pub few : length slots ≤ 4096
+  pub few : length slots ≤ most_slots
   pub apart : AreApart (length slots) live
   pub standing : StandOnce (IsLive live) slots
   pub order : IsInOrder (is_above live) slots

@@ -10,6 +10,7 @@ use range_bits::{BitMap, FIELD_BITS};
 use readback::Parts;
 use rule_model::{Ports, Prefix, Rank, Rule};
 use rule_store::{Batch, Command, Store};
+use slot_order::MOST_SLOTS;
 use std::alloc::Global;
 use std::fs;
 
@@ -116,7 +117,7 @@ fn kept_rules(alloc: Global, text: &str) -> Result<Store> {
 }
 
 fn insert(rules: &mut Store, rule: Rule) -> Result<()> {
-    ensure!(rules.len() < 4096, "too many rules");
+    ensure!(rules.len() < MOST_SLOTS, "too many rules");
     if rules.rule(rule.priority).is_some() {
         bail!("a rule is kept twice");
     }

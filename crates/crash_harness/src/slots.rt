@@ -6,6 +6,7 @@ use crate::lines::{byte, is_whole, line_of, long, name_of, numbers_of, short, wi
 use anyhow::{Result, bail, ensure};
 use memory_tcam::Shadowed;
 use rule_model::{Entry, LANES, Rank, Word};
+use slot_order::MOST_SLOTS;
 use std::alloc::Global;
 use std::fs;
 use std::fs::File;
@@ -56,7 +57,7 @@ impl Hardware for TextFile {
 /// A blank memory with so many slots, 1 to 4,096, in a new file.
 pub fn blank(rt: &HostRuntime, path: &str, slots: u32) -> Result<Shadowed<TextFile>> {
     ensure!(1 <= slots, "no slots");
-    ensure!(slots <= 4096, "{slots} slots");
+    ensure!(slots <= MOST_SLOTS, "{slots} slots");
     let file = File::create(rt, path)?;
     let alloc = rt.alloc();
     let memory = TextFile { alloc, file, slots };

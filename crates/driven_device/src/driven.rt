@@ -9,6 +9,7 @@ use batch_order::{
 use readback::Parts;
 use rule_model::{Key, Rank};
 use rule_store::Batch;
+use slot_order::MOST_SLOTS;
 use std::alloc::{AllocError, Global};
 use std::marker::Model;
 use tcam_device::{Device, DeviceFault, MOST_IN_FLIGHT, ReadBack};
@@ -78,7 +79,7 @@ impl<D: Device + Drop> Driven<D> {
         device: D,
     ) -> Result<Driven<D>, SetUpFault> {
         let slots = device.slots();
-        if slots < 1 || slots > 4096 {
+        if slots < 1 || slots > MOST_SLOTS {
             return Err(SetUpFault::Slots(slots));
         }
         let manager = Manager::new(alloc, slots, mode, placement)?;
@@ -111,7 +112,7 @@ impl<D: ReadBack + Drop> Driven<D> {
     ) -> Result<Driven<D>, (RestartedFault, Parts)>
         ensures { IfErr result (λ refused. refused.1 ≡ parts) }
     {
-        if slots < 1 || slots > 4096 || slots > device.slots() {
+        if slots < 1 || slots > MOST_SLOTS || slots > device.slots() {
             return Err((RestartedFault::Slots(slots), parts));
         }
         if mode == Mode::Cover && !has_blank_tables(&device) {

@@ -6,50 +6,50 @@ use Rattle.tcam_device.specs.declared.Action.{Action}
 use Rattle.tcam_device.specs.Flight.{Flight}
 use Rattle.batch_order.specs.Managed.{Managed}
 use Rattle.lookup_turns.specs.declared.Turn.{Turn}
-use Rattle.lookup_turns.specs.Turns.{Outcome, TurnsOnce, Drives, IsTurned, IsDriven, numbered}
+use Rattle.lookup_turns.specs.Turns.{Outcome, TakesTurn, Drives, IsTurned, AreDriven, with_number}
 
 pub drives_more : (slots : ℕ) (manager : Managed) (flight : Flight) (number : ℕ) (turns : List Turn) (answers : List (ℕ × Answer)) (actions : List Action)
     (mid : Managed) (between : Flight) (turn : Turn) (once : Outcome) → Drives slots manager flight number turns answers actions mid between
-    → TurnsOnce slots mid between turn once
-    → Drives slots manager flight number (turns ++ turn ∷ []) (answers ++ numbered (number + length turns) once.answered) (actions ++ once.actions) once.manager once.flight
+    → TakesTurn slots mid between turn once
+    → Drives slots manager flight number (turns ++ turn ∷ []) (answers ++ with_number (number + length turns) once.answered) (actions ++ once.actions) once.manager once.flight
 drives_more slots manager flight number [] answers actions mid between turn once did turned =
-    let here : TurnsOnce slots manager flight turn once =
-    subst (λ f. TurnsOnce slots manager f turn once) did.3 (subst (λ m. TurnsOnce slots m between turn once) did.2 turned) in
+    let here : TakesTurn slots manager flight turn once =
+    subst (λ f. TakesTurn slots manager f turn once) did.3 (subst (λ m. TakesTurn slots m between turn once) did.2 turned) in
     let at : number + 0 ≡ number = omega arith in (
       once,
       [],
       [],
       here,
       (refl, refl, refl, refl),
-      ap₂ (λ (before : List (ℕ × Answer)) (k : ℕ). before ++ numbered k once.answered) did.0 at ∙ sym (append-nil (numbered number once.answered)),
+      ap₂ (λ (before : List (ℕ × Answer)) (k : ℕ). before ++ with_number k once.answered) did.0 at ∙ sym (append-nil (with_number number once.answered)),
       ap (λ (before : List Action). before ++ once.actions) did.1 ∙ sym (append-nil once.actions),
     )
 drives_more slots manager flight number (first ∷ turns) answers actions mid between turn once did turned =
     let behind = drives_more slots did.0.manager did.0.flight (number + 1) turns did.1 did.2 mid between turn once did.4 turned in
     let at : number + 1 + length turns ≡ number + suc (length turns) = omega arith in (
       did.0,
-      did.1 ++ numbered (number + suc (length turns)) once.answered,
+      did.1 ++ with_number (number + suc (length turns)) once.answered,
       did.2 ++ once.actions,
       did.3,
-      subst (λ k. Drives slots did.0.manager did.0.flight (number + 1) (turns ++ turn ∷ []) (did.1 ++ numbered k once.answered) (did.2 ++ once.actions) once.manager once.flight) at behind,
-      ap (λ (xs : List (ℕ × Answer)). xs ++ numbered (number + suc (length turns)) once.answered) did.5
-          ∙ append_assoc (numbered number did.0.answered) did.1 (numbered (number + suc (length turns)) once.answered),
+      subst (λ k. Drives slots did.0.manager did.0.flight (number + 1) (turns ++ turn ∷ []) (did.1 ++ with_number k once.answered) (did.2 ++ once.actions) once.manager once.flight) at behind,
+      ap (λ (xs : List (ℕ × Answer)). xs ++ with_number (number + suc (length turns)) once.answered) did.5
+          ∙ append_assoc (with_number number did.0.answered) did.1 (with_number (number + suc (length turns)) once.answered),
       ap (λ (xs : List Action). xs ++ once.actions) did.6 ∙ append_assoc did.0.actions did.2 once.actions,
     )
 
 -- there are no more answers than turns
 pub few_more : (answers : List (ℕ × Answer)) (place : ℕ) (answered : Option Answer) → length answers ≤ place
-    → length (answers ++ numbered place answered) ≤ place + 1
+    → length (answers ++ with_number place answered) ≤ place + 1
 few_more answers place None few =
-    let size = length-append answers (numbered place None) in omega arith
+    let size = length-append answers (with_number place None) in omega arith
 few_more answers place (Some found) few =
     let size = length-append answers ((place, found) ∷ []) in omega arith
 
 -- with one turn more, the turns so far are made
 pub driven_more : (slots : ℕ) (before between after : List Action) (manager mid last : Managed) (flight flying left : Flight) (turns : List Turn) (place : ℕ) (turn : Turn)
-    (answers : List (ℕ × Answer)) (answered : Option Answer) → IsDriven slots before between manager flight (take place turns) answers mid flying
+    (answers : List (ℕ × Answer)) (answered : Option Answer) → AreDriven slots before between manager flight (take place turns) answers mid flying
     → IsTurned slots between after mid flying turn answered last left → place < length turns → turn ≡ get_or turns place turn
-    → IsDriven slots before after manager flight (take (place + 1) turns) (answers ++ numbered place answered) last left
+    → AreDriven slots before after manager flight (take (place + 1) turns) (answers ++ with_number place answered) last left
 driven_more slots before between after manager mid last flight flying left turns place turn answers answered so_far one inside is =
     let once : Outcome = record { answered = answered; actions = one.actions; manager = last; flight = left } in
     let more = drives_more slots manager flight 0 (take place turns) answers so_far.actions mid flying turn once so_far.driven one.turned in
@@ -58,7 +58,7 @@ driven_more slots before between after manager mid last flight flying left turns
     let longer : take place turns ++ turn ∷ [] ≡ take (place + 1) turns = ap (λ t. take place turns ++ t ∷ []) is ∙ sym (take_more turns place turn inside) in
     record {
       actions = so_far.actions ++ one.actions;
-      driven = subst (λ ts. Drives slots manager flight 0 ts (answers ++ numbered place answered) (so_far.actions ++ one.actions) last left) longer
-          (subst (λ k. Drives slots manager flight 0 (take place turns ++ turn ∷ []) (answers ++ numbered k answered) (so_far.actions ++ one.actions) last left) at more);
+      driven = subst (λ ts. Drives slots manager flight 0 ts (answers ++ with_number place answered) (so_far.actions ++ one.actions) last left) longer
+          (subst (λ k. Drives slots manager flight 0 (take place turns ++ turn ∷ []) (answers ++ with_number k answered) (so_far.actions ++ one.actions) last left) at more);
       events = one.events ∙ ap (λ (xs : List Action). xs ++ one.actions) so_far.events ∙ append_assoc before so_far.actions one.actions;
     }

@@ -37,18 +37,18 @@ SearchesOnce slots manager (oldest ∷ flight) left =
     × (left ≡ record { answered = Some found; actions = []; manager = manager; flight = flight })
 
 -- what one turn does on a device of so many slots
-abbrev pub TurnsOnce : ℕ → Managed → Flight → Turn → Outcome → Type 0
-TurnsOnce slots manager flight Step left =
+abbrev pub TakesTurn : ℕ → Managed → Flight → Turn → Outcome → Type 0
+TakesTurn slots manager flight Step left =
     (made : Made) × (next : Managed) × Steps manager (length flight) manager.held made next
     × (left ≡ record { answered = None; actions = actions_of made; manager = next; flight = flight })
-TurnsOnce slots manager flight (Translate key) left =
+TakesTurn slots manager flight (Translate key) left =
     left ≡ record { answered = None; actions = []; manager = manager; flight = translated (on_device slots manager.state) key flight }
-TurnsOnce slots manager flight Search left = SearchesOnce slots manager flight left
+TakesTurn slots manager flight Search left = SearchesOnce slots manager flight left
 
 -- the answer of a turn, with the turn's number
-abbrev pub numbered : ℕ → Option Answer → List (ℕ × Answer)
-numbered number None = []
-numbered number (Some found) = (number, found) ∷ []
+abbrev pub with_number : ℕ → Option Answer → List (ℕ × Answer)
+with_number number None = []
+with_number number (Some found) = (number, found) ∷ []
 
 -- What turns do, from a turn of this number on: the answers of the searches with their turns' numbers, what is done to the
 -- device, and the manager and the words in flight that they leave.
@@ -56,19 +56,19 @@ abbrev pub Drives : ℕ → Managed → Flight → ℕ → List Turn → List (�
 Drives slots manager flight number [] answers actions last left =
     (answers ≡ []) × (actions ≡ []) × (last ≡ manager) × (left ≡ flight)
 Drives slots manager flight number (turn ∷ turns) answers actions last left =
-    (once : Outcome) × (rest : List (ℕ × Answer)) × (more : List Action) × TurnsOnce slots manager flight turn once
+    (once : Outcome) × (rest : List (ℕ × Answer)) × (more : List Action) × TakesTurn slots manager flight turn once
     × Drives slots once.manager once.flight (number + 1) turns rest more last left
-    × (answers ≡ numbered number once.answered ++ rest) × (actions ≡ once.actions ++ more)
+    × (answers ≡ with_number number once.answered ++ rest) × (actions ≡ once.actions ++ more)
 
 -- one turn over a device with these events before it and after it
 pub record IsTurned (slots : ℕ) (before after : List Action) (manager : Managed) (flight : Flight) (turn : Turn)
     (answered : Option Answer) (last : Managed) (left : Flight) : Type 0 where
   pub actions : List Action
-  pub turned : TurnsOnce slots manager flight turn (record { answered = answered; actions = actions; manager = last; flight = left })
+  pub turned : TakesTurn slots manager flight turn (record { answered = answered; actions = actions; manager = last; flight = left })
   pub events : after ≡ before ++ actions
 
 -- all turns
-pub record IsDriven (slots : ℕ) (before after : List Action) (manager : Managed) (flight : Flight) (turns : List Turn)
+pub record AreDriven (slots : ℕ) (before after : List Action) (manager : Managed) (flight : Flight) (turns : List Turn)
     (answers : List (ℕ × Answer)) (last : Managed) (left : Flight) : Type 0 where
   pub actions : List Action
   pub driven : Drives slots manager flight 0 turns answers actions last left
@@ -80,6 +80,6 @@ pub record StandsBefore (slots : ℕ) (before after : List Action) (manager : Ma
   pub place : ℕ
   pub inside : place < length turns
   pub answers : List (ℕ × Answer)
-  pub stands : IsDriven slots before after manager flight (take place turns) answers last left
+  pub stands : AreDriven slots before after manager flight (take place turns) answers last left
   pub step : slice_get turns place ≡ Some Step
   pub due : IsSome (next_of last.held)

@@ -8,7 +8,7 @@ ghost use Rattle.batch_order.specs.Managed.{IsOn, live_now};
 ghost use Rattle.batch_order.specs.Steps.{next_of};
 ghost use Rattle.batch_order.specs.Passed.{GoesBackFrom, WayBackFrom};
 ghost use Rattle.batch_order.specs.CarriedOut.{HasRoomBothWays, HasRoomLeft};
-ghost use Rattle.lookup_turns.specs.Turns.{IsTurned, IsDriven, StandsBefore, numbered, translated};
+ghost use Rattle.lookup_turns.specs.Turns.{IsTurned, AreDriven, StandsBefore, with_number, translated};
 
 use crate::{DriveFault, Turn};
 use batch_order::Manager;
@@ -81,7 +81,7 @@ fn note(
 )
     requires number { place < 2 ^ 32 }
     requires room { vec_len answers.old < vec_capacity answers.old }
-    ensures items { answers.new.items ≡ answers.old.items ++ numbered place answered }
+    ensures items { answers.new.items ≡ answers.old.items ++ with_number place answered }
     ensures capacity { vec_capacity answers.new ≡ vec_capacity answers.old }
 {
     match answered {
@@ -117,7 +117,7 @@ pub fn drive<D: Device>(
     requires room { HasRoomLeft manager.old.held (D.spare device.old) }
     requires on { IsOn (D.slot_count device.old) (D.journal device.old) manager.old }
     requires current { AreCurrent (live_now manager.old) (D.flight device.old) }
-    ensures driven { IfOk result (λ answers. IsDriven (D.slot_count device.old) (D.events device.old) (D.events device.new)
+    ensures driven { IfOk result (λ answers. AreDriven (D.slot_count device.old) (D.events device.old) (D.events device.new)
         manager.old (D.flight device.old) turns.now answers.items manager.new (D.flight device.new)) }
     ensures stands { (result ≡ Err DriveFault.Device) → StandsBefore (D.slot_count device.old) (D.events device.old)
         (D.events device.new) manager.old (D.flight device.old) turns.now manager.new (D.flight device.new) }

@@ -3,6 +3,7 @@ use Rattle.std.proofs.Common.{◌≡◌, ℕ, ◌+◌, ◌<◌, ◌≤◌, true,
 use Rattle.std.proofs.lemmas.Bool.{false_from_ne_true}
 use Rattle.std.proofs.lemmas.List.{take_all}
 use Rattle.std.proofs.lemmas.List.Elements.{Contains-push, Contains-push_cases}
+use Rattle.slot_order.specs.Order.{most_slots}
 use Rattle.slot_pool.specs.Arrangement.{Slots}
 use Rattle.placement.specs.declared.LivePiece.{LivePiece}
 use Rattle.placement.specs.Live.{LivePieces, is_live, is_above}
@@ -29,7 +30,7 @@ next_absent index slots count w = false_from_ne_true (is_live index.live count) 
 
 -- what the next insertion needs
 pub record IsNext (index : LivePieces) (slots : Slots) (count : ℕ) : Type 0 where
-  pub few : length slots ≤ 4096
+  pub few : length slots ≤ most_slots
   pub live : is_live index.live count ≡ true
   pub standing : StandOnce (IsOther index.live count) slots
   pub order : IsInOrder (is_above index.live) slots

@@ -2,7 +2,7 @@
 use Rattle.std.proofs.Common.{◌≡◌, ℕ, ◌+◌, ◌-◌, ◌*◌, ◌<◌, ◌≤◌, Bool, true, IsTrue, Some, List, [], ◌∷◌, ◌++◌, length, map, take, drop, Contains, inl, inr, arith, refl, sym, ◌∙◌, subst, ap, length-append, append-nil, append_assoc}
 use Rattle.std.proofs.lemmas.Bool.{cases_lt, cases_eq}
 use Rattle.std.proofs.lemmas.List.{take-map, take-append-le, take_all, length-map}
-use Rattle.slot_order.specs.Order.{slot, Ordered}
+use Rattle.slot_order.specs.Order.{slot, Ordered, most_slots}
 use Rattle.slot_order.specs.Chains.{applied, IsChain, BoundsMemberChains}
 use Rattle.slot_moves.proofs.Turns.{Plus}
 use Rattle.slot_order.proofs.Walks.{Along_prefix, applied_append}
@@ -178,7 +178,7 @@ uncrossed_none index id slots plan ready clear = record {
 pub record IsWholly (index : LivePieces) (aim : Aim) (id : ℕ) (slots slots' : Slots) (plan plan' : List Move) : Type 0 where
   pub made : AreMade slots slots' plan plan'
   pub placement : IsPlacement (is_above index.live) aim id slots (moves_since plan plan')
-  pub few : length (moves_since plan plan') ≤ 4097 * 4098
+  pub few : length (moves_since plan plan') ≤ (1 + most_slots) * 4098
   pub one_fewer : free_slots slots' + 1 ≡ free_slots slots
   pub inserted : IsInserted index id slots (moves_since plan plan')
 

@@ -3,7 +3,7 @@ use Rattle.std.proofs.Common.{◌≡◌, ℕ, ◌+◌, ◌-◌, ◌<◌, ◌≤�
 use Rattle.std.specs.Prelude.{slice_index_or}
 use Rattle.std.proofs.lemmas.Bool.{cases_eq}
 use Rattle.std.proofs.lemmas.List.{length-map, map-append}
-use Rattle.slot_order.specs.Order.{slot, Ordered}
+use Rattle.slot_order.specs.Order.{slot, Ordered, most_slots}
 use Rattle.slot_order.specs.Chains.{applied}
 use Rattle.slot_moves.specs.Moves.{chain_moves, Turn, Down, Up, turn_moves}
 use Rattle.slot_moves.specs.Cuts.{holds, early, late, HasRoom}
@@ -90,7 +90,7 @@ module _ (index : LivePieces) (id : ℕ) (behind before : ℕ → Bool) (slots :
   ready_after slots' turn there free k =
       let o : Ordered (Related (is_above index.live)) (rank_in index.live) (IsOther index.live id) slots' = subst (Ordered (Related (is_above index.live)) (rank_in index.live) (IsOther index.live id)) (sym there) k.ordered in (
         record {
-          few = subst (λ n. n ≤ 4096) (sym (ap length there ∙ k.size)) w.ready.few;
+          few = subst (λ n. n ≤ most_slots) (sym (ap length there ∙ k.size)) w.ready.few;
           free = subst (λ n. 0 < n) (sym free) w.ready.free;
           live = w.ready.live;
           apart = w.ready.apart;
@@ -193,7 +193,7 @@ module _ (index : LivePieces) (id : ℕ) (behind before : ℕ → Bool) (slots :
       kept : (at : ℕ) → holds before (slot slots at) ≡ holds before (slot slots' at)
       kept at = shows.kept at ∙ ap (λ d. holds before (slot d at)) (sym there)
 
-      few : length moves ≤ 4097
+      few : length moves ≤ (1 + most_slots)
       few =
           let n : length moves ≡ length (turn_moves slots turn) = sym (length-map moves write_of) ∙ ap length same in
           let f = (next_free_is slots (cut.boundary - 1) went.down.free went.down.to).1.inside in
@@ -290,7 +290,7 @@ module _ (index : LivePieces) (id : ℕ) (behind before : ℕ → Bool) (slots :
       kept : (at : ℕ) → holds behind (slot slots at) ≡ holds behind (slot slots' at)
       kept at = shows.kept at ∙ ap (λ d. holds behind (slot d at)) (sym there)
 
-      few : length moves ≤ 4097
+      few : length moves ≤ (1 + most_slots)
       few =
           let n : length moves ≡ length (turn_moves slots turn) = sym (length-map moves write_of) ∙ ap length same in
           let f = slot_inside slots upper x.0 x.1 in

@@ -3,6 +3,7 @@ use Rattle.std.proofs.Common.{◌≡◌, ℕ, ◌+◌, ◌≤◌, Option, None, 
 use Rattle.std.specs.Prelude.{slice_index_or}
 use Rattle.std.specs.Option.{unwrap_or}
 use Rattle.std.proofs.lemmas.List.{length-map}
+use Rattle.slot_order.specs.Order.{most_slots}
 use Rattle.slot_order.proofs.Writes.{slot_inside}
 use Rattle.slot_moves.proofs.Count.{length-chain_moves}
 use Rattle.slot_pool.specs.Arrangement.{Slots, HasTwin, nearest_free}
@@ -48,7 +49,7 @@ placed_in_gap index aim id slots slots' plan plan' at fits is gained after =
     }
 
 -- the moves of a chain and one more
-few_moves : (slots : Slots) (moves : List Move) (writes : List (ℕ × Option ℕ)) (step : Move) (n : ℕ) → map write_of moves ≡ writes → length writes ≡ n + 1 → n + 2 ≤ 4097 → length (moves ++ step ∷ []) ≤ 4097
+few_moves : (slots : Slots) (moves : List Move) (writes : List (ℕ × Option ℕ)) (step : Move) (n : ℕ) → map write_of moves ≡ writes → length writes ≡ n + 1 → n + 2 ≤ (1 + most_slots) → length (moves ++ step ∷ []) ≤ (1 + most_slots)
 few_moves slots moves writes step n same size few =
     let a = length-append moves (step ∷ []) in
     let b : length (map write_of moves) ≡ length moves = length-map moves write_of in

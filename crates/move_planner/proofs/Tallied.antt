@@ -3,7 +3,7 @@ use Rattle.std.proofs.Common.{◌≡◌, ℕ, ◌+◌, ◌-◌, ◌<◌, ◌≤�
 use Rattle.std.specs.Prelude.{MatchOption, cond, count_by, min, is_none, nat_lt, nat_le, slice_index_or}
 use Rattle.std.proofs.lemmas.Bool.{cases_Bool, cases_lt, cond-true, cond-false, and_parts, and_from, le-leb, leb-true, ltb-true, ltb-false, both_ways}
 use Rattle.std.proofs.lemmas.List.Sums.{sum_by_more, sum_by-drop_more, sum_by-take-le, sum_by-take-drop, count_by-le-length}
-use Rattle.slot_order.specs.Order.{slot}
+use Rattle.slot_order.specs.Order.{slot, most_slots}
 use Rattle.slot_moves.specs.Cuts.{free_behind, near_behind, free_before}
 use Rattle.slot_moves.proofs.BestCut.{before_rises, behind_falls}
 use Rattle.slot_pool.specs.Arrangement.{Slots}
@@ -133,8 +133,8 @@ chosen_more slots sides tally choice cut next tallied order low chosen = elim (c
     ]
 
 -- a tally is of no more than the slots
-pub tally_small : (slots : Slots) (sides : Sides) (tally : Tally) (cut : ℕ) → IsTallied slots sides tally cut → length slots ≤ 4096 → length sides.behind ≤ 4096 → length sides.before ≤ 4096
-    → (tally.early ≤ 4096) × (tally.late ≤ 4096) × (tally.free_before ≤ 4096) × (tally.free_behind ≤ 4096)
+pub tally_small : (slots : Slots) (sides : Sides) (tally : Tally) (cut : ℕ) → IsTallied slots sides tally cut → length slots ≤ most_slots → length sides.behind ≤ most_slots → length sides.before ≤ most_slots
+    → (tally.early ≤ most_slots) × (tally.late ≤ most_slots) × (tally.free_before ≤ most_slots) × (tally.free_behind ≤ most_slots)
 tally_small slots sides tally cut w few a b =
     let x = w.early_is in let y = w.late_is in let u = w.before_is in let v = w.behind_is in
     let p = sum_by-take-le (λ (mark : Bool). cond mark 1 0) sides.behind (cut - sides.start) in

@@ -1,7 +1,7 @@
 -- The turns of a cut so far, and what all of them leave.
 use Rattle.std.proofs.Common.{◌≡◌, ℕ, ◌+◌, ◌*◌, ◌≤◌, Bool, true, Option, None, Some, List, [], ◌++◌, length, inl, inr, arith, refl, sym, ◌∙◌, subst, ap, append-nil, append_assoc, length-append}
 use Rattle.std.proofs.lemmas.Bool.{cases_lt, both_ways}
-use Rattle.slot_order.specs.Order.{slot}
+use Rattle.slot_order.specs.Order.{slot, most_slots}
 use Rattle.slot_moves.specs.Cuts.{holds, early, late, wrong_side}
 use Rattle.slot_order.proofs.Writes.{slot_inside}
 use Rattle.slot_moves.proofs.Tally.{take_clear, drop_clear}
@@ -35,8 +35,8 @@ pub record IsUncrossing (index : LivePieces) (id : ℕ) (slots slots' : Slots) (
   pub underway : IsUnderway index id (is_behind (is_above index.live) slots id) (is_before (is_above index.live) slots id) slots' sides cut
   pub cut_at : cut.boundary ≡ boundary
   pub same_free : free_slots slots' ≡ free_slots slots
-  pub count : length moves + 4097 * wrong_side (is_behind (is_above index.live) slots id) (is_before (is_above index.live) slots id) boundary slots'
-      ≤ 4097 * wrong_side (is_behind (is_above index.live) slots id) (is_before (is_above index.live) slots id) boundary slots
+  pub count : length moves + (1 + most_slots) * wrong_side (is_behind (is_above index.live) slots id) (is_before (is_above index.live) slots id) boundary slots'
+      ≤ (1 + most_slots) * wrong_side (is_behind (is_above index.live) slots id) (is_before (is_above index.live) slots id) boundary slots
 
 -- at first
 pub uncrossing_none : (index : LivePieces) (id : ℕ) (slots : Slots) (plan : List Move) (sides : Sides) (boundary : ℕ) → IsBegun index id slots sides → IsBestTo slots sides sides.end boundary

@@ -1,6 +1,6 @@
 -- What the steps of the planner need and what they leave.
 use Rattle.std.specs.Prelude.{◌≡◌, ℕ, ◌+◌, ◌-◌, ◌*◌, ◌<◌, ◌≤◌, ◌⊎◌, IsTrue, Bool, true, false, Contains, Option, None, Some, MatchOption, List, ◌∷◌, ◌++◌, [], length, min, max, slice_index_or, if◌then◌else◌, nat_lt, nat_le, ◌&&◌, ◌↔◌}
-use Rattle.slot_order.specs.Order.{slot}
+use Rattle.slot_order.specs.Order.{slot, most_slots}
 use Rattle.slot_moves.specs.Cuts.{holds, early, late, wrong_side, free_before, free_behind, HasRoom}
 use Rattle.slot_pool.specs.Arrangement.{Slots, HasTwin, home_of, next_free_above, last_free_below}
 use Rattle.placement.specs.Live.{LivePieces, is_live, is_above}
@@ -185,7 +185,7 @@ pub record OnePassed (index : LivePieces) (id : ℕ) (behind before : ℕ → Bo
   pub same_boundary : next.boundary ≡ cut.boundary
   pub same_free : free_slots slots' ≡ free_slots slots
   pub fewer : wrong_side behind before cut.boundary slots' + 1 ≡ wrong_side behind before cut.boundary slots
-  pub few : length moves ≤ 4097
+  pub few : length moves ≤ (1 + most_slots)
 
 -- the ends of the last early entry's chain, or none, since none is early or no slot behind the boundary is free
 pub record EarlyEnds (behind : ℕ → Bool) (slots : Slots) (sides : Sides) (cut : Cut) (ends : Ends) : Type 0 where
@@ -278,7 +278,7 @@ pub record UndoesCrossing (index : LivePieces) (id : ℕ) (slots slots' : Slots)
   pub ready : IsReady index id slots'
   pub same_free : free_slots slots' ≡ free_slots slots
   pub clear : gap_start (is_above index.live) slots' id ≤ gap_end (is_above index.live) slots' id
-  pub few : length moves ≤ 4097 * 4097
+  pub few : length moves ≤ (1 + most_slots) * (1 + most_slots)
 
 -- what the last part of an insertion leaves: a placement with an aim was planned and made
 pub record IsPlaced (index : LivePieces) (aim : Aim) (id : ℕ) (slots slots' : Slots) (plan plan' : List Move) : Type 0 where
@@ -286,7 +286,7 @@ pub record IsPlaced (index : LivePieces) (aim : Aim) (id : ℕ) (slots slots' : 
   pub gained : plan' ≡ plan ++ moves
   pub after : slots' ≡ after_moves slots moves
   pub placement : IsPlacing (is_above index.live) aim id slots moves
-  pub few : length moves ≤ 4097
+  pub few : length moves ≤ (1 + most_slots)
   pub one_fewer : free_slots slots' + 1 ≡ free_slots slots
 
 -- the chain that makes way for a new id: down from the first lower one, where no up chain is shorter, or up from the

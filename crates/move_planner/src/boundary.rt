@@ -4,6 +4,7 @@ ghost use Rattle.slot_moves.specs.Cuts.{free_before, free_behind};
 ghost use Rattle.move_planner.specs.Boundary.{AreQuiet, HasMarkedRoom, IsBestTo, IsNextFree, IsTallied, one, count_marks, has_room, with_better};
 
 use crate::sides::{Sides, first_marked};
+use slot_order::MOST_SLOTS;
 use slot_pool::{Arrangement, Marks};
 
 /// What stands on the wrong side of a boundary, and the free slots near it, before it and behind it.
@@ -24,7 +25,7 @@ pub(crate) struct Choice {
 
 /// The boundary with room that has the fewest entries on its wrong side, the last of equal ones.
 pub(crate) fn best_boundary(slots: &Arrangement, sides: &Sides) -> u32
-    requires few { length slots.now ≤ 4096 }
+    requires few { length slots.now ≤ MOST_SLOTS }
     requires order { sides.now.start < sides.now.end }
     requires inside { sides.now.end ≤ length slots.now }
     requires behind { length sides.now.behind ≡ sides.now.end - sides.now.start }
@@ -54,7 +55,7 @@ fn next_change(slots: &Arrangement, sides: &Sides, from: u32) -> u32
     requires low { sides.now.start ≤ from }
     requires order { from < sides.now.end }
     requires inside { sides.now.end ≤ length slots.now }
-    requires few { length slots.now ≤ 4096 }
+    requires few { length slots.now ≤ MOST_SLOTS }
     requires behind { length sides.now.behind ≡ sides.now.end - sides.now.start }
     requires before { length sides.now.before ≡ sides.now.end - sides.now.start }
     ensures low { from ≤ result }
@@ -72,7 +73,7 @@ fn next_change(slots: &Arrangement, sides: &Sides, from: u32) -> u32
 
 /// The tally of the first boundary.
 fn tally_at_start(slots: &Arrangement, sides: &Sides) -> Tally
-    requires few { length slots.now ≤ 4096 }
+    requires few { length slots.now ≤ MOST_SLOTS }
     requires order { sides.now.start < sides.now.end }
     requires inside { sides.now.end ≤ length slots.now }
     requires before { length sides.now.before ≡ sides.now.end - sides.now.start }
@@ -89,7 +90,7 @@ fn tally_at_start(slots: &Arrangement, sides: &Sides) -> Tally
 
 /// The tally behind a slot, from the one before it.
 fn tally_past(slots: &Arrangement, sides: &Sides, tally: Tally, slot: u32) -> Tally
-    requires few { length slots.now ≤ 4096 }
+    requires few { length slots.now ≤ MOST_SLOTS }
     requires low { sides.now.start ≤ slot }
     requires high { slot < sides.now.end }
     requires inside { sides.now.end ≤ length slots.now }
@@ -110,10 +111,10 @@ fn tally_past(slots: &Arrangement, sides: &Sides, tally: Tally, slot: u32) -> Ta
 
 /// Of a choice, if there is one, and a later boundary the better one, the later one of equal ones.
 fn better(choice: Option<Choice>, tally: Tally, boundary: u32) -> Option<Choice>
-    requires early { tally.early ≤ 4096 }
-    requires late { tally.late ≤ 4096 }
-    requires before { tally.free_before ≤ 4096 }
-    requires behind { tally.free_behind ≤ 4096 }
+    requires early { tally.early ≤ MOST_SLOTS }
+    requires late { tally.late ≤ MOST_SLOTS }
+    requires before { tally.free_before ≤ MOST_SLOTS }
+    requires behind { tally.free_behind ≤ MOST_SLOTS }
     ensures { result ≡ with_better choice tally boundary }
 {
     if !has_room(tally) {
@@ -135,10 +136,10 @@ fn better(choice: Option<Choice>, tally: Tally, boundary: u32) -> Option<Choice>
 /// Whether the entries of either side fit into the free slots beyond the boundary and the slots that
 /// those of the other side leave.
 fn has_room(tally: Tally) -> bool
-    requires early { tally.early ≤ 4096 }
-    requires late { tally.late ≤ 4096 }
-    requires before { tally.free_before ≤ 4096 }
-    requires behind { tally.free_behind ≤ 4096 }
+    requires early { tally.early ≤ MOST_SLOTS }
+    requires late { tally.late ≤ MOST_SLOTS }
+    requires before { tally.free_before ≤ MOST_SLOTS }
+    requires behind { tally.free_behind ≤ MOST_SLOTS }
     ensures { result ≡ has_room tally }
 {
     tally.early <= tally.free_behind + tally.late && tally.late <= tally.free_before + tally.early
@@ -153,7 +154,7 @@ fn one_if(so: bool) -> u32
 
 /// How many marks are set.
 fn count(marks: &Marks) -> u32
-    requires { length marks.now ≤ 4096 }
+    requires { length marks.now ≤ MOST_SLOTS }
     ensures { result ≡ count_marks marks.now }
 {
     let mut count = 0;
@@ -190,7 +191,7 @@ fn free_just_behind(slots: &Arrangement, end: u32) -> u32
 
 /// How many slots from one on and before another are free.
 fn free_within(slots: &Arrangement, start: u32, end: u32) -> u32
-    requires few { length slots.now ≤ 4096 }
+    requires few { length slots.now ≤ MOST_SLOTS }
     requires order { start < end }
     requires inside { end ≤ length slots.now }
     ensures { result + free_behind end slots.now ≡ free_behind start slots.now }

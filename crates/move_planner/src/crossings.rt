@@ -15,6 +15,7 @@ use crate::shorter::{Ends, shorter_chain};
 use crate::sides::{Sides, find_sides, first_marked, last_marked};
 use overlap_index::Index;
 use placement::Move;
+use slot_order::MOST_SLOTS;
 use slot_pool::Arrangement;
 use std::alloc::{AllocError, Global};
 
@@ -123,7 +124,7 @@ fn late_ends(slots: &Arrangement, sides: &Sides, cut: Cut) -> Option<Ends>
 
 /// How far a boundary is clear once what stood in a slot has passed it.
 fn cleared(cut: Cut, slot: u32) -> Cut
-    requires { slot < 4096 }
+    requires { slot < MOST_SLOTS }
     ensures { result ≡ cleared cut slot }
 {
     if slot < cut.boundary {

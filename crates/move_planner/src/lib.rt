@@ -136,6 +136,7 @@ use overlap_index::Index;
 use placement::{Aim, Move};
 use places::{Gap, find_gap};
 use placing::place;
+use slot_order::MOST_SLOTS;
 use slot_pool::Arrangement;
 use std::alloc::{AllocError, Global};
 use std::marker::Model;
@@ -243,7 +244,7 @@ pub fn plan_insert(
     aim: Aim,
     plan: &mut Moves,
 ) -> Result<Insert, AllocError>
-    requires few { length slots.old ≤ 4096 }
+    requires few { length slots.old ≤ MOST_SLOTS }
     requires free { 0 < free_slots slots.old }
     requires live { IsTrue (is_live index.now.live id) }
     requires standing { StandOnce (IsOther index.now.live id) slots.old }

@@ -8,6 +8,7 @@ ghost use Rattle.move_planner.specs.Steps.{lesser, greater};
 
 use overlap_index::Index;
 use placement::Aim;
+use slot_order::MOST_SLOTS;
 use slot_pool::Arrangement;
 
 /// The least slot of an id below this one.
@@ -92,7 +93,7 @@ impl Gap {
 
 /// The gap of a live id, from one look at all that overlaps it on either side.
 pub(crate) fn find_gap(slots: &Arrangement, index: &Index, id: u32) -> Gap
-    requires few { length slots.now ≤ 4096 }
+    requires few { length slots.now ≤ MOST_SLOTS }
     requires live { IsTrue (is_live index.now.live id) }
     requires once { (i j other : ℕ) → held_in slots.now i ≡ Some other → held_in slots.now j ≡ Some other → i ≡ j }
     ensures upper { result.upper ≡ last_upper (is_above index.now.live) slots.now id }
@@ -116,7 +117,7 @@ pub(crate) fn find_gap(slots: &Arrangement, index: &Index, id: u32) -> Gap
 /// The place in a gap, from `start` on and before `end`, that a new id takes: the free slot nearest
 /// to its aim, the lower one of two. `None` exactly where no slot of the gap is free.
 pub(crate) fn choose(slots: &Arrangement, start: u32, end: u32, aim: Aim) -> Option<u32>
-    requires few { length slots.now ≤ 4096 }
+    requires few { length slots.now ≤ MOST_SLOTS }
     requires ordered { start ≤ end }
     requires inside { end ≤ length slots.now }
     ensures { result ≡ nearest_free slots.now start end (aimed_at aim start end) }

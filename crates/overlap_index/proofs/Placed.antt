@@ -1,7 +1,7 @@
 -- Live pieces in any order, and the place of each at its id.
 use Rattle.std.proofs.Common.{◌≡◌, ◌≢◌, ℕ, ◌+◌, ◌-◌, ◌<◌, ◌≤◌, true, false, List, [], ◌∷◌, ◌++◌, length, map, filter, set, get_or, None, Contains, inl, inr, ◌⊎◌, sym, ◌∙◌, ap, subst, arith, eq-eqb, get_or-set_same, get_or-set_other}
 use Rattle.std.specs.Prelude.{◌==◌, nat_eq, not}
-use Rattle.std.proofs.lemmas.Bool.{both_ways, cases_Bool, cases_lt, cases_eq, eqb-true, ne_eqb, not-true, false_from_ne_true}
+use Rattle.std.proofs.lemmas.Bool.{both_ways, cases_lt, cases_eq, eqb-true, ne_eqb, not-true, false_from_ne_true}
 use Rattle.std.proofs.lemmas.List.{length-map, length-set, length_push, get_or_default, get_or-map, get_or_append_left, get_or_push}
 use Rattle.std.proofs.lemmas.List.Elements.{Contains-push, Contains-push_cases, Contains-append_left, recursion_from_All}
 use Rattle.std.proofs.lemmas.Map.Keys.{IsDistinct-from_apart}
@@ -71,16 +71,6 @@ pub last_small : (slots : ℕ) (live pieces : List LivePiece) (places : List ℕ
     → last ≡ get_or pieces (length pieces - 1) last → last.id < slots
 last_small slots live pieces places last apart table some is =
     AllByRecursion-member (λ (x : LivePiece). x.id < slots) live last apart.small ((table.same last).0 (length pieces - 1, omega arith, sym is))
-
--- an id is live in either order
-live_in_more : (id : ℕ) (some all : List LivePiece) → ((one : LivePiece) → Contains some one → Contains all one) → is_live some id ≡ true → is_live all id ≡ true
-live_in_more id some all more e = let w = live_is some id e in subst (λ z. is_live all z ≡ true) w.2 (is_live_from all w.0 (more w.0 w.1))
-
-pub live_in_both : (slots id : ℕ) (live pieces : List LivePiece) (places : List ℕ) → ArePlaced slots live pieces places → is_live pieces id ≡ is_live live id
-live_in_both slots id live pieces places table = elim (cases_Bool (is_live live id)) [
-  | inl on ↦ live_in_more id live pieces (λ one. (table.same one).1) on ∙ sym on
-  | inr off ↦ false_from_ne_true (is_live pieces id) (λ e. both_ways (is_live live id) off (live_in_more id pieces live (λ one. (table.same one).0) e)) ∙ sym off
-]
 
 -- nothing is live
 pub placed_none : (slots : ℕ) (places : List ℕ) → length places ≡ slots → ArePlaced slots [] [] places

@@ -2,7 +2,7 @@
 use Rattle.std.proofs.Common.{◌≡◌, ℕ, zero, suc, ◌+◌, ◌<◌, ◌≤◌, Option, None, Some, List, [], ◌∷◌, length, inl, inr, arith, le_refl, refl}
 use Rattle.std.specs.Prelude.{slice_index_or, IsTrue}
 use Rattle.std.proofs.lemmas.Bool.{false_from_ne_true, both_ways}
-use Rattle.slot_order.specs.Order.{slot, Ordered}
+use Rattle.slot_order.specs.Order.{slot, Ordered, most_slots}
 use Rattle.slot_moves.specs.Moves.{IsDownChain, IsUpChain}
 use Rattle.slot_pool.specs.Arrangement.{Slots}
 use Rattle.placement.specs.Live.{LivePieces, AreApart, is_live, is_above}
@@ -16,7 +16,7 @@ use Rattle.placement.specs.Ready.{IsTaken, CanShift, IsReady}
 use Rattle.placement.proofs.Planner.{IsRanked, Related}
 use Rattle.placement.proofs.Orders.{ranked}
 
-pub ready_from : (index : LivePieces) (id : ℕ) (slots : Slots) → length slots ≤ 4096 → 0 < free_slots slots → IsTrue (is_live index.live id) → AreApart index.slots index.live
+pub ready_from : (index : LivePieces) (id : ℕ) (slots : Slots) → length slots ≤ most_slots → 0 < free_slots slots → IsTrue (is_live index.live id) → AreApart index.slots index.live
     → StandOnce (IsOther index.live id) slots → IsInOrder (is_above index.live) slots → IsReady index id slots
 ready_from index id slots few free live apart standing order = record { few = few; free = free; live = live; apart = apart; standing = standing; order = order }
 

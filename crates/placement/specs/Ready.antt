@@ -1,6 +1,6 @@
 -- An arrangement in which an id is to be placed, and what its chains go along.
 use Rattle.std.specs.Prelude.{◌≡◌, ◌≢◌, ℕ, ◌-◌, ◌<◌, ◌≤◌, IsTrue, Option, None, Some, MatchOption, List, length, slice_index_or}
-use Rattle.slot_order.specs.Order.{slot}
+use Rattle.slot_order.specs.Order.{slot, most_slots}
 use Rattle.slot_pool.specs.Arrangement.{Slots}
 use Rattle.placement.specs.Live.{LivePieces, AreApart, is_live, is_above}
 use Rattle.placement.specs.Placement.{Above, StopsBelow, StopsAbove, step_down, step_up, IsInOrder}
@@ -32,7 +32,7 @@ pub record CanShift (slots : Slots) (free : ℕ) (members : List ℕ) : Type 0 w
 
 -- an arrangement in which a live id is to be placed
 pub record IsReady (index : LivePieces) (id : ℕ) (slots : Slots) : Type 0 where
-  pub few : length slots ≤ 4096
+  pub few : length slots ≤ most_slots
   pub free : 0 < free_slots slots
   pub live : IsTrue (is_live index.live id)
   pub apart : AreApart index.slots index.live

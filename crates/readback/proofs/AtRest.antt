@@ -1,6 +1,7 @@
 -- After a planned restart the ids stand as they were planned, and the next commit may begin.
 use Rattle.std.proofs.Common.{◌≡◌, ℕ, ◌+◌, ◌-◌, ◌*◌, ◌≤◌, Option, None, Some, List, [], ◌++◌, length, filter, Contains, append_assoc, length-append, arith, refl, sym, ◌∙◌, subst, ap}
 use Rattle.std.specs.List.{AllByRecursion}
+use Rattle.slot_order.specs.Order.{most_slots}
 use Rattle.slot_order.proofs.Lists.{all_append}
 use Rattle.slot_pool.specs.Arrangement.{Slots}
 use Rattle.rule_model.specs.declared.Rule.{Rule}
@@ -115,7 +116,7 @@ module _ (device_slots : ℕ) (mode : Mode) (bits : FieldBits) (rules : List Rul
       (front_inside device_slots mode bits rules batch state done left twin live slots entries planned rewrites erased plan)
       (subst (λ n. AllByRecursion (IsInUse n) slot_part) size (in_use b)))
 
-  all_few : length writes ≤ length tables + 1 + (4096 * 4097 * length planned + length rewrites + length erased)
+  all_few : length writes ≤ length tables + 1 + (most_slots * (1 + most_slots) * length planned + length rewrites + length erased)
   all_few =
       let sum = length-append tables (twin_writes twin ++ slot_part) in
       let rest = length-append (twin_writes twin) slot_part in

@@ -1,6 +1,7 @@
 -- Where a planned restart leads.
 use Rattle.std.specs.Prelude.{◌≡◌, ℕ, ◌+◌, ◌*◌, ◌≤◌, Option, List, length}
 use Rattle.std.specs.List.{AllByRecursion}
+use Rattle.slot_order.specs.Order.{most_slots}
 use Rattle.slot_pool.specs.Arrangement.{Slots}
 use Rattle.rule_model.specs.declared.Rule.{Rule}
 use Rattle.rule_store.specs.declared.Mode.{Mode}
@@ -23,7 +24,7 @@ use Rattle.readback.specs.Restart.{IsPlannedRestart}
 -- tables with the words of the new bits; and they are those of the new set's pieces, each with its entry.
 pub record LeadsOn (mode : Mode) (bits : FieldBits) (rules : List Rule) (batch : List Command) (state : State) (live : List LivePiece) (slots : Slots) (entries : IdEntries) (planned : List Planned) (rewrites : List Rewrite) (erased : List ℕ) (writes : List Write) : Type 0 where
   pub in_use : AllByRecursion (IsInUse (length state.slots)) writes
-  pub few : length writes ≤ length (rest_words mode bits rules batch state) + 1 + (4096 * 4097 * length planned + length rewrites + length erased)
+  pub few : length writes ≤ length (rest_words mode bits rules batch state) + 1 + (most_slots * (1 + most_slots) * length planned + length rewrites + length erased)
   pub leads : state_after state writes
       ≡ with_slots (state_after state (rest_words mode bits rules batch state)) (contents (rewritten_entries entries rewrites) (erased_slots (slots_after slots planned) erased))
   pub entries_are : AreEntriesOf (set_pieces mode (bits_with mode rules batch bits) (set_after rules batch)) (erased_live (live_after live planned) erased) (rewritten_entries entries rewrites)

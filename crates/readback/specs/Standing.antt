@@ -1,6 +1,6 @@
 -- The pieces that stand where a commit was stopped, each under an id.
 use Rattle.std.specs.Prelude.{◌≡◌, ℕ, ◌≤◌, Option, Some, List, Contains, AllPairs, length}
-use Rattle.slot_order.specs.Order.{slot}
+use Rattle.slot_order.specs.Order.{slot, most_slots}
 use Rattle.slot_pool.specs.Arrangement.{Slots}
 use Rattle.rule_model.specs.declared.Rule.{Rule}
 use Rattle.rule_store.specs.declared.Mode.{Mode}
@@ -30,7 +30,7 @@ pub record HaveStandingIds (pieces : CommitPieces) (live : List LivePiece) (slot
 -- Ids as they are given to what slots hold, one slot after the other: each slot that isn't empty has an id of its own, which is
 -- live as that of one of the commit's pieces, whose entry the slot holds.
 pub record AreReadIds (pieces : CommitPieces) (held : List (Option Entry)) (live : List LivePiece) (slots : Slots) (entries : IdEntries) : Type 0 where
-  pub few : length slots ≤ 4096
+  pub few : length slots ≤ most_slots
   pub apart : AreApart (length slots) live
   pub mirrors : held ≡ contents entries slots
   pub within : (at id : ℕ) → slot slots at ≡ Some id → IsLive live id

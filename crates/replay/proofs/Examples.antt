@@ -12,7 +12,7 @@ use Rattle.rule_store.specs.Verdict.{Unsound, OutOfBits, OutOfSlots}
 use Rattle.replay.specs.declared.Family.TheVariants.{Route, Acl, Route6, Acl6}
 use Rattle.replay.specs.declared.Act.TheVariants.{Commit}
 use Rattle.replay.specs.Script.{Reading, Whole, FaultAt, script_of}
-use Rattle.replay.specs.Text.{packet_line, probe_line, trace_line, lane_text, number_text, tag_text, accepted_line, refused_line, fault_line, restarted_line, end_line, usage_line}
+use Rattle.replay.specs.Text.{packet_line, probe_line, write_line, lane_text, number_text, tag_text, accepted_line, refused_line, fault_line, restarted_line, end_line, usage_line}
 
 packet : packet_line Route (Some (ipv4_route_rank (ipv4_block 0x0a000000 8), 7)) ≡ codes "packet 10.0.0.0/8 7" ++ 10 ∷ []
 unfolding digits
@@ -61,7 +61,7 @@ tag = refl
 abbrev destination : ℕ → Word
 destination address = record { lane = 0 ∷ 0 ∷ 0 ∷ 0 ∷ address ∷ 0 ∷ 0 ∷ 0 ∷ 0 ∷ 0 ∷ 0 ∷ [] }
 
-set : trace_line Route 1 (Slot 3 (Some (record { value = destination 0x0a010000; mask = destination 0xffff0000; tag = ipv4_route_rank (ipv4_block 0x0a010000 16); result = 7 })))
+set : write_line Route 1 (Slot 3 (Some (record { value = destination 0x0a010000; mask = destination 0xffff0000; tag = ipv4_route_rank (ipv4_block 0x0a010000 16); result = 7 })))
     ≡ codes "w 1 slot 3 set 000000000a010000000000000000000000000000 00000000ffff0000000000000000000000000000 68887314432 7" ++ 10 ∷ []
 unfolding digits
 set = refl
@@ -78,7 +78,7 @@ permitted-six : packet_line Acl6 (Some (list_rank 10, 1)) ≡ codes "packet 10 p
 unfolding digits
 permitted-six = refl
 
-set-six : trace_line Route6 1 (Slot 3 (Some (record { value = destination 0x20010db8; mask = destination 0xffffffff; tag = ipv6_route_rank documentation; result = 7 })))
+set-six : write_line Route6 1 (Slot 3 (Some (record { value = destination 0x20010db8; mask = destination 0xffffffff; tag = ipv6_route_rank documentation; result = 7 })))
     ≡ codes "w 1 slot 3 set 0000000000000000000000000000000020010db8000000000000000000000000000000000000000000000000 00000000000000000000000000000000ffffffff000000000000000000000000000000000000000000000000 2001:db8::/32 7" ++ 10 ∷ []
 unfolding digits
 set-six = refl
@@ -87,11 +87,11 @@ tag-six : tag_text Acl6 (list_rank 10) ≡ codes "10"
 unfolding digits
 tag-six = refl
 
-erased : trace_line Acl 2 (Slot 4095 None) ≡ codes "w 2 slot 4095 erase" ++ 10 ∷ []
+erased : write_line Acl 2 (Slot 4095 None) ≡ codes "w 2 slot 4095 erase" ++ 10 ∷ []
 unfolding digits
 erased = refl
 
-table : trace_line Acl 3 (Table Dst 80 5) ≡ codes "w 3 table dst 80 5" ++ 10 ∷ []
+table : write_line Acl 3 (Table Dst 80 5) ≡ codes "w 3 table dst 80 5" ++ 10 ∷ []
 unfolding digits
 table = refl
 

@@ -5,7 +5,7 @@ use Rattle.rule_store.specs.Batch.{set_after}
 use Rattle.tcam_device.specs.declared.Write.{Write}
 use Rattle.tcam_device.specs.State.{State, Shows, state_after}
 use Rattle.tcam_device.specs.Hitless.{ShowsOldOrNew}
-use Rattle.replay.specs.Effects.{Setting, Effect, written}
+use Rattle.replay.specs.Effects.{Setting, Effect, journal_of}
 use Rattle.replay.specs.Run.{Progress, Restarts}
 
 -- after each of these writes every key has the old or the new answer, and in the end the new one
@@ -17,4 +17,4 @@ pub record IsOldOrNew (old new : List Rule) (state : State) (writes : List Write
 abbrev pub CrashedPartsAreOldOrNew : Type 0
 CrashedPartsAreOldOrNew =
     (setting : Setting) (old new : Progress) (after : ℕ) (effects : List Effect) → Restarts setting old after effects new
-    → IsOldOrNew old.rules (set_after old.rules old.batch) old.state (written effects)
+    → IsOldOrNew old.rules (set_after old.rules old.batch) old.state (journal_of effects)

@@ -9,7 +9,7 @@ use Rattle.tcam_device.specs.State.{State, apply, lookup}
 use Rattle.tcam_device.specs.Flight.{writes_in}
 use Rattle.batch_order.specs.declared.Placement.{Placement}
 use Rattle.replay.specs.declared.Family.{Family}
-use Rattle.replay.specs.Text.{probe_line, trace_line, drain_line}
+use Rattle.replay.specs.Text.{probe_line, write_line, drain_line}
 
 -- what the words of a command line ask for: the slots in use, the encoding of ranges, where insertions aim, the family,
 -- a trace, and after how many further writes a probe's word is searched
@@ -33,8 +33,8 @@ events_in (Acts action ∷ effects) = action ∷ events_in effects
 events_in (Prints line ∷ effects) = events_in effects
 
 -- their journal
-abbrev pub written : List Effect → List Write
-written effects = writes_in (events_in effects)
+abbrev pub journal_of : List Effect → List Write
+journal_of effects = writes_in (events_in effects)
 
 -- the report of some effects
 abbrev pub printed : List Effect → List ℕ
@@ -75,7 +75,7 @@ waiting_after depth waiting (Drained ∷ actions) = waiting_after depth 0 action
 abbrev pub effects_of : Setting → List Key → ℕ → ℕ → State → List Action → List Effect
 effects_of setting probes number waiting state [] = []
 effects_of setting probes number waiting state (Written write ∷ actions) =
-    Acts (Written write) ∷ (traced setting.trace (trace_line setting.family (number + 1) write)
+    Acts (Written write) ∷ (traced setting.trace (write_line setting.family (number + 1) write)
     ++ (searched_after setting probes (number + 1) waiting (apply state write)
     ++ effects_of setting probes (number + 1) (min (waiting + 1) setting.depth) (apply state write) actions))
 effects_of setting probes number waiting state (Drained ∷ actions) =

@@ -26,8 +26,8 @@ pub record IsSeen (device_slots : ℕ) (events : List Action) (flight : Flight) 
   pub current : AreCurrent (live_now manager) flight
 
 -- the words of some probes by the tables of a state
-abbrev pub words_of : State → List Key → Flight
-words_of state probes = map {B = Key × Word} (λ key. (key, search_word state key)) probes
+abbrev pub probe_words : State → List Key → Flight
+probe_words state probes = map {B = Key × Word} (λ key. (key, search_word state key)) probes
 
 -- the lines of words that are searched, one for each, in their order
 abbrev pub found_lines : Family → ℕ → State → ℕ → Flight → List Effect
@@ -46,14 +46,14 @@ found_all family number state size (suc more) flight =
 abbrev pub found_after : Family → List Key → ℕ → ℕ → ℕ → State → Flight → List Effect
 found_after family probes depth number waiting state flight =
     elim (waiting == depth) [
-      | true ↦ found_lines family number state 1 (take (length probes) (flight ++ words_of state probes))
+      | true ↦ found_lines family number state 1 (take (length probes) (flight ++ probe_words state probes))
       | false ↦ []
     ]
 
 -- what is left in flight then
-abbrev pub flight_after : List Key → ℕ → ℕ → State → Flight → Flight
-flight_after probes depth waiting state flight =
+abbrev pub flight_left : List Key → ℕ → ℕ → State → Flight → Flight
+flight_left probes depth waiting state flight =
     elim (waiting == depth) [
-      | true ↦ drop (length probes) (flight ++ words_of state probes)
-      | false ↦ flight ++ words_of state probes
+      | true ↦ drop (length probes) (flight ++ probe_words state probes)
+      | false ↦ flight ++ probe_words state probes
     ]

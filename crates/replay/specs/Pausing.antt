@@ -7,10 +7,9 @@ use Rattle.batch_order.specs.Managed.{Managed}
 use Rattle.replay.specs.declared.watch.Count.{Count}
 use Rattle.replay.specs.declared.steps.Ended.{Ended}
 use Rattle.replay.specs.declared.RunFault.{RunFault}
-use Rattle.replay.specs.declared.RunFault.TheVariants.{Sink, Device, Memory}
 use Rattle.replay.specs.Fates.{IsBefore, IsUpTo, IsWithinCrash}
 use Rattle.replay.specs.Carried.{CutsEffects}
-use Rattle.replay.specs.Running.{Watching, HasCome, MakesAll, MakesSome, StopsAtLine, StopsAtWrite, Tells, effects_on}
+use Rattle.replay.specs.Running.{Watching, HasCome, MakesAll, MakesSome, StopsAtLine, StopsAtWrite, StopsBy, TellsActions, effects_on}
 
 -- All actions up to the crash are made and told, and more writes are left.
 pub record Pauses (Seen : Type 0) (after : ℕ) (begun now : Managed) (watch : Watching) (device_slots : ℕ) (count count_now : Count) (events_begun events_now : List Action) (taken_begun taken_now : Option (List ℕ)) : Type 0 where
@@ -20,7 +19,7 @@ pub record Pauses (Seen : Type 0) (after : ℕ) (begun now : Managed) (watch : W
   pub reached : count_now.told ≡ after
   pub come : HasCome watch count count_now some.made
   pub events : events_now ≡ events_begun ++ some.made
-  pub report : Seen → Tells begun watch device_slots count events_begun some.made taken_begun taken_now
+  pub report : Seen → TellsActions begun watch device_slots count events_begun some.made taken_begun taken_now
 
 -- Where a crash comes behind so many writes of them, the line that isn't told whole is one of those before.
 abbrev pub CutsFirst : Type 0 → Option ℕ → Managed → Watching → ℕ → Count → List Action → List Action → List Action → List Action → Option (List ℕ) → Option (List ℕ) → Type 0
@@ -30,14 +29,12 @@ CutsFirst Seen stop begun watch device_slots count made left events_begun events
 
 -- some are made up to a line that isn't told whole, or up to a write, and no more than come before the crash
 abbrev pub StopsEarlier : Type 0 → Option ℕ → Option ℕ → Managed → Managed → Watching → ℕ → Count → Count → RunFault → List Action → List Action → Option (List ℕ) → Option (List ℕ) → Type 0
-StopsEarlier Seen most stop begun now watch device_slots count count_now Sink events_begun events_now taken_begun taken_now =
-    (stops : StopsAtLine Seen most begun now watch device_slots count count_now events_begun events_now taken_begun taken_now)
+StopsEarlier Seen most stop begun now watch device_slots count count_now why events_begun events_now taken_begun taken_now =
+    StopsBy ((stops : StopsAtLine Seen most begun now watch device_slots count count_now events_begun events_now taken_begun taken_now)
     × IsBefore stop count.told stops.some.made stops.some.left × IsWithinCrash stop count_now.told
-    × CutsFirst Seen stop begun watch device_slots count stops.some.made stops.some.left events_begun events_now taken_begun taken_now
-StopsEarlier Seen most stop begun now watch device_slots count count_now Device events_begun events_now taken_begun taken_now =
-    (stops : StopsAtWrite Seen most begun now watch device_slots count count_now events_begun events_now taken_begun taken_now)
-    × IsBefore stop count.told stops.some.made stops.some.left × IfSome stop (λ after. count_now.told < after)
-StopsEarlier Seen most stop begun now watch device_slots count count_now Memory events_begun events_now taken_begun taken_now = ⊥
+    × CutsFirst Seen stop begun watch device_slots count stops.some.made stops.some.left events_begun events_now taken_begun taken_now)
+    ((stops : StopsAtWrite Seen most begun now watch device_slots count count_now events_begun events_now taken_begun taken_now)
+    × IsBefore stop count.told stops.some.made stops.some.left × IfSome stop (λ after. count_now.told < after)) why
 
 -- they are made to the end of the commit, or up to its crash, or some of them are
 abbrev pub MakesUntil : Type 0 → Option ℕ → Option ℕ → Managed → Managed → Watching → ℕ → Count → Count → Result (Option Ended) RunFault → List Action → List Action → Option (List ℕ) → Option (List ℕ) → Type 0

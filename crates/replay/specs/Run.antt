@@ -94,8 +94,8 @@ OfFamily Route6 state made = IsUncrossed 129 (insertions state made)
 OfFamily Acl6 state made = Unit {0}
 
 -- the slots in use of a device, with its tables
-abbrev pub slots_in_use : Setting → State → State
-slots_in_use setting state = record state { slots = take setting.slots state.slots }
+abbrev pub used_slots : Setting → State → State
+used_slots setting state = record state { slots = take setting.slots state.slots }
 
 -- An accepted commit makes a segment with its drain, its insertions by the placement and no others, each write with its
 -- lines, and prints its numbers.
@@ -103,7 +103,7 @@ pub record Commits (setting : Setting) (old : Progress) (effects : List Effect) 
   pub made : List Write
   pub counts : Done
   pub segment : IsSegment setting.mode old.bits old.rules old.batch old.state made
-  pub placed : IsPlacedBy setting.placement setting.mode old.bits old.rules old.batch (slots_in_use setting old.state) made
+  pub placed : IsPlacedBy setting.placement setting.mode old.bits old.rules old.batch (used_slots setting old.state) made
   pub of_family : OfFamily setting.family old.state made
   pub in_use : AllByRecursion (IsInUse setting.slots) made
   pub numbers : AreCounts old.state made counts
@@ -120,7 +120,7 @@ pub record Returns (setting : Setting) (old : Progress) (most : ℕ) (effects : 
   pub made : List Write
   pub more : most < length made
   pub segment : IsSegment setting.mode old.bits old.rules old.batch old.state made
-  pub placed : IsPlacedBy setting.placement setting.mode old.bits old.rules old.batch (slots_in_use setting old.state) made
+  pub placed : IsPlacedBy setting.placement setting.mode old.bits old.rules old.batch (used_slots setting old.state) made
   pub of_family : OfFamily setting.family old.state made
   pub in_use : AllByRecursion (IsInUse setting.slots) made
   pub effects_are : effects ≡ carried setting old (actions_back setting old most made) ++ Prints (aborted_line (old.commits + 1) (2 * most)) ∷ []
@@ -141,7 +141,7 @@ RestOfFamily Acl6 made = Unit {0}
 -- These writes are planned for a commit, and they are more than those that it makes before it crashes.
 pub record CrashesIn (setting : Setting) (old : Progress) (after : ℕ) (made : List Write) : Type 0 where
   pub segment : IsSegment setting.mode old.bits old.rules old.batch old.state made
-  pub placed : IsPlacedBy setting.placement setting.mode old.bits old.rules old.batch (slots_in_use setting old.state) made
+  pub placed : IsPlacedBy setting.placement setting.mode old.bits old.rules old.batch (used_slots setting old.state) made
   pub of_family : OfFamily setting.family old.state made
   pub in_use : AllByRecursion (IsInUse setting.slots) made
   pub counts : Done
@@ -175,7 +175,7 @@ pub record Restarts (setting : Setting) (old : Progress) (after : ℕ) (effects 
   pub is_twin : IsTwinSlot (crash_state old after made).slots twin
   pub rest : List Write
   pub goes_on : GoesOn setting.slots setting.mode old.bits old.rules old.batch (crash_state old after made) left twin rest
-  pub placed : (device_slots : ℕ) × IsRestPlacedBy setting.placement device_slots setting.mode old.bits old.rules old.batch (slots_in_use setting (crash_state old after made)) done left twin rest
+  pub placed : (device_slots : ℕ) × IsRestPlacedBy setting.placement device_slots setting.mode old.bits old.rules old.batch (used_slots setting (crash_state old after made)) done left twin rest
   pub of_family : RestOfFamily setting.family (rest_insertions goes_on.shape)
   pub in_use : AllByRecursion (IsInUse setting.slots) rest
   pub effects_are : effects ≡ carried setting old (actions_over setting old after made rest) ++ Prints (restarted_line (old.commits + 1) after (after + length rest)) ∷ []

@@ -2,6 +2,7 @@
 use Rattle.std.specs.Prelude.{◌≡◌, ◌≢◌, ◌⊎◌, ℕ, ◌+◌, ◌-◌, ◌*◌, nat_lt, nat_le, ◌&&◌, map, option_map, ◌^◌, ◌<◌, ◌≤◌, ◌++◌, ◌∷◌, Bool, true, false, Option, None, Some, IsSome, IfSome, Result, Ok, Err, List, [], length, take, codes}
 use Rattle.std.specs.Io.KnownBytes.{Appends}
 use Rattle.std.specs.List.{AllByRecursion}
+use Rattle.slot_order.specs.Order.{most_slots}
 use Rattle.rule_model.specs.declared.Key.{Key}
 use Rattle.rule_model.specs.declared.IpVersion.{IpVersion}
 use Rattle.rule_model.specs.declared.IpVersion.TheVariants.{V4, V6}
@@ -131,8 +132,8 @@ abbrev pub HoldsPending : Running → Type 0
 HoldsPending run = (counts : Done) × Holds (record run.manager { held = None }) run.pending counts run.manager
 
 -- how many writes more a trial makes before it is taken back
-abbrev pub rest_of : Option ℕ → ℕ → Option ℕ
-rest_of most told = option_map (λ limit. limit - told) most
+abbrev pub trial_rest : Option ℕ → ℕ → Option ℕ
+trial_rest most told = option_map (λ limit. limit - told) most
 
 -- the first actions of a trial, up to so many writes more, and those that undo all
 abbrev pub trial_left : ℕ → State → List Action → List Write → List Action
@@ -141,13 +142,13 @@ trial_left more state actions undo =
     front ++ map Written (undo_writes state (writes_in front) ++ undo)
 
 -- Whether a commit is taken back: it is turned round, or it is a trial that has more writes than it may make.
-abbrev pub turns_in : Option ℕ → Option ℕ → List Action → Bool
-turns_in (Some undone) rest actions = true
-turns_in None None actions = false
-turns_in None (Some more) actions = nat_lt more (length (writes_in actions))
+abbrev pub turns_back : Option ℕ → Option ℕ → List Action → Bool
+turns_back (Some undone) rest actions = true
+turns_back None None actions = false
+turns_back None (Some more) actions = nat_lt more (length (writes_in actions))
 
 abbrev pub goes_back : Option ℕ → HeldCommit → Bool
-goes_back rest held = turns_in held.turned rest held.actions
+goes_back rest held = turns_back held.turned rest held.actions
 
 -- the actions that are left of it, on the way there and on the way back
 abbrev pub left_in : Option ℕ → Option ℕ → State → List Action → List Write → List Action
@@ -156,26 +157,26 @@ left_in None None state actions undo = actions
 left_in None (Some more) state actions undo =
     elim (nat_lt more (length (writes_in actions))) [ true ↦ trial_left more state actions undo | false ↦ actions ]
 
-abbrev pub left_of : Option ℕ → State → HeldCommit → List Action
-left_of rest state held = left_in held.turned rest state held.actions held.undo
+abbrev pub actions_left : Option ℕ → State → HeldCommit → List Action
+actions_left rest state held = left_in held.turned rest state held.actions held.undo
 
 -- a commit that isn't turned round is, where it is time
-abbrev pub turned_where : Managed → HeldCommit → Option ℕ → Bool → Managed
-turned_where old held (Some undone) due = old
-turned_where old held None false = old
-turned_where old held None true = record old { held = Some (record held { turned = Some (length held.undo) }) }
+abbrev pub turned_back : Managed → HeldCommit → Option ℕ → Bool → Managed
+turned_back old held (Some undone) due = old
+turned_back old held None false = old
+turned_back old held None true = record old { held = Some (record held { turned = Some (length held.undo) }) }
 
 -- a trial is of a commit that can be taken back
-abbrev pub MayTurn : Option ℕ → Option HeldCommit → Type 0
-MayTurn None held = Unit {0}
-MayTurn (Some limit) held = IfSome held (λ one. one.prepared ≡ true)
+abbrev pub MayTurnBack : Option ℕ → Option HeldCommit → Type 0
+MayTurnBack None held = Unit {0}
+MayTurnBack (Some limit) held = IfSome held (λ one. one.prepared ≡ true)
 
 -- a trial that has made as many writes as it may, and has more to make, is turned round
-abbrev pub TurnsAt : Option ℕ → ℕ → Managed → Option HeldCommit → Managed → Type 0
-TurnsAt None told old held new = new ≡ old
-TurnsAt (Some limit) told old None new = new ≡ old
-TurnsAt (Some limit) told old (Some held) new =
-    new ≡ turned_where old held held.turned (nat_le limit told && nat_lt 0 (length (writes_in held.actions)))
+abbrev pub TurnsBackAt : Option ℕ → ℕ → Managed → Option HeldCommit → Managed → Type 0
+TurnsBackAt None told old held new = new ≡ old
+TurnsBackAt (Some limit) told old None new = new ≡ old
+TurnsBackAt (Some limit) told old (Some held) new =
+    new ≡ turned_back old held held.turned (nat_le limit told && nat_lt 0 (length (writes_in held.actions)))
 
 -- the commit is the same, and is taken back where it was to be
 pub record IsSame (rest rest_now : Option ℕ) (held now : HeldCommit) : Type 0 where
@@ -192,11 +193,11 @@ pub record MakesSome (most : Option ℕ) (told : ℕ) (begun now : Managed) : Ty
   pub made : List Action
   pub left : List Action
   pub held_is : begun.held ≡ Some held
-  pub whole : left_of (rest_of most told) begun.state held ≡ made ++ left
+  pub whole : actions_left (trial_rest most told) begun.state held ≡ made ++ left
   pub one : HeldCommit
   pub now_is : now ≡ record begun { state = state_after begun.state (writes_in made); held = Some one }
-  pub left_is : left_of (rest_of most (told + length (writes_in made))) now.state one ≡ left
-  pub same : IsSame (rest_of most told) (rest_of most (told + length (writes_in made))) held one
+  pub left_is : actions_left (trial_rest most (told + length (writes_in made))) now.state one ≡ left
+  pub same : IsSame (trial_rest most told) (trial_rest most (told + length (writes_in made))) held one
 
 -- A commit is unfinished: it was accepted, some of its writes were made, and the rest of them is held. Where it crashes
 -- it has not come further.
@@ -237,8 +238,8 @@ pub record IsOnward (device_slots : ℕ) (run : Running) : Type 0 where
   pub waiting : run.waiting ≡ waiting_after run.depth 0 (first_actions run begun holds.1.made after ++ some.made)
 
 -- a commit is unfinished by its first manager, or by the one that goes on
-abbrev pub IsUnderWay : Running → Type 0
-IsUnderWay run = IsHalfway run ⊎ ((device_slots : ℕ) × (run.manager.slots ≤ device_slots) × IsOnward device_slots run)
+abbrev pub IsMidCommit : Running → Type 0
+IsMidCommit run = IsHalfway run ⊎ ((device_slots : ℕ) × (run.manager.slots ≤ device_slots) × IsOnward device_slots run)
 
 -- the family of routes of a version of IP
 abbrev pub routes_of : IpVersion → Family
@@ -251,11 +252,11 @@ pub record IsRun (run : Running) : Type 0 where
   pub changes : (version : IpVersion) → run.family ≡ routes_of version → OnlyChangesRoutes version run.pending
   pub routes : (version : IpVersion) → run.family ≡ routes_of version → AllByRecursion (IsRoute version) run.manager.rules
   pub some_slots : 1 ≤ run.manager.slots
-  pub most_slots : run.manager.slots ≤ 4096
+  pub most_slots : run.manager.slots ≤ most_slots
   pub size : length run.manager.state.slots ≡ run.manager.slots
   pub few : run.writes ≤ run.commits * (2 ^ 40 - 1)
   pub shows : ShowsRules run.manager
-  pub halfway : IsSome run.manager.held → IsUnderWay run
+  pub halfway : IsSome run.manager.held → IsMidCommit run
   pub idle : run.manager.held ≡ None → (run.told ≡ 0) × (run.waiting ≡ 0) × (run.fate ≡ ToTheEnd)
 
 -- a change in a script of the family: a route that is added is one of its version, and an access list takes any rule
@@ -374,8 +375,8 @@ effects_on manager watch device_slots count before made =
     effects_of (telling manager watch) watch.probes count.told count.waiting (replay device_slots (writes_in before)) made
 
 -- these actions are told, behind those that were made before
-abbrev pub Tells : Managed → Watching → ℕ → Count → List Action → List Action → Option (List ℕ) → Option (List ℕ) → Type 0
-Tells manager watch device_slots count before made taken_old taken_new =
+abbrev pub TellsActions : Managed → Watching → ℕ → Count → List Action → List Action → Option (List ℕ) → Option (List ℕ) → Type 0
+TellsActions manager watch device_slots count before made taken_old taken_new =
     Appends taken_old taken_new (printed (effects_on manager watch device_slots count before made))
 
 -- a commit ended with these actions: it is finished, or taken back
@@ -404,11 +405,11 @@ pub record MakesAll (Seen : Type 0) (most : Option ℕ) (begun : Managed) (watch
   pub held : HeldCommit
   pub actions : List Action
   pub held_is : begun.held ≡ Some held
-  pub actions_are : actions ≡ left_of (rest_of most count.told) begun.state held
-  pub ends : EndsBy (goes_back (rest_of most count.told) held) begun held actions ended now
+  pub actions_are : actions ≡ actions_left (trial_rest most count.told) begun.state held
+  pub ends : EndsBy (goes_back (trial_rest most count.told) held) begun held actions ended now
   pub come : HasCome watch count count_now actions
   pub events : events_now ≡ events_begun ++ actions
-  pub report : Seen → Tells begun watch device_slots count events_begun actions taken_begun taken_now
+  pub report : Seen → TellsActions begun watch device_slots count events_begun actions taken_begun taken_now
 
 -- some of them are made and told, and the next one, a write, isn't made
 pub record StopsAtWrite (Seen : Type 0) (most : Option ℕ) (begun now : Managed) (watch : Watching) (device_slots : ℕ) (count count_now : Count) (events_begun events_now : List Action) (taken_begun taken_now : Option (List ℕ)) : Type 0 where
@@ -419,7 +420,7 @@ pub record StopsAtWrite (Seen : Type 0) (most : Option ℕ) (begun now : Managed
   pub next : next_of now.held ≡ Some due
   pub come : HasCome watch count count_now some.made
   pub events : events_now ≡ events_begun ++ some.made
-  pub report : Seen → Tells begun watch device_slots count events_begun some.made taken_begun taken_now
+  pub report : Seen → TellsActions begun watch device_slots count events_begun some.made taken_begun taken_now
 
 -- some of them are made, and a line of the last one, or of the drain that is next, isn't told whole
 pub record StopsAtLine (Seen : Type 0) (most : Option ℕ) (begun now : Managed) (watch : Watching) (device_slots : ℕ) (count count_now : Count) (events_begun events_now : List Action) (taken_begun taken_now : Option (List ℕ)) : Type 0 where
@@ -428,12 +429,14 @@ pub record StopsAtLine (Seen : Type 0) (most : Option ℕ) (begun now : Managed)
   pub events : events_now ≡ events_begun ++ some.made
   pub cuts : Seen → CutsEffects (effects_on begun watch device_slots count events_begun (some.made ++ some.left)) events_begun events_now taken_begun taken_now
 
+-- a fault is the sink's, and then this, or the device's, and then that
+abbrev pub StopsBy : Type 0 → Type 0 → RunFault → Type 0
+StopsBy AtLine AtWrite why = ((why ≡ Sink) × AtLine) ⊎ ((why ≡ Device) × AtWrite)
+
 -- what comes of the actions that are left of a commit under way, by the answer
 abbrev pub Makes : Type 0 → Option ℕ → Managed → Managed → Watching → ℕ → Count → Count → Result Ended RunFault → List Action → List Action → Option (List ℕ) → Option (List ℕ) → Type 0
 Makes Seen most begun now watch device_slots count count_now (Ok ended) events_begun events_now taken_begun taken_now =
     MakesAll Seen most begun watch device_slots count count_now ended now events_begun events_now taken_begun taken_now
-Makes Seen most begun now watch device_slots count count_now (Err Sink) events_begun events_now taken_begun taken_now =
-    StopsAtLine Seen most begun now watch device_slots count count_now events_begun events_now taken_begun taken_now
-Makes Seen most begun now watch device_slots count count_now (Err Device) events_begun events_now taken_begun taken_now =
-    StopsAtWrite Seen most begun now watch device_slots count count_now events_begun events_now taken_begun taken_now
-Makes Seen most begun now watch device_slots count count_now (Err Memory) events_begun events_now taken_begun taken_now = ⊥
+Makes Seen most begun now watch device_slots count count_now (Err why) events_begun events_now taken_begun taken_now =
+    StopsBy (StopsAtLine Seen most begun now watch device_slots count count_now events_begun events_now taken_begun taken_now)
+    (StopsAtWrite Seen most begun now watch device_slots count count_now events_begun events_now taken_begun taken_now) why

@@ -18,11 +18,11 @@ use Rattle.replay.specs.declared.Family.{Family}
 use Rattle.replay.specs.declared.Family.TheVariants.{Route, Acl, Route6, Acl6}
 
 -- the version of IP of a family
-abbrev pub version_of : Family → IpVersion
-version_of Route = V4
-version_of Acl = V4
-version_of Route6 = V6
-version_of Acl6 = V6
+abbrev pub family_version : Family → IpVersion
+family_version Route = V4
+family_version Acl = V4
+family_version Route6 = V6
+family_version Acl6 = V6
 
 -- words with one space between them, and a line feed behind the last
 abbrev pub line_text : List (List ℕ) → List ℕ
@@ -109,14 +109,14 @@ field_text Dst = codes "dst"
 -- a device write, as words
 abbrev pub write_words : Family → Write → List (List ℕ)
 write_words family (Slot slot (Some entry)) =
-    codes "slot" ∷ decimal slot ∷ codes "set" ∷ word_text (version_of family) entry.value
-    ∷ word_text (version_of family) entry.mask ∷ tag_text family entry.tag ∷ decimal entry.result ∷ []
+    codes "slot" ∷ decimal slot ∷ codes "set" ∷ word_text (family_version family) entry.value
+    ∷ word_text (family_version family) entry.mask ∷ tag_text family entry.tag ∷ decimal entry.result ∷ []
 write_words family (Slot slot None) = codes "slot" ∷ decimal slot ∷ codes "erase" ∷ []
 write_words family (Table field port word) = codes "table" ∷ field_text field ∷ decimal port ∷ decimal word ∷ []
 
 -- one write of a commit, by its number
-abbrev pub trace_line : Family → ℕ → Write → List ℕ
-trace_line family write made = line_text (codes "w" ∷ decimal write ∷ write_words family made)
+abbrev pub write_line : Family → ℕ → Write → List ℕ
+write_line family write made = line_text (codes "w" ∷ decimal write ∷ write_words family made)
 
 -- a drain, after so many writes of the commit
 abbrev pub drain_line : ℕ → List ℕ

@@ -42,7 +42,7 @@
 //!   the manager's writes and so answers the same (`rules` of the manager).
 //! - **`trial K` is turned round before the step that would be too much** (`turn_round`): right behind write `K`, where
 //!   writes are left, and before a drain that is due then. What is left is stated by what it has come to, the actions
-//!   there and back in one list (`left_of` in `specs/Running`), so `resume` goes on with a trial that a device stopped
+//!   there and back in one list (`actions_left` in `specs/Running`), so `resume` goes on with a trial that a device stopped
 //!   on either way. Its line counts both ways, since the device made both. A commit's writes are below `2^40`, twice
 //!   those of a segment. `apply` and `resume` ask for room for the way back, which `prepare` reserves.
 //! - **`crash K` is one commit with one list of actions** (`actions_over` in `specs/Run`): those up to the crash,
@@ -72,7 +72,7 @@
 //! - **What a call hands to a sink, and leaves of sink and device, is said once** (`WritesLine`, `WritesLines`,
 //!   `Leaves` in `specs/Outside`): that a line is taken whole, or in part where the sink fails, by either count; that
 //!   what was told stays told; and which failure has which cause (the program's last line: `ClosesReport` in
-//!   `tcam_cli/specs/Turns`). An act's answer is one clause too, by cases (`ComesTo`), and `limit` is an equation: the
+//!   `tcam_cli/specs/Rounds`). An act's answer is one clause too, by cases (`ComesTo`), and `limit` is an equation: the
 //!   text that the answer tells is the fault of an act for which there is no room. The price: a reader opens a record
 //!   to see its facts, and the records take the members of the traits as arguments (`K.taken`).
 //! - **A probe's line is said by an undivided look-up** at the moment when its word is searched (`searches_of` in
@@ -95,7 +95,7 @@
 #![tactic(auto)]
 
 ghost use Rattle.std.specs.Prelude.{◌≡◌};
-ghost use Rattle.replay.specs.Text.{version_of};
+ghost use Rattle.replay.specs.Text.{family_version};
 
 mod carrying;
 mod fate;
@@ -137,7 +137,7 @@ pub enum Family {
 impl Family {
     /// The version of IP of its addresses, prefixes and frames.
     pub fn version(self) -> IpVersion
-        ensures { result ≡ version_of self }
+        ensures { result ≡ family_version self }
     {
         match self {
             Family::Route | Family::Acl => IpVersion::V4,

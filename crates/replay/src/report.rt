@@ -2,7 +2,7 @@
 //! What is said of a sink's bytes (`WritesLine`) holds of either count of them: of what it tells, and of what it
 //! accepted.
 ghost use Rattle.std.specs.Prelude.{◌≡◌, ◌<◌, ◌≤◌, [], ◌∷◌, ◌++◌, length};
-ghost use Rattle.replay.specs.Text.{packet_line, probe_line, trace_line, drain_line, aborted_line, accepted_line, restarted_line, refused_line, fault_line, end_line};
+ghost use Rattle.replay.specs.Text.{packet_line, probe_line, write_line, drain_line, aborted_line, accepted_line, restarted_line, refused_line, fault_line, end_line};
 ghost use Rattle.replay.specs.Told.{verdict_told};
 ghost use Rattle.replay.specs.Outside.{WritesLine};
 
@@ -133,7 +133,7 @@ pub fn write_trace<K: Sink>(
     number: u64,
     write: &Write,
 ) -> Result<(), Failed>
-    ensures { WritesLine K.taken K.accepted K.faults sink.old sink.new (trace_line family number write.now) result }
+    ensures { WritesLine K.taken K.accepted K.faults sink.old sink.new (write_line family number write.now) result }
 {
     ReportLine::new("w")
         .number(number)

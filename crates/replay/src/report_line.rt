@@ -2,7 +2,7 @@
 
 ghost use Rattle.std.specs.Prelude.{◌≡◌, ◌+◌, ◌<◌, ◌≤◌, ◌%◌, [], ◌∷◌, ◌++◌, decimal, length};
 ghost use Rattle.line_words.specs.Shown.{hex_digit, ipv6_prefix_text};
-ghost use Rattle.replay.specs.Text.{action_text, dotted, answer_words, ipv4_prefix_text, result_name, rule_name, sequence_text, reason_words, field_text, lane_text, version_of, word_text, number_text, tag_text, write_words};
+ghost use Rattle.replay.specs.Text.{action_text, dotted, answer_words, ipv4_prefix_text, result_name, rule_name, sequence_text, reason_words, field_text, lane_text, family_version, word_text, number_text, tag_text, write_words};
 ghost use Rattle.replay.specs.Told.{with_words, verdict_told};
 ghost use Rattle.replay.specs.Outside.{WritesLine};
 ghost use Rattle.rule_model.specs.declared.IpVersion.TheVariants as version_is;
@@ -306,7 +306,7 @@ impl ReportLine {
     // The line with an entry's value, mask, tag and result, each behind a space.
     fn entry(self, family: Family, entry: &Entry) -> ReportLine
         requires { length self + 280 < LINE_ROOM }
-        ensures text { result ≡ with_words self (word_text (version_of family) entry.now.value ∷ word_text (version_of family) entry.now.mask ∷ tag_text family entry.now.tag ∷ decimal entry.now.result ∷ []) }
+        ensures text { result ≡ with_words self (word_text (family_version family) entry.now.value ∷ word_text (family_version family) entry.now.mask ∷ tag_text family entry.now.tag ∷ decimal entry.now.result ∷ []) }
         ensures len { length result < LINE_ROOM }
     {
         self.lanes(family.version(), &entry.value)

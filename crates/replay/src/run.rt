@@ -26,6 +26,7 @@ use batch_order::{Manager, Mode, Placement, Refusal, Rejection};
 use rule_model::{Key, key_fields};
 use rule_store::{Batch, Command, PushFault};
 use script_lines::{Failed, Sink};
+use slot_order::MOST_SLOTS;
 use std::alloc::{AllocError, Global};
 use std::marker::Model;
 use tcam_device::{Device, ReadBack};
@@ -73,7 +74,7 @@ impl Run {
         depth: u32,
     ) -> Result<Run, AllocError>
         requires least { 1 ≤ slots }
-        requires most { slots ≤ 4096 }
+        requires most { slots ≤ MOST_SLOTS }
         requires depth { depth ≤ 15 }
         ensures { IfOk result (λ run. run ≡ begun slots mode placement family trace depth) }
     {

@@ -10,13 +10,13 @@ ghost use Rattle.tcam_device.specs.declared.Action.TheVariants as Action;
 ghost use Rattle.batch_order.specs.CarriedOut.{HasRoomBothWays, IsTried};
 ghost use Rattle.batch_order.specs.Managed.{IsOn, live_now};
 ghost use Rattle.batch_order.specs.Steps.{KeepsCurrent, ServesNow, Steps, actions_of, awaits_drain, next_of};
-ghost use Rattle.replay.specs.Text.{drain_line, trace_line};
+ghost use Rattle.replay.specs.Text.{drain_line, write_line};
 ghost use Rattle.replay.specs.Effects.{traced};
-ghost use Rattle.replay.specs.InFlight.{AreOf, IsSeen, flight_after, found_after};
+ghost use Rattle.replay.specs.InFlight.{AreOf, IsSeen, flight_left, found_after};
 ghost use Rattle.replay.specs.Outside.{Leaves, WritesLines};
 ghost use Rattle.replay.specs.Fates.{IsWithinCrash, crash_due, most_of};
 ghost use Rattle.replay.specs.Pausing.{MakesUntil, MakesUpTo};
-ghost use Rattle.replay.specs.Running.{Makes, MayTurn, TurnsAt, left_of, rest_of};
+ghost use Rattle.replay.specs.Running.{Makes, MayTurnBack, TurnsBackAt, actions_left, trial_rest};
 
 use crate::fate::Fate;
 use crate::watch::{Count, Watch};
@@ -50,9 +50,9 @@ pub(crate) fn make_writes<K: Sink, D: Device>(
     requires in_flight { AreOf watch.now.probes count.old.waiting (D.flight device.old) }
     requires waiting { count.old.waiting ≤ watch.now.depth }
     requires held { IsSome manager.old.held }
-    requires may_turn { MayTurn (most_of fate) manager.old.held }
+    requires may_turn { MayTurnBack (most_of fate) manager.old.held }
     requires room { HasRoomBothWays manager.old.held (D.spare device.old) }
-    requires few { IfSome manager.old.held (λ held. count.old.told + length (writes_in (left_of (rest_of (most_of fate) count.old.told) manager.old.state held)) ≤ 2 ^ 40) }
+    requires few { IfSome manager.old.held (λ held. count.old.told + length (writes_in (actions_left (trial_rest (most_of fate) count.old.told) manager.old.state held)) ≤ 2 ^ 40) }
     ensures makes { (which : Bool) → Makes (IsSeen (D.slot_count device.old) (D.events device.old) (D.flight device.old) manager.old)
         (most_of fate) manager.old manager.new watch.now (D.slot_count device.old) count.old count.new result
         (D.events device.old) (D.events device.new) (counted which (K.taken sink.old) (K.accepted sink.old)) (counted which (K.taken sink.new) (K.accepted sink.new)) }
@@ -122,11 +122,11 @@ fn make_until<K: Sink, D: Device>(
     requires in_flight { AreOf watch.now.probes count.old.waiting (D.flight device.old) }
     requires waiting { count.old.waiting ≤ watch.now.depth }
     requires held { IsSome manager.old.held }
-    requires may_turn { MayTurn most manager.old.held }
+    requires may_turn { MayTurnBack most manager.old.held }
     requires forward { IsSome stop → (most ≡ None) × IfSome manager.old.held (λ held. held.turned ≡ None) }
     requires told { IsWithinCrash stop count.old.told }
     requires room { HasRoomBothWays manager.old.held (D.spare device.old) }
-    requires few { IfSome manager.old.held (λ held. count.old.told + length (writes_in (left_of (rest_of most count.old.told) manager.old.state held)) ≤ 2 ^ 40) }
+    requires few { IfSome manager.old.held (λ held. count.old.told + length (writes_in (actions_left (trial_rest most count.old.told) manager.old.state held)) ≤ 2 ^ 40) }
     ensures makes { (which : Bool) → MakesUntil (IsSeen (D.slot_count device.old) (D.events device.old) (D.flight device.old) manager.old)
         most stop manager.old manager.new watch.now (D.slot_count device.old) count.old count.new result
         (D.events device.old) (D.events device.new) (counted which (K.taken sink.old) (K.accepted sink.old)) (counted which (K.taken sink.new) (K.accepted sink.new)) }
@@ -186,8 +186,8 @@ fn stops_here(manager: &Manager, stop: Option<u32>, told: u64) -> bool
 
 // Turns a trial round that has made as many writes as it may, and has more to make.
 fn turn_round(manager: &mut Manager, most: Option<u32>, told: u64)
-    requires { MayTurn most manager.old.held }
-    ensures turns { TurnsAt most told manager.old manager.old.held manager.new }
+    requires { MayTurnBack most manager.old.held }
+    ensures turns { TurnsBackAt most told manager.old manager.old.held manager.new }
     ensures state { manager.new.state ≡ manager.old.state }
     ensures current { live_now manager.new ≡ live_now manager.old }
     ensures both_ways { (spare : ℕ) → HasRoomBothWays manager.old.held spare → HasRoomBothWays manager.new.held spare }
@@ -218,8 +218,8 @@ fn tell_write<K: Sink, D: Device>(
     ensures told { count.new.told ≡ count.old.told + 1 }
     ensures waiting { count.new.waiting ≡ min (count.old.waiting + 1) watch.now.depth }
     ensures lines { WritesLines K.taken K.accepted K.faults sink.old sink.new
-        (traced watch.now.trace (trace_line watch.now.family (count.old.told + 1) write.now) ++ found_after watch.now.family watch.now.probes watch.now.depth (count.old.told + 1) count.old.waiting (replay (D.slot_count device.old) (D.journal device.old)) (D.flight device.old)) result }
-    ensures flight { OnOk result (D.flight device.new ≡ flight_after watch.now.probes watch.now.depth count.old.waiting (replay (D.slot_count device.old) (D.journal device.old)) (D.flight device.old)) }
+        (traced watch.now.trace (write_line watch.now.family (count.old.told + 1) write.now) ++ found_after watch.now.family watch.now.probes watch.now.depth (count.old.told + 1) count.old.waiting (replay (D.slot_count device.old) (D.journal device.old)) (D.flight device.old)) result }
+    ensures flight { OnOk result (D.flight device.new ≡ flight_left watch.now.probes watch.now.depth count.old.waiting (replay (D.slot_count device.old) (D.journal device.old)) (D.flight device.old)) }
     ensures keys { AllByRecursion IsKey watch.now.probes }
     ensures journal { D.journal device.new ≡ D.journal device.old }
     ensures events { D.events device.new ≡ D.events device.old }

@@ -8,10 +8,10 @@ ghost use Rattle.std.specs.List.{AllByRecursion};
 ghost use Rattle.rule_model.specs.Key.{IsKey};
 ghost use Rattle.tcam_device.specs.State.{replay};
 ghost use Rattle.replay.specs.Effects.{traced};
-ghost use Rattle.replay.specs.InFlight.{AreOf, flight_after, found_after, found_all, found_lines, words_of};
+ghost use Rattle.replay.specs.InFlight.{AreOf, flight_left, found_after, found_all, found_lines, probe_words};
 ghost use Rattle.replay.specs.Outside.{WritesLines};
 ghost use Rattle.replay.specs.Script.{most_probes};
-ghost use Rattle.replay.specs.Text.{drain_line, trace_line};
+ghost use Rattle.replay.specs.Text.{drain_line, write_line};
 
 use crate::Family;
 use crate::report::{write_drain, write_probe, write_trace};
@@ -122,8 +122,8 @@ impl Watch {
         requires words { AreOf self.now.probes waiting (D.flight device.old) }
         requires few { waiting ≤ self.now.depth }
         ensures lines { WritesLines K.taken K.accepted K.faults sink.old sink.new
-            (traced self.now.trace (trace_line self.now.family number write.now) ++ found_after self.now.family self.now.probes self.now.depth number waiting (replay (D.slot_count device.old) (D.journal device.old)) (D.flight device.old)) result }
-        ensures flight { OnOk result (D.flight device.new ≡ flight_after self.now.probes self.now.depth waiting (replay (D.slot_count device.old) (D.journal device.old)) (D.flight device.old)) }
+            (traced self.now.trace (write_line self.now.family number write.now) ++ found_after self.now.family self.now.probes self.now.depth number waiting (replay (D.slot_count device.old) (D.journal device.old)) (D.flight device.old)) result }
+        ensures flight { OnOk result (D.flight device.new ≡ flight_left self.now.probes self.now.depth waiting (replay (D.slot_count device.old) (D.journal device.old)) (D.flight device.old)) }
         ensures keys { AllByRecursion IsKey self.now.probes }
         ensures journal { D.journal device.new ≡ D.journal device.old }
         ensures events { D.events device.new ≡ D.events device.old }
@@ -142,7 +142,7 @@ impl Watch {
 
     // Writes the line of a write, where a trace is wanted.
     fn tell_write<K: Sink>(&self, number: u64, write: &Write, sink: &mut K) -> Result<(), Failed>
-        ensures { WritesLines K.taken K.accepted K.faults sink.old sink.new (traced self.now.trace (trace_line self.now.family number write.now)) result }
+        ensures { WritesLines K.taken K.accepted K.faults sink.old sink.new (traced self.now.trace (write_line self.now.family number write.now)) result }
     {
         if self.trace {
             write_trace(sink, self.family, number, write)?;
@@ -187,7 +187,7 @@ impl Watch {
     fn translate<D: Device>(&self, device: &mut D)
         requires room { length (D.flight device.old) + length self.now.probes ≤ 256 }
         ensures flight { D.flight device.new
-            ≡ D.flight device.old ++ words_of (replay (D.slot_count device.old) (D.journal device.old)) self.now.probes }
+            ≡ D.flight device.old ++ probe_words (replay (D.slot_count device.old) (D.journal device.old)) self.now.probes }
         ensures keys { AllByRecursion IsKey self.now.probes }
         ensures journal { D.journal device.new ≡ D.journal device.old }
         ensures events { D.events device.new ≡ D.events device.old }

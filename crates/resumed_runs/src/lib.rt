@@ -12,6 +12,7 @@ ghost use Rattle.resumed_runs.specs.Going.{CanGoOn};
 
 use replay::{Act, ActFault, Family, Mode, Placement, Run, RunFault};
 use script_lines::Sink;
+use slot_order::MOST_SLOTS;
 use std::alloc::{AllocError, Global};
 use tcam_device::ReadBack;
 
@@ -26,7 +27,7 @@ pub fn begin(
     depth: u32,
 ) -> Result<Run, AllocError>
     requires least { 1 ≤ slots }
-    requires most { slots ≤ 4096 }
+    requires most { slots ≤ MOST_SLOTS }
     requires depth { depth ≤ 15 }
     ensures going { IfOk result (λ run. (device_slots spare : ℕ) → (events : List Action) → (flight : Flight) → slots ≤ device_slots → events ≡ [] → flight ≡ [] → CanGoOn run device_slots spare events flight) }
     ensures begins { IfOk result (λ run. run.commits ≡ 0) }

@@ -1,5 +1,6 @@
 -- The routes that a daemon is asked for, as rules.
 use Rattle.std.specs.Prelude.{◌≡◌, ℕ, ◌≤◌, ◌-◌, ◌%◌, ◌^◌, List, length}
+use Rattle.rule_store.specs.Batch.{most_pending}
 use Rattle.rule_model.specs.declared.Rule.{Rule}
 use Rattle.rule_model.specs.AddressBlock.{AddressBlock, ipv4_block}
 use Rattle.rule_model.specs.Rank.{ipv4_route_rank, ipv6_route_rank}
@@ -22,18 +23,18 @@ longest_in (V4 address len) = 32
 longest_in (V6 address len) = 128
 
 -- a prefix: no bit of the address past the length is set
-abbrev pub IsPrefix : Network → Type 0
-IsPrefix network =
+abbrev pub IsNetwork : Network → Type 0
+IsNetwork network =
     (length_in network ≤ longest_in network) × (address_in network % 2 ^ (longest_in network - length_in network) ≡ 0)
 
 -- the batch takes no command more
-abbrev pub IsFull : List Command → Type 0
-IsFull batch = length batch ≡ 4096
+abbrev pub TakesNoMore : List Command → Type 0
+TakesNoMore batch = length batch ≡ most_pending
 
 -- the block of a network
-abbrev pub block_in : Network → AddressBlock
-block_in (V4 address len) = ipv4_block address len
-block_in (V6 address len) = record { addr = address; len = len }
+abbrev pub network_block : Network → AddressBlock
+network_block (V4 address len) = ipv4_block address len
+network_block (V6 address len) = record { addr = address; len = len }
 
 -- the priority of the route of a network
 abbrev pub route_priority : Network → ℕ
@@ -42,4 +43,4 @@ route_priority (V6 address len) = ipv6_route_rank (record { addr = address; len 
 
 -- the route of a network to a port
 abbrev pub route_to : Network → ℕ → Rule
-route_to network port = route_rule (route_priority network) (block_in network) port
+route_to network port = route_rule (route_priority network) (network_block network) port

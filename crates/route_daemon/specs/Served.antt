@@ -21,7 +21,7 @@ pub record IsRefused (manager manager' : Managed) (batch : List Command) (journa
 
 -- A batch that the verdict accepts is taken, and what is written and what is left to make are together what was planned for
 -- it before the first write.
-pub record IsTaken (manager manager' : Managed) (batch : List Command) (journal journal' : List Write) : Type 0 where
+pub record TakesCommit (manager manager' : Managed) (batch : List Command) (journal journal' : List Write) : Type 0 where
   pub accepted : verdict manager.slots manager.mode manager.rules batch ≡ Accepted
   pub counts : Done
   pub planned : Managed

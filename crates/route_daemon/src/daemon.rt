@@ -5,9 +5,9 @@ ghost use Rattle.call_history.specs.Cause.{HasCause, IsCounted};
 ghost use Rattle.tcam_device.specs.State.{Shows, replay};
 ghost use Rattle.rule_store.specs.Batch.{set_after};
 ghost use Rattle.batch_order.specs.Managed.{IsOn};
-ghost use Rattle.route_daemon.specs.Asked.{IsFull, IsPrefix, address_in, length_in, longest_in, route_priority, route_to};
+ghost use Rattle.route_daemon.specs.Asked.{TakesNoMore, IsNetwork, address_in, length_in, longest_in, route_priority, route_to};
 ghost use Rattle.batch_order.specs.CarriedOut.{GoesForward, HasRoomLeft, IsServed, ahead, writes_left};
-ghost use Rattle.route_daemon.specs.Served.{IsRefused, IsStuck, IsTaken};
+ghost use Rattle.route_daemon.specs.Served.{IsRefused, IsStuck, TakesCommit};
 
 use crate::networks::{Network, priority_of, route_of};
 use batch_order::{Manager, Refusal, Unfinished};
@@ -60,7 +60,7 @@ pub fn add_route(batch: &mut Batch, network: Network, port: u32) -> Result<(), R
     ensures added { OnOk result (batch.new ≡ batch.old ++ Command.Add (route_to network port) ∷ []) }
     ensures length { (result ≡ Err (RouteFault.Prefix PrefixFault.Length)) ↔ (longest_in network < length_in network) }
     ensures host_bits { (result ≡ Err (RouteFault.Prefix PrefixFault.HostBits)) ↔ ((length_in network ≤ longest_in network) × (address_in network % 2 ^ (longest_in network - length_in network) ≢ 0)) }
-    ensures full { (result ≡ Err (RouteFault.Batch PushFault.Full)) ↔ (IsPrefix network × IsFull batch.old) }
+    ensures full { (result ≡ Err (RouteFault.Batch PushFault.Full)) ↔ (IsNetwork network × TakesNoMore batch.old) }
     ensures refused { OnErr result (batch.new ≡ batch.old) }
 {
     let route = route_of(network, port).map_err(RouteFault::Prefix)?;
@@ -72,7 +72,7 @@ pub fn change_route(batch: &mut Batch, network: Network, port: u32) -> Result<()
     ensures changed { OnOk result (batch.new ≡ batch.old ++ Command.Set (route_priority network) port ∷ []) }
     ensures length { (result ≡ Err (RouteFault.Prefix PrefixFault.Length)) ↔ (longest_in network < length_in network) }
     ensures host_bits { (result ≡ Err (RouteFault.Prefix PrefixFault.HostBits)) ↔ ((length_in network ≤ longest_in network) × (address_in network % 2 ^ (longest_in network - length_in network) ≢ 0)) }
-    ensures full { (result ≡ Err (RouteFault.Batch PushFault.Full)) ↔ (IsPrefix network × IsFull batch.old) }
+    ensures full { (result ≡ Err (RouteFault.Batch PushFault.Full)) ↔ (IsNetwork network × TakesNoMore batch.old) }
     ensures refused { OnErr result (batch.new ≡ batch.old) }
 {
     let priority = priority_of(network).map_err(RouteFault::Prefix)?;
@@ -88,7 +88,7 @@ pub fn withdraw_route(batch: &mut Batch, network: Network) -> Result<(), RouteFa
     ensures withdrawn { OnOk result (batch.new ≡ batch.old ++ Command.Del (route_priority network) ∷ []) }
     ensures length { (result ≡ Err (RouteFault.Prefix PrefixFault.Length)) ↔ (longest_in network < length_in network) }
     ensures host_bits { (result ≡ Err (RouteFault.Prefix PrefixFault.HostBits)) ↔ ((length_in network ≤ longest_in network) × (address_in network % 2 ^ (longest_in network - length_in network) ≢ 0)) }
-    ensures full { (result ≡ Err (RouteFault.Batch PushFault.Full)) ↔ (IsPrefix network × IsFull batch.old) }
+    ensures full { (result ≡ Err (RouteFault.Batch PushFault.Full)) ↔ (IsNetwork network × TakesNoMore batch.old) }
     ensures refused { OnErr result (batch.new ≡ batch.old) }
 {
     let removal = Command::Del(priority_of(network).map_err(RouteFault::Prefix)?);
@@ -130,7 +130,7 @@ pub fn commit<D: Device>(
     ensures idle { OnOk result (manager.new.held ≡ None) }
     ensures rules { OnOk result (manager.new.rules ≡ set_after manager.old.rules batch.now) }
     ensures shows { OnOk result (Shows (replay (D.slot_count device.new) (D.journal device.new)) (set_after manager.old.rules batch.now)) }
-    ensures taken { ((refusal : Refusal) → result ≢ Err (CommitFault.Refused refusal)) → IsTaken manager.old manager.new batch.now (D.journal device.old) (D.journal device.new) }
+    ensures taken { ((refusal : Refusal) → result ≢ Err (CommitFault.Refused refusal)) → TakesCommit manager.old manager.new batch.now (D.journal device.old) (D.journal device.new) }
     ensures refused { (refusal : Refusal) → (result ≡ Err (CommitFault.Refused refusal)) → IsRefused manager.old manager.new batch.now (D.journal device.old) (D.journal device.new) refusal }
     ensures stuck { (result ≡ Err CommitFault.Stuck) → IsStuck (D.slot_count device.new) (D.journal device.new) manager.old.rules (set_after manager.old.rules batch.now) manager.new }
     ensures cause { IsCounted (result ≡ Err CommitFault.Stuck) (D.faults device.old) (D.faults device.new) }

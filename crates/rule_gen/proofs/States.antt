@@ -4,15 +4,15 @@ use Rattle.std.proofs.Math.Nat.{add-zero}
 use Rattle.rule_model.specs.declared.Rule.{Rule}
 use Rattle.rule_model.specs.PortRange.{any_port}
 use Rattle.rule_model.specs.Rank.{list_rank}
-use Rattle.rule_gen.specs.Made.{state_after, draw, network, made_address, made_source, made_proto, made_ports, rule_from}
+use Rattle.rule_gen.specs.Made.{draw_state, draw, network, made_address, made_source, made_proto, made_ports, rule_from}
 
 -- so many draws, and then so many
-pub state_after-add : (seed n k : ℕ) → state_after (state_after seed n) k ≡ state_after seed (n + k)
-state_after-add seed n zero = ap (state_after seed) (sym (add-zero n))
+pub state_after-add : (seed n k : ℕ) → draw_state (draw_state seed n) k ≡ draw_state seed (n + k)
+state_after-add seed n zero = ap (draw_state seed) (sym (add-zero n))
 state_after-add seed n (suc k) =
-    ap (λ z. (z * 1103515245 + 12345) % 2 ^ 31) (state_after-add seed n k) ∙ ap (state_after seed) (sym (add-suc n k))
+    ap (λ z. (z * 1103515245 + 12345) % 2 ^ 31) (state_after-add seed n k) ∙ ap (draw_state seed) (sym (add-suc n k))
 
-draw-add : (seed n k : ℕ) → draw (state_after seed n) k ≡ draw seed (n + k)
+draw-add : (seed n k : ℕ) → draw (draw_state seed n) k ≡ draw seed (n + k)
 draw-add seed n k = ap (λ z. z / 65536) (state_after-add seed n k)
 
 -- the rule that six numbers make
@@ -33,21 +33,21 @@ rule_of-equal : (d1 d2 d3 d4 d5 d6 e1 e2 e3 e4 e5 e6 sequence : ℕ) → d1 ≡ 
 rule_of-equal d1 d2 d3 d4 d5 d6 e1 e2 e3 e4 e5 e6 sequence p1 p2 p3 p4 p5 p6 = cc
 
 -- a rule doesn't depend on what was drawn before, but for the state
-pub rule_from-add : (seed n sequence : ℕ) → rule_from (state_after seed n) 0 sequence ≡ rule_from seed n sequence
+pub rule_from-add : (seed n sequence : ℕ) → rule_from (draw_state seed n) 0 sequence ≡ rule_from seed n sequence
 rule_from-add seed n sequence =
     rule_of-equal _ _ _ _ _ _ _ _ _ _ _ _ sequence (draw-add seed n 1) (draw-add seed n 2) (draw-add seed n 3) (draw-add seed n 4)
     (draw-add seed n 5) (draw-add seed n 6)
 
 -- one draw after another
 pub record IsDrawn (from to number : ℕ) : Type 0 where
-  pub state : to ≡ state_after from 1
+  pub state : to ≡ draw_state from 1
   pub number_is : number ≡ draw from 1
 
 -- the state and the number of the draw after so many
-later_state : (seed from to number k : ℕ) → from ≡ state_after seed k → IsDrawn from to number → to ≡ state_after seed (k + 1)
-later_state seed from to number k e d = d.state ∙ ap (λ z. state_after z 1) e ∙ state_after-add seed k 1
+later_state : (seed from to number k : ℕ) → from ≡ draw_state seed k → IsDrawn from to number → to ≡ draw_state seed (k + 1)
+later_state seed from to number k e d = d.state ∙ ap (λ z. draw_state z 1) e ∙ state_after-add seed k 1
 
-later_draw : (seed from to number k : ℕ) → from ≡ state_after seed k → IsDrawn from to number → number ≡ draw seed (k + 1)
+later_draw : (seed from to number k : ℕ) → from ≡ draw_state seed k → IsDrawn from to number → number ≡ draw seed (k + 1)
 later_draw seed from to number k e d = d.number_is ∙ ap (λ z. draw z 1) e ∙ draw-add seed k 1
 
 -- six draws make the rule

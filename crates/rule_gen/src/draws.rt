@@ -41,7 +41,7 @@ impl Draws {
 
     /// The next number, below 32,768: the upper bits of the next state, since the lower ones repeat early.
     pub(crate) fn draw(&mut self) -> u32
-        ensures state { self.new ≡ made.state_after self.old 1 }
+        ensures state { self.new ≡ made.draw_state self.old 1 }
         ensures number { result ≡ made.draw self.old 1 }
         ensures small { result < 2 ^ 15 }
     {
@@ -53,7 +53,7 @@ impl Draws {
     /// The rule of a sequence number, from 1, that the next six draws make.
     pub(crate) fn rule(&mut self, sequence: u32) -> Rule
         requires { 0 < sequence }
-        ensures state { self.new ≡ made.state_after self.old 6 }
+        ensures state { self.new ≡ made.draw_state self.old 6 }
         ensures rule { result ≡ made.rule_from self.old 0 sequence }
         ensures line { IsListRule result }
     {

@@ -1,11 +1,10 @@
 -- A cover that is being made, block by block.
-use Rattle.std.proofs.Common.{◌≡◌, ℕ, ◌+◌, ◌-◌, ◌^◌, ◌<◌, ◌≤◌, true, false, List, [], ◌∷◌, ◌++◌, le_refl, inl, inr, length, AllPairs, Contains, ◌↔◌, length-append, append_assoc, sym, ◌∙◌, subst, ap, arith}
-use Rattle.std.proofs.lemmas.Bool.{cases_lt, both_ways}
+use Rattle.std.proofs.Common.{◌≡◌, ℕ, ◌+◌, ◌-◌, ◌^◌, ◌<◌, ◌≤◌, List, [], ◌∷◌, ◌++◌, length, AllPairs, Contains, ◌↔◌, length-append, append_assoc, sym, ◌∙◌, subst, ap, arith}
 use Rattle.std.proofs.lemmas.Nat.{pow_pos}
-use Rattle.std.proofs.lemmas.List.{append-nil, nil_from_length}
+use Rattle.std.proofs.lemmas.List.{append-nil}
 use Rattle.std.specs.List.{list_any}
-use Rattle.rule_model.specs.PortRange.{PortRange, IsPortRange, IsCoverBlock, range_holds, cover, cover_size}
-use Rattle.rule_model.proofs.Covers.{cover-is, cover-rises, cover-holds, held_from}
+use Rattle.rule_model.specs.PortRange.{PortRange, IsPortRange, IsCoverBlock, range_holds, cover}
+use Rattle.rule_model.proofs.Covers.{cover-is, cover-rises, cover-holds}
 use Rattle.rule_model.proofs.CoverSize.{cover-size}
 use Rattle.rule_model.specs.FirstBlock.{IsFirstBlock}
 use Rattle.rule_model.proofs.Greedy.{ports_from, cover_none, cover_first}
@@ -79,36 +78,3 @@ rising_of ports made same right = subst (AllPairs (λ lower upper. lower.hi < up
 pub exact_of : (ports : PortRange) (made : List PortRange) → made ≡ cover ports → IsPortRange ports → (port : ℕ) → port < 2 ^ 16
     → list_any (λ block. range_holds block port) made ≡ range_holds ports port
 exact_of ports made same right port fits = subst (λ z. list_any (λ block. range_holds block port) z ≡ range_holds ports port) (sym same) (cover-holds ports port right fits)
-
--- a range has a block
-some_block : (range : PortRange) → IsPortRange range → cover range ≡ [] → ⊥
-some_block range right none =
-    let fits = right.fits in
-    let ordered = right.ordered in
-    let holds : range_holds range range.lo ≡ true = held_from range range.lo (le_refl _) ordered in
-    let found = cover-holds range range.lo right (omega arith) in
-    let lost : list_any (λ b. range_holds b range.lo) (cover range) ≡ false = ap (list_any (λ b. range_holds b range.lo)) none in
-    both_ways _ lost (found ∙ holds)
-
-one_only : (blocks rest : List PortRange) (block : PortRange) → blocks ≡ block ∷ rest → length blocks ≡ 1 → rest ≡ []
-one_only blocks rest block same one =
-    nil_from_length rest (let size : length blocks ≡ length (block ∷ rest) = ap length same in omega arith)
-
--- a range has one block exactly where its first block ends it
-pub single_is : (range block : PortRange) → IsPortRange range → IsFirstBlock range block → block.hi ≤ range.hi → (block.hi ≡ range.hi) ↔ (cover_size range ≡ 1)
-single_is range block right first inside = (one, whole)
-  where
-    one : block.hi ≡ range.hi → cover_size range ≡ 1
-    one last =
-        let none = cover_none (block.hi + 1) range.hi 16 0 (omega arith) in
-        ap length (cover_first range block right first ∙ ap (λ z. block ∷ z) none)
-
-    whole : cover_size range ≡ 1 → block.hi ≡ range.hi
-    whole size =
-        elim (cases_lt block.hi range.hi) [
-          | inl more ↦
-              let fits = right.fits in
-              absurd (some_block (ports_from (block.hi + 1) range.hi) (record { ordered = omega arith; fits = fits })
-              (one_only (cover range) (cover (ports_from (block.hi + 1) range.hi)) block (cover_first range block right first) size))
-          | inr last ↦ omega arith
-        ]

@@ -13,7 +13,7 @@ use Rattle.rule_store.specs.declared.pending.Uses.TheVariants.{Removed, Used}
 use Rattle.rule_store.specs.declared.pending.Naming.{Naming}
 use Rattle.rule_store.specs.declared.pending.Naming.TheVariants.{First, Replacing, Repeated}
 use Rattle.rule_store.specs.declared.pending.Named.{Named}
-use Rattle.rule_store.specs.Batch.{ChangesRules, named_priority, commands_naming, is_addition, is_removal}
+use Rattle.rule_store.specs.Batch.{ChangesRules, named_priority, commands_naming, is_addition, is_removal, most_pending}
 
 -- how a priority is used, one command later that names it
 abbrev pub uses_with : Option Uses → Command → Uses
@@ -54,7 +54,7 @@ commands_of named = map (λ one. one.command) named
 -- There are 4,096 commands at most, each a right one and kept with how it names its priority, and the map has the use of
 -- each priority.
 pub record IsIndexed (named : List Named) (uses : BTreeMap ℕ Uses) : Type 0 where
-  pub count : length named ≤ 4096
+  pub count : length named ≤ most_pending
   pub right : AllByRecursion ChangesRules (commands_of named)
   pub namings : (k : ℕ) (none : Named) → k < length named → (slice_index_or named k none).naming ≡ naming_after (take k (commands_of named)) (slice_index_or named k none).command
   pub used : (priority : ℕ) → get nat_cmp uses priority ≡ uses_of (commands_naming priority (commands_of named))

@@ -4,12 +4,12 @@ ghost use Rattle.std.specs.Prelude.{◌≡◌, ◌+◌, ◌≤◌, fold, length,
 ghost use Rattle.rule_store.specs.Applied.{IsKeptPart, IsRemainder, remaining_rules};
 ghost use Rattle.rule_store.specs.Batch.{IsSound, additions, set_after, with_result_after, with_rule};
 
-use crate::{Batch, Command, Store};
+use crate::{Command, Commands, Store};
 
 impl Store {
     /// Makes the changes of a batch that `check` takes, in the room that was reserved for as many rules as
     /// it has commands: first its removals, then its changes of results, then its additions.
-    pub fn apply(&mut self, batch: &Batch)
+    pub fn apply(&mut self, batch: &Commands)
         requires sound { IsSound self.old.rules batch.now }
         requires room { length batch.now ≤ self.old.spare }
         ensures rules { self.new.rules ≡ set_after self.old.rules batch.now }
@@ -21,7 +21,7 @@ impl Store {
     }
 
     // Makes the removals of a batch.
-    fn remove_all(&mut self, batch: &Batch)
+    fn remove_all(&mut self, batch: &Commands)
         requires { IsSound self.old.rules batch.now }
         ensures rules { self.new.rules ≡ remaining_rules self.old.rules batch.now }
         ensures spare { self.old.spare ≤ self.new.spare }
@@ -34,7 +34,7 @@ impl Store {
     }
 
     // Makes the changes of results of a batch, behind its removals.
-    fn change_all(&mut self, batch: &Batch)
+    fn change_all(&mut self, batch: &Commands)
         requires { IsRemainder self.old.rules batch.now }
         ensures rules { self.new.rules ≡ map (with_result_after batch.now) self.old.rules }
         ensures spare { self.new.spare ≡ self.old.spare }
@@ -47,7 +47,7 @@ impl Store {
     }
 
     // Makes the additions of a batch, behind its removals and changes.
-    fn insert_all(&mut self, batch: &Batch)
+    fn insert_all(&mut self, batch: &Commands)
         requires kept { IsKeptPart self.old.rules batch.now }
         requires room { length (additions batch.now) ≤ self.old.spare }
         ensures rules { self.new.rules ≡ fold with_rule self.old.rules (additions batch.now) }

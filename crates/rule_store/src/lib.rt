@@ -17,6 +17,9 @@
 //! - **A set is seen as its list by falling priority.** What it answers doesn't depend on that order.
 //! - **`need > free` is compared as `slots < used + need`**, which is right also where the set alone takes more than
 //!   there is.
+//! - **A commit keeps the commands of its batch and not the batch** (`Commands`): they are carried out at its end, and
+//!   how a further one would name its priority is asked only of a batch that grows. So they are copied in one go, and no
+//!   map is built anew; the batch stays its caller's, who hands it to a restart, or clears it.
 #![tactic(auto)]
 
 use rule_model::{Rank, Rule};
@@ -30,7 +33,7 @@ mod stored;
 
 pub use entries::entries_needed;
 pub use laws::{has_added_and_kept_rules, is_a_set_afterward};
-pub use pending::{Batch, PushFault};
+pub use pending::{Batch, Commands, PushFault};
 pub use stored::Store;
 
 /// How port ranges are encoded in entries.

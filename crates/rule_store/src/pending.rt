@@ -12,7 +12,7 @@ use std::collections::BTreeMap;
 use std::marker::Model;
 use thiserror::Error;
 
-/// The greatest number of commands of a batch.
+/// The most commands of a batch (`most_pending` in definitions).
 pub const BATCH_COMMANDS: u32 = 4096;
 
 /// Why a batch doesn't take a command.
@@ -73,6 +73,43 @@ impl Model for Batch {
     ghost invariant = { λ b. IsIndexed b.commands.items b.uses };
 }
 
+/// The commands of a batch as they are kept for the end of its commit: without what only a further push asks for.
+#[derive(Drop)]
+pub struct Commands {
+    commands: Vec<Named>,
+}
+
+impl Model for Commands {
+    ghost use Rattle.std.specs.Prelude.{List, ◌≤◌, length};
+    ghost use Rattle.rule_store.specs.declared.Command.{Command};
+    ghost use Rattle.rule_store.specs.Batch.{most_pending};
+    ghost use Rattle.rule_store.specs.Naming.{commands_of};
+
+    ghost Value = { List Command };
+
+    ghost view = { λ c. commands_of c.commands.items };
+
+    ghost invariant = { λ c. length c.commands.items ≤ most_pending };
+}
+
+impl Commands {
+    /// How many there are, 4,096 at most.
+    pub(crate) fn len(&self) -> u32
+        ensures count { result ≡ length self.now }
+        ensures most { result ≤ BATCH_COMMANDS }
+    {
+        self.commands.len() as u32
+    }
+
+    /// The command at a place, from 0 in the order of the pushes.
+    pub(crate) fn at(&self, i: u32) -> Command
+        requires { i < length self.now }
+        ensures { slice_get self.now i ≡ Some result }
+    {
+        self.commands[i as usize].command
+    }
+}
+
 // How a priority is used after one command more.
 fn uses_with(uses: Option<Uses>, command: &Command) -> Uses
     ensures { result ≡ naming.uses_with uses command.now }
@@ -122,7 +159,7 @@ impl Batch {
     /// is as before.
     pub fn push(&mut self, command: Command) -> Result<(), PushFault>
         ensures pushed { OnOk result (self.new ≡ self.old ++ command ∷ []) }
-        ensures full { (result ≡ Err PushFault.Full) ↔ (length self.old ≡ 4096) }
+        ensures full { (result ≡ Err PushFault.Full) ↔ (length self.old ≡ BATCH_COMMANDS) }
         ensures same { OnErr result (self.new ≡ self.old) }
     {
         if self.commands.len() >= BATCH_COMMANDS as usize {
@@ -149,7 +186,7 @@ impl Batch {
     /// How many commands there are, 4,096 at most.
     pub fn len(&self) -> u32
         ensures count { result ≡ length self.now }
-        ensures most { result ≤ 4096 }
+        ensures most { result ≤ BATCH_COMMANDS }
     {
         self.commands.len() as u32
     }
@@ -184,19 +221,13 @@ impl Batch {
         self.uses.clear();
     }
 
-    /// A copy of the batch; it fails only for want of memory.
-    pub fn try_copy(&self, alloc: Global) -> Result<Batch, AllocError>
-        ensures { IfOk result (λ copy. copy ≡ self.now) }
+    /// The commands, to be carried out later; it fails only for want of memory.
+    pub fn commands(&self, alloc: Global) -> Result<Commands, AllocError>
+        ensures { IfOk result (λ commands. commands ≡ self.now) }
     {
-        let mut copy = Batch::new(alloc);
-        for place in 0..self.len() {
-            match copy.push(self.at(place)) {
-                Ok(()) => {}
-                Err(PushFault::Memory) => return Err(AllocError),
-                Err(PushFault::Full) => unreachable!(),
-            }
-        }
-        Ok(copy)
+        Ok(Commands {
+            commands: Vec::from_slice(alloc, &self.commands)?,
+        })
     }
 
     /// The command at a place, and how it names its priority.

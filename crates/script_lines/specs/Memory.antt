@@ -39,13 +39,6 @@ pub record FailingLeft : Type 0 where
   pub failed : ℕ
   pub calls : CallCount
 
--- so many bytes are left, each of them this one, and a read gives so many at most
-pub record Filling : Type 0 where
-  pub given : List (List ℕ)
-  pub byte : ℕ
-  pub count : ℕ
-  pub piece : ℕ
-
 -- what an adapter has: the reader or writer, the pieces of its calls that answered Ok, and how often it failed
 pub record Counted (Inner : Type 0) : Type 0 where
   pub inner : Inner

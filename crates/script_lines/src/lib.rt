@@ -7,8 +7,8 @@
 //! - `Lines` cuts what a source gives into lines. Where the reads cut the bytes doesn't matter: a line
 //!   is handed out as soon as it is whole, and nothing is read while a whole line or a faulty byte is
 //!   held. It has a buffer of its own and takes no memory.
-//! - `MemSource`, `MemSink` and `FillSource` stand in for files, `FailSource` and `FailSink` fail at the
-//!   calls that they are told to, `ReadFrom` and `WriteTo` adapt std's readers and writers.
+//! - `MemSource` and `MemSink` stand in for files, `FailSource` and `FailSink` fail at the calls that they
+//!   are told to, `ReadFrom` and `WriteTo` adapt std's readers and writers.
 //!
 //! What isn't told isn't claimed: std's input and output foretell nothing, and of a failed write they
 //! don't know what became of it. That `ReadFrom` and `WriteTo` ask std once in a call, take each of its
@@ -33,7 +33,7 @@ mod source;
 
 pub use adapters::{ReadFrom, WriteTo};
 pub use fake::{FailSink, FailSource};
-pub use memory::{FillSource, MemSink, MemSource};
+pub use memory::{MemSink, MemSource};
 pub use reader::Lines;
 pub use sink::{Sink, write_all};
 pub use source::Source;

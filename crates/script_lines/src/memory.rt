@@ -1,6 +1,6 @@
-// A source and a sink in memory, and a source of one byte again and again.
+// A source and a sink in memory.
 ghost use Rattle.std.specs.Prelude.{◌≡◌, ◌<◌, ◌≤◌, ℕ, List, [], Option, Some, length, IfOk, OnOk, OnErr};
-ghost use Rattle.script_lines.specs.Memory.{Kept, Filling};
+ghost use Rattle.script_lines.specs.Memory.{Kept};
 
 use crate::counts::fail;
 use crate::{Failed, Sink, Source};
@@ -57,68 +57,6 @@ impl Source for MemSource<'_> {
         let n = self.bytes.len().min(into.len());
         into[..n].copy_from_slice(&self.bytes[..n]);
         self.bytes = &self.bytes[n..];
-        self.history = self.history.and_piece(&Piece { bytes: &into[..n] });
-        Ok(n)
-    }
-}
-
-/// One byte so many times, without memory for them. It never fails.
-#[derive(Drop)]
-pub struct FillSource {
-    byte: u8,
-    count: u32,
-    piece: u32,
-    history: Pieces,
-}
-
-impl Model for FillSource {
-    ghost Value = { Filling };
-
-    ghost view = { λ s. record { given = s.history.items; byte = s.byte; count = s.count; piece = s.piece } };
-
-    ghost invariant = { λ s. 0 < s.piece };
-}
-
-impl FillSource {
-    /// A source that has `count` times `byte` left, and gives at most `piece` of them at a time. Takes no
-    /// memory.
-    pub fn new(byte: u8, count: u32, piece: u32) -> FillSource
-        requires some { 0 < piece }
-        ensures { result ≡ record { given = []; byte = byte; count = count; piece = piece } }
-    {
-        FillSource {
-            byte,
-            count,
-            piece,
-            history: Pieces::new(),
-        }
-    }
-}
-
-impl Source for FillSource {
-    ghost use Rattle.std.specs.Prelude.{◌≡◌, ◌≤◌, ◌<◌, length, min, replicate, Ok, Some, IfOk};
-    ghost use Rattle.std.specs.Io.KnownBytes.{ReadConsumes};
-    ghost use Rattle.call_history.specs.Cause.{HasCause};
-    ghost use Rattle.script_lines.specs.Given.{Gives};
-
-    ghost left = { λ s. Some (replicate s.count s.byte) };
-
-    ghost given = { λ s. s.given };
-
-    ghost faults = { λ s. 0 };
-
-    fn read(&mut self, into: &mut [u8]) -> Result<usize, Failed>
-        ensures count { IfOk result (λ n. n ≤ length into.new) }
-        ensures bytes { ReadConsumes (Some (replicate self.old.count self.old.byte)) (Some (replicate self.new.count self.new.byte)) result into.new }
-        ensures given { 0 < length into.new → Gives self.old.given self.new.given result into.new }
-        ensures cause { HasCause 0 0 result }
-        ensures most { result ≡ Ok (min (min self.old.count self.old.piece) (length into.new)) }
-        ensures byte { self.new.byte ≡ self.old.byte }
-        ensures piece { self.new.piece ≡ self.old.piece }
-    {
-        let n = (self.count.min(self.piece) as usize).min(into.len());
-        into[..n].fill(self.byte);
-        self.count -= n as u32;
         self.history = self.history.and_piece(&Piece { bytes: &into[..n] });
         Ok(n)
     }

@@ -33,8 +33,8 @@ pub use mark_row::Marks;
 use std::alloc::{AllocError, Global};
 use std::marker::Model;
 
-/// The greatest number of slots.
-pub const MOST_SLOTS: u32 = 65_536;
+/// The most slots of an arrangement, and the most places of a row of marks.
+pub const MOST_PLACES: u32 = 65_536;
 
 /// Slots, each empty or holding an id.
 #[derive(Debug, Drop)]
@@ -64,10 +64,10 @@ impl Model for Arrangement {
 }
 
 impl Arrangement {
-    /// Makes `slots` empty slots, from 1 to `MOST_SLOTS`.
+    /// Makes `slots` empty slots, from 1 to `MOST_PLACES`.
     pub fn new(alloc: Global, slots: u32) -> Result<Arrangement, AllocError>
         requires some { 1 ≤ slots }
-        requires most { slots ≤ MOST_SLOTS }
+        requires most { slots ≤ MOST_PLACES }
         ensures { IfOk result (λ arrangement. arrangement ≡ replicate slots None) }
     {
         let free = free::all_marked(alloc, slots)?;
@@ -84,11 +84,11 @@ impl Arrangement {
         })
     }
 
-    /// The number of slots, from 1 to `MOST_SLOTS`.
+    /// The number of slots, from 1 to `MOST_PLACES`.
     pub fn slots(&self) -> u32
         ensures number { result ≡ length self.now }
         ensures some { 1 ≤ result }
-        ensures most { result ≤ MOST_SLOTS }
+        ensures most { result ≤ MOST_PLACES }
     {
         self.slots.len() as u32
     }

@@ -2,7 +2,7 @@
 ghost use Rattle.std.specs.Prelude.{◌≡◌, ◌<◌, ◌≤◌, true, false, IfOk, length, replicate, slice_set, slice_index_or};
 ghost use Rattle.slot_pool.specs.Rows.{IsNextSet, IsLastSet};
 
-use crate::{MOST_SLOTS, free};
+use crate::{MOST_PLACES, free};
 use std::alloc::{AllocError, Global};
 use std::marker::Model;
 
@@ -27,19 +27,19 @@ impl Model for Marks {
 }
 
 impl Marks {
-    /// Makes a row of `places` places, up to `MOST_SLOTS`, none of them marked.
+    /// Makes a row of `places` places, up to `MOST_PLACES`, none of them marked.
     pub fn new(alloc: Global, places: u32) -> Result<Marks, AllocError>
-        requires { places ≤ MOST_SLOTS }
+        requires { places ≤ MOST_PLACES }
         ensures { IfOk result (λ marks. marks ≡ replicate places false) }
     {
         let words = vec![in alloc; 0; places.div_ceil(64) as usize]?;
         Ok(Marks { words, places })
     }
 
-    /// The number of places, up to `MOST_SLOTS`.
+    /// The number of places, up to `MOST_PLACES`.
     pub fn places(&self) -> u32
         ensures number { result ≡ length self.now }
-        ensures most { result ≤ MOST_SLOTS }
+        ensures most { result ≤ MOST_PLACES }
     {
         self.places
     }

@@ -19,9 +19,6 @@ use std::io;
 use std::process::ExitCode;
 use tcam_cli::{Status, run};
 
-/// The slots of the modelled device.
-const DEVICE_SLOTS: u32 = 4096;
-
 /// The words of the process's command line, or none where they can't be had for another cause than memory.
 fn process_words<R: Env + AllocGlobal>(rt: &R) -> Result<Vec<String>, AllocError> {
     let mut words = Vec::new(rt.alloc());

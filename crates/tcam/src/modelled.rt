@@ -1,8 +1,9 @@
 //! The hardware that the program drives.
 
 ghost use Rattle.std.specs.Prelude.{IsOk};
+ghost use Rattle.slot_order.specs.Order.{most_slots};
 
-use crate::DEVICE_SLOTS;
+use slot_order::MOST_SLOTS;
 use tcam_device::{DeviceFault, Hardware, Write};
 
 /// Hardware that takes each write and holds nothing: what stands in slots and tables is in the memory that `Shadowed`
@@ -18,7 +19,7 @@ impl Modelled {
 }
 
 impl Hardware for Modelled {
-    ghost slot_count = { λ m. 4096 };
+    ghost slot_count = { λ m. most_slots };
 
     // No write fails.
     ghost puts = { λ before write answer after. IsOk answer };
@@ -26,7 +27,7 @@ impl Hardware for Modelled {
     ghost drains = { λ before after. Unit {0} };
 
     fn slots(&self) -> u32 {
-        DEVICE_SLOTS
+        MOST_SLOTS
     }
 
     fn put(&mut self, _write: &Write) -> Result<(), DeviceFault> {

@@ -12,7 +12,7 @@ use Rattle.batch_order.specs.Steps.{awaits_drain, due_write, is_drain_next, next
 use Rattle.batch_order.specs.Passed.{WayBackFrom}
 use Rattle.batch_order.proofs.back.Passed.{goes_back}
 use Rattle.tcam_c.specs.declared.steps.DueKind.TheVariants as kind
-use Rattle.tcam_c.specs.Driven.{HasDue, KeepsWayBack, due_of, first_of, kind_of_due, settled_by, settled_of}
+use Rattle.tcam_c.specs.Driven.{HasDue, KeepsWayBack, due_of, first_action, kind_of_due, settled_by, settled_of}
 
 -- a drain is due of no commit that is turned round
 pub drain_forward : (held : Option HeldCommit) → due_of held ≡ Some Drained → GoesForward held
@@ -20,7 +20,7 @@ drain_forward None is = tt
 drain_forward (Some held) is = go held.turned held.actions held.undo is
   where
     go : (turned : Option ℕ) (actions : List Action) (undo : List Write)
-        → first_of (elim turned [ None ↦ actions | Some undone ↦ map Written undo ]) ≡ Some Drained → turned ≡ None
+        → first_action (elim turned [ None ↦ actions | Some undone ↦ map Written undo ]) ≡ Some Drained → turned ≡ None
     go None actions undo is = refl
     go (Some undone) actions [] is = absurd (cc)
     go (Some undone) actions (write ∷ undo) is = absurd (cc)
@@ -31,7 +31,7 @@ write_due None write is = absurd (cc)
 write_due (Some held) write is = go held.turned held.actions held.undo is
   where
     go : (turned : Option ℕ) (actions : List Action) (undo : List Write) → (elim turned [ None ↦ due_write actions | Some undone ↦ slice_get undo 0 ]) ≡ Some write
-        → first_of (elim turned [ None ↦ actions | Some undone ↦ map Written undo ]) ≡ Some (Written write)
+        → first_action (elim turned [ None ↦ actions | Some undone ↦ map Written undo ]) ≡ Some (Written write)
     go None [] undo is = absurd (cc)
     go None (Written other ∷ actions) undo is = cc
     go None (Drained ∷ actions) undo is = absurd (cc)
@@ -43,7 +43,7 @@ pub due_next : (held : Option HeldCommit) (write : Write) → due_of held ≡ So
 due_next None write is = absurd (cc)
 due_next (Some held) write is = go held.turned held.actions held.undo is
   where
-    go : (turned : Option ℕ) (actions : List Action) (undo : List Write) → first_of (elim turned [ None ↦ actions | Some undone ↦ map Written undo ]) ≡ Some (Written write)
+    go : (turned : Option ℕ) (actions : List Action) (undo : List Write) → first_action (elim turned [ None ↦ actions | Some undone ↦ map Written undo ]) ≡ Some (Written write)
         → (elim turned [ None ↦ due_write actions | Some undone ↦ slice_get undo 0 ]) ≡ Some write
     go None [] undo is = absurd (cc)
     go None (Written other ∷ actions) undo is = cc
@@ -60,7 +60,7 @@ some_left (Some held) left still is some = go held.turned held.actions held.undo
     go : (turned : Option ℕ) (actions : List Action) (undo : List Write)
         → (elim turned [ None ↦ is_drain_next actions | Some undone ↦ false ]) ≡ false
         → Some left ≡ Some (length {A = Write} (elim turned [ None ↦ writes_in actions | Some undone ↦ undo ]))
-        → kind.Write ≡ kind_of_due (first_of (elim turned [ None ↦ actions | Some undone ↦ map Written undo ]))
+        → kind.Write ≡ kind_of_due (first_action (elim turned [ None ↦ actions | Some undone ↦ map Written undo ]))
     go None [] undo still is = absurd (let none : left ≡ 0 = cc in some none)
     go None (Written write ∷ actions) undo still is = refl
     go None (Drained ∷ actions) undo still is = absurd (cc)
@@ -74,7 +74,7 @@ left_due held None is still some more = absurd (some refl)
 left_due held (Some left) is still some more = some_left held left still is (λ none. more (ap (λ (n : ℕ). Some n) none))
 
 -- with something due a commit doesn't end
-due_stays : (actions : List Action) (held : HeldCommit) (manager : Managed) → ¬ (first_of actions ≡ None) → settled_by actions held manager ≡ manager
+due_stays : (actions : List Action) (held : HeldCommit) (manager : Managed) → ¬ (first_action actions ≡ None) → settled_by actions held manager ≡ manager
 due_stays [] held manager some = absurd (some refl)
 due_stays (action ∷ actions) held manager some = refl
 
@@ -82,7 +82,7 @@ pub due_settles : (held : Option HeldCommit) (manager : Managed) → ¬ (due_of 
 due_settles None manager some = absurd (some refl)
 due_settles (Some held) manager some = due_stays (actions_due held) held manager some
 
-some_due : (actions : List Action) → ¬ (first_of actions ≡ None) → 1 ≤ length actions
+some_due : (actions : List Action) → ¬ (first_action actions ≡ None) → 1 ≤ length actions
 some_due [] some = absurd (some refl)
 some_due (action ∷ actions) some = omega arith
 

@@ -1,5 +1,7 @@
 -- What the calls of the library do to what stands behind a handle.
 use Rattle.std.specs.Prelude.{◌≡◌, ℕ, ◌<◌, ◌≤◌, ◌++◌, ◌∷◌, [], ◌↔◌, ◌⊎◌, Bool, true, false, Result, Ok, Err, Option, Some, None, OnOk, OnErr, IfOk, length}
+use Rattle.slot_order.specs.Order.{most_slots}
+use Rattle.rule_store.specs.Batch.{most_pending}
 use Rattle.rule_model.specs.AddressBlock.{ipv4_address}
 use Rattle.rule_model.specs.Rank.{list_rank}
 use Rattle.rule_model.specs.declared.Key.{Key}
@@ -19,18 +21,18 @@ use Rattle.batch_order.specs.declared.AbortFault.TheVariants as abort_fault
 use Rattle.batch_order.specs.Managed.{HeldCommit, IsOn, Judges, Serves, fresh}
 use Rattle.batch_order.specs.CarriedOut.{GoesForward}
 use Rattle.batch_order.specs.Steps.{ServesNow}
-use Rattle.tcam_c.specs.Driven.{Driven, Prepares, GoesOn, IsEnded, KeepsLive, TurnsRound, due_of, journal_of}
-use Rattle.tcam_c.specs.Plain.{IsAnswer, IsDue, IsTold}
+use Rattle.tcam_c.specs.Driven.{Driven, Prepares, PassesOn, IsEnded, KeepsLive, AbortsTo, due_of, journal_of}
+use Rattle.tcam_c.specs.Plain.{IsAnswer, IsDueWrite, IsRefusalTold}
 use Rattle.tcam_c.specs.declared.plain.TcamAnswer.{TcamAnswer}
 use Rattle.tcam_c.specs.declared.plain.TcamKey.{TcamKey}
 use Rattle.tcam_c.specs.declared.plain.TcamNumbers.{TcamNumbers}
 use Rattle.tcam_c.specs.declared.plain.TcamRefusal.{TcamRefusal}
 use Rattle.tcam_c.specs.declared.plain.TcamWrite.{TcamWrite}
-use Rattle.tcam_c.specs.Codes.{push_code, refusal_code, mode_by, placement_by}
+use Rattle.tcam_c.specs.Codes.{push_code, refusal_code, mode_of_code, placement_by}
 
 -- a packet's key
-abbrev pub key_of : TcamKey → Key
-key_of key =
+abbrev pub packet_key : TcamKey → Key
+packet_key key =
     record {
       src = ipv4_address key.source;
       dst = ipv4_address key.destination;
@@ -64,7 +66,7 @@ abbrev pub Pushes : Command → Driven → Driven → ℕ → Type 0
 Pushes command before after code =
     (pushed : Result (Unit {0}) PushFault) × (code ≡ push_code pushed)
     × OnOk pushed (after ≡ record before { batch = before.batch ++ command ∷ [] })
-    × ((pushed ≡ Err push.Full) ↔ (length before.batch ≡ 4096))
+    × ((pushed ≡ Err push.Full) ↔ (length before.batch ≡ most_pending))
     × OnErr pushed (after ≡ before)
 
 -- a change that plain numbers stand for, or the code of what is wrong with them
@@ -97,7 +99,7 @@ abbrev pub Told : TcamNumbers → TcamNumbers → TcamRefusal → TcamRefusal �
 Told numbers numbers' refusal refusal' (Ok counts) code =
     (code ≡ 0) × (numbers' ≡ record { writes = counts.writes; words = counts.words; most = counts.most; span = counts.span }) × (refusal' ≡ refusal)
 Told numbers numbers' refusal refusal' (Err fault) code =
-    (code ≡ refusal_code fault) × (numbers' ≡ numbers) × IsTold fault refusal'
+    (code ≡ refusal_code fault) × (numbers' ≡ numbers) × IsRefusalTold fault refusal'
 
 abbrev pub Prepared : TcamNumbers → TcamNumbers → TcamRefusal → TcamRefusal → Driven → Driven → ℕ → Type 0
 Prepared numbers numbers' refusal refusal' before after code =
@@ -115,7 +117,7 @@ Prepared numbers numbers' refusal refusal' before after code =
 pub record Nexts (write : TcamWrite) (before after : Driven) (code : ℕ) : Type 0 where
   pub done : code ≡ 0
   pub same : after ≡ before
-  pub due : IsDue (due_of before.manager.held) write
+  pub due : IsDueWrite (due_of before.manager.held) write
   pub ended : IsEnded before.manager.held (due_of before.manager.held)
   pub drain : due_of before.manager.held ≡ Some Drained → GoesForward before.manager.held
   pub serving : IsServing before
@@ -126,52 +128,52 @@ pub record Nexts (write : TcamWrite) (before after : Driven) (code : ℕ) : Type
 abbrev pub MakesDue : Option Action → Driven → Driven → ℕ → Type 0
 MakesDue None before after code = (code ≡ 18) × (after ≡ before)
 MakesDue (Some Drained) before after code = (code ≡ 20) × (after ≡ before)
-MakesDue (Some (Written write)) before after code = (code ≡ 0) × GoesOn before after
+MakesDue (Some (Written write)) before after code = (code ≡ 0) × PassesOn before after
 
-abbrev pub Tells : Driven → Driven → ℕ → Type 0
-Tells before after code = MakesDue (due_of before.manager.held) before after code × IsServing after
+abbrev pub TellsWrite : Driven → Driven → ℕ → Type 0
+TellsWrite before after code = MakesDue (due_of before.manager.held) before after code × IsServing after
 
 -- The drain that is due was made. Where a write is due, or nothing, the code says so, and nothing changes.
 abbrev pub DrainsDue : Option Action → Driven → Driven → ℕ → Type 0
 DrainsDue None before after code = (code ≡ 18) × (after ≡ before)
 DrainsDue (Some (Written write)) before after code = (code ≡ 21) × (after ≡ before)
-DrainsDue (Some Drained) before after code = (code ≡ 0) × GoesOn before after
+DrainsDue (Some Drained) before after code = (code ≡ 0) × PassesOn before after
 
 abbrev pub TellsDrain : Driven → Driven → ℕ → Type 0
 TellsDrain before after code = DrainsDue (due_of before.manager.held) before after code × IsServing after
 
 -- A commit under way is turned round, with so many undo writes to make. One that is turned round already stays as it is, with
 -- those that are left; and so does one that a restart goes on with. With none under way there is nothing to turn.
-abbrev pub TurnsByWay : Option ℕ → HeldCommit → Driven → Result ℕ AbortFault → Driven → Type 0
-TurnsByWay None held before answer after = (answer ≡ Ok (length held.undo)) × TurnsRound held before after
-TurnsByWay (Some undone) held before answer after = (answer ≡ Err (abort_fault.Back (length held.undo))) × (after ≡ before)
+abbrev pub AbortsByWay : Option ℕ → HeldCommit → Driven → Result ℕ AbortFault → Driven → Type 0
+AbortsByWay None held before answer after = (answer ≡ Ok (length held.undo)) × AbortsTo held before after
+AbortsByWay (Some undone) held before answer after = (answer ≡ Err (abort_fault.Back (length held.undo))) × (after ≡ before)
 
-abbrev pub TurnsPrepared : Bool → HeldCommit → Driven → Result ℕ AbortFault → Driven → Type 0
-TurnsPrepared true held before answer after = TurnsByWay held.turned held before answer after
-TurnsPrepared false held before answer after = (answer ≡ Err abort_fault.Restarted) × (after ≡ before)
+abbrev pub AbortsPrepared : Bool → HeldCommit → Driven → Result ℕ AbortFault → Driven → Type 0
+AbortsPrepared true held before answer after = AbortsByWay held.turned held before answer after
+AbortsPrepared false held before answer after = (answer ≡ Err abort_fault.Restarted) × (after ≡ before)
 
-abbrev pub TurnsBy : Driven → Option HeldCommit → Result ℕ AbortFault → Driven → Type 0
-TurnsBy before None answer after = (answer ≡ Err abort_fault.Idle) × (after ≡ before)
-TurnsBy before (Some held) answer after = TurnsPrepared held.prepared held before answer after
+abbrev pub AbortsHeld : Driven → Option HeldCommit → Result ℕ AbortFault → Driven → Type 0
+AbortsHeld before None answer after = (answer ≡ Err abort_fault.Idle) × (after ≡ before)
+AbortsHeld before (Some held) answer after = AbortsPrepared held.prepared held before answer after
 
 -- and how many there are is told, but where none is under way or it can't be taken back
-abbrev pub IsTurnTold : ℕ → ℕ → Result ℕ AbortFault → ℕ → Type 0
-IsTurnTold left left' (Ok undone) code = (code ≡ 0) × (left' ≡ undone)
-IsTurnTold left left' (Err (abort_fault.Back undone)) code = (code ≡ 22) × (left' ≡ undone)
-IsTurnTold left left' (Err abort_fault.Idle) code = (code ≡ 18) × (left' ≡ left)
-IsTurnTold left left' (Err abort_fault.Restarted) code = (code ≡ 23) × (left' ≡ left)
+abbrev pub IsAbortTold : ℕ → ℕ → Result ℕ AbortFault → ℕ → Type 0
+IsAbortTold left left' (Ok undone) code = (code ≡ 0) × (left' ≡ undone)
+IsAbortTold left left' (Err (abort_fault.Back undone)) code = (code ≡ 22) × (left' ≡ undone)
+IsAbortTold left left' (Err abort_fault.Idle) code = (code ≡ 18) × (left' ≡ left)
+IsAbortTold left left' (Err abort_fault.Restarted) code = (code ≡ 23) × (left' ≡ left)
 
-abbrev pub Turns : ℕ → ℕ → Driven → Driven → ℕ → Type 0
-Turns left left' before after code =
-    (answer : Result ℕ AbortFault) × TurnsBy before before.manager.held answer after
-    × IsTurnTold left left' answer code
+abbrev pub TellsAbort : ℕ → ℕ → Driven → Driven → ℕ → Type 0
+TellsAbort left left' before after code =
+    (answer : Result ℕ AbortFault) × AbortsHeld before before.manager.held answer after
+    × IsAbortTold left left' answer code
     × IsServing before
     × IsServing after
 
 -- a packet is answered by the writes that were made, and nothing changes
-abbrev pub Answers : TcamKey → TcamAnswer → Driven → Driven → ℕ → Type 0
-Answers key answer before after code =
-    (code ≡ 0) × (after ≡ before) × IsAnswer (lookup (replay before.manager.slots (journal_of before)) (key_of key)) answer × IsServing before
+abbrev pub AnswersPacket : TcamKey → TcamAnswer → Driven → Driven → ℕ → Type 0
+AnswersPacket key answer before after code =
+    (code ≡ 0) × (after ≡ before) × IsAnswer (lookup (replay before.manager.slots (journal_of before)) (packet_key key)) answer × IsServing before
 
 -- a manager without rules, of a blank memory
 abbrev pub fresh_driven : ℕ → Mode → Placement → Driven
@@ -187,5 +189,5 @@ MakesOf slots (Some mode) (Some placement) new code =
 abbrev pub IsMade : ℕ → ℕ → ℕ → Option Driven → Option Driven → ℕ → Type 0
 IsMade slots mode placement (Some before) new code = (code ≡ 2) × (new ≡ Some before)
 IsMade slots mode placement None new code =
-    ((code ≡ 3) × (new ≡ None) × ((slots < 1) ⊎ (4096 < slots)))
-    ⊎ ((1 ≤ slots) × (slots ≤ 4096) × MakesOf slots (mode_by mode) (placement_by placement) new code)
+    ((code ≡ 3) × (new ≡ None) × ((slots < 1) ⊎ (most_slots < slots)))
+    ⊎ ((1 ≤ slots) × (slots ≤ most_slots) × MakesOf slots (mode_of_code mode) (placement_by placement) new code)

@@ -35,8 +35,8 @@ refusal_code (Rejected (Slots needed free)) = 17
 refusal_code Memory = 11
 
 -- a prefix of IPv4: no bit of the address past the length is set
-abbrev pub IsPrefix : ℕ → ℕ → Type 0
-IsPrefix address len = (len ≤ 32) × (address % 2 ^ (32 - len) ≡ 0)
+abbrev pub IsIpv4Prefix : ℕ → ℕ → Type 0
+IsIpv4Prefix address len = (len ≤ 32) × (address % 2 ^ (32 - len) ≡ 0)
 
 -- the code of an address and a length that are none
 abbrev pub IsPrefixFault : ℕ → ℕ → ℕ → Type 0
@@ -44,7 +44,7 @@ IsPrefixFault address len code =
     ((code ≡ 6) × (32 < len)) ⊎ ((code ≡ 7) × (len ≤ 32) × (address % 2 ^ (32 - len) ≢ 0))
 
 abbrev pub IsPrefixOr : ℕ → ℕ → Result AddressBlock ℕ → Type 0
-IsPrefixOr address len (Ok block) = IsPrefix address len × (block ≡ ipv4_block address len)
+IsPrefixOr address len (Ok block) = IsIpv4Prefix address len × (block ≡ ipv4_block address len)
 IsPrefixOr address len (Err code) = IsPrefixFault address len code
 
 -- the priority of the route of a prefix
@@ -53,25 +53,25 @@ route_priority address len = ipv4_route_rank (ipv4_block address len)
 
 -- a route is added, changed or removed: the command, or the code of a prefix that is none
 abbrev pub AddsRoute : ℕ → ℕ → ℕ → Result Command ℕ → Type 0
-AddsRoute address len given (Ok command) = IsPrefix address len × (command ≡ Add (route_rule (route_priority address len) (ipv4_block address len) given))
+AddsRoute address len given (Ok command) = IsIpv4Prefix address len × (command ≡ Add (route_rule (route_priority address len) (ipv4_block address len) given))
 AddsRoute address len given (Err code) = IsPrefixFault address len code
 
 abbrev pub SetsRoute : ℕ → ℕ → ℕ → Result Command ℕ → Type 0
-SetsRoute address len given (Ok command) = IsPrefix address len × (command ≡ Set (route_priority address len) given)
+SetsRoute address len given (Ok command) = IsIpv4Prefix address len × (command ≡ Set (route_priority address len) given)
 SetsRoute address len given (Err code) = IsPrefixFault address len code
 
 abbrev pub DelsRoute : ℕ → ℕ → Result Command ℕ → Type 0
-DelsRoute address len (Ok command) = IsPrefix address len × (command ≡ Del (route_priority address len))
+DelsRoute address len (Ok command) = IsIpv4Prefix address len × (command ≡ Del (route_priority address len))
 DelsRoute address len (Err code) = IsPrefixFault address len code
 
 -- a protocol, of which 256 is any
-abbrev pub protocol_of : ℕ → Option ℕ
-protocol_of protocol = if nat_eq protocol 256 then None else Some protocol
+abbrev pub protocol_of_code : ℕ → Option ℕ
+protocol_of_code protocol = if nat_eq protocol 256 then None else Some protocol
 
 -- a rule of an access list as plain numbers that are right
 pub record IsRule (rule : TcamRule) : Type 0 where
-  pub source : IsPrefix rule.source rule.source_length
-  pub destination : IsPrefix rule.destination rule.destination_length
+  pub source : IsIpv4Prefix rule.source rule.source_length
+  pub destination : IsIpv4Prefix rule.destination rule.destination_length
   pub source_ports : rule.source_port_first ≤ rule.source_port_last
   pub destination_ports : rule.destination_port_first ≤ rule.destination_port_last
   pub protocol : rule.protocol ≤ 256
@@ -83,7 +83,7 @@ list_rule rule =
       priority = list_rank rule.number;
       src = ipv4_block rule.source rule.source_length;
       dst = ipv4_block rule.destination rule.destination_length;
-      proto = protocol_of rule.protocol;
+      proto = protocol_of_code rule.protocol;
       sport = record { lo = rule.source_port_first; hi = rule.source_port_last };
       dport = record { lo = rule.destination_port_first; hi = rule.destination_port_last };
       result = rule.result;
@@ -91,7 +91,7 @@ list_rule rule =
 
 -- its prefixes are right
 abbrev pub HasPrefixes : TcamRule → Type 0
-HasPrefixes rule = IsPrefix rule.source rule.source_length × IsPrefix rule.destination rule.destination_length
+HasPrefixes rule = IsIpv4Prefix rule.source rule.source_length × IsIpv4Prefix rule.destination rule.destination_length
 
 -- and its ranges of ports
 abbrev pub HasPorts : TcamRule → Type 0
@@ -102,7 +102,7 @@ HasPorts rule = (rule.source_port_first ≤ rule.source_port_last) × (rule.dest
 abbrev pub IsRuleFault : TcamRule → ℕ → Type 0
 IsRuleFault rule code =
     IsPrefixFault rule.source rule.source_length code
-    ⊎ ((IsPrefix rule.source rule.source_length × IsPrefixFault rule.destination rule.destination_length code)
+    ⊎ ((IsIpv4Prefix rule.source rule.source_length × IsPrefixFault rule.destination rule.destination_length code)
     ⊎ ((HasPrefixes rule × (code ≡ 8) × (rule.source_port_last < rule.source_port_first))
     ⊎ ((HasPrefixes rule × (code ≡ 8) × (rule.destination_port_last < rule.destination_port_first))
     ⊎ (HasPrefixes rule × HasPorts rule × (code ≡ 9) × (256 < rule.protocol)))))
@@ -112,8 +112,8 @@ AddsRule rule (Ok command) = IsRule rule × (command ≡ Add (list_rule rule))
 AddsRule rule (Err code) = IsRuleFault rule code
 
 -- the mode and the placement of a number
-abbrev pub mode_by : ℕ → Option Mode
-mode_by number = if nat_eq number 0 then Some mode.Cover else (if nat_eq number 1 then Some mode.Bits else None)
+abbrev pub mode_of_code : ℕ → Option Mode
+mode_of_code number = if nat_eq number 0 then Some mode.Cover else (if nat_eq number 1 then Some mode.Bits else None)
 
 abbrev pub placement_by : ℕ → Option Placement
 placement_by number = if nat_eq number 0 then Some placement.Middle else (if nat_eq number 1 then Some placement.Rank else None)

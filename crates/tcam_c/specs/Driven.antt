@@ -36,7 +36,7 @@ HasDue (Some held) = 1 ≤ length (actions_due held)
 -- The memory has the manager's slots, what was made is the manager's, there is room for those that are left and to take back
 -- those that were made, and no word is in flight, since the caller says that it drained and a drain never waits here. Between
 -- two calls a commit under way has something left.
-pub record IsDriven (manager : Managed) (slots : ℕ) (events : List Action) (flight : Flight) (spare : ℕ) : Type 0 where
+pub record IsHandled (manager : Managed) (slots : ℕ) (events : List Action) (flight : Flight) (spare : ℕ) : Type 0 where
   pub same_slots : slots ≡ manager.slots
   pub on : IsOn manager.slots (writes_in events) manager
   pub room : HasRoomBothWays manager.held spare
@@ -44,14 +44,14 @@ pub record IsDriven (manager : Managed) (slots : ℕ) (events : List Action) (fl
   pub due : HasDue manager.held
 
 -- the first of some actions
-abbrev pub first_of : List Action → Option Action
-first_of [] = None
-first_of (action ∷ actions) = Some action
+abbrev pub first_action : List Action → Option Action
+first_action [] = None
+first_action (action ∷ actions) = Some action
 
 -- What is due: a write or a drain. Of a commit that is turned round it is an undo write, and never a drain.
 abbrev pub due_of : Option HeldCommit → Option Action
 due_of None = None
-due_of (Some held) = first_of (actions_due held)
+due_of (Some held) = first_action (actions_due held)
 
 -- what kind of thing that is
 abbrev pub kind_of_due : Option Action → DueKind
@@ -156,7 +156,7 @@ pub record KeepsWayBack (old new : Managed) : Type 0 where
   pub goes_back : (begun : State) → WayBackFrom begun old → GoesBackFrom begun new
 
 -- what telling does that the write or the drain which is due was made
-pub record GoesOn (old new : Driven) : Type 0 where
+pub record PassesOn (old new : Driven) : Type 0 where
   pub manager : new.manager ≡ made_of old.manager.held old.manager
   pub events : new.events ≡ old.events ++ due_actions (due_of old.manager.held)
   pub batch : new.batch ≡ old.batch
@@ -175,7 +175,7 @@ abbrev pub turned_round : HeldCommit → Managed → Managed
 turned_round held manager = settled (record manager { held = Some (record held { turned = Some (length held.undo) }) })
 
 -- Nothing else changes, and words stay current.
-pub record TurnsRound (held : HeldCommit) (old new : Driven) : Type 0 where
+pub record AbortsTo (held : HeldCommit) (old new : Driven) : Type 0 where
   pub manager : new.manager ≡ turned_round held old.manager
   pub events : new.events ≡ old.events
   pub batch : new.batch ≡ old.batch

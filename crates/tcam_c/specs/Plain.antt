@@ -52,7 +52,7 @@ abbrev pub no_refusal : TcamRefusal
 no_refusal = record { left = 0; tag = no_tag; field = 0; need = 0; free = 0 }
 
 -- an entry that a slot gets
-pub record IsPut (slot : ℕ) (entry : Entry) (write : TcamWrite) : Type 0 where
+pub record IsPutWrite (slot : ℕ) (entry : Entry) (write : TcamWrite) : Type 0 where
   pub kind : write.kind ≡ 1
   pub slot_is : write.slot ≡ slot
   pub value : write.value ≡ entry.value.lane
@@ -64,13 +64,13 @@ pub record IsPut (slot : ℕ) (entry : Entry) (write : TcamWrite) : Type 0 where
   pub no_word : write.word ≡ 0
 
 -- what is due, with 0 in the fields that its kind doesn't name
-abbrev pub IsDue : Option Action → TcamWrite → Type 0
-IsDue None write = write ≡ no_write
-IsDue (Some (Written (Slot slot None))) write = write ≡ record no_write { kind = 2; slot = slot }
-IsDue (Some (Written (Slot slot (Some entry)))) write = IsPut slot entry write
-IsDue (Some (Written (Table field port word))) write =
+abbrev pub IsDueWrite : Option Action → TcamWrite → Type 0
+IsDueWrite None write = write ≡ no_write
+IsDueWrite (Some (Written (Slot slot None))) write = write ≡ record no_write { kind = 2; slot = slot }
+IsDueWrite (Some (Written (Slot slot (Some entry)))) write = IsPutWrite slot entry write
+IsDueWrite (Some (Written (Table field port word))) write =
     write ≡ record no_write { kind = 3; field = field_code field; port = port; word = word }
-IsDue (Some Drained) write = write ≡ record no_write { kind = 4 }
+IsDueWrite (Some Drained) write = write ≡ record no_write { kind = 4 }
 
 -- what a key is answered
 abbrev pub IsAnswer : Answer → TcamAnswer → Type 0
@@ -82,12 +82,12 @@ abbrev pub IsTagged : ℕ → TcamRefusal → Type 0
 IsTagged rank told = IsTag rank told.tag × (told ≡ record no_refusal { tag = told.tag })
 
 -- what a refusal tells besides its code, and 0 else
-abbrev pub IsTold : Refusal → TcamRefusal → Type 0
-IsTold (Busy left) told = told ≡ record no_refusal { left = left }
-IsTold (Rejected (Unsound (Twice rank))) told = IsTagged rank told
-IsTold (Rejected (Unsound (Taken rank))) told = IsTagged rank told
-IsTold (Rejected (Unsound (Absent rank))) told = IsTagged rank told
-IsTold (Rejected (Bits field needed free)) told =
+abbrev pub IsRefusalTold : Refusal → TcamRefusal → Type 0
+IsRefusalTold (Busy left) told = told ≡ record no_refusal { left = left }
+IsRefusalTold (Rejected (Unsound (Twice rank))) told = IsTagged rank told
+IsRefusalTold (Rejected (Unsound (Taken rank))) told = IsTagged rank told
+IsRefusalTold (Rejected (Unsound (Absent rank))) told = IsTagged rank told
+IsRefusalTold (Rejected (Bits field needed free)) told =
     told ≡ record no_refusal { field = field_code field; need = needed; free = free }
-IsTold (Rejected (Slots needed free)) told = told ≡ record no_refusal { need = needed; free = free }
-IsTold Memory told = told ≡ no_refusal
+IsRefusalTold (Rejected (Slots needed free)) told = told ≡ record no_refusal { need = needed; free = free }
+IsRefusalTold Memory told = told ≡ no_refusal

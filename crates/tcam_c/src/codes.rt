@@ -1,7 +1,7 @@
 //! The codes that each function answers, and what is made of plain numbers.
 
 ghost use Rattle.std.specs.Prelude.{◌≡◌};
-ghost use Rattle.tcam_c.specs.Codes.{push_code, refusal_code, mode_by, placement_by};
+ghost use Rattle.tcam_c.specs.Codes.{push_code, refusal_code, mode_of_code, placement_by};
 
 use batch_order::{BatchFault, Mode, Placement, Refusal, Rejection};
 use rule_store::PushFault;
@@ -83,7 +83,7 @@ pub(crate) fn code_of_refusal(refusal: &Refusal) -> u32
 
 /// The mode of a number.
 pub(crate) fn mode_of(number: u32) -> Option<Mode>
-    ensures { result ≡ mode_by number }
+    ensures { result ≡ mode_of_code number }
 {
     match number {
         0 => Some(Mode::Cover),

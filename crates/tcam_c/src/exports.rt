@@ -1,7 +1,7 @@
 //! The functions that C calls.
 
 ghost use Rattle.std.specs.Prelude.{◌≡◌, ◌≤◌, Some, None, IfSome, IsSome, IsNone};
-ghost use Rattle.tcam_c.specs.Calls.{Answers, Called, Clears, DelsRule, Enters, Entered, IsFreed, IsMade, IsServing, MakesOf, Nexts, Prepared, SetsRule, Tells, TellsDrain, Turns, fresh_driven};
+ghost use Rattle.tcam_c.specs.Calls.{AnswersPacket, Called, Clears, DelsRule, Enters, Entered, IsFreed, IsMade, IsServing, MakesOf, Nexts, Prepared, SetsRule, TellsWrite, TellsDrain, TellsAbort, fresh_driven};
 ghost use Rattle.tcam_c.specs.Codes.{AddsRoute, AddsRule, DelsRoute, SetsRoute};
 
 use crate::changes::{adds_route, adds_rule, dels_route, sets_route};
@@ -19,6 +19,7 @@ use crate::steps::DueKind;
 use batch_order::{AbortFault, Mode, Placement};
 use rule_model::{Key, list_rank};
 use rule_store::Command;
+use slot_order::MOST_SLOTS;
 use std::alloc::Global;
 
 /// Makes a manager of a blank memory with so many slots, 1 to 4,096, and no rules. Mode 0 cuts port ranges by covers, 1
@@ -37,7 +38,7 @@ pub extern "C" fn tcam_c_new(
     if manager.made {
         return MADE_ALREADY;
     }
-    if slots < 1 || slots > 4096 {
+    if slots < 1 || slots > MOST_SLOTS {
         return SLOTS_RANGE;
     }
     let Some(mode) = mode_of(mode) else {
@@ -59,7 +60,7 @@ fn make(
 ) -> u32
     requires none { manager.old.held.session ≡ None }
     requires least { 1 ≤ slots }
-    requires most { slots ≤ 4096 }
+    requires most { slots ≤ MOST_SLOTS }
     ensures { MakesOf slots (Some mode) (Some placement) manager.new.held.session result }
 {
     match boxed(alloc, slots, mode, placement) {
@@ -74,7 +75,7 @@ fn make(
 /// What stands behind a new handle, or None for want of memory.
 fn boxed(alloc: Global, slots: u32, mode: Mode, placement: Placement) -> Option<Box<Session>>
     requires least { 1 ≤ slots }
-    requires most { slots ≤ 4096 }
+    requires most { slots ≤ MOST_SLOTS }
     ensures fresh { IfSome result (λ session. session.value ≡ fresh_driven slots mode placement) }
     ensures serves { IsSome result → IsServing (fresh_driven slots mode placement) }
 {
@@ -252,7 +253,7 @@ pub extern "C" fn tcam_c_next(
 /// is due, or nothing, the code says so, and nothing changes. It takes no memory.
 #[unsafe(no_mangle)]
 pub extern "C" fn tcam_c_made(manager: &mut TcamManager, alloc: Global) -> u32
-    ensures { Called Tells manager.old.held.session manager.new.held.session result }
+    ensures { Called TellsWrite manager.old.held.session manager.new.held.session result }
 {
     let Some(mut session) = manager.take(alloc) else {
         return NO_MANAGER;
@@ -296,7 +297,7 @@ pub extern "C" fn tcam_c_drained(manager: &mut TcamManager, alloc: Global) -> u3
 /// under way; then nothing changes. It takes no memory.
 #[unsafe(no_mangle)]
 pub extern "C" fn tcam_c_abort(manager: &mut TcamManager, left: &mut u64, alloc: Global) -> u32
-    ensures turned { Called (Turns left.old left.new) manager.old.held.session manager.new.held.session result }
+    ensures turned { Called (TellsAbort left.old left.new) manager.old.held.session manager.new.held.session result }
     ensures untold { IsNone manager.old.held.session → left.new ≡ left.old }
 {
     let Some(mut session) = manager.take(alloc) else {
@@ -326,7 +327,7 @@ pub extern "C" fn tcam_c_answer(
     answer: &mut TcamAnswer,
     alloc: Global,
 ) -> u32
-    ensures told { Called (Answers key.now answer.new) manager.old.held.session manager.new.held.session result }
+    ensures told { Called (AnswersPacket key.now answer.new) manager.old.held.session manager.new.held.session result }
     ensures untold { IsNone manager.old.held.session → answer.new ≡ answer.old }
 {
     let Some(session) = manager.take(alloc) else {

@@ -1,7 +1,7 @@
 //! What crosses to C: plain structs of numbers, in the lanes of a memory's entries.
 
 ghost use Rattle.std.specs.Prelude.{◌≡◌, Some};
-ghost use Rattle.tcam_c.specs.Plain.{IsDue, IsAnswer, IsTag, IsTold, field_code};
+ghost use Rattle.tcam_c.specs.Plain.{IsDueWrite, IsAnswer, IsTag, IsRefusalTold, field_code};
 
 use batch_order::{BatchFault, Done, Refusal, Rejection};
 use rule_model::{Entry, Field, Rank};
@@ -142,7 +142,7 @@ fn field_number(field: Field) -> u32
 
 /// An entry that a slot gets.
 fn put_of(slot: u32, entry: Entry) -> TcamWrite
-    ensures { IsDue (Some (Action.Written (Write.Slot slot (Some entry)))) result }
+    ensures { IsDueWrite (Some (Action.Written (Write.Slot slot (Some entry)))) result }
 {
     let value = entry.value.lane;
     let mask = entry.mask.lane;
@@ -161,7 +161,7 @@ fn put_of(slot: u32, entry: Entry) -> TcamWrite
 
 /// What is due, for C.
 pub(crate) fn due_of(due: Option<Action>) -> TcamWrite
-    ensures { IsDue due result }
+    ensures { IsDueWrite due result }
 {
     match due {
         None => NO_WRITE,
@@ -217,7 +217,7 @@ pub(crate) fn numbers_of(counts: &Done) -> TcamNumbers
 
 /// What a refusal tells, for C.
 pub(crate) fn refusal_of(refusal: &Refusal) -> TcamRefusal
-    ensures { IsTold refusal.now result }
+    ensures { IsRefusalTold refusal.now result }
 {
     match *refusal {
         Refusal::Busy { left } => TcamRefusal { left, ..NO_REFUSAL },

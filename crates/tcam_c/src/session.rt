@@ -1,12 +1,13 @@
 //! A manager, the batch that waits for it, and the shadow of the caller's memory.
 
 ghost use Rattle.std.specs.Prelude.{◌≡◌, ◌≤◌, ◌++◌, ◌∷◌, [], ◌↔◌, Err, IfOk, OnOk, OnErr, IfSome, IsSome, Some, length};
+ghost use Rattle.rule_store.specs.Batch.{most_pending};
 ghost use Rattle.tcam_device.specs.State.{lookup, replay};
 ghost use Rattle.batch_order.specs.Managed.{Judges};
 ghost use Rattle.batch_order.specs.CarriedOut.{GoesForward};
 ghost use Rattle.batch_order.specs.Steps.{ServesNow};
-ghost use Rattle.tcam_c.specs.Calls.{IsServing, IsServingAhead, TurnsBy, fresh_driven};
-ghost use Rattle.tcam_c.specs.Driven.{Prepares, GoesOn, IsEnded, KeepsLive, due_of, journal_of, kind_of_due};
+ghost use Rattle.tcam_c.specs.Calls.{IsServing, IsServingAhead, AbortsHeld, fresh_driven};
+ghost use Rattle.tcam_c.specs.Driven.{Prepares, PassesOn, IsEnded, KeepsLive, due_of, journal_of, kind_of_due};
 
 use crate::outside::Outside;
 use crate::steps::{DueKind, abort, due, go_on, kind_due, prepare};
@@ -14,6 +15,7 @@ use batch_order::{AbortFault, Done, Manager, Mode, Placement, Refusal};
 use memory_tcam::Shadowed;
 use rule_model::{Key, Rank};
 use rule_store::{Batch, Command, PushFault};
+use slot_order::MOST_SLOTS;
 use std::alloc::{AllocError, Global};
 use std::marker::Model;
 use tcam_device::{Action, Device};
@@ -28,13 +30,13 @@ pub(crate) struct Session {
 }
 
 impl Model for Session {
-    ghost use Rattle.tcam_c.specs.Driven.{Driven, IsDriven};
+    ghost use Rattle.tcam_c.specs.Driven.{Driven, IsHandled};
 
     ghost Value = { Driven };
 
     ghost view = { λ s. record { manager = s.manager; events = s.device.events; batch = s.batch } };
 
-    ghost invariant = { λ s. IsDriven s.manager s.device.slots s.device.events s.device.flight s.device.spare };
+    ghost invariant = { λ s. IsHandled s.manager s.device.slots s.device.events s.device.flight s.device.spare };
 }
 
 impl Session {
@@ -47,7 +49,7 @@ impl Session {
         placement: Placement,
     ) -> Result<Session, AllocError>
         requires least { 1 ≤ slots }
-        requires most { slots ≤ 4096 }
+        requires most { slots ≤ MOST_SLOTS }
         ensures fresh { IfOk result (λ session. session ≡ fresh_driven slots mode placement) }
         ensures serves { OnOk result (IsServing (fresh_driven slots mode placement)) }
     {
@@ -65,7 +67,7 @@ impl Session {
     /// Puts a change behind the others of the batch.
     pub(crate) fn push(&mut self, command: Command) -> Result<(), PushFault>
         ensures pushed { OnOk result (self.new ≡ record self.old { batch = self.old.batch ++ command ∷ [] }) }
-        ensures full { (result ≡ Err PushFault.Full) ↔ (length self.old.batch ≡ 4096) }
+        ensures full { (result ≡ Err PushFault.Full) ↔ (length self.old.batch ≡ most_pending) }
         ensures same { OnErr result (self.new ≡ self.old) }
     {
         self.batch.push(command)
@@ -121,7 +123,7 @@ impl Session {
     /// end. It takes no memory.
     pub(crate) fn go_on(&mut self)
         requires { IsSome (due_of self.old.manager.held) }
-        ensures on { GoesOn self.old self.new }
+        ensures on { PassesOn self.old self.new }
         ensures serves { IsServing self.new }
     {
         go_on(&mut self.manager, &mut self.device);
@@ -130,7 +132,7 @@ impl Session {
     /// Turns the commit under way round: from now on its undo writes are due, the last one first, and no drain. The
     /// answer is how many they are, and with none the commit is over. It takes no memory.
     pub(crate) fn abort(&mut self) -> Result<u64, AbortFault>
-        ensures turned { TurnsBy self.old self.old.manager.held result self.new }
+        ensures turned { AbortsHeld self.old self.old.manager.held result self.new }
         ensures before { IsServing self.old }
         ensures serves { IsServing self.new }
     {

@@ -6,7 +6,7 @@ ghost use Rattle.tcam_device.specs.Flight.{writes_in};
 ghost use Rattle.batch_order.specs.Managed.{Judges, Serves, IsOn};
 ghost use Rattle.batch_order.specs.CarriedOut.{HasRoomBothWays};
 ghost use Rattle.batch_order.specs.Steps.{next_of};
-ghost use Rattle.tcam_c.specs.Driven.{IsDriven, KeepsLive, KeepsWayBack, KeepsWords, Plans, TakesBack, due_actions, due_of, made_of, settled, stepped_of, kind_of_due};
+ghost use Rattle.tcam_c.specs.Driven.{IsHandled, KeepsLive, KeepsWayBack, KeepsWords, Plans, TakesBack, due_actions, due_of, made_of, settled, stepped_of, kind_of_due};
 
 use crate::outside::Outside;
 use batch_order::{AbortFault, Done, Manager, Refusal};
@@ -20,13 +20,13 @@ pub(crate) fn prepare(
     batch: &Batch,
     device: &mut Shadowed<Outside>,
 ) -> Result<Done, Refusal>
-    requires driven { IsDriven manager.old device.old.slots device.old.events device.old.flight device.old.spare }
+    requires driven { IsHandled manager.old device.old.slots device.old.events device.old.flight device.old.spare }
     ensures judged { Judges manager.old manager.old.held batch.now result }
     ensures ready { IfOk result (λ counts. Plans manager.old batch.now counts manager.new) }
     ensures refused { OnErr result (manager.new ≡ manager.old) }
     ensures keeps { KeepsLive manager.old manager.new }
     ensures events { device.new.events ≡ device.old.events }
-    ensures driven { IsDriven manager.new device.new.slots device.new.events device.new.flight device.new.spare }
+    ensures driven { IsHandled manager.new device.new.slots device.new.events device.new.flight device.new.spare }
     ensures before { Serves (replay manager.old.slots (writes_in device.old.events)) manager.old.rules manager.old.held }
     ensures serves { Serves (replay manager.new.slots (writes_in device.new.events)) manager.new.rules manager.new.held }
 {
@@ -42,12 +42,12 @@ pub(crate) fn abort(
     manager: &mut Manager,
     device: &mut Shadowed<Outside>,
 ) -> Result<u64, AbortFault>
-    requires driven { IsDriven manager.old device.old.slots device.old.events device.old.flight device.old.spare }
+    requires driven { IsHandled manager.old device.old.slots device.old.events device.old.flight device.old.spare }
     ensures aborts { TakesBack manager.old result manager.new }
     ensures keeps { KeepsLive manager.old manager.new }
     ensures back { KeepsWayBack manager.old manager.new }
     ensures events { device.new.events ≡ device.old.events }
-    ensures driven { IsDriven manager.new device.new.slots device.new.events device.new.flight device.new.spare }
+    ensures driven { IsHandled manager.new device.new.slots device.new.events device.new.flight device.new.spare }
     ensures serves { Serves (replay manager.new.slots (writes_in device.new.events)) manager.new.rules manager.new.held }
 {
     let turned = manager.abort();
@@ -101,13 +101,13 @@ pub(crate) fn kind_due(manager: &Manager) -> DueKind
 
 /// The write or the drain that is due was made: what comes behind it is due then, or the commit has come to its end.
 pub(crate) fn go_on(manager: &mut Manager, device: &mut Shadowed<Outside>)
-    requires driven { IsDriven manager.old device.old.slots device.old.events device.old.flight device.old.spare }
+    requires driven { IsHandled manager.old device.old.slots device.old.events device.old.flight device.old.spare }
     requires due { IsSome (due_of manager.old.held) }
     ensures made { manager.new ≡ made_of manager.old.held manager.old }
     ensures back { KeepsWayBack manager.old manager.new }
     ensures keeps { KeepsWords (due_of manager.old.held) manager.old manager.new }
     ensures events { device.new.events ≡ device.old.events ++ due_actions (due_of manager.old.held) }
-    ensures driven { IsDriven manager.new device.new.slots device.new.events device.new.flight device.new.spare }
+    ensures driven { IsHandled manager.new device.new.slots device.new.events device.new.flight device.new.spare }
     ensures serves { Serves (replay manager.new.slots (writes_in device.new.events)) manager.new.rules manager.new.held }
 {
     advance(manager, device);
@@ -124,7 +124,7 @@ fn settle(manager: &mut Manager, device: &mut Shadowed<Outside>)
     ensures back { KeepsWayBack manager.old manager.new }
     ensures keeps { KeepsLive manager.old manager.new }
     ensures events { device.new.events ≡ device.old.events }
-    ensures driven { IsDriven manager.new device.new.slots device.new.events device.new.flight device.new.spare }
+    ensures driven { IsHandled manager.new device.new.slots device.new.events device.new.flight device.new.spare }
     ensures serves { Serves (replay manager.new.slots (writes_in device.new.events)) manager.new.rules manager.new.held }
 {
     manager.serving();

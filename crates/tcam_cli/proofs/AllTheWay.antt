@@ -14,7 +14,7 @@ use Rattle.tcam_device.proofs.Spans.{state_after-append}
 use Rattle.tcam_device.proofs.Wider.{blank_shows}
 use Rattle.replay.specs.declared.Act.{Act}
 use Rattle.replay.specs.declared.Act.TheVariants.{Command, Probe, Packet, Commit, Trial, Crash}
-use Rattle.replay.specs.Effects.{Setting, Effect, written}
+use Rattle.replay.specs.Effects.{Setting, Effect, journal_of}
 use Rattle.replay.specs.Run.{Progress, start, Commits, Returns, Restarts, Refuses, Tries, Crashes, Judged, HasEffects, Run, Runs}
 use Rattle.tcam_cli.specs.AllTheWay.{sets_through, ShowsSetOrNext, AnswersAllTheWay, EndsAtLast}
 use Rattle.replay.proofs.lines.Effects.{written-append}
@@ -251,14 +251,14 @@ ends-behind state first sets made back ends = record {
 
 -- a commit that finishes
 goes-commit : (setting : Setting) (old : Progress) (front : List Effect) (mid : Progress) (acts : List Act) (back : List Write) → Commits setting old front mid → Later setting mid acts back
-    → (backs : List Bool) × Goes old.state (old.rules ∷ sets_through setting backs (set_after old.rules old.batch) [] acts) (written front ++ back)
+    → (backs : List Bool) × Goes old.state (old.rules ∷ sets_through setting backs (set_after old.rules old.batch) [] acts) (journal_of front ++ back)
 goes-commit setting old front mid acts back step more =
     let new : List Rule = set_after old.rules old.batch in
     let P : Progress → Type 0 = λ p. Later setting p acts back in
     let last = subst P step.after more step.segment.hitless.after in
     let sets : List (List Rule) = sets_through setting last.0 new [] acts in
-    let made : step.made ++ back ≡ written front ++ back =
-    sym (ap (λ writes. writes ++ back) (ap written step.effects_are ∙ written-segment setting old step.made _)) in (
+    let made : step.made ++ back ≡ journal_of front ++ back =
+    sym (ap (λ writes. writes ++ back) (ap journal_of step.effects_are ∙ written-segment setting old step.made _)) in (
       last.0,
       subst (λ writes. Goes old.state (old.rules ∷ sets) writes) made
           (segment old.rules new sets old.state step.made back (first-set setting last.0 new [] acts) step.segment.hitless.on_the_way.during last.1.0, ends-behind old.state old.rules sets step.made back last.1.1),
@@ -266,7 +266,7 @@ goes-commit setting old front mid acts back step more =
 
 -- one that crashes and is gone on with
 goes-restarted : (setting : Setting) (old : Progress) (after : ℕ) (front : List Effect) (mid : Progress) (acts : List Act) (back : List Write) → Restarts setting old after front mid → Later setting mid acts back
-    → (backs : List Bool) × Goes old.state (old.rules ∷ sets_through setting backs (set_after old.rules old.batch) [] acts) (written front ++ back)
+    → (backs : List Bool) × Goes old.state (old.rules ∷ sets_through setting backs (set_after old.rules old.batch) [] acts) (journal_of front ++ back)
 goes-restarted setting old after front mid acts back step more =
     let new : List Rule = set_after old.rules old.batch in
     let P : Progress → Type 0 = λ p. Later setting p acts back in
@@ -274,7 +274,7 @@ goes-restarted setting old after front mid acts back step more =
     let shows : Shows (state_after old.state made) new = subst (λ (now : State). Shows now new) (sym (state_after-append old.state (take after step.made) step.rest)) step.goes_on.after in
     let last = subst P step.new_is more shows in
     let sets : List (List Rule) = sets_through setting last.0 new [] acts in
-    let same : made ++ back ≡ written front ++ back = sym (ap (λ writes. writes ++ back) (written-restarts setting old mid after front step)) in
+    let same : made ++ back ≡ journal_of front ++ back = sym (ap (λ writes. writes ++ back) (written-restarts setting old mid after front step)) in
     let during : (n : ℕ) → ShowsOldOrNew (state_after old.state (take n made)) old.rules new =
     joined old.rules new old.state step.made step.rest after step.crash.more step.crash.segment.hitless.on_the_way.during step.goes_on.during in (
       last.0,
@@ -298,7 +298,7 @@ back-passes state front n =
 
 -- a trial that is taken back
 goes-return : (setting : Setting) (old : Progress) (most : ℕ) (front : List Effect) (mid : Progress) (acts : List Act) (back : List Write) → IsShown old → Returns setting old most front mid → Later setting mid acts back
-    → (backs : List Bool) × Goes old.state (old.rules ∷ set_after old.rules old.batch ∷ sets_through setting backs old.rules [] acts) (written front ++ back)
+    → (backs : List Bool) × Goes old.state (old.rules ∷ set_after old.rules old.batch ∷ sets_through setting backs old.rules [] acts) (journal_of front ++ back)
 goes-return setting old most front mid acts back shown step more =
     let new : List Rule = set_after old.rules old.batch in
     let P : Progress → Type 0 = λ p. Later setting p acts back in
@@ -320,8 +320,8 @@ goes-return setting old most front mid acts back shown step more =
     let rest : Goes (state_after (state_after old.state there) undo) sets back = subst (λ state. Goes state sets back) (sym begins) last.1 in
     let again : Goes (state_after old.state there) (new ∷ sets) (undo ++ back) =
     (segment new old.rules sets (state_after old.state there) undo back (first-set setting last.0 old.rules [] acts) off rest.0, ends-behind (state_after old.state there) new sets undo back rest.1) in
-    let made : there ++ (undo ++ back) ≡ written front ++ back =
-    sym (append_assoc there undo back) ∙ sym (ap (λ writes. writes ++ back) (ap written step.effects_are ∙ written-return setting old most step.made _)) in (
+    let made : there ++ (undo ++ back) ≡ journal_of front ++ back =
+    sym (append_assoc there undo back) ∙ sym (ap (λ writes. writes ++ back) (ap journal_of step.effects_are ∙ written-return setting old most step.made _)) in (
       last.0,
       subst (λ writes. Goes old.state (old.rules ∷ new ∷ sets) writes) made
           (segment old.rules new (new ∷ sets) old.state there (undo ++ back) refl on again.0, ends-behind old.state old.rules (new ∷ sets) there (undo ++ back) again.1),
@@ -329,15 +329,15 @@ goes-return setting old most front mid acts back shown step more =
 
 -- one that is refused
 goes-refused : (setting : Setting) (old : Progress) (reason : Verdict) (front : List Effect) (mid : Progress) (acts : List Act) (back : List Write) → IsShown old → Refuses setting old reason front mid → Later setting mid acts back
-    → (backs : List Bool) × Goes old.state (sets_through setting backs old.rules [] acts) (written front ++ back)
+    → (backs : List Bool) × Goes old.state (sets_through setting backs old.rules [] acts) (journal_of front ++ back)
 goes-refused setting old reason front mid acts back shown step more =
     let P : Progress → Type 0 = λ p. Later setting p acts back in
     let last = subst P step.1 more shown in
-    (last.0, subst (λ writes. Goes old.state (sets_through setting last.0 old.rules [] acts) writes) (sym (ap (λ effects. written effects ++ back) step.0)) last.1)
+    (last.0, subst (λ writes. Goes old.state (sets_through setting last.0 old.rules [] acts) writes) (sym (ap (λ effects. journal_of effects ++ back) step.0)) last.1)
 
 goes-judged : (setting : Setting) (old : Progress) (is : Verdict) (front : List Effect) (mid : Progress) (acts : List Act) (back : List Write)
     → IsShown old → Judged Commits setting old is front mid → Later setting mid acts back
-    → (backs : List Bool) × Goes old.state (sets_judged setting backs old.rules old.batch acts is) (written front ++ back)
+    → (backs : List Bool) × Goes old.state (sets_judged setting backs old.rules old.batch acts is) (journal_of front ++ back)
 goes-judged setting old Accepted front mid acts back shown step more = goes-commit setting old front mid acts back step more
 goes-judged setting old (Unsound fault) front mid acts back shown step more = goes-refused setting old (Unsound fault) front mid acts back shown step more
 goes-judged setting old (OutOfBits field needed free) front mid acts back shown step more = goes-refused setting old (OutOfBits field needed free) front mid acts back shown step more
@@ -345,7 +345,7 @@ goes-judged setting old (OutOfSlots needed free) front mid acts back shown step 
 
 goes-tried : (most : ℕ) (setting : Setting) (old : Progress) (is : Verdict) (front : List Effect) (mid : Progress) (acts : List Act) (back : List Write)
     → IsShown old → Judged (Tries most) setting old is front mid → Later setting mid acts back
-    → (backs : List Bool) × Goes old.state (trial_judged setting backs old.rules old.batch acts is) (written front ++ back)
+    → (backs : List Bool) × Goes old.state (trial_judged setting backs old.rules old.batch acts is) (journal_of front ++ back)
 goes-tried most setting old Accepted front mid acts back shown (inl commits) more =
     let last = goes-commit setting old front mid acts back commits.0 more in (false ∷ last.0, last.1)
 goes-tried most setting old Accepted front mid acts back shown (inr returns) more =
@@ -356,7 +356,7 @@ goes-tried most setting old (OutOfSlots needed free) front mid acts back shown s
 
 goes-crashed : (after : ℕ) (setting : Setting) (old : Progress) (is : Verdict) (front : List Effect) (mid : Progress) (acts : List Act) (back : List Write)
     → IsShown old → Judged (Crashes after) setting old is front mid → Later setting mid acts back
-    → (backs : List Bool) × Goes old.state (sets_judged setting backs old.rules old.batch acts is) (written front ++ back)
+    → (backs : List Bool) × Goes old.state (sets_judged setting backs old.rules old.batch acts is) (journal_of front ++ back)
 goes-crashed after setting old Accepted front mid acts back shown (inl commits) more = goes-commit setting old front mid acts back commits.0 more
 goes-crashed after setting old Accepted front mid acts back shown (inr restarts) more = goes-restarted setting old after front mid acts back restarts more
 goes-crashed after setting old (Unsound fault) front mid acts back shown step more = goes-refused setting old (Unsound fault) front mid acts back shown step more
@@ -364,18 +364,18 @@ goes-crashed after setting old (OutOfBits field needed free) front mid acts back
 goes-crashed after setting old (OutOfSlots needed free) front mid acts back shown step more = goes-refused setting old (OutOfSlots needed free) front mid acts back shown step more
 
 -- an act that does nothing to the device
-goes-still : (setting : Setting) (old : Progress) (act : Act) (front : List Effect) (mid now : Progress) (acts : List Act) (back : List Write) → written front ≡ [] → mid ≡ now → IsShown now
-    → (GoesOn setting now acts back → GoesOn setting old (act ∷ acts) back) → Later setting mid acts back → GoesOn setting old (act ∷ acts) (written front ++ back)
+goes-still : (setting : Setting) (old : Progress) (act : Act) (front : List Effect) (mid now : Progress) (acts : List Act) (back : List Write) → journal_of front ≡ [] → mid ≡ now → IsShown now
+    → (GoesOn setting now acts back → GoesOn setting old (act ∷ acts) back) → Later setting mid acts back → GoesOn setting old (act ∷ acts) (journal_of front ++ back)
 goes-still setting old act front mid now acts back none same shown goes more =
     let P : Progress → Type 0 = λ p. Later setting p acts back in
     subst (λ writes. GoesOn setting old (act ∷ acts) (writes ++ back)) (sym none) (goes (subst P same more shown))
 
 -- one act and those behind it
 goes-step : (setting : Setting) (old : Progress) (act : Act) (front : List Effect) (mid : Progress) (acts : List Act) (back : List Write)
-    → IsShown old → HasEffects setting old act front mid → Later setting mid acts back → GoesOn setting old (act ∷ acts) (written front ++ back)
-goes-step setting old (Command change) front mid acts back shown step more = goes-still setting old (Command change) front mid _ acts back (ap written step.0) step.1 shown (λ goes. goes) more
-goes-step setting old (Probe key) front mid acts back shown step more = goes-still setting old (Probe key) front mid _ acts back (ap written step.0) step.1 shown (λ goes. goes) more
-goes-step setting old (Packet key) front mid acts back shown step more = goes-still setting old (Packet key) front mid _ acts back (ap written step.0) step.1 shown (λ goes. goes) more
+    → IsShown old → HasEffects setting old act front mid → Later setting mid acts back → GoesOn setting old (act ∷ acts) (journal_of front ++ back)
+goes-step setting old (Command change) front mid acts back shown step more = goes-still setting old (Command change) front mid _ acts back (ap journal_of step.0) step.1 shown (λ goes. goes) more
+goes-step setting old (Probe key) front mid acts back shown step more = goes-still setting old (Probe key) front mid _ acts back (ap journal_of step.0) step.1 shown (λ goes. goes) more
+goes-step setting old (Packet key) front mid acts back shown step more = goes-still setting old (Packet key) front mid _ acts back (ap journal_of step.0) step.1 shown (λ goes. goes) more
 goes-step setting old Commit front mid acts back shown step more =
     goes-judged setting old (verdict setting.slots setting.mode old.rules old.batch) front mid acts back shown step more
 goes-step setting old (Trial most) front mid acts back shown step more =
@@ -383,34 +383,34 @@ goes-step setting old (Trial most) front mid acts back shown step more =
 goes-step setting old (Crash after) front mid acts back shown step more =
     goes-crashed after setting old (verdict setting.slots setting.mode old.rules old.batch) front mid acts back shown step more
 
-goes : (setting : Setting) (old : Progress) (acts : List Act) (effects : List Effect) (new : Progress) → IsShown old → Run setting old acts effects new → GoesOn setting old acts (written effects)
+goes : (setting : Setting) (old : Progress) (acts : List Act) (effects : List Effect) (new : Progress) → IsShown old → Run setting old acts effects new → GoesOn setting old acts (journal_of effects)
 goes setting old [] effects new shown run =
-    subst (λ writes. GoesOn setting old [] writes) (sym (ap written run.0))
+    subst (λ writes. GoesOn setting old [] writes) (sym (ap journal_of run.0))
     ([], (stays old.state old.rules (old.rules ∷ []) refl shown, record { front = []; rules = old.rules; sets_are = refl; shows = shown }))
 goes setting old (act ∷ acts) effects new shown (front, mid, back, step, rest, whole) =
-    subst (λ writes. GoesOn setting old (act ∷ acts) writes) (sym (ap written whole ∙ written-append front back))
-    (goes-step setting old act front mid acts (written back) shown step (λ mid_shown. goes setting mid acts back new mid_shown rest))
+    subst (λ writes. GoesOn setting old (act ∷ acts) writes) (sym (ap journal_of whole ∙ written-append front back))
+    (goes-step setting old act front mid acts (journal_of back) shown step (λ mid_shown. goes setting mid acts back new mid_shown rest))
 
 -- what a run over some acts shows
 abbrev pub RunGoes : Setting → ℕ → List Bool → List Act → List Effect → Type 0
 RunGoes setting slots backs acts effects =
-    AnswersAllTheWay (blank slots) (sets_through setting backs [] [] acts) (written effects) × EndsAtLast (blank slots) (sets_through setting backs [] [] acts) (written effects)
+    AnswersAllTheWay (blank slots) (sets_through setting backs [] [] acts) (journal_of effects) × EndsAtLast (blank slots) (sets_through setting backs [] [] acts) (journal_of effects)
 
 pub run-goes : (setting : Setting) (slots : ℕ) (acts : List Act) (effects : List Effect) (last : Progress) → Runs setting slots acts effects last → (backs : List Bool) × RunGoes setting slots backs acts effects
 run-goes setting slots acts effects last run = goes setting (start slots) acts effects last (blank_shows slots) run
 
 -- where a run is cut in the middle of an act, by what it would have come to
 pub cut-answers : (setting : Setting) (slots : ℕ) (backs : List Bool) (done : List Act) (act : Act) (behind all : List Act) (body front back : List Effect) → all ≡ done ++ act ∷ behind
-    → RunGoes setting slots backs (done ++ act ∷ []) (body ++ (front ++ back)) → AnswersAllTheWay (blank slots) (sets_through setting backs [] [] all) (written (body ++ front))
+    → RunGoes setting slots backs (done ++ act ∷ []) (body ++ (front ++ back)) → AnswersAllTheWay (blank slots) (sets_through setting backs [] [] all) (journal_of (body ++ front))
 cut-answers setting slots backs done act behind all body front back same goes =
     let first : List Act = done ++ act ∷ [] in
     let whole : List Effect = body ++ (front ++ back) in
-    let parts : written whole ≡ written (body ++ front) ++ written back = ap written (sym (append_assoc body front back)) ∙ written-append (body ++ front) back in
+    let parts : journal_of whole ≡ journal_of (body ++ front) ++ journal_of back = ap journal_of (sym (append_assoc body front back)) ∙ written-append (body ++ front) back in
     let sets : List (List Rule) = sets_through setting backs [] [] all in
-    let answers : AnswersAllTheWay (blank slots) sets (written whole) =
-    subst (λ acts. AnswersAllTheWay (blank slots) (sets_through setting backs [] [] acts) (written whole)) (sym (same ∙ sym (append_assoc done (act ∷ []) behind)))
-    (wider (blank slots) (sets_through setting backs [] [] first) (sets_through setting backs [] [] (first ++ behind)) (written whole) (more-sets setting backs [] [] first behind) goes.0) in
-    cut (blank slots) sets (written (body ++ front)) (written back) (subst (λ writes. AnswersAllTheWay (blank slots) sets writes) parts answers)
+    let answers : AnswersAllTheWay (blank slots) sets (journal_of whole) =
+    subst (λ acts. AnswersAllTheWay (blank slots) (sets_through setting backs [] [] acts) (journal_of whole)) (sym (same ∙ sym (append_assoc done (act ∷ []) behind)))
+    (wider (blank slots) (sets_through setting backs [] [] first) (sets_through setting backs [] [] (first ++ behind)) (journal_of whole) (more-sets setting backs [] [] first behind) goes.0) in
+    cut (blank slots) sets (journal_of (body ++ front)) (journal_of back) (subst (λ writes. AnswersAllTheWay (blank slots) sets writes) parts answers)
 
 -- ---- a commit that crashes leads through the sets of a commit
 

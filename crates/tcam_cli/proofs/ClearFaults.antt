@@ -165,8 +165,8 @@ step_fault-clear s position h (next w) = tt
 step_fault-clear s position h (trailing p) = tt
 step_fault-clear s position h (subcommand t) = tt
 
-turn-clear : (s : Shape) (names : Names) (w : Walk) (word : Text) → s.disable_help_subcommand ≡ true → Clear (turn_fault s names w word)
-turn-clear s names w word off =
+round-clear : (s : Shape) (names : Names) (w : Walk) (word : Text) → s.disable_help_subcommand ≡ true → Clear (turn_fault s names w word)
+round-clear s names w word off =
     let met = word_met s.rules names w.is_trailing w.waiting w.position word w.held in
     cond-clear (is_some w.stopped) _ _ tt
     (or_else-clear _ _ (cond-clear w.is_trailing _ _ tt (other-clear s (subcommand_met names w.waiting word) word w.held off))
@@ -175,7 +175,7 @@ turn-clear s names w word off =
 walk-clear : (s : Shape) (names : Names) (w : Walk) (words : List Text) → s.disable_help_subcommand ≡ true → Clear (walk_fault s names w words)
 unfolding walk_fault
 walk-clear s names w [] off = tt
-walk-clear s names w (word ∷ rest) off = or_else-clear _ _ (turn-clear s names w word off) (walk-clear s names (walked s.rules names w word) rest off)
+walk-clear s names w (word ∷ rest) off = or_else-clear _ _ (round-clear s names w word off) (walk-clear s names (walked s.rules names w word) rest off)
 
 -- ---- after the walk
 

@@ -6,7 +6,7 @@ use Rattle.replay.specs.Script.{Whole}
 use Rattle.tcam_cli.specs.declared.Status.{Status}
 use Rattle.tcam_cli.specs.declared.Status.TheVariants.{Done, Refused, WriteFault}
 use Rattle.tcam_cli.specs.Headline.{status_of}
-use Rattle.tcam_cli.specs.Turns.{ClosesReport}
+use Rattle.tcam_cli.specs.Rounds.{ClosesReport}
 
 module _ {S T E : Type 0} (taken : S → Option (List ℕ)) (accepted : S → List ℕ) (faults : S → ℕ) (old new : S) (line : List ℕ) (last : Status) where
   pub closes-whole : (status : Status) (value : T) → status ≡ last → status ≢ WriteFault → WritesLine {T = T} {E = E} taken accepted faults old new line (Ok value)

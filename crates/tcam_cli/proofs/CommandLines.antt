@@ -1,17 +1,18 @@
 -- What some command lines ask for, by computation.
 use Rattle.std.proofs.Common.{◌≡◌, true, false, [], ◌∷◌, refl}
 use Rattle.std.specs.Prelude.{⊤, codes}
+use Rattle.slot_order.specs.Order.{most_slots}
 use Rattle.clap.proofs.OnLiterals.{clap_on_literals}
 use Rattle.rule_store.specs.declared.Mode.TheVariants.{Cover, Bits}
 use Rattle.batch_order.specs.declared.Placement.TheVariants.{Middle, Rank}
 use Rattle.replay.specs.declared.Family.TheVariants.{Route, Acl, Route6, Acl6}
-use Rattle.tcam_cli.specs.CommandLine.{acl_command, depth_option, gen_command, job_of, number_position, placement_option, ranges_option, route_command, script_setting, slots_option, tcam_command, tcam_top, trace_flag}
+use Rattle.tcam_cli.specs.CommandLine.{acl_app, depth_option, gen_app, job_of, number_position, placement_option, ranges_option, route_app, script_setting, slots_option, tcam_app, tcam_top, trace_flag}
 use Rattle.tcam_cli.specs.Headline.{NoJob, Tells, Reads, Makes}
 use Rattle.tcam_cli.specs.OwnTexts.{acl_help, acl6_help, gen_help, help_text, route_help, version_text}
 
 -- what a proof unfolds to compute what words ask for
 unfoldable the_declaration : ⊤
-unfolding clap_on_literals tcam_command tcam_top route_command acl_command gen_command slots_option ranges_option placement_option trace_flag depth_option number_position
+unfolding clap_on_literals tcam_app tcam_top route_app acl_app gen_app slots_option ranges_option placement_option trace_flag depth_option number_position
 the_declaration = tt
 
 unknown : job_of (codes "tcam" ∷ codes "frob" ∷ []) ≡ NoJob
@@ -26,11 +27,11 @@ no-slots : job_of (codes "tcam" ∷ codes "route" ∷ codes "--slots" ∷ codes 
 unfolding the_declaration
 no-slots = refl
 
-too-many-slots : job_of (codes "tcam" ∷ codes "route" ∷ codes "--slots" ∷ codes "4097" ∷ []) ≡ NoJob
+too-many-slots : job_of (codes "tcam" ∷ codes "route" ∷ codes "--slots" ∷ codes "(1 + most_slots)" ∷ []) ≡ NoJob
 unfolding the_declaration
 too-many-slots = refl
 
-routes : job_of (codes "tcam" ∷ codes "route" ∷ []) ≡ Reads (script_setting Route 4096 Cover Middle false 0)
+routes : job_of (codes "tcam" ∷ codes "route" ∷ []) ≡ Reads (script_setting Route most_slots Cover Middle false 0)
 unfolding the_declaration
 routes = refl
 
@@ -42,7 +43,7 @@ routes-of-six : job_of (codes "tcam" ∷ codes "route6" ∷ codes "--trace" ∷ 
 unfolding the_declaration
 routes-of-six = refl
 
-lists-of-six : job_of (codes "tcam" ∷ codes "acl6" ∷ codes "--ranges" ∷ codes "bits" ∷ codes "--placement" ∷ codes "rank" ∷ []) ≡ Reads (script_setting Acl6 4096 Bits Rank false 0)
+lists-of-six : job_of (codes "tcam" ∷ codes "acl6" ∷ codes "--ranges" ∷ codes "bits" ∷ codes "--placement" ∷ codes "rank" ∷ []) ≡ Reads (script_setting Acl6 most_slots Bits Rank false 0)
 unfolding the_declaration
 lists-of-six = refl
 
@@ -90,7 +91,7 @@ plus : job_of (codes "tcam" ∷ codes "route" ∷ codes "--slots" ∷ codes "+00
 unfolding the_declaration
 plus = refl
 
-lists : job_of (codes "tcam" ∷ codes "acl" ∷ []) ≡ Reads (script_setting Acl 4096 Cover Middle false 0)
+lists : job_of (codes "tcam" ∷ codes "acl" ∷ []) ≡ Reads (script_setting Acl most_slots Cover Middle false 0)
 unfolding the_declaration
 lists = refl
 
@@ -122,15 +123,15 @@ traced-by-a-value : job_of (codes "tcam" ∷ codes "route" ∷ codes "--trace=tr
 unfolding the_declaration
 traced-by-a-value = refl
 
-traced-lists : job_of (codes "tcam" ∷ codes "acl" ∷ codes "--trace" ∷ []) ≡ Reads (script_setting Acl 4096 Cover Middle true 0)
+traced-lists : job_of (codes "tcam" ∷ codes "acl" ∷ codes "--trace" ∷ []) ≡ Reads (script_setting Acl most_slots Cover Middle true 0)
 unfolding the_declaration
 traced-lists = refl
 
-by-rank : job_of (codes "tcam" ∷ codes "route" ∷ codes "--placement" ∷ codes "rank" ∷ []) ≡ Reads (script_setting Route 4096 Cover Rank false 0)
+by-rank : job_of (codes "tcam" ∷ codes "route" ∷ codes "--placement" ∷ codes "rank" ∷ []) ≡ Reads (script_setting Route most_slots Cover Rank false 0)
 unfolding the_declaration
 by-rank = refl
 
-by-the-middle : job_of (codes "tcam" ∷ codes "route" ∷ codes "--placement" ∷ codes "middle" ∷ []) ≡ Reads (script_setting Route 4096 Cover Middle false 0)
+by-the-middle : job_of (codes "tcam" ∷ codes "route" ∷ codes "--placement" ∷ codes "middle" ∷ []) ≡ Reads (script_setting Route most_slots Cover Middle false 0)
 unfolding the_declaration
 by-the-middle = refl
 
@@ -166,7 +167,7 @@ by-two-words-at-once : job_of (codes "tcam" ∷ codes "acl" ∷ codes "--placeme
 unfolding the_declaration
 by-two-words-at-once = refl
 
-made : job_of (codes "tcam" ∷ codes "gen" ∷ codes "1" ∷ codes "1" ∷ codes "2" ∷ []) ≡ Makes (script_setting Acl 4096 Cover Middle false 0) 1 1 2
+made : job_of (codes "tcam" ∷ codes "gen" ∷ codes "1" ∷ codes "1" ∷ codes "2" ∷ []) ≡ Makes (script_setting Acl most_slots Cover Middle false 0) 1 1 2
 unfolding the_declaration
 made = refl
 
@@ -174,7 +175,7 @@ made-in-few-slots : job_of (codes "tcam" ∷ codes "gen" ∷ codes "1" ∷ codes
 unfolding the_declaration
 made-in-few-slots = refl
 
-made-of-the-greatest-seed : job_of (codes "tcam" ∷ codes "gen" ∷ codes "2147483647" ∷ codes "1" ∷ codes "1" ∷ []) ≡ Makes (script_setting Acl 4096 Cover Middle false 0) 2147483647 1 1
+made-of-the-greatest-seed : job_of (codes "tcam" ∷ codes "gen" ∷ codes "2147483647" ∷ codes "1" ∷ codes "1" ∷ []) ≡ Makes (script_setting Acl most_slots Cover Middle false 0) 2147483647 1 1
 unfolding the_declaration
 made-of-the-greatest-seed = refl
 
@@ -226,11 +227,11 @@ made-with-a-trace : job_of (codes "tcam" ∷ codes "gen" ∷ codes "1" ∷ codes
 unfolding the_declaration
 made-with-a-trace = refl
 
-made-in-bits : job_of (codes "tcam" ∷ codes "gen" ∷ codes "1" ∷ codes "1" ∷ codes "1" ∷ codes "--ranges" ∷ codes "bits" ∷ []) ≡ Makes (script_setting Acl 4096 Bits Middle false 0) 1 1 1
+made-in-bits : job_of (codes "tcam" ∷ codes "gen" ∷ codes "1" ∷ codes "1" ∷ codes "1" ∷ codes "--ranges" ∷ codes "bits" ∷ []) ≡ Makes (script_setting Acl most_slots Bits Middle false 0) 1 1 1
 unfolding the_declaration
 made-in-bits = refl
 
-lists-in-bits : job_of (codes "tcam" ∷ codes "acl" ∷ codes "--ranges" ∷ codes "bits" ∷ []) ≡ Reads (script_setting Acl 4096 Bits Middle false 0)
+lists-in-bits : job_of (codes "tcam" ∷ codes "acl" ∷ codes "--ranges" ∷ codes "bits" ∷ []) ≡ Reads (script_setting Acl most_slots Bits Middle false 0)
 unfolding the_declaration
 lists-in-bits = refl
 
@@ -238,7 +239,7 @@ lists-in-bits-by-rank : job_of (codes "tcam" ∷ codes "acl" ∷ codes "--placem
 unfolding the_declaration
 lists-in-bits-by-rank = refl
 
-deep : job_of (codes "tcam" ∷ codes "route6" ∷ codes "--depth" ∷ codes "15" ∷ []) ≡ Reads (script_setting Route6 4096 Cover Middle false 15)
+deep : job_of (codes "tcam" ∷ codes "route6" ∷ codes "--depth" ∷ codes "15" ∷ []) ≡ Reads (script_setting Route6 most_slots Cover Middle false 15)
 unfolding the_declaration
 deep = refl
 
@@ -250,7 +251,7 @@ made-in-depth : job_of (codes "tcam" ∷ codes "gen" ∷ codes "1" ∷ codes "1"
 unfolding the_declaration
 made-in-depth = refl
 
-lists-in-covers : job_of (codes "tcam" ∷ codes "acl" ∷ codes "--ranges" ∷ codes "cover" ∷ []) ≡ Reads (script_setting Acl 4096 Cover Middle false 0)
+lists-in-covers : job_of (codes "tcam" ∷ codes "acl" ∷ codes "--ranges" ∷ codes "cover" ∷ []) ≡ Reads (script_setting Acl most_slots Cover Middle false 0)
 unfolding the_declaration
 lists-in-covers = refl
 

@@ -12,7 +12,7 @@ use Rattle.tcam_cli.specs.declared.Status.TheVariants.{Done, Refused}
 use Rattle.tcam_cli.specs.Headline.{acts_of, whole_lines, script_so_far, status_of, IsOutcome, IsComplete}
 use Rattle.tcam_cli.specs.Readings.{reading}
 use Rattle.script_lines.specs.Reader.{HeldBytes, HandsWhole, HandsLast, KeepsAll}
-use Rattle.tcam_cli.specs.Turns.{onto_all, acts_next, IsGoing, IsAllRead, IsRead, acts_only}
+use Rattle.tcam_cli.specs.Rounds.{onto_all, acts_next, IsGoing, IsAllRead, IsReadSoFar, acts_only}
 use Rattle.script_lines.proofs.FirstLines.{lines-whole, lines-pending, lines-last}
 use Rattle.tcam_cli.proofs.WholeLines.{whole-line, whole-none}
 use Rattle.replay.proofs.lines.Effects.{events-append, printed-append}
@@ -83,7 +83,7 @@ onto-nil acts last = let f : List NumberedAct → Script = λ a. record { acts =
 pub next-line : (reading : Reading) (bytes : List ℕ) (old : HeldBytes) (left : List ℕ) (line : NumberedLine) (new : HeldBytes) (after : List ℕ) (acts acts2 : List NumberedAct) (p q p2 q2 : ℕ)
     → IsGoing reading bytes old left acts p q → HandsOne old left line new after
     → ((rest : ScriptLines) → onto_all acts (acts_from reading p q (line ∷ rest.lines) rest.last) ≡ onto_all acts2 (acts_next reading p2 q2 rest))
-    → IsRead new.over reading bytes new after acts2 p2 q2
+    → IsReadSoFar new.over reading bytes new after acts2 p2 q2
 next-line reading bytes old left line new after acts acts2 p q p2 q2 going (inl h) effect =
     let is : IsGoing reading bytes new after acts2 p2 q2 = record {
       done = going.done ++ (line.text ++ 10 ∷ []);
@@ -98,14 +98,14 @@ next-line reading bytes old left line new after acts acts2 p q p2 q2 going (inl 
           ap whole_lines (shift going.done line.text rest) ∙ going.whole (line.text ++ 10 ∷ rest)
           ∙ ap (λ x. going.done ++ x) (whole-line old.before line.text rest h.one_line) ∙ sym (shift going.done line.text (whole_lines rest));
     } in
-    subst (λ o. IsRead o reading bytes new after acts2 p2 q2) (sym h.going) is
+    subst (λ o. IsReadSoFar o reading bytes new after acts2 p2 q2) (sym h.going) is
 next-line reading bytes old left line new after acts acts2 p q p2 q2 going (inr h) effect =
     let is : IsAllRead reading bytes after acts2 = (
       ap (script_of reading) (going.parts ∙ ap (λ x. going.done ++ x) h.bytes) ∙ going.script line.text
           ∙ ap (λ l. onto_all acts (acts_next reading p q l)) (last-at old left line new after h) ∙ effect (ends_at EndOfInput) ∙ onto-nil acts2 Whole,
       h.none,
     ) in
-    subst (λ o. IsRead o reading bytes new after acts2 p2 q2) (sym h.ended) is
+    subst (λ o. IsReadSoFar o reading bytes new after acts2 p2 q2) (sym h.ended) is
 
 pub line-here : (reading : Reading) (bytes : List ℕ) (old : HeldBytes) (left : List ℕ) (line : NumberedLine) (new : HeldBytes) (after : List ℕ) (acts : List NumberedAct) (p q : ℕ)
     → IsGoing reading bytes old left acts p q → HandsOne old left line new after

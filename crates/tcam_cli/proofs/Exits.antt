@@ -1,4 +1,4 @@
--- What a turn comes to, by what its callees answer.
+-- What a round comes to, by what its callees answer.
 use Rattle.std.proofs.Common.{◌≡◌, ◌≢◌, ◌⊎◌, inl, inr, ℕ, ◌∷◌, ◌++◌, Option, Some, None, Result, Ok, Err, List, [], length, refl, ap, sym, ◌∙◌, subst, append-nil}
 use Rattle.std.specs.Io.KnownBytes.{Appends}
 use Rattle.script_lines.specs.declared.Line.{Line}
@@ -15,13 +15,13 @@ use Rattle.replay.specs.Effects.{Setting, printed}
 use Rattle.replay.specs.Run.{Progress, Runs, ending}
 use Rattle.tcam_cli.specs.declared.Status.{Status}
 use Rattle.tcam_cli.specs.declared.Status.TheVariants.{Done, Refused, Script as ScriptFault, ReadFault, WriteFault}
-use Rattle.tcam_cli.specs.Headline.{MatchesOutcome, acts_of, last_line, script_so_far, status_of}
+use Rattle.tcam_cli.specs.Headline.{MatchesOutcome, acts_of, closing_line, script_so_far, status_of}
 use Rattle.tcam_cli.specs.Readings.{reading}
 use Rattle.script_lines.specs.declared.Over.{Over}
 use Rattle.script_lines.specs.declared.Over.TheVariants as over
 use Rattle.script_lines.specs.Reader.{HeldBytes, lines_held, Hands, Again}
 use Rattle.replay.specs.Carried.{IsAt, Carries, Wants}
-use Rattle.tcam_cli.specs.Turns.{onto_all, acts_next, IsGoing, IsAllRead, IsRead, acts_only, SoFar, Ends, Closes, GoesOn, WantsNext, status_of_fault}
+use Rattle.tcam_cli.specs.Rounds.{onto_all, acts_next, IsGoing, IsAllRead, IsReadSoFar, acts_only, SoFar, EndsRun, Closes, RunsOn, WantsNext, status_of_fault}
 use Rattle.tcam_cli.proofs.Outcomes.{Stops, closed-outcome, stopped-outcome}
 use Rattle.tcam_cli.proofs.OneMore.{run-at, run-more, does-events, does-report, step-pending, step-probes}
 use Rattle.tcam_cli.proofs.Endings.{HandsOne, line-none, line-fault, line-full, line-act, next-line, line-here, bytes-fault, bytes-end, so-far, onto-nil, onto-more, only-more, act-here}
@@ -31,7 +31,7 @@ not-end r = r ≢ Ok None
 
 -- where something else than the end came, the lines went on
 still-going : (o : Over) (reading : Reading) (bytes : List ℕ) (old : HeldBytes) (left : List ℕ) (acts : List NumberedAct) (p q : ℕ) (r : Result (Option Line) LineFault)
-    → r ≢ Ok None → Again o r → IsRead o reading bytes old left acts p q → (o ≡ over.Going) × IsGoing reading bytes old left acts p q
+    → r ≢ Ok None → Again o r → IsReadSoFar o reading bytes old left acts p q → (o ≡ over.Going) × IsGoing reading bytes old left acts p q
 still-going over.Going reads bytes old left acts p q r other again read = (refl, read)
 still-going over.Ended reads bytes old left acts p q r other again read = absurd (other again)
 still-going (over.Stopped stopped) reads bytes old left acts p q r other again read = absurd read
@@ -54,24 +54,24 @@ not-whole run_fault.Memory (inr e) = absurd (cc)
 module _ (setting : Setting) (slots : ℕ) (bytes : List ℕ) (old : HeldBytes) (left : List ℕ) (last : Progress) (events : List Action) (start before : Option (List ℕ)) (s : SoFar setting slots bytes old left last events start before) where
   ends-by : (taken now : List ℕ) (result : Status) (events_new : List Action) (after : Option (List ℕ))
       → MatchesOutcome setting slots (script_of (reading setting.family) bytes) (script_so_far (reading setting.family) taken) result events_new start after
-      → ((result ≡ Done) ⊎ (result ≡ Refused) → now ≡ []) → Ends setting slots bytes taken now result events_new start after
+      → ((result ≡ Done) ⊎ (result ≡ Refused) → now ≡ []) → EndsRun setting slots bytes taken now result events_new start after
   ends-by taken now result events_new after is all =
       record { effects = is.effects; partial = is.partial; outcome = is.outcome; events_is = is.events_is; report = is.report_is; all = all }
 
   -- the last line is written, or a part of it
   closed : (taken now : List ℕ) (end : ScriptEnd) (after : Option (List ℕ)) (result : Status) → script_of (reading setting.family) bytes ≡ record { acts = s.acts; last = end }
-      → Closes (last_line setting last end) (status_of last end) result before after → ((result ≡ Done) ⊎ (result ≡ Refused) → now ≡ [])
-      → Ends setting slots bytes taken now result events start after
+      → Closes (closing_line setting last end) (status_of last end) result before after → ((result ≡ Done) ⊎ (result ≡ Refused) → now ≡ [])
+      → EndsRun setting slots bytes taken now result events start after
   closed taken now end after result is closes all =
       let script = script_of (reading setting.family) bytes in
       ends-by taken now result events after
       (closed-outcome setting slots script (script_so_far (reading setting.family) taken) (acts_only s.acts) s.effects last events start before s.run s.events_is s.report after result (ap acts_of is)
-      (subst (λ end. Closes (last_line setting last end) (status_of last end) result before after) (sym (ap (λ script. script.last) is)) closes)) all
+      (subst (λ end. Closes (closing_line setting last end) (status_of last end) result before after) (sym (ap (λ script. script.last) is)) closes)) all
 
   -- a fault of a byte
   pub exit-bytes : (taken now : List ℕ) (after : Option (List ℕ)) (result : Status) (found : LineFault) (number : ℕ) (text : List ℕ) → byte_end (Faulty found) ≡ FaultAt number text
       → Again old.over (Err found) → (old.over ≡ over.Going → lines_held old left ≡ ends_at (Faulty found)) → Closes (fault_line number text) ScriptFault result before after
-      → Ends setting slots bytes taken now result events start after
+      → EndsRun setting slots bytes taken now result events start after
   exit-bytes taken now after result found number text end again hands closes =
       let p = length last.batch in
       let q = length last.probes in
@@ -83,14 +83,14 @@ module _ (setting : Setting) (slots : ℕ) (bytes : List ℕ) (old : HeldBytes) 
   -- the end of the input
   pub exit-end : (new : HeldBytes) (taken now : List ℕ) (after : Option (List ℕ)) (result : Status)
       → (old.over ≡ over.Going → Hands old left (Ok None) new now) → (old.over ≢ over.Going → left ≡ now) → Closes (ending setting last) (status_of last Whole) result before after
-      → Ends setting slots bytes taken now result events start after
+      → EndsRun setting slots bytes taken now result events start after
   exit-end new taken now after result hands rests closes =
       let p = length last.batch in
       let q = length last.probes in
       let whole = all-read old.over (reading setting.family) s.acts p q s.read hands rests in
       closed taken now Whole after result whole.0 closes (λ _. whole.1)
     where
-      all-read : (o : Over) (reading : Reading) (acts : List NumberedAct) (p q : ℕ) → IsRead o reading bytes old left acts p q
+      all-read : (o : Over) (reading : Reading) (acts : List NumberedAct) (p q : ℕ) → IsReadSoFar o reading bytes old left acts p q
           → (o ≡ over.Going → Hands old left (Ok None) new now) → (o ≢ over.Going → left ≡ now) → IsAllRead reading bytes now acts
       all-read over.Going reading acts p q read hands rests = let h = hands refl in (bytes-end reading bytes old left acts p q read h.0, h.1)
       all-read over.Ended reading acts p q read hands rests =
@@ -100,7 +100,7 @@ module _ (setting : Setting) (slots : ℕ) (bytes : List ℕ) (old : HeldBytes) 
 
   -- a failed read
   pub exit-read : (new : HeldBytes) (taken now : List ℕ) → Again old.over (Err fault.Read) → (old.over ≡ over.Going → Hands old left (Err fault.Read) new now) → bytes ≡ taken ++ now
-      → Ends setting slots bytes taken now ReadFault events start before
+      → EndsRun setting slots bytes taken now ReadFault events start before
   exit-read new taken now again hands parts =
       let p = length last.batch in
       let q = length last.probes in
@@ -124,7 +124,7 @@ module _ (setting : Setting) (slots : ℕ) (bytes : List ℕ) (old : HeldBytes) 
         still-going old.over (reading setting.family) bytes old left s.acts (length last.batch) (length last.probes) (Ok (Some line)) other again s.read
 
     -- it is skipped
-    pub goes-none : reading setting.family (numbered line).text ≡ Ok None → GoesOn setting slots s.acts bytes new now last events start before
+    pub goes-none : reading setting.family (numbered line).text ≡ Ok None → RunsOn setting slots s.acts bytes new now last events start before
     goes-none is =
         let p = length last.batch in
         let q = length last.probes in
@@ -143,7 +143,7 @@ module _ (setting : Setting) (slots : ℕ) (bytes : List ℕ) (old : HeldBytes) 
 
     -- it has no sense
     pub exit-word : (taken : List ℕ) (after : Option (List ℕ)) (result : Status) (text : List ℕ) → reading setting.family (numbered line).text ≡ Err text → Closes (fault_line line.number text) ScriptFault result before after
-        → Ends setting slots bytes taken now result events start after
+        → EndsRun setting slots bytes taken now result events start after
     exit-word taken after result text is closes =
         let p = length last.batch in
         let q = length last.probes in
@@ -154,7 +154,7 @@ module _ (setting : Setting) (slots : ℕ) (bytes : List ℕ) (old : HeldBytes) 
     -- there is no room for its act
     pub exit-full : (taken : List ℕ) (after : Option (List ℕ)) (result : Status) (act : Act) (text : List ℕ) → reading setting.family (numbered line).text ≡ Ok (Some act)
         → limit_fault act (length last.batch) (length last.probes) ≡ Some text → Closes (fault_line line.number text) ScriptFault result before after
-        → Ends setting slots bytes taken now result events start after
+        → EndsRun setting slots bytes taken now result events start after
     exit-full taken after result act text is full closes =
         let p = length last.batch in
         let q = length last.probes in
@@ -167,7 +167,7 @@ module _ (setting : Setting) (slots : ℕ) (bytes : List ℕ) (old : HeldBytes) 
       at : IsAt slots events last
       at = run-at setting slots _ s.effects last events s.run s.events_is
 
-      pub goes-on : (next : Progress) → (IsAt slots events last → Carries setting last act next events events_new before after) → GoesOn setting slots s.acts bytes new now next events_new start after
+      pub goes-on : (next : Progress) → (IsAt slots events last → Carries setting last act next events events_new before after) → RunsOn setting slots s.acts bytes new now next events_new start after
       goes-on next carries =
           let made = carries at in
           let p = length last.batch in
@@ -195,7 +195,7 @@ module _ (setting : Setting) (slots : ℕ) (bytes : List ℕ) (old : HeldBytes) 
 
       -- by its fault
       pub exit-stopped : (taken : List ℕ) (why : RunFault) → Stops slots setting last act why events events_new before after
-          → Ends setting slots bytes taken now (status_of_fault why) events_new start after
+          → EndsRun setting slots bytes taken now (status_of_fault why) events_new start after
       exit-stopped taken why is =
           ends-by taken now (status_of_fault why) events_new after
           (stopped-outcome setting slots (script_of (reading setting.family) bytes) (script_so_far (reading setting.family) taken) (acts_only s.acts) s.effects last events start before s.run s.events_is s.report

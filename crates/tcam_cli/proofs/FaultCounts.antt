@@ -10,7 +10,7 @@ use Rattle.replay.specs.Outside.{Leaves}
 use Rattle.replay.proofs.between.Leaving.{leaves-as, leaves-line, leaves-then}
 use Rattle.tcam_cli.specs.declared.Status.{Status}
 use Rattle.tcam_cli.specs.declared.Status.TheVariants.{WriteFault, DeviceFault}
-use Rattle.tcam_cli.specs.Turns.{ClosesReport, status_of_fault}
+use Rattle.tcam_cli.specs.Rounds.{ClosesReport, status_of_fault}
 
 sink-fault : (why : RunFault) → status_of_fault why ≡ WriteFault → why ≡ fault.Sink
 sink-fault fault.Sink e = refl

@@ -18,19 +18,19 @@ use Rattle.replay.specs.Run.{Progress}
 use Rattle.tcam_cli.specs.declared.Status.{Status}
 use Rattle.tcam_cli.specs.declared.Status.TheVariants.{Done, Memory, Usage}
 use Rattle.tcam_cli.specs.Headline.{Job, NoJob, Tells, Reads, IsCarriedOut, MayEnd}
-use Rattle.tcam_cli.specs.Turns.{SoFar, Ends, Closes, TurnsBy, GoesOn, WantsNext, Grows, status_of_fault}
+use Rattle.tcam_cli.specs.Rounds.{SoFar, EndsRun, Closes, RoundsBy, RunsOn, WantsNext, Grows, status_of_fault}
 use Rattle.tcam_cli.specs.Given.{IsPromisedByGiven}
 use Rattle.tcam_cli.proofs.WholeRun.{EndsTold, carried, may-end}
 use Rattle.tcam_cli.proofs.HitlessRuns.{hitless-job}
 
--- a turn that ends the run at an act
-pub turns-stopped : (setting : Setting) (slots : ℕ) (old : HeldBytes) (before : Progress) (pieces : List (List ℕ)) (answer : Result (Option Line) LineFault) (held : HeldBytes) (why : RunFault) (new : HeldBytes) (after : Progress) (events_old events_new : List Action) (taken_old taken_new : Option (List ℕ))
+-- a round that ends the run at an act
+pub rounds-stopped : (setting : Setting) (slots : ℕ) (old : HeldBytes) (before : Progress) (pieces : List (List ℕ)) (answer : Result (Option Line) LineFault) (held : HeldBytes) (why : RunFault) (new : HeldBytes) (after : Progress) (events_old events_new : List Action) (taken_old taken_new : Option (List ℕ))
     → HandsByGiven old pieces answer held
     → ((bytes left now : List ℕ) (start : Option (List ℕ)) → MayGive left pieces now → SoFar setting slots bytes old left before events_old start taken_old → Grows events_old events_new taken_old taken_new)
-    → ((bytes taken left now : List ℕ) (start : Option (List ℕ)) → MayGive left pieces now → bytes ≡ taken ++ now → SoFar setting slots bytes old left before events_old start taken_old → Ends setting slots bytes taken now (status_of_fault why) events_new start taken_new)
+    → ((bytes taken left now : List ℕ) (start : Option (List ℕ)) → MayGive left pieces now → bytes ≡ taken ++ now → SoFar setting slots bytes old left before events_old start taken_old → EndsRun setting slots bytes taken now (status_of_fault why) events_new start taken_new)
     → (why ≡ run_fault.Memory → (bytes left now : List ℕ) (start : Option (List ℕ)) → MayGive left pieces now → (s : SoFar setting slots bytes old left before events_old start taken_old) → WantsNext setting s.acts bytes before events_old events_new taken_old taken_new)
-    → TurnsBy setting slots old before pieces (Some (status_of_fault why)) new after events_old events_new taken_old taken_new
-turns-stopped setting slots old before pieces answer held why new after events_old events_new taken_old taken_new by grows ends wants =
+    → RoundsBy setting slots old before pieces (Some (status_of_fault why)) new after events_old events_new taken_old taken_new
+rounds-stopped setting slots old before pieces answer held why new after events_old events_new taken_old taken_new by grows ends wants =
     record { goes = tt; ends = ends; wants = λ e. wants (is-memory why e); ended = λ _. tt; rests = by.rests; last = by.last; grows = grows }
   where
     is-memory : (why : RunFault) → Some (status_of_fault why) ≡ Some Memory → why ≡ run_fault.Memory
@@ -39,21 +39,21 @@ turns-stopped setting slots old before pieces answer held why new after events_o
     is-memory run_fault.Device e = absurd (cc)
 
 -- for another reason
-pub turns-some : (setting : Setting) (slots : ℕ) (old : HeldBytes) (before : Progress) (pieces : List (List ℕ)) (answer : Result (Option Line) LineFault) (held : HeldBytes) (status : Status) (new : HeldBytes) (after : Progress) (events_old events_new : List Action) (taken_old taken_new : Option (List ℕ))
+pub rounds-some : (setting : Setting) (slots : ℕ) (old : HeldBytes) (before : Progress) (pieces : List (List ℕ)) (answer : Result (Option Line) LineFault) (held : HeldBytes) (status : Status) (new : HeldBytes) (after : Progress) (events_old events_new : List Action) (taken_old taken_new : Option (List ℕ))
     → HandsByGiven old pieces answer held → status ≢ Memory
     → ((bytes left now : List ℕ) (start : Option (List ℕ)) → MayGive left pieces now → SoFar setting slots bytes old left before events_old start taken_old → Grows events_old events_new taken_old taken_new)
-    → ((bytes taken left now : List ℕ) (start : Option (List ℕ)) → MayGive left pieces now → bytes ≡ taken ++ now → SoFar setting slots bytes old left before events_old start taken_old → Ends setting slots bytes taken now status events_new start taken_new)
-    → TurnsBy setting slots old before pieces (Some status) new after events_old events_new taken_old taken_new
-turns-some setting slots old before pieces answer held status new after events_old events_new taken_old taken_new by other grows ends =
+    → ((bytes taken left now : List ℕ) (start : Option (List ℕ)) → MayGive left pieces now → bytes ≡ taken ++ now → SoFar setting slots bytes old left before events_old start taken_old → EndsRun setting slots bytes taken now status events_new start taken_new)
+    → RoundsBy setting slots old before pieces (Some status) new after events_old events_new taken_old taken_new
+rounds-some setting slots old before pieces answer held status new after events_old events_new taken_old taken_new by other grows ends =
     record { goes = tt; ends = ends; wants = λ e. absurd (other (cc)); ended = λ _. tt; rests = by.rests; last = by.last; grows = grows }
 
--- a turn after which it goes on
-pub turns-none : (setting : Setting) (slots : ℕ) (old : HeldBytes) (before : Progress) (pieces : List (List ℕ)) (answer : Result (Option Line) LineFault) (new : HeldBytes) (after : Progress) (events_old events_new : List Action) (taken_old taken_new : Option (List ℕ))
+-- a round after which it goes on
+pub rounds-none : (setting : Setting) (slots : ℕ) (old : HeldBytes) (before : Progress) (pieces : List (List ℕ)) (answer : Result (Option Line) LineFault) (new : HeldBytes) (after : Progress) (events_old events_new : List Action) (taken_old taken_new : Option (List ℕ))
     → HandsByGiven old pieces answer new
     → ((bytes left now : List ℕ) (start : Option (List ℕ)) → MayGive left pieces now → SoFar setting slots bytes old left before events_old start taken_old → Grows events_old events_new taken_old taken_new)
-    → ((bytes left now : List ℕ) (start : Option (List ℕ)) → MayGive left pieces now → (s : SoFar setting slots bytes old left before events_old start taken_old) → GoesOn setting slots s.acts bytes new now after events_new start taken_new)
-    → TurnsBy setting slots old before pieces None new after events_old events_new taken_old taken_new
-turns-none setting slots old before pieces answer new after events_old events_new taken_old taken_new by grows goes =
+    → ((bytes left now : List ℕ) (start : Option (List ℕ)) → MayGive left pieces now → (s : SoFar setting slots bytes old left before events_old start taken_old) → RunsOn setting slots s.acts bytes new now after events_new start taken_new)
+    → RoundsBy setting slots old before pieces None new after events_old events_new taken_old taken_new
+rounds-none setting slots old before pieces answer new after events_old events_new taken_old taken_new by grows goes =
     record { goes = goes; ends = tt; wants = λ e. absurd (cc); ended = by.ended; rests = by.rests; last = by.last; grows = grows }
 
 -- a reader that was over leaves all as it was
@@ -100,7 +100,7 @@ may-told given0 given1 a b pieces left now is ea eb =
 
 abbrev pub EndsGiven : Setting → ℕ → Status → List (List ℕ) → List Action → Option (List ℕ) → Option (List ℕ) → Type 0
 EndsGiven setting slots status pieces events taken_old taken_new =
-    (left taken now : List ℕ) → MayGive left pieces now → left ≡ taken ++ now → Ends setting slots left taken now status events taken_old taken_new
+    (left taken now : List ℕ) → MayGive left pieces now → left ≡ taken ++ now → EndsRun setting slots left taken now status events taken_old taken_new
 
 pub ends-told : (setting : Setting) (slots : ℕ) (status : Status) (given0 given1 : List (List ℕ)) (a b : Option (List ℕ)) (pieces : List (List ℕ)) (events : List Action) (taken_old taken_new : Option (List ℕ))
     → GivesPieces given0 given1 a b pieces → EndsGiven setting slots status pieces events taken_old taken_new → EndsTold setting slots status a b events taken_old taken_new

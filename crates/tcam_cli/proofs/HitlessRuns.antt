@@ -10,13 +10,13 @@ use Rattle.tcam_device.specs.State.{State, apply, blank, state_after}
 use Rattle.replay.specs.declared.Act.{Act}
 use Rattle.replay.specs.declared.Act.TheVariants.{Command, Probe, Packet, Commit, Trial, Crash}
 use Rattle.replay.specs.Script.{Script, Whole, script_of}
-use Rattle.replay.specs.Effects.{Setting, Effect, Acts, Prints, written, traced, searches_of, flushed, searched_after, waiting_after, effects_of}
+use Rattle.replay.specs.Effects.{Setting, Effect, Acts, Prints, journal_of, traced, searches_of, flushed, searched_after, waiting_after, effects_of}
 use Rattle.replay.specs.Fates.{IsCrash}
 use Rattle.replay.specs.Run.{Progress, start, Commits, Tries, Crashes, actions_back, actions_before, actions_for, actions_over, carried, IsCutBeforeCrash, IsCutInStep, IsCutStep, Judged, HasEffects, Runs, TakesMemory}
-use Rattle.replay.specs.Text.{aborted_line, accepted_line, drain_line, restarted_line, trace_line}
+use Rattle.replay.specs.Text.{aborted_line, accepted_line, drain_line, restarted_line, write_line}
 use Rattle.tcam_cli.specs.declared.Status.{Status}
 use Rattle.tcam_cli.specs.declared.Status.TheVariants.{Done, Refused, Script as ScriptFault, ReadFault, WriteFault, DeviceFault, Memory, Usage}
-use Rattle.tcam_cli.specs.Headline.{Job, NoJob, Tells, Reads, Makes, acts_of, script_so_far, IsAtAct, IsComplete, IsDue, IsOutcome, IsOutOfMemory, IsOutOfMemoryAtAct, IsCarriedOut}
+use Rattle.tcam_cli.specs.Headline.{Job, NoJob, Tells, Reads, Makes, acts_of, script_so_far, IsAtAct, IsComplete, IsEffectDue, IsOutcome, IsOutOfMemory, IsOutOfMemoryAtAct, IsCarriedOut}
 use Rattle.tcam_cli.specs.MadeScript.{made_script}
 use Rattle.tcam_cli.specs.Readings.{reading}
 use Rattle.tcam_cli.specs.AllTheWay.{sets_through, sets_of, AnswersAllTheWay, EndsAtLast, EndsAfter, CrashesNowhere, EndsAfterSome, IsNoProbe, TellsNoWrite, IsHitlessRun, IsHitlessJob}
@@ -31,11 +31,11 @@ abbrev AnswersSome : Setting → ℕ → Script → List Write → Type 0
 AnswersSome setting slots script writes = (backs : List Bool) × AnswersAllTheWay (blank slots) (sets_of setting backs script) writes
 
 complete : (setting : Setting) (slots : ℕ) (script : Script) (status : Status) (effects : List Effect) → IsComplete setting slots script status effects
-    → (backs : List Bool) × AnswersAllTheWay (blank slots) (sets_of setting backs script) (written effects) × EndsAtLast (blank slots) (sets_of setting backs script) (written effects)
+    → (backs : List Bool) × AnswersAllTheWay (blank slots) (sets_of setting backs script) (journal_of effects) × EndsAtLast (blank slots) (sets_of setting backs script) (journal_of effects)
 complete setting slots script status effects is =
     let goes = run-goes setting slots (acts_of script) is.body is.last is.run in
     let both = subst (λ writes. AnswersAllTheWay (blank slots) (sets_of setting goes.0 script) writes × EndsAtLast (blank slots) (sets_of setting goes.0 script) writes)
-    (sym (ap written is.effects_are ∙ written-append is.body _ ∙ append-nil (written is.body))) goes.1 in
+    (sym (ap journal_of is.effects_are ∙ written-append is.body _ ∙ append-nil (journal_of is.body))) goes.1 in
     (goes.0, both.0, both.1)
 
 -- a run that is cut in the middle of an act, by all that this would have done
@@ -48,25 +48,25 @@ whole-act setting slots script effects due at cut =
     (run-more setting slots at.done at.body at.before at.act (at.front ++ due ∷ cut.back) cut.after at.run cut.step)
 
 in-step : (setting : Setting) (slots : ℕ) (script : Script) (effects : List Effect) (due : Effect) (at : IsAtAct setting slots script effects due) (cut : IsCutInStep setting at.before at.act at.front due) (whole : WholeAct setting slots script effects due at cut)
-    → AnswersAllTheWay (blank slots) (sets_of setting whole.0 script) (written effects)
+    → AnswersAllTheWay (blank slots) (sets_of setting whole.0 script) (journal_of effects)
 in-step setting slots script effects due at cut whole =
-    subst (λ effects. AnswersAllTheWay (blank slots) (sets_of setting whole.0 script) (written effects)) (sym at.effects_are)
+    subst (λ effects. AnswersAllTheWay (blank slots) (sets_of setting whole.0 script) (journal_of effects)) (sym at.effects_are)
     (cut-answers setting slots whole.0 at.done at.act at.later (acts_of script) at.body at.front (due ∷ cut.back) at.acts whole.1)
 
 -- or in the middle of a commit that crashes later, by all that a commit would have done
 as-commits : (setting : Setting) (slots : ℕ) (script : Script) (done : List Act) (after : ℕ) (later : List Act) (body front : List Effect) (before : Progress) → acts_of script ≡ done ++ Crash after ∷ later
-    → Runs setting slots done body before → AsCommit setting before front → AnswersSome setting slots script (written (body ++ front))
+    → Runs setting slots done body before → AsCommit setting before front → AnswersSome setting slots script (journal_of (body ++ front))
 as-commits setting slots script done after later body front before acts run whole =
     let goes = run-goes setting slots (done ++ Commit ∷ []) (body ++ (front ++ whole.back)) whole.after
     (run-more setting slots done body before Commit (front ++ whole.back) whole.after run whole.step) in
     let answers = cut-answers setting slots goes.0 done Commit later (done ++ Commit ∷ later) body front whole.back refl goes.1 in (
       goes.0,
-      subst (λ sets. AnswersAllTheWay (blank slots) sets (written (body ++ front))) (same-sets setting done after later goes.0 [] [] ∙ ap (sets_through setting goes.0 [] []) (sym acts)) answers,
+      subst (λ sets. AnswersAllTheWay (blank slots) sets (journal_of (body ++ front))) (same-sets setting done after later goes.0 [] [] ∙ ap (sets_through setting goes.0 [] []) (sym acts)) answers,
     )
 
 -- the writes before a crash
 before-crash : (setting : Setting) (slots : ℕ) (script : Script) (effects : List Effect) (due : Effect) (at : IsAtAct setting slots script effects due) → IsCutBeforeCrash setting at.before at.act at.front due
-    → AnswersSome setting slots script (written effects)
+    → AnswersSome setting slots script (journal_of effects)
 before-crash setting slots script effects due at cut =
     let whole = cut-as_commit setting at.before at.act at.front due cut in
     let first : AsCommit setting at.before at.front = record {
@@ -75,23 +75,23 @@ before-crash setting slots script effects due at cut =
       step = subst (λ effects. HasEffects setting at.before Commit effects whole.after) (append_assoc at.front (due ∷ []) whole.back) whole.step;
     } in
     let acts : acts_of script ≡ at.done ++ Crash cut.after ∷ at.later = at.acts ∙ ap (λ act. at.done ++ act ∷ at.later) cut.act_is in
-    subst (λ effects. AnswersSome setting slots script (written effects)) (sym at.effects_are)
+    subst (λ effects. AnswersSome setting slots script (journal_of effects)) (sym at.effects_are)
     (as-commits setting slots script at.done cut.after at.later at.body at.front at.before acts at.run first)
 
-at-act : (setting : Setting) (slots : ℕ) (script : Script) (effects : List Effect) (due : Effect) (at : IsAtAct setting slots script effects due) → AnswersSome setting slots script (written effects)
+at-act : (setting : Setting) (slots : ℕ) (script : Script) (effects : List Effect) (due : Effect) (at : IsAtAct setting slots script effects due) → AnswersSome setting slots script (journal_of effects)
 at-act setting slots script effects due at = go at.cut
   where
-    go : IsCutStep setting at.before at.act at.front due → AnswersSome setting slots script (written effects)
+    go : IsCutStep setting at.before at.act at.front due → AnswersSome setting slots script (journal_of effects)
     go (inl cut) = let whole = whole-act setting slots script effects due at cut in (whole.0, in-step setting slots script effects due at cut whole)
     go (inr cut) = before-crash setting slots script effects due at cut
 
-at-due : (setting : Setting) (slots : ℕ) (script : Script) (effects : List Effect) (due : Effect) → IsDue setting slots script effects due → AnswersSome setting slots script (written effects)
+at-due : (setting : Setting) (slots : ℕ) (script : Script) (effects : List Effect) (due : Effect) → IsEffectDue setting slots script effects due → AnswersSome setting slots script (journal_of effects)
 at-due setting slots script effects due (inl at) = at-act setting slots script effects due at
 at-due setting slots script effects due (inr end) = let goes = run-goes setting slots (acts_of script) effects end.last end.run in (goes.0, goes.1.0)
 
 -- some first acts, all of them carried out
 ends-after : (setting : Setting) (slots : ℕ) (backs : List Bool) (script : Script) (done later : List Act) (effects : List Effect) → acts_of script ≡ done ++ later
-    → RunGoes setting slots backs done effects → EndsAfter (blank slots) setting backs script done (written effects)
+    → RunGoes setting slots backs done effects → EndsAfter (blank slots) setting backs script done (journal_of effects)
 ends-after setting slots backs script done later effects same goes =
     let more = more-sets setting backs [] [] done later in
     record {
@@ -107,7 +107,7 @@ abbrev AfterActs : Setting → ℕ → Script → List Act → List Write → Ty
 AfterActs setting slots script done writes = (backs : List Bool) × EndsAfter (blank slots) setting backs script done writes
 
 after-acts : (setting : Setting) (slots : ℕ) (script : Script) (done later : List Act) (effects : List Effect) (last : Progress) → acts_of script ≡ done ++ later
-    → Runs setting slots done effects last → AfterActs setting slots script done (written effects)
+    → Runs setting slots done effects last → AfterActs setting slots script done (journal_of effects)
 after-acts setting slots script done later effects last same run =
     let goes = run-goes setting slots done effects last run in (goes.0, ends-after setting slots goes.0 script done later effects same goes.1)
 
@@ -122,25 +122,25 @@ WantsMemory setting slots script writes =
     (backs : List Bool) × AnswersAllTheWay (blank slots) (sets_of setting backs script) writes × (CrashesNowhere script → EndsAfterSome (blank slots) setting backs script writes)
 
 wants-none : (setting : Setting) (slots : ℕ) (script : Script) (done later : List Act) (effects : List Effect) (last : Progress) → acts_of script ≡ done ++ later
-    → Runs setting slots done effects last → WantsMemory setting slots script (written effects)
+    → Runs setting slots done effects last → WantsMemory setting slots script (journal_of effects)
 wants-none setting slots script done later effects last same run =
     let ends = after-acts setting slots script done later effects last same run in
-    (ends.0, whole-acts setting slots ends.0 script done (written effects) ends.1, λ nowhere. (done, ends.1))
+    (ends.0, whole-acts setting slots ends.0 script done (journal_of effects) ends.1, λ nowhere. (done, ends.1))
 
 -- a script with a crash has one
 has-crash : (done : List Act) (after : ℕ) (later : List Act) → AllByRecursion (λ act. IsCrash act → ⊥) (done ++ Crash after ∷ later) → ⊥
 has-crash [] after later nowhere = nowhere.0 tt
 has-crash (act ∷ done) after later nowhere = has-crash done after later nowhere.1
 
-wants-at : (setting : Setting) (slots : ℕ) (script : Script) (effects : List Effect) (at : IsOutOfMemoryAtAct setting slots script effects) → WantsMemory setting slots script (written effects)
-wants-at setting slots script effects at = subst (λ effects. WantsMemory setting slots script (written effects)) (sym at.effects_are) (by at.act at.acts at.front at.needs)
+wants-at : (setting : Setting) (slots : ℕ) (script : Script) (effects : List Effect) (at : IsOutOfMemoryAtAct setting slots script effects) → WantsMemory setting slots script (journal_of effects)
+wants-at setting slots script effects at = subst (λ effects. WantsMemory setting slots script (journal_of effects)) (sym at.effects_are) (by at.act at.acts at.front at.needs)
   where
-    nothing : (act : Act) → acts_of script ≡ at.done ++ act ∷ at.later → (front : List Effect) → front ≡ [] → WantsMemory setting slots script (written (at.body ++ front))
+    nothing : (act : Act) → acts_of script ≡ at.done ++ act ∷ at.later → (front : List Effect) → front ≡ [] → WantsMemory setting slots script (journal_of (at.body ++ front))
     nothing act acts front none =
-        subst (λ effects. WantsMemory setting slots script (written effects)) (sym (ap (λ effects. at.body ++ effects) none ∙ append-nil at.body))
+        subst (λ effects. WantsMemory setting slots script (journal_of effects)) (sym (ap (λ effects. at.body ++ effects) none ∙ append-nil at.body))
         (wants-none setting slots script at.done (act ∷ at.later) at.body at.before acts at.run)
 
-    by : (act : Act) → acts_of script ≡ at.done ++ act ∷ at.later → (front : List Effect) → TakesMemory setting at.before act front → WantsMemory setting slots script (written (at.body ++ front))
+    by : (act : Act) → acts_of script ≡ at.done ++ act ∷ at.later → (front : List Effect) → TakesMemory setting at.before act front → WantsMemory setting slots script (journal_of (at.body ++ front))
     by (Command change) acts front needs = nothing (Command change) acts front needs
     by (Probe key) acts front needs = absurd needs
     by (Packet key) acts front needs = absurd needs
@@ -151,7 +151,7 @@ wants-at setting slots script effects at = subst (λ effects. WantsMemory settin
         let some = as-commits setting slots script at.done after at.later at.body front at.before acts at.run (stops-as_commit setting at.before after front accepted stops) in
         (some.0, some.1, λ nowhere. absurd (has-crash at.done after at.later (subst (AllByRecursion (λ act. IsCrash act → ⊥)) acts nowhere)))
 
-for-memory : (setting : Setting) (slots : ℕ) (script : Script) (effects : List Effect) → IsOutOfMemory setting slots script effects → WantsMemory setting slots script (written effects)
+for-memory : (setting : Setting) (slots : ℕ) (script : Script) (effects : List Effect) → IsOutOfMemory setting slots script effects → WantsMemory setting slots script (journal_of effects)
 for-memory setting slots script effects (inl none) = wants-none setting slots script [] (acts_of script) effects (start slots) refl (none, refl)
 for-memory setting slots script effects (inr at) = wants-at setting slots script effects at
 
@@ -174,7 +174,7 @@ quiet-actions setting number waiting state [] quiet = refl
 quiet-actions setting number waiting state (Written write ∷ actions) quiet =
     let next = apply state write in
     let later = effects_of setting [] (number + 1) (min (waiting + 1) setting.depth) next actions in
-    ap (λ trace. Acts (Written write) ∷ (traced trace (trace_line setting.family (number + 1) write) ++ (searched_after setting [] (number + 1) waiting next ++ later))) quiet
+    ap (λ trace. Acts (Written write) ∷ (traced trace (write_line setting.family (number + 1) write) ++ (searched_after setting [] (number + 1) waiting next ++ later))) quiet
     ∙ ap (λ found. Acts (Written write) ∷ (found ++ later)) (quiet-searches setting (number + 1) waiting next)
     ∙ ap (λ effects. Acts (Written write) ∷ effects) (quiet-actions setting (number + 1) (min (waiting + 1) setting.depth) next actions quiet)
 quiet-actions setting number waiting state (Drained ∷ actions) quiet =
@@ -263,13 +263,13 @@ abbrev LineFails : Setting → ℕ → Script → List Write → Type 0
 LineFails setting slots script writes =
     (backs : List Bool) × AnswersAllTheWay (blank slots) (sets_of setting backs script) writes × (TellsNoWrite setting script → EndsAfterSome (blank slots) setting backs script writes)
 
-at-line : (setting : Setting) (slots : ℕ) (script : Script) (effects : List Effect) (line : List ℕ) → IsDue setting slots script effects (Prints line) → LineFails setting slots script (written effects)
+at-line : (setting : Setting) (slots : ℕ) (script : Script) (effects : List Effect) (line : List ℕ) → IsEffectDue setting slots script effects (Prints line) → LineFails setting slots script (journal_of effects)
 at-line setting slots script effects line (inl at) = go at.cut
   where
     probes-none : TellsNoWrite setting script → at.before.probes ≡ []
     probes-none quiet = none-probed setting (start slots) at.done at.body at.before (none-first at.done (at.act ∷ at.later) (subst (AllByRecursion IsNoProbe) at.acts quiet.1)) at.run
 
-    go : IsCutStep setting at.before at.act at.front (Prints line) → LineFails setting slots script (written effects)
+    go : IsCutStep setting at.before at.act at.front (Prints line) → LineFails setting slots script (journal_of effects)
     go (inl cut) =
         let whole = whole-act setting slots script effects (Prints line) at cut in
         let done : List Act = at.done ++ at.act ∷ [] in (
@@ -278,10 +278,10 @@ at-line setting slots script effects line (inl at) = go at.cut
           λ quiet.
               let none = last-step setting at.before at.act at.front cut.back line cut.after quiet.0 (probes-none quiet) cut.step in
               let all : List Effect = at.body ++ (at.front ++ Prints line ∷ cut.back) in
-              let same : written all ≡ written effects =
-              ap (λ back. written (at.body ++ (at.front ++ Prints line ∷ back))) none
-              ∙ ap written (sym (append_assoc at.body at.front (Prints line ∷ [])))
-              ∙ written-append (at.body ++ at.front) (Prints line ∷ []) ∙ append-nil (written (at.body ++ at.front)) ∙ sym (ap written at.effects_are) in (
+              let same : journal_of all ≡ journal_of effects =
+              ap (λ back. journal_of (at.body ++ (at.front ++ Prints line ∷ back))) none
+              ∙ ap journal_of (sym (append_assoc at.body at.front (Prints line ∷ [])))
+              ∙ written-append (at.body ++ at.front) (Prints line ∷ []) ∙ append-nil (journal_of (at.body ++ at.front)) ∙ sym (ap journal_of at.effects_are) in (
                 done,
                 subst (λ writes. EndsAfter (blank slots) setting whole.0 script done writes) same
                     (ends-after setting slots whole.0 script done at.later all (at.acts ∙ sym (append_assoc at.done (at.act ∷ []) at.later)) whole.1),
@@ -309,7 +309,7 @@ at-line setting slots script effects line (inr end) =
 -- whatever comes of a run, packets see nothing but the sets of its script
 pub outcome_answers : (setting : Setting) (slots : ℕ) (script came : Script) (status : Status) (effects : List Effect) (partial : List ℕ)
     → (came.last ≡ Whole → AreFirstActs (acts_of came) (acts_of script)) → IsOutcome setting slots script came status effects partial
-    → IsHitlessRun setting slots script came status (written effects)
+    → IsHitlessRun setting slots script came status (journal_of effects)
 outcome_answers setting slots script came Done effects partial first is =
     let goes = complete setting slots script Done effects is.0 in record { backs = goes.0; answers = goes.1; ends = goes.2 }
 outcome_answers setting slots script came Refused effects partial first is =
@@ -319,7 +319,7 @@ outcome_answers setting slots script came ScriptFault effects partial first is =
 outcome_answers setting slots script came ReadFault effects partial first is =
     let some = first is.0.sound in
     let ends = after-acts setting slots script (acts_of came) some.0 effects is.0.last some.1 is.0.run in
-    record { backs = ends.0; answers = whole-acts setting slots ends.0 script (acts_of came) (written effects) ends.1; ends = ends.1 }
+    record { backs = ends.0; answers = whole-acts setting slots ends.0 script (acts_of came) (journal_of effects) ends.1; ends = ends.1 }
 outcome_answers setting slots script came WriteFault effects partial first is =
     let fails = at-line setting slots script effects is.line is.due in record { backs = fails.0; answers = fails.1; ends = fails.2 }
 outcome_answers setting slots script came DeviceFault effects partial first is =

@@ -19,7 +19,7 @@ use Rattle.tcam_cli.specs.declared.Status.{Status}
 use Rattle.tcam_cli.specs.declared.Status.TheVariants.{Memory}
 use Rattle.tcam_cli.specs.Headline.{Job, NoJob, Tells, Reads, Makes, acts_of}
 use Rattle.tcam_cli.specs.Readings.{reading}
-use Rattle.tcam_cli.specs.Turns.{IsGoing, IsRead, acts_only, SoFar, Closes, Grows, TurnsBy}
+use Rattle.tcam_cli.specs.Rounds.{IsGoing, IsReadSoFar, acts_only, SoFar, Closes, Grows, RoundsBy}
 use Rattle.tcam_cli.specs.Given.{given_so_far, IsInTime, WantsInTime, ReadsInTime}
 use Rattle.tcam_cli.proofs.OneMore.{does-events, does-report, run-at}
 use Rattle.tcam_cli.proofs.GivenRuns.{may-second}
@@ -78,7 +78,7 @@ still-in-time setting slots before events more old mid new bytes grown is = reco
 }
 
 still-going : (o : Over) (reads : Reading) (bytes : List ℕ) (old : HeldBytes) (left : List ℕ) (acts : List NumberedAct) (p q : ℕ)
-    → (o ≢ over.Going → ⊥) → IsRead o reads bytes old left acts p q → IsGoing reads bytes old left acts p q
+    → (o ≢ over.Going → ⊥) → IsReadSoFar o reads bytes old left acts p q → IsGoing reads bytes old left acts p q
 still-going over.Going reads bytes old left acts p q other read = read
 still-going over.Ended reads bytes old left acts p q other read = absurd (other (λ e. let bad : over.Ended ≡ over.Going = e in cc))
 still-going (over.Stopped stopped) reads bytes old left acts p q other read = absurd read
@@ -124,16 +124,16 @@ module _ (setting : Setting) (slots : ℕ) (p front : List (List ℕ)) (last : L
         report_is = s.report ∙ sym (append-nil (accepted_old ++ printed s.effects));
       }
 
--- one turn more
-pub turn-in-time : (setting : Setting) (slots : ℕ) (p q : List (List ℕ)) (old : HeldBytes) (before : Progress) (events_old events_new : List Action) (accepted_old accepted_mid accepted_new : List ℕ)
+-- one round more
+pub round-in-time : (setting : Setting) (slots : ℕ) (p q : List (List ℕ)) (old : HeldBytes) (before : Progress) (events_old events_new : List Action) (accepted_old accepted_mid accepted_new : List ℕ)
     → ((left now : List ℕ) → MayGive left p now → SoFar setting slots left old now before events_old (Some accepted_old) (Some accepted_mid))
     → (HasEnd p → q ≡ []) → (old.over ≢ over.Going → q ≡ []) → LastAtOpenLine old.before old.pending q → Grows events_old events_new (Some accepted_mid) (Some accepted_new)
     → InTime setting slots p events_old accepted_old accepted_mid → InTime setting slots (p ++ q) events_new accepted_old accepted_new
-turn-in-time setting slots p q old before writes events_new accepted_old accepted_mid accepted_new so_far ends rests (inl none) grows is =
+round-in-time setting slots p q old before writes events_new accepted_old accepted_mid accepted_new so_far ends rests (inl none) grows is =
     rw grows.events (λ front piece e.
     still-in-time setting slots front writes grows.actions accepted_old accepted_mid accepted_new grows.bytes grows.report
     (is front piece (sym (append-nil p) ∙ ap (λ l. p ++ l) (sym none) ∙ e)))
-turn-in-time setting slots p q old before writes events_new accepted_old accepted_mid accepted_new so_far ends rests (inr (first, last, parts, plain, open_first)) grows is =
+round-in-time setting slots p q old before writes events_new accepted_old accepted_mid accepted_new so_far ends rests (inr (first, last, parts, plain, open_first)) grows is =
     rw grows.events (λ front piece e.
     let some : q ≢ [] = λ none. no-push first last (sym none ∙ parts) in
     let same = same_from_push (p ++ first) front last piece (append_assoc p first (last ∷ []) ∙ ap (λ l. p ++ l) (sym parts) ∙ e) in
@@ -156,7 +156,7 @@ pub stands-first : (setting : Setting) (slots : ℕ) (bytes : List ℕ) (held : 
     → SoFar setting slots bytes held left progress events taken_old taken_new → StandsAt setting slots [] bytes held left progress events taken_old taken_new
 stands-first setting slots bytes held left progress events taken_old taken_new s = record { so_far = s; begins = λ front last e. absurd (no-push front last e) }
 
--- with the reads of one turn more
+-- with the reads of one round more
 begins-read : (setting : Setting) (slots : ℕ) (p q : List (List ℕ)) (old : HeldBytes) (before : Progress) (writes : List Action) (start taken : Option (List ℕ)) (left now : List ℕ)
     → (s : SoFar setting slots left old (concat q ++ now) before writes start taken)
     → (old.over ≢ over.Going → q ≡ []) → LastAtOpenLine old.before old.pending q → MayGive left (p ++ q) now → Begins setting p s.acts → Begins setting (p ++ q) s.acts
@@ -178,14 +178,14 @@ begins-more setting pieces old new more grown is =
     (some ++ more, grown ∙ ap (λ l. l ++ more) first ∙ append_assoc (acts_of (given_so_far setting front)) some more)
 
 pub stands-next : (setting : Setting) (slots : ℕ) (p q : List (List ℕ)) (old : HeldBytes) (before : Progress) (new : HeldBytes) (after : Progress) (events_old events_new : List Action) (start mid end : Option (List ℕ)) (left now : List ℕ)
-    → TurnsBy setting slots old before q None new after events_old events_new mid end → MayGive left (p ++ q) now
+    → RoundsBy setting slots old before q None new after events_old events_new mid end → MayGive left (p ++ q) now
     → StandsAt setting slots p left old (concat q ++ now) before events_old start mid → StandsAt setting slots (p ++ q) left new now after events_new start end
-stands-next setting slots p q old before new after events_old events_new start mid end left now turn may s =
-    let on = turn.goes left (concat q ++ now) now start (may-second left now p q may) s.so_far in
+stands-next setting slots p q old before new after events_old events_new start mid end left now round may s =
+    let on = round.goes left (concat q ++ now) now start (may-second left now p q may) s.so_far in
     record {
       so_far = on.so_far;
       begins = begins-more setting (p ++ q) s.so_far.acts on.so_far.acts on.more on.acts_are
-          (begins-read setting slots p q old before events_old start mid left now s.so_far turn.rests turn.last may s.begins);
+          (begins-read setting slots p q old before events_old start mid left now s.so_far round.rests round.last may s.begins);
     }
 
 -- memory was wanting at an act that was not known before the last read
@@ -194,12 +194,12 @@ WantsAll setting slots pieces events accepted_old accepted_new =
     (front : List (List ℕ)) (last : List ℕ) → pieces ≡ front ++ last ∷ [] → (left after : List ℕ) → MayGive left pieces after → WantsInTime setting slots front left events accepted_old accepted_new
 
 pub wants-in-time : (setting : Setting) (slots : ℕ) (p q : List (List ℕ)) (old : HeldBytes) (before : Progress) (status : Status) (new : HeldBytes) (after : Progress) (events_old events_new : List Action) (accepted_old accepted_mid accepted_new left now front_last : List ℕ) (front : List (List ℕ))
-    → TurnsBy setting slots old before q (Some status) new after events_old events_new (Some accepted_mid) (Some accepted_new) → status ≡ Memory → MayGive left (p ++ q) now
+    → RoundsBy setting slots old before q (Some status) new after events_old events_new (Some accepted_mid) (Some accepted_new) → status ≡ Memory → MayGive left (p ++ q) now
     → StandsAt setting slots p left old (concat q ++ now) before events_old (Some accepted_old) (Some accepted_mid) → p ++ q ≡ front ++ front_last ∷ []
     → WantsInTime setting slots front left events_new accepted_old accepted_new
-wants-in-time setting slots p q old before status new after events_old events_new accepted_old accepted_mid accepted_new left now last front turn memory may s is =
-    let next = turn.wants (ap Some memory) left (concat q ++ now) now (Some accepted_old) (may-second left now p q may) s.so_far in
-    let (more, begins) = begins-read setting slots p q old before events_old (Some accepted_old) (Some accepted_mid) left now s.so_far turn.rests turn.last may s.begins front last is in
+wants-in-time setting slots p q old before status new after events_old events_new accepted_old accepted_mid accepted_new left now last front round memory may s is =
+    let next = round.wants (ap Some memory) left (concat q ++ now) now (Some accepted_old) (may-second left now p q may) s.so_far in
+    let (more, begins) = begins-read setting slots p q old before events_old (Some accepted_old) (Some accepted_mid) left now s.so_far round.rests round.last may s.begins front last is in
     record {
       effects = s.so_far.effects ++ next.wants.effects;
       wants = record { done = acts_only s.so_far.acts; act = next.act; later = next.later; acts = next.acts_are; body = s.so_far.effects; before = before; run = s.so_far.run; front = next.wants.effects; needs = next.wants.needs; effects_are = refl };

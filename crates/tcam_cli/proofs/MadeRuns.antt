@@ -13,7 +13,8 @@ use Rattle.replay.specs.declared.Act.{Act}
 use Rattle.replay.specs.declared.ActFault.{ActFault}
 use Rattle.replay.specs.declared.RunFault.{RunFault}
 use Rattle.replay.specs.declared.RunFault.TheVariants as run_fault
-use Rattle.replay.specs.Script.{Whole, limit_fault, most_pending, pending_after}
+use Rattle.rule_store.specs.Batch.{most_pending}
+use Rattle.replay.specs.Script.{Whole, limit_fault, pending_after}
 use Rattle.replay.specs.Effects.{Setting, Effect, events_in, printed}
 use Rattle.replay.specs.Run.{Progress, Runs, ending, start}
 use Rattle.replay.specs.Carried.{IsAt, Carries}
@@ -23,7 +24,7 @@ use Rattle.tcam_cli.specs.declared.Status.{Status}
 use Rattle.tcam_cli.specs.declared.Status.TheVariants.{Done, Refused, Script as ScriptFault, ReadFault, WriteFault, DeviceFault, Memory, Usage}
 use Rattle.tcam_cli.specs.Headline.{IsCarriedOut, Makes, MayEnd, acts_of, status_of}
 use Rattle.tcam_cli.specs.MadeScript.{made_act, made_numbered, made_script}
-use Rattle.tcam_cli.specs.Turns.{Closes, status_of_fault}
+use Rattle.tcam_cli.specs.Rounds.{Closes, status_of_fault}
 use Rattle.tcam_cli.proofs.Decided.{complete-decided}
 use Rattle.tcam_cli.proofs.OneMore.{run-at, run-more, does-events, does-report}
 use Rattle.tcam_cli.proofs.Outcomes.{Stops, closed-outcome, stopped-outcome}

@@ -4,6 +4,7 @@ use Rattle.std.specs.Prelude.{fold}
 use Rattle.std.specs.List.{list_any}
 use Rattle.std.proofs.lemmas.List.Sums.{fold-append}
 use Rattle.std.specs.Str.{bytes_eq}
+use Rattle.slot_order.specs.Order.{most_slots}
 use Rattle.clap.specs.ValueTests.{is_unsigned_in}
 use Rattle.clap.specs.Takes.{is_given}
 use Rattle.clap.specs.Walk.{Row, Rule, Text, nothing_held, rows_after, with_default}
@@ -11,7 +12,7 @@ use Rattle.clap.specs.Simple.{Shape, argument_words, built, filled, help_rule, s
 use Rattle.clap.specs.Faults.{fault_of, level_fault}
 use Rattle.replay.specs.declared.Family.{Family}
 use Rattle.replay.specs.declared.Family.TheVariants.{Route, Acl, Route6, Acl6}
-use Rattle.tcam_cli.specs.CommandLine.{acl_command, depth_option, gen_command, is_traced, job_at, job_of_rows, job_of_subcommand, made_at, mode_by, number_of, number_position, placed_by, placement_option, ranges_option, route_command, script_by, slots_option, tcam_command, tcam_top, text_of, trace_flag}
+use Rattle.tcam_cli.specs.CommandLine.{acl_app, depth_option, gen_app, is_traced, job_at, job_of_rows, job_of_subcommand, made_at, mode_wanted, number_of, number_position, placed_by, placement_option, ranges_option, route_app, script_by, slots_option, tcam_app, tcam_top, text_of, trace_flag}
 use Rattle.tcam_cli.specs.Asked.{job_by, tested_job, tested_job_of_rows, tested_made, tested_script}
 use Rattle.tcam_cli.specs.Headline.{Job}
 use Rattle.tcam_cli.proofs.ArgumentRows.{AllKeep, Good, HasNumber, apart-keeps, depth-default, depth-keep, depth_id, has-apart, number-given, or_no, position, position-keeps, slots-default, slots-keep, slots_id}
@@ -23,9 +24,9 @@ use Rattle.tcam_cli.proofs.TakenRows.{IsTaken, built-gives, level-taken}
 abbrev read_by : Family → List Row → Bool → Bool → Job
 read_by family rows slots depth =
     job_by (cond slots (Some (number_of slots_id rows)) None) (λ s.
-    job_by (cond depth (Some (number_of depth_id rows)) None) (λ d. job_at family s (mode_by family rows) (placed_by rows) (is_traced rows) d))
+    job_by (cond depth (Some (number_of depth_id rows)) None) (λ d. job_at family s (mode_wanted family rows) (placed_by rows) (is_traced rows) d))
 
-script-tested : (family : Family) (rows : List Row) → HasNumber slots_id 1 4096 rows → HasNumber depth_id 0 15 rows → script_by family rows ≡ tested_script family rows
+script-tested : (family : Family) (rows : List Row) → HasNumber slots_id 1 most_slots rows → HasNumber depth_id 0 15 rows → script_by family rows ≡ tested_script family rows
 script-tested family rows slots depth =
     sym (ap (λ b. read_by family rows b (is_unsigned_in 0 15 (text_of depth_id rows))) slots ∙ ap (λ b. read_by family rows true b) depth)
 
@@ -44,10 +45,10 @@ made_by rows slots seed rules batches =
     job_by (cond slots (Some (number_of slots_id rows)) None) (λ s.
     job_by (cond seed (Some (number_of seed_id rows)) None) (λ d.
     job_by (cond rules (Some (number_of rules_id rows)) None) (λ r.
-    job_by (cond batches (Some (number_of batches_id rows)) None) (λ b. made_at s (mode_by Acl rows) (placed_by rows) d r b))))
+    job_by (cond batches (Some (number_of batches_id rows)) None) (λ b. made_at s (mode_wanted Acl rows) (placed_by rows) d r b))))
 
-made-tested : (rows : List Row) → HasNumber slots_id 1 4096 rows → HasNumber seed_id 0 2147483647 rows → HasNumber rules_id 1 256 rows → HasNumber batches_id 1 64 rows
-    → made_at (number_of slots_id rows) (mode_by Acl rows) (placed_by rows) (number_of seed_id rows) (number_of rules_id rows) (number_of batches_id rows) ≡ tested_made rows
+made-tested : (rows : List Row) → HasNumber slots_id 1 most_slots rows → HasNumber seed_id 0 2147483647 rows → HasNumber rules_id 1 256 rows → HasNumber batches_id 1 64 rows
+    → made_at (number_of slots_id rows) (mode_wanted Acl rows) (placed_by rows) (number_of seed_id rows) (number_of rules_id rows) (number_of batches_id rows) ≡ tested_made rows
 made-tested rows slots seed rules batches =
     sym (ap (λ b. made_by rows b (is_unsigned_in 0 2147483647 (text_of seed_id rows)) (is_unsigned_in 1 256 (text_of rules_id rows)) (is_unsigned_in 1 64 (text_of batches_id rows))) slots
     ∙ ap (λ b. made_by rows true b (is_unsigned_in 1 256 (text_of rules_id rows)) (is_unsigned_in 1 64 (text_of batches_id rows))) seed
@@ -90,13 +91,13 @@ abbrev list_front : List Rule
 list_front = filled slots_option ∷ filled ranges_option ∷ filled placement_option ∷ filled trace_flag ∷ []
 
 module _ (s : Shape) (rest : List Rule) (others : AreOthers slots_id rest) (are : s.rules ≡ filled slots_option ∷ rest) (once : s.args_override_self ≡ false) (words : List Text) (none : level_fault s [] nothing_held words false [] ≡ []) where
-  script-slots : HasNumber slots_id 1 4096 (rows_after s.rules [] words)
+  script-slots : HasNumber slots_id 1 most_slots (rows_after s.rules [] words)
   script-slots =
-      let keep : AllKeep (Good slots_id 1 4096) s.rules =
-      subst (AllKeep (Good slots_id 1 4096)) (sym are) (slots-keep, others-keep slots_id 1 4096 rest others) in
-      let taken = level-taken (Good slots_id 1 4096) s keep once tt words none in
-      subst (HasNumber slots_id 1 4096) (sym (taken.after ∙ ap (fold with_default taken.rows) are))
-      (has-still slots_id 1 4096 rest others (with_default taken.rows (filled slots_option)) (slots-default taken.rows taken.good).0)
+      let keep : AllKeep (Good slots_id 1 most_slots) s.rules =
+      subst (AllKeep (Good slots_id 1 most_slots)) (sym are) (slots-keep, others-keep slots_id 1 most_slots rest others) in
+      let taken = level-taken (Good slots_id 1 most_slots) s keep once tt words none in
+      subst (HasNumber slots_id 1 most_slots) (sym (taken.after ∙ ap (fold with_default taken.rows) are))
+      (has-still slots_id 1 most_slots rest others (with_default taken.rows (filled slots_option)) (slots-default taken.rows taken.good).0)
 
 -- an argument behind others keeps what they keep
 all-behind : (P : List Row → Type 0) (front back : List Rule) → AllKeep P front → AllKeep P back → AllKeep P (front ++ back)
@@ -164,7 +165,7 @@ module _ (s : Shape) (are : s.rules ≡ gen_rules) (once : s.args_override_self 
     gen-number : is_given id (rows_after s.rules [] words) ≡ true → HasNumber id low high (rows_after s.rules [] words)
     gen-number given = number-given id low high (rows_after s.rules [] words) given gen-good
 
-  gen-made : made_at (number_of slots_id (rows_after s.rules [] words)) (mode_by Acl (rows_after s.rules [] words)) (placed_by (rows_after s.rules [] words)) (number_of seed_id (rows_after s.rules [] words))
+  gen-made : made_at (number_of slots_id (rows_after s.rules [] words)) (mode_wanted Acl (rows_after s.rules [] words)) (placed_by (rows_after s.rules [] words)) (number_of seed_id (rows_after s.rules [] words))
       (number_of rules_id (rows_after s.rules [] words)) (number_of batches_id (rows_after s.rules [] words)) ≡ tested_made (rows_after s.rules [] words)
   unfolding slots_option ranges_option placement_option number_position
   gen-made =
@@ -188,26 +189,26 @@ module _ (s : Shape) (are : s.rules ≡ gen_rules) (once : s.args_override_self 
         ),
       ) in
       let front : List Rule = position 1 seed_id 0 2147483647 ∷ position 2 rules_id 1 256 ∷ position 3 batches_id 1 64 ∷ [] in
-      let ahead : AllKeep (Good slots_id 1 4096) front = others-keep _ _ _ front refl in
-      let slots : AllKeep (Good slots_id 1 4096) gen_rules =
+      let ahead : AllKeep (Good slots_id 1 most_slots) front = others-keep _ _ _ front refl in
+      let slots : AllKeep (Good slots_id 1 most_slots) gen_rules =
       (ahead.0, (ahead.1.0, (ahead.1.1.0, (slots-keep, others-keep _ _ _ made_rest refl)))) in
       let given = gen-given seed_id 0 2147483647 seed in
-      let taken = gen-taken slots_id 1 4096 slots in
+      let taken = gen-taken slots_id 1 most_slots slots in
       let before = fold with_default taken.rows front in
-      let good = keep-defaults (Good slots_id 1 4096) front ahead taken.rows taken.good in
-      let has : HasNumber slots_id 1 4096 (rows_after s.rules [] words) =
-      subst (HasNumber slots_id 1 4096) (sym (taken.after ∙ ap (fold with_default taken.rows) are))
-      (has-still slots_id 1 4096 made_rest refl (with_default before (filled slots_option)) (slots-default before good).0) in
+      let good = keep-defaults (Good slots_id 1 most_slots) front ahead taken.rows taken.good in
+      let has : HasNumber slots_id 1 most_slots (rows_after s.rules [] words) =
+      subst (HasNumber slots_id 1 most_slots) (sym (taken.after ∙ ap (fold with_default taken.rows) are))
+      (has-still slots_id 1 most_slots made_rest refl (with_default before (filled slots_option)) (slots-default before good).0) in
       made-tested (rows_after s.rules [] words) has (gen-number seed_id 0 2147483647 seed given.seed) (gen-number rules_id 1 256 rules given.rules) (gen-number batches_id 1 64 batches given.batches)
 
 -- ---- the program
 
 -- where clap finds no fault, the tests of the numbers pass
-pub tested : (words : List Text) → fault_of tcam_command words ≡ [] → (o : Option (Text × List Row)) → subcommand_of tcam_command words ≡ o → job_of_subcommand o ≡ tested_job o
-unfolding tcam_command tcam_top route_command acl_command gen_command slots_option ranges_option placement_option trace_flag depth_option number_position
+pub tested : (words : List Text) → fault_of tcam_app words ≡ [] → (o : Option (Text × List Row)) → subcommand_of tcam_app words ≡ o → job_of_subcommand o ≡ tested_job o
+unfolding tcam_app tcam_top route_app acl_app gen_app slots_option ranges_option placement_option trace_flag depth_option number_position
 tested words none None are = refl
 tested words none (Some (name, rows)) are =
-    built-gives (λ name rows. job_of_rows name rows ≡ tested_job_of_rows name rows) (built tcam_command) (
+    built-gives (λ name rows. job_of_rows name rows ≡ tested_job_of_rows name rows) (built tcam_app) (
       λ words none. script-tested Route (rows_after (filled slots_option ∷ route_rest) [] words) (script-slots _ route_rest refl refl refl words none) (script-depth _ route_front refl refl refl words none),
       (
         λ words none. script-tested Acl (rows_after (filled slots_option ∷ list_rest) [] words) (script-slots _ list_rest refl refl refl words none) (script-depth _ list_front refl refl refl words none),
@@ -219,4 +220,4 @@ tested words none (Some (name, rows)) are =
           ),
         ),
       ),
-    ) (argument_words tcam_command words) name rows none are
+    ) (argument_words tcam_app words) name rows none are

@@ -9,7 +9,7 @@ use Rattle.tcam_device.specs.State.{state_after, replay}
 use Rattle.replay.specs.declared.Act.{Act}
 use Rattle.replay.specs.declared.Act.TheVariants.{Command, Probe, Packet, Commit, Trial, Crash}
 use Rattle.replay.specs.Script.{pending_after, probes_after}
-use Rattle.replay.specs.Effects.{Setting, Effect, events_in, written, printed}
+use Rattle.replay.specs.Effects.{Setting, Effect, events_in, journal_of, printed}
 use Rattle.replay.specs.Run.{Progress, start, Commits, Tries, Crashes, Judged, HasEffects, Run, Runs}
 use Rattle.replay.specs.Carried.{IsAt, Does}
 use Rattle.tcam_device.proofs.Spans.{state_after-append}
@@ -20,48 +20,48 @@ use Rattle.commit_writes.proofs.Undone.{undo_ends}
 use Rattle.std.specs.List.{AllByRecursion}
 use Rattle.tcam_cli.specs.AllTheWay.{IsNoProbe}
 
-judged-state : (setting : Setting) (old : Progress) (v : Verdict) (effects : List Effect) (new : Progress) → Judged Commits setting old v effects new → new.state ≡ state_after old.state (written effects)
+judged-state : (setting : Setting) (old : Progress) (v : Verdict) (effects : List Effect) (new : Progress) → Judged Commits setting old v effects new → new.state ≡ state_after old.state (journal_of effects)
 judged-state setting old Accepted effects new step =
     ap (λ p. p.state) step.after
-    ∙ ap (state_after old.state) (sym (written-segment setting old step.made _) ∙ sym (ap written step.effects_are))
-judged-state setting old (Unsound fault) effects new step = ap (λ p. p.state) step.1 ∙ ap (state_after old.state) (sym (ap written step.0))
-judged-state setting old (OutOfBits field needed free) effects new step = ap (λ p. p.state) step.1 ∙ ap (state_after old.state) (sym (ap written step.0))
-judged-state setting old (OutOfSlots needed free) effects new step = ap (λ p. p.state) step.1 ∙ ap (state_after old.state) (sym (ap written step.0))
+    ∙ ap (state_after old.state) (sym (written-segment setting old step.made _) ∙ sym (ap journal_of step.effects_are))
+judged-state setting old (Unsound fault) effects new step = ap (λ p. p.state) step.1 ∙ ap (state_after old.state) (sym (ap journal_of step.0))
+judged-state setting old (OutOfBits field needed free) effects new step = ap (λ p. p.state) step.1 ∙ ap (state_after old.state) (sym (ap journal_of step.0))
+judged-state setting old (OutOfSlots needed free) effects new step = ap (λ p. p.state) step.1 ∙ ap (state_after old.state) (sym (ap journal_of step.0))
 
-tried-state : (most : ℕ) (setting : Setting) (old : Progress) (v : Verdict) (effects : List Effect) (new : Progress) → Judged (Tries most) setting old v effects new → new.state ≡ state_after old.state (written effects)
+tried-state : (most : ℕ) (setting : Setting) (old : Progress) (v : Verdict) (effects : List Effect) (new : Progress) → Judged (Tries most) setting old v effects new → new.state ≡ state_after old.state (journal_of effects)
 tried-state most setting old Accepted effects new (inl commits) = judged-state setting old Accepted effects new commits.0
 tried-state most setting old Accepted effects new (inr returns) =
     ap (λ p. p.state) returns.after ∙ sym (undo_ends old.state (take most returns.made))
-    ∙ ap (state_after old.state) (sym (written-return setting old most returns.made _) ∙ sym (ap written returns.effects_are))
-tried-state most setting old (Unsound fault) effects new step = ap (λ p. p.state) step.1 ∙ ap (state_after old.state) (sym (ap written step.0))
-tried-state most setting old (OutOfBits field needed free) effects new step = ap (λ p. p.state) step.1 ∙ ap (state_after old.state) (sym (ap written step.0))
-tried-state most setting old (OutOfSlots needed free) effects new step = ap (λ p. p.state) step.1 ∙ ap (state_after old.state) (sym (ap written step.0))
+    ∙ ap (state_after old.state) (sym (written-return setting old most returns.made _) ∙ sym (ap journal_of returns.effects_are))
+tried-state most setting old (Unsound fault) effects new step = ap (λ p. p.state) step.1 ∙ ap (state_after old.state) (sym (ap journal_of step.0))
+tried-state most setting old (OutOfBits field needed free) effects new step = ap (λ p. p.state) step.1 ∙ ap (state_after old.state) (sym (ap journal_of step.0))
+tried-state most setting old (OutOfSlots needed free) effects new step = ap (λ p. p.state) step.1 ∙ ap (state_after old.state) (sym (ap journal_of step.0))
 
-crashed-state : (after : ℕ) (setting : Setting) (old : Progress) (v : Verdict) (effects : List Effect) (new : Progress) → Judged (Crashes after) setting old v effects new → new.state ≡ state_after old.state (written effects)
+crashed-state : (after : ℕ) (setting : Setting) (old : Progress) (v : Verdict) (effects : List Effect) (new : Progress) → Judged (Crashes after) setting old v effects new → new.state ≡ state_after old.state (journal_of effects)
 crashed-state after setting old Accepted effects new (inl commits) = judged-state setting old Accepted effects new commits.0
 crashed-state after setting old Accepted effects new (inr restarts) = ap (λ p. p.state) restarts.new_is ∙ ap (state_after old.state) (sym (written-restarts setting old new after effects restarts))
-crashed-state after setting old (Unsound fault) effects new step = ap (λ p. p.state) step.1 ∙ ap (state_after old.state) (sym (ap written step.0))
-crashed-state after setting old (OutOfBits field needed free) effects new step = ap (λ p. p.state) step.1 ∙ ap (state_after old.state) (sym (ap written step.0))
-crashed-state after setting old (OutOfSlots needed free) effects new step = ap (λ p. p.state) step.1 ∙ ap (state_after old.state) (sym (ap written step.0))
+crashed-state after setting old (Unsound fault) effects new step = ap (λ p. p.state) step.1 ∙ ap (state_after old.state) (sym (ap journal_of step.0))
+crashed-state after setting old (OutOfBits field needed free) effects new step = ap (λ p. p.state) step.1 ∙ ap (state_after old.state) (sym (ap journal_of step.0))
+crashed-state after setting old (OutOfSlots needed free) effects new step = ap (λ p. p.state) step.1 ∙ ap (state_after old.state) (sym (ap journal_of step.0))
 
-pub step-state : (setting : Setting) (old : Progress) (act : Act) (effects : List Effect) (new : Progress) → HasEffects setting old act effects new → new.state ≡ state_after old.state (written effects)
-step-state setting old (Command change) effects new step = ap (λ p. p.state) step.1 ∙ ap (state_after old.state) (sym (ap written step.0))
-step-state setting old (Probe key) effects new step = ap (λ p. p.state) step.1 ∙ ap (state_after old.state) (sym (ap written step.0))
-step-state setting old (Packet key) effects new step = ap (λ p. p.state) step.1 ∙ ap (state_after old.state) (sym (ap written step.0))
+pub step-state : (setting : Setting) (old : Progress) (act : Act) (effects : List Effect) (new : Progress) → HasEffects setting old act effects new → new.state ≡ state_after old.state (journal_of effects)
+step-state setting old (Command change) effects new step = ap (λ p. p.state) step.1 ∙ ap (state_after old.state) (sym (ap journal_of step.0))
+step-state setting old (Probe key) effects new step = ap (λ p. p.state) step.1 ∙ ap (state_after old.state) (sym (ap journal_of step.0))
+step-state setting old (Packet key) effects new step = ap (λ p. p.state) step.1 ∙ ap (state_after old.state) (sym (ap journal_of step.0))
 step-state setting old Commit effects new step = judged-state setting old (verdict setting.slots setting.mode old.rules old.batch) effects new step
 step-state setting old (Trial most) effects new step = tried-state most setting old (verdict setting.slots setting.mode old.rules old.batch) effects new step
 step-state setting old (Crash after) effects new step = crashed-state after setting old (verdict setting.slots setting.mode old.rules old.batch) effects new step
 
 -- the state of a run is what its writes leave
-run-state-from : (setting : Setting) (old : Progress) (acts : List Act) (effects : List Effect) (new : Progress) → Run setting old acts effects new → new.state ≡ state_after old.state (written effects)
-run-state-from setting old [] effects new run = ap (λ p. p.state) run.1 ∙ ap (state_after old.state) (sym (ap written run.0))
+run-state-from : (setting : Setting) (old : Progress) (acts : List Act) (effects : List Effect) (new : Progress) → Run setting old acts effects new → new.state ≡ state_after old.state (journal_of effects)
+run-state-from setting old [] effects new run = ap (λ p. p.state) run.1 ∙ ap (state_after old.state) (sym (ap journal_of run.0))
 run-state-from setting old (act ∷ acts) effects new (front, mid, back, step, rest, whole) =
     run-state-from setting mid acts back new rest
-    ∙ ap (λ s. state_after s (written back)) (step-state setting old act front mid step)
-    ∙ sym (state_after-append old.state (written front) (written back))
-    ∙ ap (state_after old.state) (sym (written-append front back) ∙ sym (ap written whole))
+    ∙ ap (λ s. state_after s (journal_of back)) (step-state setting old act front mid step)
+    ∙ sym (state_after-append old.state (journal_of front) (journal_of back))
+    ∙ ap (state_after old.state) (sym (written-append front back) ∙ sym (ap journal_of whole))
 
-pub run-state : (setting : Setting) (slots : ℕ) (acts : List Act) (effects : List Effect) (last : Progress) → Runs setting slots acts effects last → last.state ≡ replay slots (written effects)
+pub run-state : (setting : Setting) (slots : ℕ) (acts : List Act) (effects : List Effect) (last : Progress) → Runs setting slots acts effects last → last.state ≡ replay slots (journal_of effects)
 run-state setting slots acts effects last run = run-state-from setting (start slots) acts effects last run
 
 -- so the device is where the run stands

@@ -14,8 +14,8 @@ use Rattle.replay.specs.Run.{Progress, IsCutStep, Runs}
 use Rattle.replay.specs.Carried.{IsAt, CutsAtLine, CutsAtWrite, Wants}
 use Rattle.replay.specs.Running.{Running, ComesTo, progress_of, setting_of}
 use Rattle.tcam_cli.specs.declared.Status.{Status}
-use Rattle.tcam_cli.specs.Headline.{IsAtAct, IsComplete, IsOutcome, MatchesOutcome, acts_of, last_line, status_of}
-use Rattle.tcam_cli.specs.Turns.{Closes, Grows, status_of_fault}
+use Rattle.tcam_cli.specs.Headline.{IsAtAct, IsComplete, IsOutcome, MatchesOutcome, acts_of, closing_line, status_of}
+use Rattle.tcam_cli.specs.Rounds.{Closes, Grows, status_of_fault}
 use Rattle.tcam_cli.proofs.OneMore.{run-at, does-events, does-report}
 use Rattle.tcam_cli.proofs.Endings.{outcome-complete, written-line, printed-line}
 use Rattle.tcam_cli.proofs.InTime.{does-grows}
@@ -53,10 +53,10 @@ stops-grows slots setting last act fault.Memory events events_new before after a
 module _ (setting : Setting) (slots : ℕ) (script came : Script) (done : List Act) (effects : List Effect) (last : Progress) (events : List Action) (start before : Option (List ℕ))
     (run : Runs setting slots done effects last) (events_is : events ≡ events_in effects) (report : Appends start before (printed effects)) where
   -- the last line is written, or a part of it
-  pub closed-outcome : (after : Option (List ℕ)) (result : Status) → acts_of script ≡ done → Closes (last_line setting last script.last) (status_of last script.last) result before after
+  pub closed-outcome : (after : Option (List ℕ)) (result : Status) → acts_of script ≡ done → Closes (closing_line setting last script.last) (status_of last script.last) result before after
       → MatchesOutcome setting slots script came result events start after
   closed-outcome after result is (inl (e, line)) =
-      let text = last_line setting last script.last in
+      let text = closing_line setting last script.last in
       let more : List Effect = effects ++ Prints text ∷ [] in
       let whole : IsComplete setting slots script result more = record {
         body = effects;
@@ -76,7 +76,7 @@ module _ (setting : Setting) (slots : ℕ) (script came : Script) (done : List A
     effects = effects;
     partial = partial;
     outcome = subst (λ status. IsOutcome setting slots script came status effects partial) (sym e) (record {
-      line = last_line setting last script.last;
+      line = closing_line setting last script.last;
       rest = rest;
       due = inr (record { last = last; run = subst (λ acts. Runs setting slots acts effects last) (sym is) run; due_is = refl });
       part = part;

@@ -16,8 +16,8 @@ use Rattle.batch_order.proofs.planning.Padded.{one-write}
 use Rattle.rule_store.specs.declared.Mode.TheVariants.{Cover}
 use Rattle.batch_order.specs.declared.Placement.TheVariants.{Middle}
 use Rattle.replay.specs.declared.Family.TheVariants.{Route}
-use Rattle.replay.specs.Effects.{Setting, Effect, Prints, written}
-use Rattle.replay.specs.Run.{Progress, Commits, Judged, start, slots_in_use}
+use Rattle.replay.specs.Effects.{Setting, Effect, Prints, journal_of}
+use Rattle.replay.specs.Run.{Progress, Commits, Judged, start, used_slots}
 use Rattle.replay.proofs.lines.Effects.{written-append}
 use Rattle.replay.proofs.lines.Written.{written-segment}
 use Rattle.tcam_cli.specs.declared.Status.TheVariants.{Done}
@@ -32,13 +32,13 @@ abbrev pending : Progress
 pending = record (start 8) { batch = Add (route_rule (ipv4_route_rank (ipv4_block 0x0a000000 8)) (ipv4_block 0x0a000000 8) 7) ∷ [] }
 
 -- its commit makes one write
-one-commit : (effects : List Effect) (new : Progress) → Commits setting pending effects new → length (written effects) ≡ 1
+one-commit : (effects : List Effect) (new : Progress) → Commits setting pending effects new → length (journal_of effects) ≡ 1
 one-commit effects new commits =
-    let made : written effects ≡ commits.made =
-    ap written commits.effects_are ∙ written-segment setting pending commits.made _ in
-    ap length made ∙ one-write setting.placement Cover no_bits pending.batch (slots_in_use setting pending.state) commits.made refl refl refl commits.placed
+    let made : journal_of effects ≡ commits.made =
+    ap journal_of commits.effects_are ∙ written-segment setting pending commits.made _ in
+    ap length made ∙ one-write setting.placement Cover no_bits pending.batch (used_slots setting pending.state) commits.made refl refl refl commits.placed
 
-judged : (before : Progress) (effects : List Effect) (new : Progress) → before ≡ pending → Judged Commits setting before (verdict setting.slots setting.mode before.rules before.batch) effects new → length (written effects) ≡ 1
+judged : (before : Progress) (effects : List Effect) (new : Progress) → before ≡ pending → Judged Commits setting before (verdict setting.slots setting.mode before.rules before.batch) effects new → length (journal_of effects) ≡ 1
 judged before effects new is commits =
     one-commit effects new (subst (λ (p : Progress). Judged Commits setting p (verdict setting.slots setting.mode p.rules p.batch) effects new) is commits)
 
@@ -49,10 +49,10 @@ padded entry claim =
     let whole = outcome.outcome.0 in
     let add = whole.run in
     let commit = add.4 in
-    let one : length (written commit.0) ≡ 1 = judged add.1 commit.0 commit.1 add.3.1 commit.3 in
+    let one : length (journal_of commit.0) ≡ 1 = judged add.1 commit.0 commit.1 add.3.1 commit.3 in
     let body : whole.body ≡ commit.0 =
     add.5 ∙ (ap (λ (front : List Effect). front ++ add.2) add.3.0 ∙ (commit.5 ∙ (ap (λ (back : List Effect). commit.0 ++ back) commit.4.0 ∙ append-nil commit.0))) in
-    let made : written outcome.effects ≡ written commit.0 =
-    ap written whole.effects_are ∙ (written-append whole.body (Prints _ ∷ []) ∙ (append-nil (written whole.body) ∙ ap written body)) in
+    let made : journal_of outcome.effects ≡ journal_of commit.0 =
+    ap journal_of whole.effects_are ∙ (written-append whole.body (Prints _ ∷ []) ∙ (append-nil (journal_of whole.body) ∙ ap journal_of body)) in
     let count : 3 ≡ 1 = ap (λ actions. length (writes_in actions)) outcome.events_is ∙ (ap length made ∙ one) in
     omega (arith, count)

@@ -15,7 +15,7 @@ use Rattle.line_words.specs.declared.commands.CommonCommand.{CommonCommand}
 use Rattle.route_reader.specs.declared.RouteCommand.{RouteCommand}
 use Rattle.route_reader.specs.declared.RouteCommand.TheVariants.{Add, Set, Del, Common}
 use Rattle.route_reader.specs.Grammar.{addition, change, removal, route_words, route_command, route_line}
-use Rattle.tcam_cli.specs.Turns.{IsCommandOf}
+use Rattle.tcam_cli.specs.Rounds.{IsCommandOf}
 
 -- ---- the command of a line that has one
 

@@ -6,10 +6,10 @@ use Rattle.replay.specs.Script.{Script}
 use Rattle.replay.specs.Effects.{Setting}
 use Rattle.tcam_cli.specs.declared.Status.{Status}
 use Rattle.tcam_cli.specs.declared.Status.TheVariants.{Done, Memory, Usage}
-use Rattle.tcam_cli.specs.Headline.{Job, NoJob, Tells, Reads, Makes, IsTold, IsToldAlone, IsCarriedOut, MatchesOutcome}
-use Rattle.tcam_cli.specs.Turns.{Closes}
+use Rattle.tcam_cli.specs.Headline.{Job, NoJob, Tells, Reads, Makes, IsPrinted, IsToldAlone, IsCarriedOut, MatchesOutcome}
+use Rattle.tcam_cli.specs.Rounds.{Closes}
 
-nothing-told : (text : List ℕ) (last : Status) (taken : Option (List ℕ)) → IfSome taken (λ before. IfSome taken (λ after. (report : List ℕ) × (after ≡ before ++ report) × IsTold text last Memory report))
+nothing-told : (text : List ℕ) (last : Status) (taken : Option (List ℕ)) → IfSome taken (λ before. IfSome taken (λ after. (report : List ℕ) × (after ≡ before ++ report) × IsPrinted text last Memory report))
 nothing-told text last None = tt
 nothing-told text last (Some bytes) = ([], sym (append-nil bytes), inr (inr (refl, refl)))
 
@@ -28,7 +28,7 @@ memory-carried (Reads setting) slots (Some old) taken events blank =
 memory-carried (Makes setting seed rules batches) slots left taken events blank = (refl, (λ e. absurd (cc), nothing-done setting slots _ _ taken events blank))
 
 told-text : (text : List ℕ) (last result : Status) (before after : Option (List ℕ)) → Closes text last result before after
-    → IfSome before (λ b. IfSome after (λ a. (report : List ℕ) × (a ≡ b ++ report) × IsTold text last result report))
+    → IfSome before (λ b. IfSome after (λ a. (report : List ℕ) × (a ≡ b ++ report) × IsPrinted text last result report))
 told-text text last result None after closes = tt
 told-text text last result (Some b) None closes = tt
 told-text text last result (Some b) (Some a) (inl (e, line)) = (text, line, inl (e, refl))

@@ -16,7 +16,7 @@ use Rattle.tcam_cli.specs.Readings.{reading}
 use Rattle.tcam_cli.proofs.Decided.{complete-decided}
 use Rattle.script_lines.specs.declared.Over.TheVariants as over
 use Rattle.script_lines.specs.Reader.{HeldBytes}
-use Rattle.tcam_cli.specs.Turns.{IsGoing, SoFar, Ends}
+use Rattle.tcam_cli.specs.Rounds.{IsGoing, SoFar, EndsRun}
 
 abbrev pub fresh : HeldBytes
 fresh = record { pending = []; before = 0; number = 1; over = over.Going }
@@ -54,7 +54,7 @@ told-source None b takes some = absurd (cc)
 told-source (Some x) None takes some = absurd takes.1
 told-source (Some x) (Some y) takes some = refl
 
--- a count that stayed before the last turn
+-- a count that stayed before the last round
 pub counted-last : (old mid new : ℕ) (status fault : Status) → mid ≡ old → IsCounted (Some status ≡ Some fault) mid new → IsCounted (status ≡ fault) old new
 counted-last old mid new status fault same is =
     let last : IsCounted (Some status ≡ Some fault) old new = subst (λ (count : ℕ). IsCounted (Some status ≡ Some fault) count new) same is in
@@ -70,10 +70,10 @@ taken-of old taken new e =
 -- how a run over a told script ends
 abbrev pub EndsTold : Setting → ℕ → Status → Option (List ℕ) → Option (List ℕ) → List Action → Option (List ℕ) → Option (List ℕ) → Type 0
 EndsTold setting slots status left_old left_new events taken_old taken_new =
-    (left taken now : List ℕ) → left_old ≡ Some left → left_new ≡ Some now → left ≡ taken ++ now → Ends setting slots left taken now status events taken_old taken_new
+    (left taken now : List ℕ) → left_old ≡ Some left → left_new ≡ Some now → left ≡ taken ++ now → EndsRun setting slots left taken now status events taken_old taken_new
 
 matches : (setting : Setting) (slots : ℕ) (status : Status) (old taken new : List ℕ) (events : List Action) (taken_old taken_new : Option (List ℕ)) → old ≡ taken ++ new
-    → Ends setting slots old taken new status events taken_old taken_new
+    → EndsRun setting slots old taken new status events taken_old taken_new
     → MatchesOutcome setting slots (script_of (reading setting.family) old) (script_so_far (reading setting.family) (take (length old - length new) old)) status events taken_old taken_new
 matches setting slots status old taken new events taken_old taken_new parts ends =
     let P : List ℕ → Type 0 = λ t. IsOutcome setting slots (script_of (reading setting.family) old) (script_so_far (reading setting.family) t) status ends.effects ends.partial in
@@ -96,7 +96,7 @@ carried setting slots status (Some old) (Some new) events taken_old taken_new ta
 
 decided-by : (setting : Setting) (slots : ℕ) (status : Status) (left_old left_new : Option (List ℕ)) (events : List Action) (taken_old taken_new : Option (List ℕ)) → TakesSome left_old left_new
     → EndsTold setting slots status left_old left_new events taken_old taken_new
-    → ((left taken now : List ℕ) → (e : Ends setting slots left taken now status events taken_old taken_new) → (backs : List Bool) × (decided setting backs (script_of (reading setting.family) left) ≡ status))
+    → ((left taken now : List ℕ) → (e : EndsRun setting slots left taken now status events taken_old taken_new) → (backs : List Bool) × (decided setting backs (script_of (reading setting.family) left) ≡ status))
     → IsDecided status (Reads setting) left_old
 decided-by setting slots status None left_new events taken_old taken_new takes ends so = ([], tt)
 decided-by setting slots status (Some old) None events taken_old taken_new takes ends so = absurd takes.1

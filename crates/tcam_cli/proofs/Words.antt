@@ -15,35 +15,35 @@ use Rattle.clap.proofs.OnLiterals.{clap_on_literals}
 use Rattle.tcam_cli.specs.declared.own_texts.Topic.{Topic}
 use Rattle.tcam_cli.specs.declared.command_line.Asked.{Asked}
 use Rattle.tcam_cli.specs.declared.command_line.WordsFault.{WordsFault}
-use Rattle.tcam_cli.specs.CommandLine.{job_by_faults, job_of, job_of_fault, acl_command, depth_option, gen_command, number_position, placement_option, ranges_option, route_command, slots_option, tcam_command, tcam_top, text_of, trace_flag, topic_in}
+use Rattle.tcam_cli.specs.CommandLine.{job_by_faults, job_of, job_of_fault, acl_app, depth_option, gen_app, number_position, placement_option, ranges_option, route_app, slots_option, tcam_app, tcam_top, text_of, trace_flag, topic_in}
 use Rattle.tcam_cli.specs.Asked.{asked_by, tested_job}
 use Rattle.tcam_cli.specs.Headline.{Job}
 use Rattle.tcam_cli.proofs.NumbersTaken.{tested}
 use Rattle.tcam_cli.proofs.ClearFaults.{Clear, built-clear, fault_job}
 
-pub simple_and_free : is_simple_and_free tcam_command ≡ true
-unfolding clap_on_literals tcam_command tcam_top route_command acl_command gen_command slots_option ranges_option placement_option trace_flag depth_option number_position
+pub simple_and_free : is_simple_and_free tcam_app ≡ true
+unfolding clap_on_literals tcam_app tcam_top route_app acl_app gen_app slots_option ranges_option placement_option trace_flag depth_option number_position
 simple_and_free = refl
 
-pub simple : is_simple tcam_command ≡ true
-unfolding clap_on_literals tcam_command tcam_top route_command acl_command gen_command slots_option ranges_option placement_option trace_flag depth_option number_position
+pub simple : is_simple tcam_app ≡ true
+unfolding clap_on_literals tcam_app tcam_top route_app acl_app gen_app slots_option ranges_option placement_option trace_flag depth_option number_position
 simple = refl
 
-tcam-clear : (words : List Text) → Clear (fault_of tcam_command words)
-unfolding tcam_command tcam_top route_command acl_command gen_command slots_option ranges_option placement_option trace_flag depth_option number_position
-tcam-clear words = built-clear (built tcam_command) nothing_held (argument_words tcam_command words) refl (refl, (refl, (refl, (refl, (refl, tt)))))
+tcam-clear : (words : List Text) → Clear (fault_of tcam_app words)
+unfolding tcam_app tcam_top route_app acl_app gen_app slots_option ranges_option placement_option trace_flag depth_option number_position
+tcam-clear words = built-clear (built tcam_app) nothing_held (argument_words tcam_app words) refl (refl, (refl, (refl, (refl, (refl, tt)))))
 
-pub taken : (a : App) (words : List Text) (m : ArgMatches) → a ≡ tcam_command → fault_of a words ≡ [] → subcommand_rows_of m ≡ subcommand_of a words
+pub taken : (a : App) (words : List Text) (m : ArgMatches) → a ≡ tcam_app → fault_of a words ≡ [] → subcommand_rows_of m ≡ subcommand_of a words
     → job_of words ≡ tested_job (subcommand_rows_of m)
 taken a words m is none rows =
     let free = ap (λ (x : App). fault_of x words) (sym is) ∙ none in
-    ap (λ ks. job_by_faults (topic_in words) ks (subcommand_of tcam_command words)) free ∙ tested words free (subcommand_of tcam_command words) refl
+    ap (λ ks. job_by_faults (topic_in words) ks (subcommand_of tcam_app words)) free ∙ tested words free (subcommand_of tcam_app words) refl
     ∙ ap tested_job (ap (λ (x : App). subcommand_of x words) (sym is) ∙ sym rows)
 
-pub refused : (a : App) (words : List Text) (topic : Option Topic) (k : ErrorKind) → a ≡ tcam_command → topic ≡ topic_in words → IsAmong k (fault_of a words)
+pub refused : (a : App) (words : List Text) (topic : Option Topic) (k : ErrorKind) → a ≡ tcam_app → topic ≡ topic_in words → IsAmong k (fault_of a words)
     → job_of words ≡ job_of_fault topic k
 refused a words topic k is whose among =
-    fault_job (topic_in words) (fault_of tcam_command words) (subcommand_of tcam_command words) k (tcam-clear words) (subst (λ (x : App). IsAmong k (fault_of x words)) is among)
+    fault_job (topic_in words) (fault_of tcam_app words) (subcommand_of tcam_app words) k (tcam-clear words) (subst (λ (x : App). IsAmong k (fault_of x words)) is among)
     ∙ ap (λ t. job_of_fault t k) (sym whose)
 
 -- an answer that names a job

@@ -1,13 +1,14 @@
 -- What the calls that read a command line answer: words that only their contracts need.
 use Rattle.std.specs.Prelude.{ℕ, ◌≤◌, Option, Some, None, List, false, codes, if◌then◌else◌}
 use Rattle.std.specs.Str.{bytes_eq}
+use Rattle.slot_order.specs.Order.{most_slots}
 use Rattle.clap.specs.Walk.{Row, Text}
 use Rattle.clap.specs.ValueTests.{is_unsigned_in}
 use Rattle.replay.specs.declared.Family.{Family}
 use Rattle.replay.specs.declared.Family.TheVariants.{Route, Acl, Route6, Acl6}
 use Rattle.tcam_cli.specs.declared.command_line.Asked.{Asked}
 use Rattle.tcam_cli.specs.declared.command_line.Asked.TheVariants as asked
-use Rattle.tcam_cli.specs.CommandLine.{is_traced, job_at, made_at, mode_by, number_in, placed_by, script_setting, text_of}
+use Rattle.tcam_cli.specs.CommandLine.{is_traced, job_at, made_at, mode_wanted, number_in, placed_by, script_setting, text_of}
 use Rattle.tcam_cli.specs.OwnTexts.{help_on, version_text}
 use Rattle.tcam_cli.specs.Headline.{Job, NoJob, Tells, Reads, Makes}
 
@@ -28,16 +29,16 @@ number_given least greatest id rows = number_within least greatest (text_of id r
 -- the words the tests pass, and the two are one
 abbrev pub tested_script : Family → List Row → Job
 tested_script family rows =
-    job_by (number_given 1 4096 (codes "slots") rows) (λ slots.
-    job_by (number_given 0 15 (codes "depth") rows) (λ depth. job_at family slots (mode_by family rows) (placed_by rows) (is_traced rows) depth))
+    job_by (number_given 1 most_slots (codes "slots") rows) (λ slots.
+    job_by (number_given 0 15 (codes "depth") rows) (λ depth. job_at family slots (mode_wanted family rows) (placed_by rows) (is_traced rows) depth))
 
 abbrev pub tested_made : List Row → Job
 tested_made rows =
-    job_by (number_given 1 4096 (codes "slots") rows) (λ slots.
+    job_by (number_given 1 most_slots (codes "slots") rows) (λ slots.
     job_by (number_given 0 2147483647 (codes "seed") rows) (λ seed.
     job_by (number_given 1 256 (codes "rules") rows) (λ rules.
     job_by (number_given 1 64 (codes "batches") rows) (λ batches.
-    made_at slots (mode_by Acl rows) (placed_by rows) seed rules batches))))
+    made_at slots (mode_wanted Acl rows) (placed_by rows) seed rules batches))))
 
 abbrev pub tested_job_of_rows : Text → List Row → Job
 tested_job_of_rows name rows =
@@ -62,7 +63,7 @@ asked_by asked.Version = Tells version_text
 -- the numbers of made commands are in their ranges
 pub record AreMadeNumbers (slots seed rules batches : ℕ) : Type 0 where
   pub some_slots : 1 ≤ slots
-  pub most_slots : slots ≤ 4096
+  pub most_slots : slots ≤ most_slots
   pub seed_fits : seed ≤ 2147483647
   pub some_rules : 1 ≤ rules
   pub most_rules : rules ≤ 256
@@ -70,8 +71,8 @@ pub record AreMadeNumbers (slots seed rules batches : ℕ) : Type 0 where
   pub most_batches : batches ≤ 64
 
 -- the numbers of an answer are in their ranges
-abbrev pub IsWithin : Asked → Type 0
-IsWithin (asked.Script family slots mode placement trace depth) = (1 ≤ slots) × (slots ≤ 4096) × (depth ≤ 15)
-IsWithin (asked.Made slots mode placement seed rules batches) = AreMadeNumbers slots seed rules batches
-IsWithin (asked.Help topic) = Unit {0}
-IsWithin asked.Version = Unit {0}
+abbrev pub IsInRange : Asked → Type 0
+IsInRange (asked.Script family slots mode placement trace depth) = (1 ≤ slots) × (slots ≤ most_slots) × (depth ≤ 15)
+IsInRange (asked.Made slots mode placement seed rules batches) = AreMadeNumbers slots seed rules batches
+IsInRange (asked.Help topic) = Unit {0}
+IsInRange asked.Version = Unit {0}

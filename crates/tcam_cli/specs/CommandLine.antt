@@ -2,6 +2,7 @@
 use Rattle.std.specs.Prelude.{ℕ, Bool, Option, Some, None, unwrap_or, option_and_then, slice_get, List, [], ◌∷◌, true, false, codes, if◌then◌else◌}
 use Rattle.std.specs.Str.{bytes_eq}
 use Rattle.std.specs.Str.Parse.{digits_value, without_leading_plus}
+use Rattle.slot_order.specs.Order.{most_slots}
 use Rattle.clap.specs.Walk.{Rule, Row, Text, first_of}
 use Rattle.clap.specs.Simple.{App, new_app, new_rule, on_top, with_rule, with_subcommand, subcommand_of}
 use Rattle.clap.specs.Faults.{fault_of}
@@ -33,7 +34,7 @@ unfoldable pub slots_option : Rule
 slots_option = record (new_rule (codes "slots")) {
   long = Some (codes "slots");
   action = Some Set;
-  parser = Some (Unsigned 1 4096);
+  parser = Some (Unsigned 1 most_slots);
   defaults = codes "4096" ∷ [];
 }
 
@@ -67,13 +68,13 @@ depth_option = record (new_rule (codes "depth")) {
 }
 
 -- a subcommand for route scripts, by its name
-unfoldable pub route_command : Text → App
-route_command name =
+unfoldable pub route_app : Text → App
+route_app name =
     with_rule (with_rule (with_rule (with_rule (new_app name) slots_option) placement_option) trace_flag) depth_option
 
 -- a subcommand for access-list scripts, by its name
-unfoldable pub acl_command : Text → App
-acl_command name =
+unfoldable pub acl_app : Text → App
+acl_app name =
     with_rule (with_rule (with_rule (with_rule (with_rule (new_app name) slots_option) ranges_option) placement_option) trace_flag)
     depth_option
 
@@ -86,8 +87,8 @@ number_position name least greatest = record (new_rule name) {
 }
 
 -- the subcommand for made commands: SEED, RULES and BATCHES
-unfoldable pub gen_command : App
-gen_command =
+unfoldable pub gen_app : App
+gen_app =
     with_rule (with_rule (with_rule (with_rule (with_rule (with_rule (new_app (codes "gen")) (number_position (codes "seed") 0 2147483647))
     (number_position (codes "rules") 1 256)) (number_position (codes "batches") 1 64)) slots_option) ranges_option) placement_option
 
@@ -100,10 +101,10 @@ tcam_top = on_top (λ top. record top {
 }) (new_app (codes "tcam"))
 
 -- and with its subcommands
-unfoldable pub tcam_command : App
-tcam_command =
-    with_subcommand (with_subcommand (with_subcommand (with_subcommand (with_subcommand tcam_top (route_command (codes "route")).top)
-    (acl_command (codes "acl")).top) (route_command (codes "route6")).top) (acl_command (codes "acl6")).top) gen_command.top
+unfoldable pub tcam_app : App
+tcam_app =
+    with_subcommand (with_subcommand (with_subcommand (with_subcommand (with_subcommand tcam_top (route_app (codes "route")).top)
+    (acl_app (codes "acl")).top) (route_app (codes "route6")).top) (acl_app (codes "acl6")).top) gen_app.top
 
 -- the text that an argument was given, or has by default
 abbrev pub text_of : Text → List Row → Text
@@ -131,11 +132,11 @@ mode_in text =
     if bytes_eq text (codes "cover") then Some Cover else if bytes_eq text (codes "bits") then Some Bits else None
 
 -- the mode that is wanted: the ranges of a route are any port, and it has no such option
-abbrev pub mode_by : Family → List Row → Option Mode
-mode_by Route rows = Some Cover
-mode_by Acl rows = mode_in (text_of (codes "ranges") rows)
-mode_by Route6 rows = Some Cover
-mode_by Acl6 rows = mode_in (text_of (codes "ranges") rows)
+abbrev pub mode_wanted : Family → List Row → Option Mode
+mode_wanted Route rows = Some Cover
+mode_wanted Acl rows = mode_in (text_of (codes "ranges") rows)
+mode_wanted Route6 rows = Some Cover
+mode_wanted Acl6 rows = mode_in (text_of (codes "ranges") rows)
 
 -- the placement that a word names
 abbrev pub placement_in : Text → Option Placement
@@ -161,7 +162,7 @@ made_at slots (Some mode) (Some placement) seed rules batches = Makes (script_se
 -- a script of a family, by its arguments
 abbrev pub script_by : Family → List Row → Job
 script_by family rows =
-    job_at family (number_of (codes "slots") rows) (mode_by family rows) (placed_by rows) (is_traced rows) (number_of (codes "depth") rows)
+    job_at family (number_of (codes "slots") rows) (mode_wanted family rows) (placed_by rows) (is_traced rows) (number_of (codes "depth") rows)
 
 -- what a subcommand and its arguments ask for: a script of its family over so many slots, or made commands
 abbrev pub job_of_rows : Text → List Row → Job
@@ -170,7 +171,7 @@ job_of_rows name rows =
     else if bytes_eq name (codes "acl") then script_by Acl rows
     else if bytes_eq name (codes "route6") then script_by Route6 rows
     else if bytes_eq name (codes "acl6") then script_by Acl6 rows
-    else if bytes_eq name (codes "gen") then made_at (number_of (codes "slots") rows) (mode_by Acl rows) (placed_by rows) (number_of (codes "seed") rows)
+    else if bytes_eq name (codes "gen") then made_at (number_of (codes "slots") rows) (mode_wanted Acl rows) (placed_by rows) (number_of (codes "seed") rows)
     (number_of (codes "rules") rows) (number_of (codes "batches") rows)
     else NoJob
 
@@ -207,4 +208,4 @@ job_by_faults topic (k ∷ l ∷ ks) subcommand = NoJob
 
 -- what words ask for, the program's name first
 abbrev pub job_of : List Text → Job
-job_of words = job_by_faults (topic_in words) (fault_of tcam_command words) (subcommand_of tcam_command words)
+job_of words = job_by_faults (topic_in words) (fault_of tcam_app words) (subcommand_of tcam_app words)

@@ -38,9 +38,9 @@ abbrev pub acts_of : Script → List Act
 acts_of script = map (λ numbered. numbered.act) script.acts
 
 -- The last line that a script's end gives: the end line, or the line that names the fault.
-abbrev pub last_line : Setting → Progress → ScriptEnd → List ℕ
-last_line setting progress Whole = ending setting progress
-last_line setting progress (FaultAt line text) = fault_line line text
+abbrev pub closing_line : Setting → Progress → ScriptEnd → List ℕ
+closing_line setting progress Whole = ending setting progress
+closing_line setting progress (FaultAt line text) = fault_line line text
 
 -- the status of a script that was carried out to its end
 abbrev pub status_of : Progress → ScriptEnd → Status
@@ -53,7 +53,7 @@ pub record IsComplete (setting : Setting) (device_slots : ℕ) (script : Script)
   pub last : Progress
   pub run : Runs setting device_slots (acts_of script) body last
   pub status_is : status ≡ status_of last script.last
-  pub effects_are : effects ≡ body ++ Prints (last_line setting last script.last) ∷ []
+  pub effects_are : effects ≡ body ++ Prints (closing_line setting last script.last) ∷ []
 
 -- The script was carried out up to an effect that is due next: in the middle of an act,
 pub record IsAtAct (setting : Setting) (device_slots : ℕ) (script : Script) (effects : List Effect) (due : Effect) : Type 0 where
@@ -72,24 +72,24 @@ pub record IsAtAct (setting : Setting) (device_slots : ℕ) (script : Script) (e
 pub record IsAtEnd (setting : Setting) (device_slots : ℕ) (script : Script) (effects : List Effect) (due : Effect) : Type 0 where
   pub last : Progress
   pub run : Runs setting device_slots (acts_of script) effects last
-  pub due_is : due ≡ Prints (last_line setting last script.last)
+  pub due_is : due ≡ Prints (closing_line setting last script.last)
 
 -- either of the two
-abbrev pub IsDue : Setting → ℕ → Script → List Effect → Effect → Type 0
-IsDue setting device_slots script effects due =
+abbrev pub IsEffectDue : Setting → ℕ → Script → List Effect → Effect → Type 0
+IsEffectDue setting device_slots script effects due =
     IsAtAct setting device_slots script effects due ⊎ IsAtEnd setting device_slots script effects due
 
 -- A line could not be written: the effects before it, and the part of it that the sink took.
 pub record IsCutAtLine (setting : Setting) (device_slots : ℕ) (script : Script) (effects : List Effect) (partial : List ℕ) : Type 0 where
   pub line : List ℕ
   pub rest : List ℕ
-  pub due : IsDue setting device_slots script effects (Prints line)
+  pub due : IsEffectDue setting device_slots script effects (Prints line)
   pub part : line ≡ partial ++ rest
 
 -- A device write failed, each time it was tried: the effects before it.
 pub record IsCutAtWrite (setting : Setting) (device_slots : ℕ) (script : Script) (effects : List Effect) : Type 0 where
   pub write : Write
-  pub due : IsDue setting device_slots script effects (Acts (Written write))
+  pub due : IsEffectDue setting device_slots script effects (Acts (Written write))
 
 -- Memory was wanting at an act: the effects of those before it, and those that it had by then.
 pub record IsOutOfMemoryAtAct (setting : Setting) (device_slots : ℕ) (script : Script) (effects : List Effect) : Type 0 where
@@ -143,8 +143,8 @@ IsOutcome setting device_slots script came Memory effects partial = IsOutOfMemor
 IsOutcome setting device_slots script came Usage effects partial = ⊥
 
 -- one text was printed, or a part of it where the sink failed, or nothing for want of memory
-abbrev pub IsTold : List ℕ → Status → Status → List ℕ → Type 0
-IsTold text last status report =
+abbrev pub IsPrinted : List ℕ → Status → Status → List ℕ → Type 0
+IsPrinted text last status report =
     ((status ≡ last) × (report ≡ text))
     ⊎ (((status ≡ WriteFault) × ((rest : List ℕ) × (text ≡ report ++ rest)))
     ⊎ ((status ≡ Memory) × (report ≡ [])))
@@ -172,7 +172,7 @@ pub record TakesFrom (status : Status) (old new : List ℕ) : Type 0 where
 abbrev pub IsToldAlone : List ℕ → Status → Status → Option (List ℕ) → Option (List ℕ) → Option (List ℕ) → Option (List ℕ) → List Action → Type 0
 IsToldAlone text last status left_old left_new taken_old taken_new events =
     (left_new ≡ left_old) × (events ≡ [])
-    × IfSome taken_old (λ before. IfSome taken_new (λ after. (report : List ℕ) × (after ≡ before ++ report) × IsTold text last status report))
+    × IfSome taken_old (λ before. IfSome taken_new (λ after. (report : List ℕ) × (after ≡ before ++ report) × IsPrinted text last status report))
 
 -- The promise of a job over a device that was blank, each part where what it rests on is told of source and sink. Of a
 -- source that foretells nothing specs/Given.antt speaks. Made commands leave the source as it is.

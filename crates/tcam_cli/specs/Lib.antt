@@ -3,7 +3,7 @@ pub mod Headline
 pub mod OwnTexts
 pub mod CommandLine
 pub mod Asked
-pub mod Turns
+pub mod Rounds
 pub mod ExitCodes
 pub mod AllTheWay
 pub mod Given

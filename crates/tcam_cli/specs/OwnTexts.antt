@@ -95,8 +95,8 @@ slots_line = codes "    --slots N        N slots in use, 1 to 4096, by default 4
 unfoldable pub placement_line : List ℕ
 placement_line = codes "    --placement P    where a new entry aims: middle, the default, or rank"
 
-unfoldable pub trace_line : List ℕ
-trace_line = codes "    --trace          a line for each device write and drain"
+unfoldable pub trace_option : List ℕ
+trace_option = codes "    --trace          a line for each device write and drain"
 
 unfoldable pub depth_line : List ℕ
 depth_line = codes "    --depth K        probes are searched K writes later, 0 to 15, by default 0"
@@ -125,7 +125,7 @@ route_help_of command rules named = codes "tcam " ++ command ++ codes ": carries
     ++ 10 ∷ 10 ∷ codes "Options, of which tcam --help says more:"
     ++ 10 ∷ slots_line
     ++ 10 ∷ placement_line
-    ++ 10 ∷ trace_line
+    ++ 10 ∷ trace_option
     ++ 10 ∷ depth_line
     ++ 10 ∷ 10 ∷ codes "Example of a script, whose packet gets the answer " ++ named.prefix ++ codes " 7:"
     ++ 10 ∷ codes "    route add " ++ named.prefix ++ codes " 7"
@@ -160,7 +160,7 @@ acl_help_of command rules named = codes "tcam " ++ command ++ codes ": carries o
     ++ 10 ∷ codes "    SPORT, DPORT   a number up to 65535"
     ++ 10 ∷ 10 ∷ codes "Options, of which tcam --help says more:"
     ++ 10 ∷ list_options
-    ++ 10 ∷ trace_line
+    ++ 10 ∷ trace_option
     ++ 10 ∷ depth_line
     ++ 10 ∷ 10 ∷ codes "Example of a script, whose packet gets the answer 10 permit:"
     ++ 10 ∷ codes "    acl add 10 permit any " ++ named.prefix ++ codes " tcp any 443"

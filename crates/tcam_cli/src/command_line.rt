@@ -3,8 +3,8 @@
 ghost use Rattle.std.specs.Prelude.{◌≡◌, ◌≤◌, codes, Err, IfOk, IsErrOf, IfSome, IsNone, None, false, map, string_bytes};
 ghost use Rattle.clap.specs.Words.{app_of, rule_of, rows_of, found_of, subcommand_rows_of, kind_of};
 ghost use Rattle.clap.specs.declared.builder.command.Command.TheViews.{out-Command};
-ghost use Rattle.tcam_cli.specs.CommandLine.{job_of, job_of_fault, mode_by, mode_in, placement_in, topic_in, topic_named, acl_command as acl_app, depth_option, gen_command as gen_app, number_position, placement_option, ranges_option, route_command as route_app, slots_option, tcam_command as tcam_app, text_of as text_in, trace_flag};
-ghost use Rattle.tcam_cli.specs.Asked.{IsWithin, asked_by, number_within, tested_job, tested_made, tested_script};
+ghost use Rattle.tcam_cli.specs.CommandLine.{job_of, job_of_fault, mode_wanted, mode_in, placement_in, topic_in, topic_named, acl_app, depth_option, gen_app, number_position, placement_option, ranges_option, route_app, slots_option, tcam_app, text_of as text_in, trace_flag};
+ghost use Rattle.tcam_cli.specs.Asked.{IsInRange, asked_by, number_within, tested_job, tested_made, tested_script};
 ghost use Rattle.tcam_cli.specs.Headline.{NoJob};
 
 use crate::own_texts::Topic;
@@ -12,6 +12,7 @@ use clap::builder::ValueParser;
 use clap::error::ErrorKind;
 use clap::{Arg, ArgAction, ArgMatches, Command, Error};
 use replay::{Family, Mode, Placement};
+use slot_order::MOST_SLOTS;
 use std::alloc::{AllocError, Global};
 
 /// What a command line asks for.
@@ -188,7 +189,7 @@ fn tcam_command<'a>(alloc: Global) -> Result<Command<'a>, AllocError>
 pub fn read_words(alloc: Global, words: &[String]) -> Result<Asked, WordsFault>
     ensures asked { IfOk result (λ job. job_of (map string_bytes words.now) ≡ asked_by job) }
     ensures usage { IsErrOf result WordsFault.Usage → job_of (map string_bytes words.now) ≡ NoJob }
-    ensures within { IfOk result IsWithin }
+    ensures within { IfOk result IsInRange }
 {
     let command = match tcam_command(alloc) {
         Ok(command) => command,
@@ -207,7 +208,7 @@ pub fn read_words(alloc: Global, words: &[String]) -> Result<Asked, WordsFault>
 fn job_of_matches(matches: &ArgMatches) -> Option<Asked>
     ensures asked { IfSome result (λ job. tested_job (subcommand_rows_of matches.now) ≡ asked_by job) }
     ensures none { IsNone result → tested_job (subcommand_rows_of matches.now) ≡ NoJob }
-    ensures within { IfSome result IsWithin }
+    ensures within { IfSome result IsInRange }
 {
     match matches.subcommand() {
         Some((name, found)) if name == "route" => job_of_script(Family::Route, found),
@@ -223,11 +224,11 @@ fn job_of_matches(matches: &ArgMatches) -> Option<Asked>
 fn job_of_script(family: Family, found: &ArgMatches) -> Option<Asked>
     ensures asked { IfSome result (λ job. tested_script family (rows_of (found_of found.now)) ≡ asked_by job) }
     ensures none { IsNone result → tested_script family (rows_of (found_of found.now)) ≡ NoJob }
-    ensures within { IfSome result IsWithin }
+    ensures within { IfSome result IsInRange }
 {
     Some(Asked::Script {
         family,
-        slots: number_of(text_of(found, "slots"), 1, 4096)?,
+        slots: number_of(text_of(found, "slots"), 1, MOST_SLOTS)?,
         mode: mode_of(family, found)?,
         placement: placement_of(text_of(found, "placement"))?,
         trace: text_of(found, "trace") == "true",
@@ -239,10 +240,10 @@ fn job_of_script(family: Family, found: &ArgMatches) -> Option<Asked>
 fn job_of_made(found: &ArgMatches) -> Option<Asked>
     ensures asked { IfSome result (λ job. tested_made (rows_of (found_of found.now)) ≡ asked_by job) }
     ensures none { IsNone result → tested_made (rows_of (found_of found.now)) ≡ NoJob }
-    ensures within { IfSome result IsWithin }
+    ensures within { IfSome result IsInRange }
 {
     Some(Asked::Made {
-        slots: number_of(text_of(found, "slots"), 1, 4096)?,
+        slots: number_of(text_of(found, "slots"), 1, MOST_SLOTS)?,
         seed: number_of(text_of(found, "seed"), 0, 2147483647)?,
         rules: number_of(text_of(found, "rules"), 1, 256)?,
         batches: number_of(text_of(found, "batches"), 1, 64)?,
@@ -260,7 +261,7 @@ fn text_of<'a>(found: &ArgMatches<'a>, id: &str) -> &'a str
 
 /// The mode that is wanted: the ranges of a route are any port, and it has no such option.
 fn mode_of(family: Family, found: &ArgMatches) -> Option<Mode>
-    ensures { result ≡ mode_by family (rows_of (found_of found.now)) }
+    ensures { result ≡ mode_wanted family (rows_of (found_of found.now)) }
 {
     match family {
         Family::Route | Family::Route6 => Some(Mode::Cover),
@@ -328,7 +329,7 @@ fn job_of_error(topic: Option<Topic>, error: &Error) -> Result<Asked, WordsFault
     ensures asked { IfOk result (λ job. job_of_fault topic (kind_of error.now) ≡ asked_by job) }
     ensures usage { IsErrOf result WordsFault.Usage → job_of_fault topic (kind_of error.now) ≡ NoJob }
     ensures memory { kind_of error.now ≡ ErrorKind.OutOfMemory → result ≡ Err WordsFault.Memory }
-    ensures within { IfOk result IsWithin }
+    ensures within { IfOk result IsInRange }
 {
     match error.kind() {
         ErrorKind::DisplayHelp => Ok(Asked::Help(topic)),

@@ -20,7 +20,7 @@ ghost use Rattle.tcam_cli.specs.CommandLine.{job_of};
 ghost use Rattle.tcam_cli.specs.Headline.{IsCarriedOut, HasCauses, Makes, Reads, status_of};
 ghost use Rattle.tcam_cli.specs.MadeScript.{made_act};
 ghost use Rattle.tcam_cli.specs.Readings.{acl_act, acl_reading, common_act, reading, route_act, route_rank, route_reading};
-ghost use Rattle.tcam_cli.specs.Turns.{ClosesReport, IsBetweenLines, IsBlockOf, IsCommandOf, TurnsBy, status_of_fault};
+ghost use Rattle.tcam_cli.specs.Rounds.{ClosesReport, IsBetweenLines, IsBlockOf, IsCommandOf, RoundsBy, status_of_fault};
 
 use crate::Status;
 use crate::command_line::{Asked, WordsFault, read_words};
@@ -36,6 +36,7 @@ use rule_model::{
 };
 use rule_store::Command;
 use script_lines::{Failed, Line, LineFault, Lines, Sink, Source};
+use slot_order::MOST_SLOTS;
 use std::alloc::Global;
 use tcam_device::ReadBack;
 
@@ -74,7 +75,7 @@ pub fn run<S: Source, K: Sink, D: ReadBack>(
     sink: &mut K,
     device: &mut D,
 ) -> Status
-    requires slots { 4096 ≤ D.slot_count device.old }
+    requires slots { MOST_SLOTS ≤ D.slot_count device.old }
     requires blank { D.events device.old ≡ [] }
     requires none_in_flight { D.flight device.old ≡ [] }
     ensures carried_out { IsCarriedOut (job_of (map (λ w. string_bytes w) words.now)) (D.slot_count device.old) result
@@ -152,7 +153,7 @@ fn run_script<S: Source, K: Sink, D: ReadBack>(
 {
     let mut lines = Lines::new();
     'acts: loop {
-        match turn(&mut lines, run, source, sink, device) {
+        match round(&mut lines, run, source, sink, device) {
             Some(status) => return status,
             None => {}
         }
@@ -161,7 +162,7 @@ fn run_script<S: Source, K: Sink, D: ReadBack>(
 
 /// Carries out the next line. None: the run goes on. A line takes a byte at least, so that no script has more commits
 /// than a run counts.
-fn turn<S: Source, K: Sink, D: ReadBack>(
+fn round<S: Source, K: Sink, D: ReadBack>(
     lines: &mut Lines,
     run: &mut Run,
     source: &mut S,
@@ -176,7 +177,7 @@ fn turn<S: Source, K: Sink, D: ReadBack>(
     ensures at { IfNone result (IsAt (D.slot_count device.new) (D.events device.new) (progress_of (D.slot_count device.new) run.new)) }
     ensures setting { setting_of run.new ≡ setting_of run.old }
     ensures gives { (pieces : List (List ℕ)) × GivesPieces (S.given source.old) (S.given source.new) (S.left source.old) (S.left source.new) pieces
-        × ((which : Bool) → TurnsBy (setting_of run.old) (D.slot_count device.old) lines.old (progress_of (D.slot_count device.old) run.old) pieces result
+        × ((which : Bool) → RoundsBy (setting_of run.old) (D.slot_count device.old) lines.old (progress_of (D.slot_count device.old) run.old) pieces result
         lines.new (progress_of (D.slot_count device.old) run.new) (D.events device.old) (D.events device.new) (counted which (K.taken sink.old) (K.accepted sink.old)) (counted which (K.taken sink.new) (K.accepted sink.new))) }
     ensures rests { lines.old.over ≢ Going → (S.left source.new ≡ S.left source.old) × (lines.new ≡ lines.old) }
     ensures no_usage { result ≢ Some Status.Usage }

@@ -1,6 +1,7 @@
 -- Each line of a trace is the line that its value is read as.
 use Rattle.std.proofs.Common.{◌≡◌, ℕ, ◌<◌, ◌^◌, true, false, IfSome, List, Option, Some, None, refl, sym, ap, arith, le-leb}
 use Rattle.std.specs.Prelude.{slice_index}
+use Rattle.slot_order.specs.Order.{most_slots}
 use Rattle.rule_model.specs.declared.Rule.{Rule}
 use Rattle.rule_model.specs.declared.Field.TheVariants.{Src, Dst}
 use Rattle.rule_model.specs.PortRange.{PortRange, IsPortRange}
@@ -43,10 +44,10 @@ entry_back entry is =
 
 -- a line
 pub line_back : (text : List ℕ) (line : TraceLine) → IsTraceLine line → line_in (form_of text line) ≡ Some line
-line_back text (Head true true slots) is = rw (number_back 4096 slots is.1, le-leb 1 slots is.0) refl
-line_back text (Head true false slots) is = rw (number_back 4096 slots is.1, le-leb 1 slots is.0) refl
-line_back text (Head false true slots) is = rw (number_back 4096 slots is.1, le-leb 1 slots is.0) refl
-line_back text (Head false false slots) is = rw (number_back 4096 slots is.1, le-leb 1 slots is.0) refl
+line_back text (Head true true slots) is = rw (number_back most_slots slots is.1, le-leb 1 slots is.0) refl
+line_back text (Head true false slots) is = rw (number_back most_slots slots is.1, le-leb 1 slots is.0) refl
+line_back text (Head false true slots) is = rw (number_back most_slots slots is.1, le-leb 1 slots is.0) refl
+line_back text (Head false false slots) is = rw (number_back most_slots slots is.1, le-leb 1 slots is.0) refl
 line_back text (Commit n) is = rw (bits_back 32 n is) refl
 line_back text (Add rule) is = rw (rule_back rule is) refl
 line_back text (Set priority answer) is = rw (rank_back priority is.0) (rw (bits_back 32 answer is.1) refl)

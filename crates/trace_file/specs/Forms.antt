@@ -1,5 +1,6 @@
 -- Which value each line of a trace is, and the limits of its numbers.
 use Rattle.std.specs.Prelude.{◌≡◌, ℕ, ◌+◌, ◌*◌, ◌/◌, ◌^◌, ◌<◌, ◌≤◌, true, Option, Some, None, List, [], ◌∷◌, ◌++◌, codes, slice_index, IsUtf8, if◌then◌else◌}
+use Rattle.slot_order.specs.Order.{most_slots}
 use Rattle.serde_json.specs.Data.{Data, null, boolean, number, string, array, object, unsigned, Items, no_items, item, no_members, member}
 use Rattle.rule_model.specs.declared.Rule.{Rule}
 use Rattle.rule_model.specs.declared.Field.{Field}
@@ -120,7 +121,7 @@ pub record IsIpv4Entry (entry : Entry) : Type 0 where
 
 -- The numbers of a line are within their limits.
 abbrev pub IsTraceLine : TraceLine → Type 0
-IsTraceLine (Head acl bits slots) = (1 ≤ slots) × (slots ≤ 4096)
+IsTraceLine (Head acl bits slots) = (1 ≤ slots) × (slots ≤ most_slots)
 IsTraceLine (Commit n) = n < 2 ^ 32
 IsTraceLine (Add rule) = IsIpv4Rule rule
 IsTraceLine (Set priority answer) = IsIpv4Rank priority × (answer < 2 ^ 32)

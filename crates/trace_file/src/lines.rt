@@ -11,9 +11,7 @@ use crate::values::{
 };
 use rule_model::Field;
 use serde_json::{Map, Value};
-
-/// The most slots that are in use.
-const MOST_SLOTS: u32 = 4096;
+use slot_order::MOST_SLOTS;
 
 /// The line that a value is.
 pub(crate) fn line_of(value: &Value) -> Option<TraceLine>

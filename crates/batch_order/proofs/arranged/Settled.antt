@@ -16,6 +16,7 @@ use Rattle.placement.specs.declared.Move.{Move}
 use Rattle.placement.proofs.Chain.{write_of, after_moves-applied}
 use Rattle.slot_order.proofs.Inside.{length-applied}
 use Rattle.std.proofs.Math.Seq.{drop-append_seam, take-append_seam}
+use Rattle.slot_order.specs.Order.{most_slots}
 use Rattle.placement.proofs.Above.{above_is, is_above_from, live_is, is_live_from}
 use Rattle.placement.specs.Placement.{IsInOrder, after_moves}
 use Rattle.placement.specs.Insertion.{IsLive, IsOther, StandOnce, free_slots}
@@ -67,7 +68,7 @@ pub last_live : (old new : Entries) (slots : Slots) (one : LivePiece) → IsSett
 last_live old new slots one settled room small absent live_is slots_is = record {
   room = (let more : length new.live ≡ length old.live + 1 = ap length live_is ∙ length-append old.live (one ∷ []) in let s = slots_is in omega arith);
   size = settled.size ∙ sym slots_is;
-  few = subst (λ n. n ≤ 4096) (sym slots_is) settled.few;
+  few = subst (λ n. n ≤ most_slots) (sym slots_is) settled.few;
   apart = subst (λ l. AreApart new.slots l) (sym live_is) (subst (λ n. AreApart n (old.live ++ one ∷ [])) (sym slots_is) (apart_more old.slots one old.live small absent settled.apart));
   live = subst (λ l. is_live l one.id ≡ true) (sym live_is) (live_new old.live one);
   standing = subst (λ l. StandOnce (IsOther l one.id) slots) (sym live_is) (record {

@@ -1,5 +1,6 @@
 -- Entries whose live ids are the same, each with its entry: all is settled and arranged still.
 use Rattle.std.proofs.Common.{◌≡◌, ℕ, ◌+◌, ◌≤◌, List, length, sym, ap, subst, ◌∙◌, arith}
+use Rattle.slot_order.specs.Order.{most_slots}
 use Rattle.slot_pool.specs.Arrangement.{Slots}
 use Rattle.rule_model.specs.declared.Rule.{Rule}
 use Rattle.rule_store.specs.declared.Mode.{Mode}
@@ -19,7 +20,7 @@ use Rattle.batch_order.proofs.arranged.Entered.{AllLive, entries_of_kept}
 pub settled_same : (old new : Entries) (slots : Slots) → IsSettled old slots → new.live ≡ old.live → new.slots ≡ old.slots → IsSettled new slots
 settled_same old new slots settled live size = record {
   size = settled.size ∙ sym size;
-  few = subst (λ (n : ℕ). n ≤ 4096) (sym size) settled.few;
+  few = subst (λ (n : ℕ). n ≤ most_slots) (sym size) settled.few;
   apart = subst (λ (l : List LivePiece). AreApart new.slots l) (sym live) (subst (λ (n : ℕ). AreApart n old.live) (sym size) settled.apart);
   standing = subst (λ (l : List LivePiece). StandOnce (IsLive l) slots) (sym live) settled.standing;
   order = subst (λ (l : List LivePiece). IsInOrder (is_above l) slots) (sym live) settled.order;

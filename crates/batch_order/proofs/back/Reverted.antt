@@ -1,5 +1,5 @@
 -- A commit that was taken back: the manager is as it was before it.
-use Rattle.std.proofs.Common.{◌≡◌, ℕ, zero, suc, ◌-◌, List, [], length, take, map, Option, Some, None, refl, sym, ap, subst, ◌∙◌}
+use Rattle.std.proofs.Common.{◌≡◌, ℕ, zero, suc, ◌-◌, true, List, [], length, take, map, Option, Some, None, refl, sym, ap, subst, ◌∙◌}
 use Rattle.slot_pool.specs.Arrangement.{Slots}
 use Rattle.rule_store.specs.Store.{StoredRules}
 use Rattle.tcam_device.specs.declared.Write.{Write}
@@ -14,7 +14,7 @@ use Rattle.batch_order.specs.Entries.{Entries, KeepEntries}
 use Rattle.batch_order.specs.Kept.{IsManaged, IsPrepared, bits_of, held_of, held_writes, mode_of, settled_state}
 use Rattle.batch_order.specs.Managed.{HeldCommit, Managed, actions_due}
 use Rattle.batch_order.specs.Planning.{as_writes}
-use Rattle.batch_order.specs.Steps.{IsAllMade, Steps, StepsBack, StepsEither}
+use Rattle.batch_order.specs.Steps.{IsAllMade, Steps, StepsBack, StepsEither, cancelled}
 use Rattle.batch_order.proofs.back.Back.{last_one}
 use Rattle.batch_order.proofs.under_way.Carried.{view_of}
 use Rattle.batch_order.proofs.planning.Refused.{managed_same, view_same}
@@ -39,6 +39,15 @@ module _ (translation : Option Translation) (rules : StoredRules) (kept kept' : 
   -- no commit is under way
   pub managed_reverted : IsManaged translation rules kept' slots None
   managed_reverted = managed_same translation rules rules (record kept { live = way.before }) kept' slots idle refl same_live reverted.slots keeps
+
+  abbrev idle_in : Placement → State → Managed
+  idle_in placement state = record { slots = length slots; mode = mode_of translation; placement = placement; rules = rules.rules; bits = bits_of translation; state = state; held = None }
+
+  -- and where no write was made all else is as the commit has it
+  pub dropped_view : (placement : Placement) → held.made ≡ 0 → view_of placement translation rules kept' slots None ≡ cancelled true (view_of placement translation rules kept slots (Some held))
+  dropped_view placement none =
+      view_same placement translation rules rules (record kept { live = way.before }) kept' slots idle refl keeps
+      ∙ ap (λ n. idle_in placement (state_after (settled_state translation kept.entries slots) (take n (held_writes kept.entries held)))) (sym none)
 
   module _ (undone : ℕ) (turned : held.turned ≡ Some undone) (placement : Placement) where
     due_is : actions_due (held_of translation slots rules.rules kept.entries held) ≡ map Written (undo_writes (settled_state translation kept.entries slots) (take held.made (held_writes kept.entries held)))
@@ -67,10 +76,7 @@ module _ (translation : Option Translation) (rules : StoredRules) (kept kept' : 
         let did : StepsBack old one undone [] (step.Reverted undone) (view_of placement translation rules kept' slots None) = (
           refl,
           view_same placement translation rules rules (record kept { live = way.before }) kept' slots idle refl keeps
-              ∙ ap (λ n. idle_view (state_after (settled_state translation kept.entries slots) (take n (held_writes kept.entries held)))) (sym none),
+              ∙ ap (λ n. idle_in placement (state_after (settled_state translation kept.entries slots) (take n (held_writes kept.entries held)))) (sym none),
         ) in
         subst (λ (t : Option ℕ). StepsEither old one words t (step.Reverted undone) (view_of placement translation rules kept' slots None)) (sym turned)
         (subst (λ (ws : List Write). StepsBack old one undone ws (step.Reverted undone) (view_of placement translation rules kept' slots None)) (sym undo) did)
-      where
-        idle_view : State → Managed
-        idle_view s = record { slots = length slots; mode = mode_of translation; placement = placement; rules = rules.rules; bits = bits_of translation; state = s; held = None }

@@ -10,6 +10,7 @@ use Rattle.std.proofs.lemmas.List.{length-map}
 use Rattle.std.proofs.lemmas.List.Elements.{All-contains}
 use Rattle.std.proofs.lemmas.Map.Made.{length-from_same_keys, length-le_from_is_member, is_member-Decides}
 use Rattle.std.proofs.lemmas.Slice.Zip.{AllZip-long}
+use Rattle.slot_order.specs.Order.{most_slots}
 use Rattle.slot_order.proofs.Lists.{contains_head, contains_tail, in_map, map_in}
 use Rattle.slot_pool.specs.Arrangement.{Slots}
 use Rattle.placement.specs.declared.LivePiece.{LivePiece}
@@ -130,7 +131,7 @@ arranged_number mode bits rules kept slots set arranged =
     as_many (set_pieces mode bits rules) kept.slots kept.live kept.entries (pieces_once mode bits rules set) arranged.settled.apart arranged.entries_are ∙ sym (entries_pieces mode bits rules)
 
 -- which are few
-pub arranged_few : (mode : Mode) (bits : FieldBits) (rules : List Rule) (kept : Kept) (slots : Slots) → IsRuleSet rules → IsArranged mode bits rules kept slots → entries_of mode rules ≤ 4096
+pub arranged_few : (mode : Mode) (bits : FieldBits) (rules : List Rule) (kept : Kept) (slots : Slots) → IsRuleSet rules → IsArranged mode bits rules kept slots → entries_of mode rules ≤ most_slots
 arranged_few mode bits rules kept slots set arranged =
     let number : length kept.live ≡ entries_of mode rules = arranged_number mode bits rules kept slots set arranged in
     let count = arranged.settled.count in

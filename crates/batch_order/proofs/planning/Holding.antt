@@ -1,5 +1,5 @@
 -- A manager that holds the plan of a batch: it can carry it out, and callers see it as the batch's segment.
-use Rattle.std.proofs.Common.{◌≡◌, ℕ, ◌+◌, ◌*◌, ◌-◌, ◌≤◌, Bool, true, false, List, [], length, take, drop, inl, Option, Some, None, refl, sym, ap, ap₂, subst, ◌∙◌, arith, length-drop}
+use Rattle.std.proofs.Common.{◌≡◌, ℕ, ◌≤◌, Bool, true, false, List, [], length, take, drop, inl, Option, Some, None, refl, sym, ap, ap₂, subst, ◌∙◌, arith}
 use Rattle.std.specs.List.{AllByRecursion}
 use Rattle.slot_pool.specs.Arrangement.{Slots}
 use Rattle.rule_model.specs.declared.Rule.{Rule}
@@ -10,8 +10,6 @@ use Rattle.rule_store.specs.declared.Command.{Command}
 use Rattle.rule_store.specs.Batch.{ChangesRules, IsSound, set_after}
 use Rattle.rule_store.specs.Store.{StoredRules}
 use Rattle.tcam_device.specs.declared.Write.{Write}
-use Rattle.tcam_device.specs.declared.Action.{Action}
-use Rattle.tcam_device.specs.Flight.{writes_in}
 use Rattle.tcam_device.specs.State.{State, state_after, on_device}
 use Rattle.commit_writes.specs.Actions.{have_bits, with_drain}
 use Rattle.commit_writes.specs.Bits.{FieldBits, bits_with, bits_left, new_bits}
@@ -23,24 +21,20 @@ use Rattle.commit_writes.specs.Undo.{undo_writes, restorings}
 use Rattle.commit_writes.specs.PlannedBatch.{IsPlannedSegment, erased_slots, rewritten_entries}
 use Rattle.commit_writes.proofs.BatchRules.{right_after}
 use Rattle.commit_writes.proofs.SlotWrites.{no_table}
-use Rattle.commit_writes.proofs.Undone.{length-undo_writes}
 use Rattle.commit_writes.specs.Changes.{during_of}
 use Rattle.batch_order.specs.declared.held.Held.{Held}
 use Rattle.batch_order.specs.declared.translation.Translation.{Translation}
 use Rattle.batch_order.specs.declared.Placement.{Placement}
 use Rattle.batch_order.specs.Entries.{AddsIds, Entries}
-use Rattle.batch_order.specs.Planning.{as_writes, all_writes}
+use Rattle.batch_order.specs.Planning.{as_writes}
 use Rattle.batch_order.proofs.planning.Refused.{adds_first, adds_last}
 use Rattle.batch_order.specs.Kept.{IsManaged, IsArranged, bits_of, changed_by, held_of, held_writes, mode_of, settled_state, tables_of, translation_after}
 use Rattle.batch_order.specs.Kept as kept
-use Rattle.batch_order.specs.Managed.{CanRestart, HeldCommit, Holds, commit_of, room_both_ways}
+use Rattle.batch_order.specs.Managed.{CanRestart, HeldCommit, Holds, commit_of}
 use Rattle.batch_order.proofs.served.FromRest.{BeginsAtRest, answers_all, begin, restarts_all, serves_first, serves_then, words_come_first}
 use Rattle.batch_order.proofs.planning.Judged.{idle_count}
 use Rattle.batch_order.proofs.arranged.Unchanged.{arranged_same}
-use Rattle.batch_order.proofs.under_way.Carried.{held_size, view_of}
-use Rattle.batch_order.proofs.under_way.Drains.{length_drain, writes_left_are}
-use Rattle.batch_order.proofs.under_way.Left.{forward_actions}
-use Rattle.batch_order.proofs.under_way.Stepped.{both_on}
+use Rattle.batch_order.proofs.under_way.Carried.{view_of}
 use Rattle.batch_order.proofs.planning.Taken.{IsCoded, IsPlanOf, during_by}
 use Rattle.batch_order.proofs.planning.Leading.{parts_of, arranged_then, same_contents, same_state, plan_leads, plan_tables, plan_bits, plan_segment, few_planned, plain_writes}
 
@@ -237,20 +231,3 @@ module _ (placement : Placement) (translation : Option Translation) (rules rules
           ∙ ap₂ (λ (n : ℕ) (b : Bool). commit true None held.awaits (drop n writes) (undo_writes begun (take n writes)) (during_of held.bits) (kept.bits_after rules'.rules held) (elim b [ true ↦ during_of held.bits | false ↦ bits ]) (set_after rules'.rules held.batch)) holds.made holds.undrained
           ∙ ap₂ (λ (b : Bool) (d : FieldBits). commit true None b writes [] d (kept.bits_after rules'.rules held) bits (set_after rules'.rules held.batch)) drains holds.coded.during
           ∙ ap₂ (λ (l : FieldBits) (r : List Rule). commit true None (have_bits (new_bits bits (during_by translation rules batch))) writes [] (during_by translation rules batch) l bits r) left sets
-
-  -- and the room for it, forward and back
-  pub held_room : (spare : ℕ) → 2 * length (all_writes held.writes) + 1 ≤ spare → room_both_ways (held_of translation slots rules'.rules new.entries held) ≤ spare
-  held_room spare enough =
-      let size : length writes ≡ length (all_writes held.writes) = held_size new.entries held in
-      let none = holds.made in
-      let left : length (drop held.made writes) ≡ length writes - held.made = length-drop held.made writes in
-      let actions : length (with_drain held.awaits (drop held.made writes)) ≤ length (drop held.made writes) + 1 = length_drain held.awaits (drop held.made writes) in
-      let all : length (writes_in (with_drain held.awaits (drop held.made writes))) ≡ length (drop held.made writes) = ap length (writes_left_are held.awaits (drop held.made writes)) in
-      let undo : length (undo_writes begun (take held.made writes)) ≡ length (take held.made writes) = length-undo_writes begun (take held.made writes) in
-      let taken : length (take held.made writes) ≡ 0 = ap (λ n. length (take n writes)) holds.made in
-      let one : HeldCommit = held_of translation slots rules'.rules new.entries held in
-      let shape : room_both_ways one
-      ≡ length (with_drain held.awaits (drop held.made writes)) + (length (writes_in (with_drain held.awaits (drop held.made writes))) + length (undo_writes begun (take held.made writes))) =
-      both_on one holds.forward
-      ∙ ap (λ (some : List Action). length some + (length (writes_in some) + length (undo_writes begun (take held.made writes)))) (forward_actions translation rules' new slots held holds.forward) in
-      omega arith

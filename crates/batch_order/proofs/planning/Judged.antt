@@ -2,6 +2,7 @@
 use Rattle.std.proofs.Common.{◌≡◌, ℕ, ◌+◌, ◌-◌, ◌<◌, ◌≤◌, Bool, true, false, Option, Some, None, Err, List, length, refl, sym, ap, subst, ◌∙◌, arith}
 use Rattle.std.proofs.lemmas.Bool.{lt-ltb, le-ltb, ltb-false}
 use Rattle.std.specs.Prelude.{IfSome, nat_lt, option_map}
+use Rattle.slot_order.specs.Order.{most_slots}
 use Rattle.rule_model.specs.declared.Rule.{Rule}
 use Rattle.rule_model.specs.declared.Field.{Field}
 use Rattle.rule_model.specs.declared.Field.TheVariants.{Src, Dst}
@@ -162,12 +163,12 @@ idle_held f (Some held) none = absurd (cc)
 
 -- a set takes few entries
 pub entries_few : (translation : Option Translation) (rules : StoredRules) (kept : Entries) (slots : Slots) (held : Option Held) → IsManaged translation rules kept slots held
-    → entries_of (mode_of translation) rules.rules ≤ 4096
+    → entries_of (mode_of translation) rules.rules ≤ most_slots
 entries_few translation rules kept slots None managed = arranged_few (mode_of translation) (bits_of translation) rules.rules kept slots managed.is_set managed.carried
 entries_few translation rules kept slots (Some held) managed =
     let some : entries_of (mode_of translation) rules.rules ≤ length slots = managed.carried.entries in
     let size : length slots ≡ kept.slots = managed.carried.size in
-    let few : kept.slots ≤ 4096 = managed.carried.after.settled.few in
+    let few : kept.slots ≤ most_slots = managed.carried.after.settled.few in
     omega arith
 
 -- with no commit under way the slots that aren't free are as many as the entries of the set

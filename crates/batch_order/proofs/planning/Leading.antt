@@ -4,6 +4,7 @@ use Rattle.std.proofs.Common.{◌≡◌, ℕ, ◌+◌, ◌*◌, ◌^◌, ◌≤�
 use Rattle.std.specs.Prelude.{nat_eq}
 use Rattle.std.specs.List.{AllByRecursion, AllZip, IsDistinct}
 use Rattle.std.proofs.lemmas.List.{length-append, length-map}
+use Rattle.slot_order.specs.Order.{most_slots}
 use Rattle.slot_pool.specs.Arrangement.{Slots}
 use Rattle.rule_model.specs.declared.Rule.{Rule}
 use Rattle.rule_store.specs.declared.Mode.{Mode}
@@ -215,12 +216,12 @@ module _ (placement : Placement) (translation : Option Translation) (rules : Sto
       let apart = plan.taken.managed.carried.settled.apart in
       let all : length writes ≡ length words + length made = ap length plan.writes_are ∙ length-append words made in
       let first : length words ≤ 2 * 2 ^ 16 = plan.words_few in
-      let each : length made ≤ 4096 * 4097 * length plan.planned + length rewrites + length erased =
+      let each : length made ≤ most_slots * (1 + most_slots) * length plan.planned + length rewrites + length erased =
       batch_few mode during behind rules.rules batch old.live slots new.entries plan.planned rewrites erased plan.commit in
       let number : length ones ≡ length plan.planned = length-map plan.planned (λ (insertion : Planned). insertion.one) in
       let live : length new.live ≡ length old.live + length ones = ap length plan.live_is ∙ length-append old.live ones in
       let count : free_slots middle + length new.live ≡ new.slots = plan.settled.count in
-      let most : new.slots ≤ 4096 = plan.settled.few in
+      let most : new.slots ≤ most_slots = plan.settled.few in
       let results : length rewrites ≤ length old.live = few_rewrites mode during rules.rules batch old.slots old.live rewrites erased apart plan.taken.change plan.parts in
       let gone : length erased ≤ length old.live = ids_few old.slots old.live (erased_pieces mode during rules.rules batch) erased apart (erased_once mode during rules.rules batch plan.taken.change) plan.parts.erased_are in
       omega arith

@@ -3,6 +3,7 @@ use Rattle.std.proofs.Common.{◌≡◌, ℕ, ◌+◌, ◌*◌, ◌^◌, ◌≤�
 use Rattle.std.specs.Prelude.{IsTrue}
 use Rattle.std.proofs.lemmas.List.{length-map}
 use Rattle.std.specs.List.{AllByRecursion, AllZip}
+use Rattle.slot_order.specs.Order.{most_slots}
 use Rattle.slot_pool.specs.Arrangement.{Slots}
 use Rattle.rule_model.specs.declared.Rule.{Rule}
 use Rattle.rule_store.specs.declared.Mode.{Mode}
@@ -150,7 +151,7 @@ plan_words kept slots writes words are no_changes settled in_use = record {
 -- a settled manager is arranged as plans need it
 pub are_arranged : (kept : Entries) (slots : Slots) → IsSettled kept slots → AreArranged kept.live slots
 are_arranged kept slots settled = record {
-  few = subst (λ (n : ℕ). n ≤ 4096) (sym settled.size) settled.few;
+  few = subst (λ (n : ℕ). n ≤ most_slots) (sym settled.size) settled.few;
   apart = subst (λ (n : ℕ). AreApart n kept.live) (sym settled.size) settled.apart;
   standing = settled.standing;
   order = settled.order;

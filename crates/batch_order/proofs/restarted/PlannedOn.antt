@@ -4,6 +4,7 @@ use Rattle.std.specs.Prelude.{nat_eq}
 use Rattle.std.specs.List.{AllByRecursion, AllZip, IsDistinct, filter_map}
 use Rattle.std.proofs.lemmas.List.{length-append, length-map}
 use Rattle.std.proofs.lemmas.List.Kept.{AllPairs-filter}
+use Rattle.slot_order.specs.Order.{most_slots}
 use Rattle.slot_order.proofs.Lists.{all_append}
 use Rattle.slot_pool.specs.Arrangement.{Slots}
 use Rattle.rule_model.specs.declared.Field.TheVariants.{Src, Dst}
@@ -191,10 +192,10 @@ module _ (mode : Mode) (bits : FieldBits) (rules : List Rule) (batch : List Comm
   gone_once = subst (λ (some : List RankedPiece). AreOnce (drop gone some)) (sym stopped.is_shown.erased)
       (pairs_drop Differ gone pieces.erased (erased_once mode during rules batch change))
 
-  live_few : length old.live ≤ 4096
+  live_few : length old.live ≤ most_slots
   live_few = (let count = read.settled.count in let few = read.settled.few in omega arith)
 
-  pub rewrites_few : (rewrites : List Rewrite) → AllZip (IsRewriteOf old.live) (drop (shown.stage.done - length shown.inserted.items) shown.rewritten.items) rewrites → length rewrites ≤ 4096
+  pub rewrites_few : (rewrites : List Rewrite) → AllZip (IsRewriteOf old.live) (drop (shown.stage.done - length shown.inserted.items) shown.rewritten.items) rewrites → length rewrites ≤ most_slots
   rewrites_few rewrites are =
       let ids : List ℕ = map (λ (rewrite : Rewrite). rewrite.id) rewrites in
       let number : length ids ≡ length rewrites = length-map rewrites (λ (rewrite : Rewrite). rewrite.id) in
@@ -202,7 +203,7 @@ module _ (mode : Mode) (bits : FieldBits) (rules : List Rule) (batch : List Comm
       let most = live_few in
       omega arith
 
-  erases_few : (erased : List ℕ) → AllZip (IsIdOf old.live) (drop gone shown.erased.items) erased → length erased ≤ 4096
+  erases_few : (erased : List ℕ) → AllZip (IsIdOf old.live) (drop gone shown.erased.items) erased → length erased ≤ most_slots
   erases_few erased are =
       let fewer : length erased ≤ length old.live = ids_few old.slots old.live (drop gone shown.erased.items) erased read.settled.apart gone_once are in
       let most = live_few in
@@ -319,13 +320,13 @@ module _ (mode : Mode) (bits : FieldBits) (rules : List Rule) (batch : List Comm
         same_settled : IsSettled (record new { live = erased_live new.live erased }) (erased_slots middle erased) → IsSettled (changed_by new rewrites erased) (erased_slots middle erased)
         same_settled is = record { size = is.size; few = is.few; apart = is.apart; standing = is.standing; order = is.order; count = is.count }
 
-    planned_few : length planned ≤ 4096
+    planned_few : length planned ≤ most_slots
     planned_few =
         let ones : length (map (λ (insertion : Planned). insertion.one) planned) ≡ length planned = length-map planned (λ (insertion : Planned). insertion.one) in
         let more : length new.live ≡ length old.live + length (map (λ (insertion : Planned). insertion.one) planned) =
         ap length all.inserted.live_is ∙ length-append old.live (map (λ (insertion : Planned). insertion.one) planned) in
         let count : free_slots middle + length new.live ≡ new.slots = all.settled.count in
-        let most : new.slots ≤ 4096 = all.settled.few in
+        let most : new.slots ≤ most_slots = all.settled.few in
         omega arith
 
     planned_on : IsPlannedOn placement device_slots mode bits rules batch state shown old new slots slots' rest

@@ -3,6 +3,7 @@ use Rattle.std.proofs.Common.{◌≡◌, ℕ, ◌+◌, ◌*◌, ◌<◌, ◌≤�
 use Rattle.std.specs.Prelude.{◌&&◌, nat_lt}
 use Rattle.std.specs.List.{AllByRecursion, list_any}
 use Rattle.std.proofs.lemmas.Bool.{lt-ltb, ltb-true}
+use Rattle.slot_order.specs.Order.{most_slots}
 use Rattle.slot_order.proofs.Lists.{AllByRecursion-member}
 use Rattle.slot_pool.specs.Arrangement.{Slots}
 use Rattle.rule_model.specs.declared.Rule.{Rule}
@@ -50,7 +51,7 @@ pub record IsMade (slots : ℕ) (mode : Mode) (placement : Placement) (parts : P
 
 -- what a device shows that was stopped
 pub stopped_by : {slots : ℕ} {mode : Mode} {bits : FieldBits} {rules : List Rule} {batch : List Command} {device_slots : ℕ} {state : State} {shown : Shown}
-    → 1 ≤ slots → slots ≤ 4096 → slots ≤ device_slots → IsState device_slots state → CanCommit mode bits rules batch → verdict slots mode rules batch ≡ Accepted → Finds slots mode bits rules batch state shown.stage
+    → 1 ≤ slots → slots ≤ most_slots → slots ≤ device_slots → IsState device_slots state → CanCommit mode bits rules batch → verdict slots mode rules batch ≡ Accepted → Finds slots mode bits rules batch state shown.stage
     → IsShown (commit_pieces mode bits rules batch) state.slots shown → AllByRecursion (λ ranked. IsEncodable ranked.piece) (known_pieces (commit_pieces mode bits rules batch))
     → IsStopped slots mode bits rules batch state shown
 stopped_by {slots} {mode} {bits} {rules} {batch} {device_slots} {state} {shown} least most wide is can accepted found are_shown encodable = record {
@@ -75,7 +76,7 @@ module _ {slots : ℕ} {mode : Mode} {bits : FieldBits} {rules : List Rule} {bat
       AllByRecursion-member (λ (x : RankedPiece). IsEncodable x.piece) (known_pieces (commit_pieces mode bits rules batch)) ranked stopped.encodable (stopped.is_shown.places.known at ranked held).0
 
   -- there are few rules
-  pub few_rules : length rules ≤ 4096
+  pub few_rules : length rules ≤ most_slots
   few_rules =
       let room = (accepted_room slots mode rules batch stopped.can.sound stopped.accepted).entries in
       let each = rules_entries mode rules stopped.can.right in

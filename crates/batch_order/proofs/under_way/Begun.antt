@@ -4,6 +4,7 @@ use Rattle.std.specs.Prelude.{is_none}
 use Rattle.std.specs.List.{AllByRecursion}
 use Rattle.std.proofs.lemmas.List.{length-replicate}
 use Rattle.std.proofs.lemmas.List.Folds.{sum_by-replicate}
+use Rattle.slot_order.specs.Order.{most_slots}
 use Rattle.slot_order.proofs.Lists.{contains_none}
 use Rattle.slot_pool.specs.Arrangement.{Slots}
 use Rattle.rule_model.specs.declared.Rule.{Rule}
@@ -30,7 +31,7 @@ all_free : (count : ℕ) → free_slots (replicate count None) ≡ count
 all_free count = let each = sum_by-replicate {X = Option ℕ} (λ held. cond (is_none held) 1 0) count None in omega arith
 
 -- nothing stands in empty slots
-none_settled : (slots : ℕ) (entries : List _) → slots ≤ 4096 → IsSettled (record { slots = slots; live = []; entries = entries }) (replicate slots None)
+none_settled : (slots : ℕ) (entries : List _) → slots ≤ most_slots → IsSettled (record { slots = slots; live = []; entries = entries }) (replicate slots None)
 none_settled slots entries few = record {
   size = length-replicate slots None;
   few = few;
@@ -52,7 +53,7 @@ none_entries mode bits entries = record {
 }
 
 -- so a new manager can take its first batch
-pub begun_managed : (slots : ℕ) (mode : Mode) (translation : Option Translation) (rules : StoredRules) (kept : Entries) (arrangement : Slots) → slots ≤ 4096 → mode_of translation ≡ mode
+pub begun_managed : (slots : ℕ) (mode : Mode) (translation : Option Translation) (rules : StoredRules) (kept : Entries) (arrangement : Slots) → slots ≤ most_slots → mode_of translation ≡ mode
     → bits_of translation ≡ no_bits → tables_of translation ≡ blank 0 → rules.rules ≡ [] → kept ≡ record { slots = slots; live = []; entries = replicate slots None } → arrangement ≡ replicate slots None
     → IsManaged translation rules kept arrangement None
 begun_managed slots mode translation rules kept arrangement few coded bits tables none entries free = record {

@@ -18,6 +18,7 @@ use crate::translation::encoding;
 use range_bits::BitMap;
 use readback::{Parts, StageFault, show_commit, verdict};
 use rule_store::{Batch, Mode};
+use slot_order::MOST_SLOTS;
 use std::alloc::{AllocError, Global};
 use tcam_device::ReadBack;
 
@@ -80,7 +81,7 @@ impl Manager {
         device: &mut D,
     ) -> Result<Manager, (RestartFault, Parts)>
         requires least { 1 ≤ slots }
-        requires most { slots ≤ 4096 }
+        requires most { slots ≤ MOST_SLOTS }
         requires slots { slots ≤ D.slot_count device.old }
         requires plain { mode ≡ modes.Cover → HasBlankTables (replay (D.slot_count device.old) (D.journal device.old)) }
         ensures answers { AnswersRestart slots mode placement parts batch.now (D.slot_count device.old) (replay (D.slot_count device.old) (D.journal device.old)) result }

@@ -21,6 +21,7 @@ use commit_writes::Ranked;
 use placement::Move;
 use readback::{Coded, Shown};
 use rule_store::{Mode, Store};
+use slot_order::MOST_SLOTS;
 use slot_pool::Arrangement;
 use std::alloc::{AllocError, Global};
 use tcam_device::Writable;
@@ -95,7 +96,7 @@ pub(crate) fn plan_rest<D: Writable>(
     requires room { length live.old.live + length parts.now.inserted.items ≤ live.old.slots }
     requires encodable { AllByRecursion (λ ranked. IsEncodable ranked.piece) parts.now.inserted.items }
     requires plannable { IsPlannable live.old arrangement.old plan.old.writes }
-    requires few { length parts.now.rewrites.items ≤ 4096 }
+    requires few { length parts.now.rewrites.items ≤ MOST_SLOTS }
     requires rewritten { AllByRecursion (λ rewrite. IsTrue (is_live live.old.live rewrite.id)) parts.now.rewrites.items }
     requires erased { AllByRecursion (λ id. IsTrue (is_live live.old.live id)) parts.now.erased.items }
     ensures planned { OnOk result (AreAllPlanned live.old live.new arrangement.old arrangement.new plan.old plan.new parts.now.inserted.items
@@ -122,7 +123,9 @@ pub(crate) fn plan_rest<D: Writable>(
         arrangement,
         plan,
     )?;
-    plan_changes(parts, arrangement, plan, device)?;
+    plan_changes(parts, arrangement, plan)?;
+    // As for a plan of `prepare`.
+    device.reserve(2 * plan.writes.len() as u64 + 1)?;
     Ok(ids)
 }
 

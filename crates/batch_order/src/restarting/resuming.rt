@@ -29,7 +29,8 @@ use crate::restarting::words::read_translation;
 use crate::translation::{Translation, gives_bits, plan_words};
 use commit_writes::FieldBits;
 use readback::{Parts, Shown};
-use rule_store::{Batch, Mode, Store};
+use rule_store::{Batch, Commands, Mode, Store};
+use slot_order::MOST_SLOTS;
 use slot_pool::Arrangement;
 use std::alloc::{AllocError, Global};
 use tcam_device::ReadBack;
@@ -56,7 +57,7 @@ pub(crate) fn resume<D: ReadBack>(
     device: &mut D,
 ) -> Result<Resumed, AllocError>
     requires least { 1 ≤ slots }
-    requires most { slots ≤ 4096 }
+    requires most { slots ≤ MOST_SLOTS }
     requires slots { slots ≤ D.slot_count device.old }
     requires plain { mode ≡ modes.Cover → HasBlankTables (replay (D.slot_count device.old) (D.journal device.old)) }
     requires accepted { verdict slots mode parts.old.rules.rules batch.now ≡ Accepted }
@@ -94,11 +95,11 @@ pub(crate) fn resume<D: ReadBack>(
         &mut standing,
         device,
     )?;
-    let copy = batch.try_copy(alloc)?;
+    let commands = batch.commands(alloc)?;
     let new = gives_bits(&translation, &rest.bits);
     let drain = drain_of(new, has_begun(shown));
     parts.rules.reserve(batch.len())?;
-    let held = hold(alloc, rest, drain, copy, standing.arrangement);
+    let held = hold(alloc, rest, drain, commands, standing.arrangement);
     Ok(Resumed {
         translation,
         live: standing.live,
@@ -127,7 +128,7 @@ fn hold(
     alloc: Global,
     rest: Rest,
     drain: (bool, bool),
-    batch: Batch,
+    batch: Commands,
     arrangement: Arrangement,
 ) -> Held
     ensures held { result ≡ held_from rest drain.0 drain.1 batch arrangement result.undo }
@@ -156,6 +157,7 @@ fn hold(
         erased: left.erased,
         ids,
         arrangement,
+        most_parts: plan.most_parts,
     }
 }
 

@@ -6,6 +6,7 @@ ghost use Rattle.batch_order.specs.Standing.{AreEncodable, AreStanding, HasPiece
 
 use crate::entries::LiveEntries;
 use commit_writes::Ranked;
+use slot_order::MOST_SLOTS;
 use slot_pool::Arrangement;
 use std::alloc::{AllocError, Global};
 
@@ -24,7 +25,7 @@ pub(crate) fn standing_in(
     twin: Option<u32>,
 ) -> Result<Standing, AllocError>
     requires least { 1 ≤ slots }
-    requires most { slots ≤ 4096 }
+    requires most { slots ≤ MOST_SLOTS }
     requires places { slots ≤ length places.now }
     requires encodable { AreEncodable places.now }
     ensures standing { IfOk result (λ standing. AreStanding slots (without_twin twin places.now) standing.live standing.arrangement) }

@@ -3,6 +3,7 @@ use Rattle.std.proofs.Common.{refl, ◌≡◌, ◌≢◌, ◌⊎◌, inl, inr, �
 use Rattle.std.specs.Prelude.{◌||◌}
 use Rattle.std.specs.Io.KnownBytes.{Appends}
 use Rattle.std.specs.List.{AllByRecursion}
+use Rattle.slot_order.specs.Order.{most_slots}
 use Rattle.rule_model.specs.declared.IpVersion.{IpVersion}
 use Rattle.rule_store.specs.Verdict.{Verdict, Accepted, Unsound, OutOfBits, OutOfSlots, entries_of}
 use Rattle.tcam_device.specs.declared.Write.{Write}
@@ -36,7 +37,7 @@ use Rattle.replay.specs.Text.{refused_line, end_line}
 use Rattle.replay.specs.Told.{verdict_told}
 use Rattle.replay.specs.Outside.{AppendsPart, CutsLines}
 use Rattle.replay.specs.Carried.{IsAt}
-use Rattle.replay.specs.Running.{Running, Watching, HasCome, IsRun, IsHalfway, IsUnderWay, ComesTo, Makes, MakesAll, MakesSome, ShowsRules, Tells, act_outcome_of, sink_failed, ended_line, watching, setting_of, progress_of, routes_of, verdict_of}
+use Rattle.replay.specs.Running.{Running, Watching, HasCome, IsRun, IsHalfway, IsMidCommit, ComesTo, Makes, MakesAll, MakesSome, ShowsRules, TellsActions, act_outcome_of, sink_failed, ended_line, watching, setting_of, progress_of, routes_of, verdict_of}
 use Rattle.replay.specs.declared.fate.Fate.{Fate}
 use Rattle.replay.specs.declared.fate.Fate.TheVariants as fates
 use Rattle.replay.specs.Fates.{IsFirst, IsToCrash, commit_act, most_of}
@@ -53,9 +54,8 @@ use Rattle.replay.proofs.between.Acts.{WantsBy, run_refused, refuse-carries, ref
 pub cut-some : (why : RunFault) (Seen : Type 0) (most : Option ℕ) (begun now : Managed) (watch : Watching) (slots : ℕ) (count count_now : Count) (events_old events_new : List Action) (old taken : Option (List ℕ))
     → Makes Seen most begun now watch slots count count_now (Err why) events_old events_new old taken
     → (some : MakesSome most count.told begun now) × HasCome watch count count_now some.made × ((why ≡ fault.Sink) ⊎ (why ≡ fault.Device))
-cut-some fault.Sink Seen most begun now watch slots count count_now events_old events_new old taken stops = (stops.some, stops.come, inl refl)
-cut-some fault.Device Seen most begun now watch slots count count_now events_old events_new old taken stops = (stops.some, stops.come, inr refl)
-cut-some fault.Memory Seen most begun now watch slots count count_now events_old events_new old taken stops = absurd stops
+cut-some why Seen most begun now watch slots count count_now events_old events_new old taken (inl (sink, stops)) = (stops.some, stops.come, inl sink)
+cut-some why Seen most begun now watch slots count count_now events_old events_new old taken (inr (device, stops)) = (stops.some, stops.come, inr device)
 
 -- a run whose commit was cut
 pub cut-held : (why : RunFault) (Seen : Type 0) (slots slots_made : ℕ) (before : Progress) (front : List Effect) (run : Running) (rest : Rest slots before front run) (now : Managed) (count_now : Count)
@@ -66,7 +66,7 @@ cut-held why Seen slots slots_made before front run rest now count_now events_ol
     let now_slots : now.slots ≡ run.manager.slots = some-slots (most_of run.fate) run.told run.manager now cut.0 in
     cut-run run now count_now is cut.0 (under-way (record run { manager = now; told = count_now.told; waiting = count_now.waiting }) (subst (λ n. n ≤ slots) (sym now_slots) within) (rest.more now count_now cut.0 cut.1))
   where
-    under-way : (new : Running) → new.manager.slots ≤ slots → {begun : Progress} {effects : List Effect} → IsUnfinished slots begun effects new → IsUnderWay new
+    under-way : (new : Running) → new.manager.slots ≤ slots → {begun : Progress} {effects : List Effect} → IsUnfinished slots begun effects new → IsMidCommit new
     under-way new inside (inl stands) = inl stands.halfway
     under-way new inside (inr stands) = inr (slots, inside, stands.onward)
 
@@ -96,10 +96,11 @@ module _ (slots : ℕ) (before : Progress) (front : List Effect) (inside run : R
   pub resumes-cut : (why : RunFault) (now : Managed) (count : Count) (flight_new : Flight) (old taken : Option (List ℕ))
       → Makes Seen (most_of inside.fate) inside.manager now (watching inside) slots (count_of inside) count (Err why) events_old events_new old taken → (why ≡ fault.Device → AreCurrent (live_now now) flight_new)
       → ResumesTo slots before (commit_act run.fate) front (record inside { manager = now; told = count.told; waiting = count.waiting }) (Err why) events_old events_new flight_new old taken
-  resumes-cut fault.Device now count flight_new old taken stops current_new =
+  resumes-cut why now count flight_new old taken (inr (device, stops)) current_new =
       let new = record inside { manager = now; told = count.told; waiting = count.waiting } in
       let made = stops.some.made in
-      subst (λ (r : Running). StaysUnfinished slots before (commit_act r.fate) front new events_old events_new flight_new old taken) same
+      subst (λ one. ResumesTo slots before (commit_act run.fate) front new (Err one) events_old events_new flight_new old taken) (sym device)
+      (subst (λ (r : Running). StaysUnfinished slots before (commit_act r.fate) front new events_old events_new flight_new old taken) same
       (stays slots before front inside rest.course events_old events_new at-inside new made stops.left stops.due flight_new old taken
       (rest.part now stops.some ∙ ap (λ left. made ++ left) stops.left_is)
       (ap (λ (manager : Managed). setting_of (record inside { manager = manager })) stops.some.now_is)
@@ -107,15 +108,15 @@ module _ (slots : ℕ) (before : Progress) (front : List Effect) (inside run : R
       (ap (λ (manager : Managed). manager.state) stops.some.now_is)
       stops.next stops.events (stops.report is-seen)
       (subst (λ effects. IsUnfinished slots before effects new) (told-then slots before front inside rest.course made) (rest.more now count stops.some stops.come))
-      (current_new refl))
-  resumes-cut fault.Sink now count flight_new old taken stops current_new =
+      (current_new device)))
+  resumes-cut why now count flight_new old taken (inl (sink, stops)) current_new =
       let new = record inside { manager = now; told = count.told; waiting = count.waiting } in
-      subst (λ (r : Running). BreaksOff slots before (commit_act r.fate) front new events_old events_new old taken) same
+      subst (λ one. ResumesTo slots before (commit_act run.fate) front new (Err one) events_old events_new flight_new old taken) (sym sink)
+      (subst (λ (r : Running). BreaksOff slots before (commit_act r.fate) front new events_old events_new old taken) same
       (breaks slots before front inside rest.course events_old events_new at-inside new (stops.some.made ++ stops.some.left) [] old taken
       (rest.part now stops.some ∙ sym (append-nil (stops.some.made ++ stops.some.left)))
       (ap (λ (manager : Managed). setting_of (record inside { manager = manager })) stops.some.now_is)
-      (stops.cuts is-seen))
-  resumes-cut fault.Memory now count flight_new old taken stops current_new = absurd stops
+      (stops.cuts is-seen)))
 
   module _ (end : Ended) (now : Managed) (count : Count) (old mid : Option (List ℕ)) (all : MakesAll Seen (most_of inside.fate) inside.manager (watching inside) slots (count_of inside) count end now events_old events_new old mid)
       (counted : Running) (closed : counted ≡ record inside { manager = now; told = 0; waiting = 0; fate = fates.ToTheEnd; pending = []; commits = inside.commits + 1 }) where
@@ -131,8 +132,8 @@ module _ (slots : ℕ) (before : Progress) (front : List Effect) (inside run : R
     grown-left : events_new ≡ events_old ++ rest.course.left
     grown-left = all.events ∙ ap (λ actions. events_old ++ actions) held-is
 
-    told-left : Tells inside.manager (watching inside) slots (count_of inside) events_old rest.course.left old mid
-    told-left = subst (λ actions. Tells inside.manager (watching inside) slots (count_of inside) events_old actions old mid) held-is (all.report is-seen)
+    told-left : TellsActions inside.manager (watching inside) slots (count_of inside) events_old rest.course.left old mid
+    told-left = subst (λ actions. TellsActions inside.manager (watching inside) slots (count_of inside) events_old actions old mid) held-is (all.report is-seen)
 
     new-is : run_now ≡ rest.ended
     new-is = (ends.counted counted closed).0
@@ -251,7 +252,7 @@ module _ (inside : Running) (counts : Done) (manager : Managed) (is : IsRun insi
     few = is.few;
     shows = λ none. absurd (let bad : Some (commit_of inside.manager inside.pending holds.made counts) ≡ None = sym (ap (λ (m : Managed). m.held) holds.new_is) ∙ none in cc);
     some_slots = subst (λ (m : Managed). 1 ≤ m.slots) (sym holds.new_is) is.some_slots;
-    most_slots = subst (λ (m : Managed). m.slots ≤ 4096) (sym holds.new_is) is.most_slots;
+    most_slots = subst (λ (m : Managed). m.slots ≤ most_slots) (sym holds.new_is) is.most_slots;
     halfway = λ some. inl half-taken;
     idle = λ none. absurd (let bad : Some (commit_of inside.manager inside.pending holds.made counts) ≡ None = sym (ap (λ (m : Managed). m.held) holds.new_is) ∙ none in cc);
   }

@@ -14,6 +14,7 @@ use Rattle.commit_writes.specs.Bits.{FieldBits, bits_with, new_bits}
 use Rattle.commit_writes.proofs.WritesIn.{writes_of_commit, writes_in-append}
 use Rattle.batch_order.specs.Managed.{Managed, HeldCommit, Holds, commit_of}
 use Rattle.std.specs.List.{AllByRecursion}
+use Rattle.slot_order.specs.Order.{most_slots}
 use Rattle.rule_model.specs.declared.IpVersion.{IpVersion}
 use Rattle.replay.specs.declared.watch.Count.{Count}
 use Rattle.replay.specs.declared.steps.Ended.{Ended}
@@ -22,7 +23,7 @@ use Rattle.replay.specs.Effects.{waiting_after}
 use Rattle.replay.specs.declared.fate.Fate.{Fate}
 use Rattle.replay.specs.declared.fate.Fate.TheVariants.{ToTheEnd, BackAfter, CrashAfter, RestartedAfter}
 use Rattle.replay.specs.Fates.{IsBefore, IsFirst, IsWithinCrash, crash_of, most_of}
-use Rattle.replay.specs.Running.{Running, Watching, EndsBy, HasCome, IsRun, IsHalfway, IsUnderWay, MakesAll, MakesSome, MayTurn, ShowsRules, ended_line, finished_line, goes_back, left_of, rest_of, setting_of, routes_of, trial_left, verdict_of, watching}
+use Rattle.replay.specs.Running.{Running, Watching, EndsBy, HasCome, IsRun, IsHalfway, IsMidCommit, MakesAll, MakesSome, MayTurnBack, ShowsRules, ended_line, finished_line, goes_back, actions_left, trial_rest, setting_of, routes_of, trial_left, verdict_of, watching}
 use Rattle.replay.specs.Text.{aborted_line, accepted_line}
 use Rattle.replay.proofs.making.Acting.{some-held}
 use Rattle.replay.proofs.course.Course.{count_of}
@@ -72,7 +73,7 @@ halfway-none run first counts holds accepted shows told waiting =
       some = record {
         held = held;
         made = [];
-        left = left_of (rest_of (most_of run.fate) 0) run.manager.state held;
+        left = actions_left (trial_rest (most_of run.fate) 0) run.manager.state held;
         held_is = held_is;
         whole = refl;
         one = held;
@@ -82,7 +83,7 @@ halfway-none run first counts holds accepted shows told waiting =
       };
       told = told;
       waiting = waiting;
-      before = before-none (crash_of run.fate) 0 (left_of (rest_of (most_of run.fate) 0) run.manager.state held);
+      before = before-none (crash_of run.fate) 0 (actions_left (trial_rest (most_of run.fate) 0) run.manager.state held);
       within = none-told (crash_of run.fate) run.told told;
     }
   where
@@ -108,7 +109,7 @@ module _ (run : Running) (half : IsHalfway run) where
       cc
 
   -- it can be taken back
-  pub may-half : MayTurn (most_of run.fate) run.manager.held
+  pub may-half : MayTurnBack (most_of run.fate) run.manager.held
   may-half =
       may-be (most_of run.fate) run.manager.held half.some.one (some-held (most_of run.fate) 0 half.begun run.manager half.some) (half.some.same.prepared ∙ ap (λ (one : HeldCommit). one.prepared) held-same)
 
@@ -118,10 +119,10 @@ module _ (run : Running) (half : IsHalfway run) where
 
   -- whether it is taken back
   abbrev pub is_back : Bool
-  is_back = goes_back (rest_of (most_of run.fate) 0) held_begun
+  is_back = goes_back (trial_rest (most_of run.fate) 0) held_begun
 
-  pub begun-actions : left_of (rest_of (most_of run.fate) 0) half.begun.state held_begun ≡ whole_actions
-  begun-actions = ap (λ (held : HeldCommit). left_of (rest_of (most_of run.fate) 0) half.begun.state held) (sym held-same) ∙ half.some.whole
+  pub begun-actions : actions_left (trial_rest (most_of run.fate) 0) half.begun.state held_begun ≡ whole_actions
+  begun-actions = ap (λ (held : HeldCommit). actions_left (trial_rest (most_of run.fate) 0) half.begun.state held) (sym held-same) ∙ half.some.whole
 
   begun-writes : writes_in held_begun.actions ≡ begun-holds.made
   begun-writes =
@@ -138,7 +139,7 @@ module _ (run : Running) (half : IsHalfway run) where
       let whole : whole_actions ≡ held_begun.actions = sym begun-actions ∙ all.0 in
       (whole, ap writes_in whole ∙ begun-writes, subst (λ writes. IsWithin (most_of run.fate) (length writes)) begun-writes all.1)
 
-  abbrev pub back-parts : is_back ≡ true → IsBack (most_of run.fate) half.begun.state held_begun.actions (left_of (rest_of (most_of run.fate) 0) half.begun.state held_begun) []
+  abbrev pub back-parts : is_back ≡ true → IsBack (most_of run.fate) half.begun.state held_begun.actions (actions_left (trial_rest (most_of run.fate) 0) half.begun.state held_begun) []
   back-parts back = goes-back (most_of run.fate) half.begun.state held_begun.actions [] back
 
   -- one that is makes the first of them, and undoes those
@@ -190,7 +191,7 @@ module _ (run : Running) (half : IsHalfway run) where
     changes = is.changes;
     routes = subst (λ (manager : Managed). (version : IpVersion) → run.family ≡ routes_of version → AllByRecursion (IsRoute version) manager.rules) half.some.now_is is.routes;
     some_slots = subst (λ (manager : Managed). 1 ≤ manager.slots) half.some.now_is is.some_slots;
-    most_slots = subst (λ (manager : Managed). manager.slots ≤ 4096) half.some.now_is is.most_slots;
+    most_slots = subst (λ (manager : Managed). manager.slots ≤ most_slots) half.some.now_is is.most_slots;
     size = sym (slots-after half.begun.state (writes_in half.some.made)) ∙ subst (λ (manager : Managed). length manager.state.slots ≡ manager.slots) half.some.now_is is.size;
     few = is.few;
     shows = λ idle. absurd (let none : Some held_begun ≡ None = sym (ap (λ (manager : Managed). manager.held) begun-holds.new_is) ∙ idle in cc);
@@ -199,16 +200,16 @@ module _ (run : Running) (half : IsHalfway run) where
   }
 
   -- few writes were told or are left
-  pub few-left : IfSome run.manager.held (λ held. run.told + length (writes_in (left_of (rest_of (most_of run.fate) run.told) run.manager.state held)) ≤ 2 ^ 40)
+  pub few-left : IfSome run.manager.held (λ held. run.told + length (writes_in (actions_left (trial_rest (most_of run.fate) run.told) run.manager.state held)) ≤ 2 ^ 40)
   few-left =
       let few = whole-few in
       let all : length (writes_in whole_actions) ≡ length (writes_in half.some.made) + length (writes_in half.some.left) =
       ap length (writes_in-append half.some.made half.some.left) ∙ length-append (writes_in half.some.made) (writes_in half.some.left) in
       let told = half.told in
-      let left : left_of (rest_of (most_of run.fate) run.told) run.manager.state half.some.one ≡ half.some.left = ap (λ n. left_of (rest_of (most_of run.fate) n) run.manager.state half.some.one) (told-from run half) ∙ half.some.left_is in
-      let number : length (writes_in (left_of (rest_of (most_of run.fate) run.told) run.manager.state half.some.one)) ≡ length (writes_in half.some.left) = ap (λ actions. length (writes_in actions)) left in
-      let most : run.told + length (writes_in (left_of (rest_of (most_of run.fate) run.told) run.manager.state half.some.one)) ≤ 2 ^ 40 = omega arith in
-      subst (λ held. IfSome held (λ (one : HeldCommit). run.told + length (writes_in (left_of (rest_of (most_of run.fate) run.told) run.manager.state one)) ≤ 2 ^ 40)) (sym (some-held (most_of run.fate) 0 half.begun run.manager half.some)) most
+      let left : actions_left (trial_rest (most_of run.fate) run.told) run.manager.state half.some.one ≡ half.some.left = ap (λ n. actions_left (trial_rest (most_of run.fate) n) run.manager.state half.some.one) (told-from run half) ∙ half.some.left_is in
+      let number : length (writes_in (actions_left (trial_rest (most_of run.fate) run.told) run.manager.state half.some.one)) ≡ length (writes_in half.some.left) = ap (λ actions. length (writes_in actions)) left in
+      let most : run.told + length (writes_in (actions_left (trial_rest (most_of run.fate) run.told) run.manager.state half.some.one)) ≤ 2 ^ 40 = omega arith in
+      subst (λ held. IfSome held (λ (one : HeldCommit). run.told + length (writes_in (actions_left (trial_rest (most_of run.fate) run.told) run.manager.state one)) ≤ 2 ^ 40)) (sym (some-held (most_of run.fate) 0 half.begun run.manager half.some)) most
 
   -- the line that it ends with
   abbrev pub line_by : Bool → List ℕ
@@ -227,13 +228,13 @@ module _ (run : Running) (half : IsHalfway run) where
   run_ended = ended_by is_back
 
 -- a run whose commit was cut
-pub cut-run : (run : Running) (now : Managed) (count : Count) → IsRun run → (some : MakesSome (most_of run.fate) run.told run.manager now) → IsUnderWay (record run { manager = now; told = count.told; waiting = count.waiting })
+pub cut-run : (run : Running) (now : Managed) (count : Count) → IsRun run → (some : MakesSome (most_of run.fate) run.told run.manager now) → IsMidCommit (record run { manager = now; told = count.told; waiting = count.waiting })
     → IsRun (record run { manager = now; told = count.told; waiting = count.waiting })
 cut-run run now count is some under_way = record {
   changes = is.changes;
   routes = subst (λ (manager : Managed). (version : IpVersion) → run.family ≡ routes_of version → AllByRecursion (IsRoute version) manager.rules) (sym some.now_is) is.routes;
   some_slots = subst (λ (manager : Managed). 1 ≤ manager.slots) (sym some.now_is) is.some_slots;
-  most_slots = subst (λ (manager : Managed). manager.slots ≤ 4096) (sym some.now_is) is.most_slots;
+  most_slots = subst (λ (manager : Managed). manager.slots ≤ most_slots) (sym some.now_is) is.most_slots;
   size = subst (λ (manager : Managed). length manager.state.slots ≡ manager.slots) (sym some.now_is) (slots-after run.manager.state (writes_in some.made) ∙ is.size);
   few = is.few;
   shows = λ idle. absurd (let none : Some some.one ≡ None = sym (some-held (most_of run.fate) run.told run.manager now some) ∙ idle in cc);
@@ -251,38 +252,38 @@ module _ (Seen : Type 0) (run : Running) (half : IsHalfway run) (watch : Watchin
 
   pub actions-left : all.actions ≡ half.some.left
   actions-left =
-      all.actions_are ∙ ap (left_of (rest_of (most_of run.fate) run.told) run.manager.state) held-one
-      ∙ ap (λ n. left_of (rest_of (most_of run.fate) n) run.manager.state half.some.one) (told-from run half) ∙ half.some.left_is
+      all.actions_are ∙ ap (actions_left (trial_rest (most_of run.fate) run.told) run.manager.state) held-one
+      ∙ ap (λ n. actions_left (trial_rest (most_of run.fate) n) run.manager.state half.some.one) (told-from run half) ∙ half.some.left_is
 
-  back-same : goes_back (rest_of (most_of run.fate) run.told) all.held ≡ is_back run half
+  back-same : goes_back (trial_rest (most_of run.fate) run.told) all.held ≡ is_back run half
   back-same =
-      ap (goes_back (rest_of (most_of run.fate) run.told)) held-one ∙ ap (λ n. goes_back (rest_of (most_of run.fate) n) half.some.one) (told-from run half)
-      ∙ half.some.same.back ∙ ap (goes_back (rest_of (most_of run.fate) 0)) (held-same run half)
+      ap (goes_back (trial_rest (most_of run.fate) run.told)) held-one ∙ ap (λ n. goes_back (trial_rest (most_of run.fate) n) half.some.one) (told-from run half)
+      ∙ half.some.same.back ∙ ap (goes_back (trial_rest (most_of run.fate) 0)) (held-same run half)
 
   ends-so : EndsBy (is_back run half) run.manager half.some.one half.some.left end now
   ends-so =
       subst (λ back. EndsBy back run.manager half.some.one half.some.left end now) back-same
-      (subst (λ held. EndsBy (goes_back (rest_of (most_of run.fate) run.told) all.held) run.manager held half.some.left end now) held-one
-      (subst (λ actions. EndsBy (goes_back (rest_of (most_of run.fate) run.told) all.held) run.manager all.held actions end now) actions-left all.ends))
+      (subst (λ held. EndsBy (goes_back (trial_rest (most_of run.fate) run.told) all.held) run.manager held half.some.left end now) held-one
+      (subst (λ actions. EndsBy (goes_back (trial_rest (most_of run.fate) run.told) all.held) run.manager all.held actions end now) actions-left all.ends))
 
   pub slots-now : now.slots ≡ run.manager.slots
   slots-now = go end all.ends
     where
-      go : (end : Ended) → EndsBy (goes_back (rest_of (most_of run.fate) run.told) all.held) run.manager all.held all.actions end now → now.slots ≡ run.manager.slots
+      go : (end : Ended) → EndsBy (goes_back (trial_rest (most_of run.fate) run.told) all.held) run.manager all.held all.actions end now → now.slots ≡ run.manager.slots
       go (ended.Finished done) ends = ap (λ (manager : Managed). manager.slots) ends.2
       go ended.Reverted ends = ap (λ (manager : Managed). manager.slots) ends.1
 
   pub idle-now : now.held ≡ None
   idle-now = go end all.ends
     where
-      go : (end : Ended) → EndsBy (goes_back (rest_of (most_of run.fate) run.told) all.held) run.manager all.held all.actions end now → now.held ≡ None
+      go : (end : Ended) → EndsBy (goes_back (trial_rest (most_of run.fate) run.told) all.held) run.manager all.held all.actions end now → now.held ≡ None
       go (ended.Finished done) ends = ap (λ (manager : Managed). manager.held) ends.2
       go ended.Reverted ends = ap (λ (manager : Managed). manager.held) ends.1
 
   setting-now : setting_of (record run { manager = now }) ≡ setting_of run
   setting-now = go end all.ends
     where
-      go : (end : Ended) → EndsBy (goes_back (rest_of (most_of run.fate) run.told) all.held) run.manager all.held all.actions end now → setting_of (record run { manager = now }) ≡ setting_of run
+      go : (end : Ended) → EndsBy (goes_back (trial_rest (most_of run.fate) run.told) all.held) run.manager all.held all.actions end now → setting_of (record run { manager = now }) ≡ setting_of run
       go (ended.Finished done) ends = ap (λ (manager : Managed). setting_of (record run { manager = manager })) ends.2
       go ended.Reverted ends = ap (λ (manager : Managed). setting_of (record run { manager = manager })) ends.1
 

@@ -19,17 +19,18 @@ use Rattle.batch_order.specs.Placing.{IsPlacedBy}
 use Rattle.replay.specs.declared.Family.{Family}
 use Rattle.replay.specs.declared.Family.TheVariants.{Route, Acl, Route6, Acl6}
 use Rattle.replay.specs.Effects.{Setting, Effect, Prints}
-use Rattle.replay.specs.Run.{Progress, Commits, Returns, OfFamily, actions_back, actions_for, carried, slots_in_use, after_segment}
+use Rattle.replay.specs.Run.{Progress, Commits, Returns, OfFamily, actions_back, actions_for, carried, used_slots, after_segment}
 use Rattle.replay.specs.Text.{aborted_line, accepted_line}
 use Rattle.replay.specs.Crashing.{after_loss}
 use Rattle.replay.specs.declared.fate.Fate.TheVariants.{ToTheEnd}
-use Rattle.replay.specs.Running.{Running, IsHalfway, IsOnward, IsRun, IsUnderWay, setting_of, progress_of, begun, routes_of, IsChangeOf, ShowsRules}
+use Rattle.replay.specs.Running.{Running, IsHalfway, IsOnward, IsRun, IsMidCommit, setting_of, progress_of, begun, routes_of, IsChangeOf, ShowsRules}
 use Rattle.replay.proofs.between.RouteSets.{routes_after, changes_more}
 use Rattle.tcam_device.proofs.Wider.{slots-after, state_after-on_device, Shows-padded, blank_shows}
 use Rattle.std.proofs.lemmas.List.{length-replicate}
+use Rattle.slot_order.specs.Order.{most_slots}
 
 -- a run before its first act
-pub begun-run : (slots : ℕ) (mode : Mode) (placement : Placement) (family : Family) (trace : Bool) (depth : ℕ) → 1 ≤ slots → slots ≤ 4096 → IsRun (begun slots mode placement family trace depth)
+pub begun-run : (slots : ℕ) (mode : Mode) (placement : Placement) (family : Family) (trace : Bool) (depth : ℕ) → 1 ≤ slots → slots ≤ most_slots → IsRun (begun slots mode placement family trace depth)
 begun-run slots mode placement family trace depth least most = record {
   changes = λ version route. tt;
   routes = λ version route. tt;
@@ -57,7 +58,7 @@ lost-run run is = record {
 }
 
 -- where no commit is under way none is unfinished
-pub never-halfway : (run new : Running) → run.manager.held ≡ None → IsSome run.manager.held → IsUnderWay new
+pub never-halfway : (run new : Running) → run.manager.held ≡ None → IsSome run.manager.held → IsMidCommit new
 never-halfway run new idle some = absurd (let none : false ≡ true = subst (λ (held : Option HeldCommit). IsSome held) idle some in cc)
 
 -- a change joined the pending batch, or it stayed as it was
@@ -155,7 +156,7 @@ run_returned run both =
     }
 
 -- the slots in use of a device are those of the manager
-pub in-use : (setting : Setting) (slots : ℕ) (state : State) → length state.slots ≡ setting.slots → slots_in_use setting (on_device slots state) ≡ state
+pub in-use : (setting : Setting) (slots : ℕ) (state : State) → length state.slots ≡ setting.slots → used_slots setting (on_device slots state) ≡ state
 in-use setting slots state size =
     let others : List (Option Entry) = replicate (slots - length state.slots) None in
     ap (λ (first : List (Option Entry)). record state { slots = first }) (ap (λ (count : ℕ). take count (state.slots ++ others)) (sym size) ∙ take-append_seam state.slots others)

@@ -18,11 +18,11 @@ use Rattle.replay.specs.declared.Act.{Act}
 use Rattle.replay.specs.declared.watch.Count.{Count}
 use Rattle.replay.specs.Effects.{Setting, Effect, Acts, Prints, events_in, printed, traced, searched_after, flushed, waiting_after, effects_of}
 use Rattle.replay.specs.Run.{Progress, HasEffects, IsCutStep, carried}
-use Rattle.replay.specs.Text.{trace_line}
+use Rattle.replay.specs.Text.{write_line}
 use Rattle.replay.specs.Outside.{AppendsPart, CutsLines}
 use Rattle.replay.specs.Carried.{CutsEffects, Does, IsAt}
 use Rattle.replay.specs.Fates.{commit_act}
-use Rattle.replay.specs.Running.{Running, Tells, effects_on, watching, setting_of, progress_of}
+use Rattle.replay.specs.Running.{Running, TellsActions, effects_on, watching, setting_of, progress_of}
 use Rattle.replay.specs.Unfinished.{IsUnfinished, Finishes, StaysUnfinished, BreaksOff}
 use Rattle.replay.proofs.lines.Effects.{does-lines, effects-append, events-actions, events-append, events-flushed, events-front, printed-append, waiting-append}
 
@@ -88,11 +88,11 @@ module _ (slots : ℕ) (before : Progress) (front : List Effect) (run : Running)
         ∙ ap (λ writes. replay slots writes) (sym (ap writes_in grown ∙ writes_in-append events made))
 
     -- what is told where the device stands is told where the run stands
-    pub told-at : (made : List Action) (old new : Option (List ℕ)) → Tells run.manager (watching run) slots (count_of run) events made old new → Appends old new (printed (later made))
+    pub told-at : (made : List Action) (old new : Option (List ℕ)) → TellsActions run.manager (watching run) slots (count_of run) events made old new → Appends old new (printed (later made))
     told-at made old new told = subst (λ state. Appends old new (printed (effects_of (setting_of run) run.probes run.told run.waiting state made))) (sym at) told
 
     -- and so is what is done
-    pub does-made : (made : List Action) (old new : Option (List ℕ)) → events_new ≡ events ++ made → Tells run.manager (watching run) slots (count_of run) events made old new
+    pub does-made : (made : List Action) (old new : Option (List ℕ)) → events_new ≡ events ++ made → TellsActions run.manager (watching run) slots (count_of run) events made old new
         → Does (later made) [] events events_new old new
     does-made made old new grown told =
         subst (λ effects. Does effects [] events events_new old new) (append-nil (later made))
@@ -103,13 +103,13 @@ module _ (slots : ℕ) (before : Progress) (front : List Effect) (run : Running)
     -- it is cut at a write
     pub stays : (new : Running) (made rest : List Action) (due : Write) (flight : Flight) (old taken : Option (List ℕ)) → course.left ≡ made ++ Written due ∷ rest → setting_of new ≡ setting_of run → new.fate ≡ run.fate
         → new.manager.state ≡ state_after run.manager.state (writes_in made) → next_of new.manager.held ≡ Some due → events_new ≡ events ++ made
-        → Tells run.manager (watching run) slots (count_of run) events made old taken → IsUnfinished slots before (front ++ later made) new → AreCurrent (live_now new.manager) flight
+        → TellsActions run.manager (watching run) slots (count_of run) events made old taken → IsUnfinished slots before (front ++ later made) new → AreCurrent (live_now new.manager) flight
         → StaysUnfinished slots before (commit_act run.fate) front new events events_new flight old taken
     stays new made rest due flight old taken left setting fate state next grown told unfinished current =
         let ahead = state_after (on_device slots run.manager.state) (writes_in made) in
         let number = run.told + length (writes_in made) in
         let waiting = waiting_after run.depth run.waiting made in
-        let behind = traced run.trace (trace_line run.family (number + 1) due)
+        let behind = traced run.trace (write_line run.family (number + 1) due)
         ++ (searched_after (setting_of run) run.probes (number + 1) waiting (apply ahead due)
         ++ effects_of (setting_of run) run.probes (number + 1) (min (waiting + 1) run.depth) (apply ahead due) rest) in
         let part : later course.left ≡ later made ++ Acts (Written due) ∷ behind =
@@ -208,7 +208,7 @@ module _ (slots : ℕ) (before : Progress) (front : List Effect) (run : Running)
       subst (λ one. HasEffects (setting_of run) before (commit_act run.fate) one (progress_of slots ended)) (whole-effects ∙ sym same) ending.step
 
   module _ (events events_new : List Action) (at : IsAt slots events (progress_of slots run)) (old mid : Option (List ℕ)) (grown : events_new ≡ events ++ course.left)
-      (told : Tells run.manager (watching run) slots (count_of run) events course.left old mid) where
+      (told : TellsActions run.manager (watching run) slots (count_of run) events course.left old mid) where
     grown-effects : events_new ≡ events ++ events_in (later slots before front run course course.left)
     grown-effects = grown ∙ ap (λ actions. events ++ actions) (sym (events-actions (setting_of run) run.probes run.told run.waiting (on_device slots run.manager.state) course.left))
 

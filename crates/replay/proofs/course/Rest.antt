@@ -12,7 +12,7 @@ use Rattle.replay.specs.Effects.{Effect, effects_of}
 use Rattle.replay.specs.Run.{Progress}
 use Rattle.replay.specs.Crashing.{HasMoreThan}
 use Rattle.replay.specs.Fates.{IsBefore, IsWithinCrash, crash_of, most_of}
-use Rattle.replay.specs.Running.{Running, Watching, HasCome, IsHalfway, IsRun, MakesAll, MakesSome, MayTurn, ended_line, goes_back, left_of, rest_of, setting_of, watching}
+use Rattle.replay.specs.Running.{Running, Watching, HasCome, IsHalfway, IsRun, MakesAll, MakesSome, MayTurnBack, ended_line, goes_back, actions_left, trial_rest, setting_of, watching}
 use Rattle.replay.specs.Unfinished.{IsUnfinished, StandsHalfway}
 use Rattle.replay.proofs.making.Acting.{some-held}
 use Rattle.replay.proofs.course.Course.{Course, Ending, count_of}
@@ -41,8 +41,8 @@ pub record Rest (slots : ℕ) (before : Progress) (front : List Effect) (run : R
   pub ended : Running
   pub ending : Ending slots before front run course line ended
   -- few writes are left, and it may be turned round
-  pub few_left : IfSome run.manager.held (λ held. run.told + length (writes_in (left_of (rest_of (most_of run.fate) run.told) run.manager.state held)) ≤ 2 ^ 40)
-  pub may_turn : MayTurn (most_of run.fate) run.manager.held
+  pub few_left : IfSome run.manager.held (λ held. run.told + length (writes_in (actions_left (trial_rest (most_of run.fate) run.told) run.manager.state held)) ≤ 2 ^ 40)
+  pub may_turn : MayTurnBack (most_of run.fate) run.manager.held
   pub few_waiting : run.waiting ≤ run.depth
   -- the actions that are left are those that are made
   pub part : (now : Managed) (some : MakesSome (most_of run.fate) run.told run.manager now) → course.left ≡ some.made ++ some.left
@@ -72,7 +72,7 @@ module _ (slots : ℕ) (run : Running) (half : IsHalfway run) (is : IsRun run) (
   -- all its writes, those that were made and those that are left
   whole-writes : most_of run.fate ≡ None → length (writes_in (whole_actions run half)) ≡ length (begun-holds run half).made
   whole-writes straight =
-      ap length (whole-forward run half (ap (λ most. goes_back (rest_of most 0) (held_begun run half)) straight)).1
+      ap length (whole-forward run half (ap (λ most. goes_back (trial_rest most 0) (held_begun run half)) straight)).1
 
   -- none of them comes past its crash
   few-writes : (stop : Option ℕ) → crash_of run.fate ≡ stop → IsWithin stop (length (begun-holds run half).made)
@@ -90,7 +90,7 @@ module _ (slots : ℕ) (run : Running) (half : IsHalfway run) (is : IsRun run) (
       omega (arith, never)
     where
       due-left : most_of run.fate ≡ None → length (writes_due half.some.one) ≡ length (writes_in half.some.left)
-      due-left straight = ap length (sym (left-writes run.manager.state half.some.one)) ∙ ap (λ most. length (writes_in (left_of (rest_of most (0 + length (writes_in half.some.made))) run.manager.state half.some.one))) (sym straight)
+      due-left straight = ap length (sym (left-writes run.manager.state half.some.one)) ∙ ap (λ most. length (writes_in (actions_left (trial_rest most (0 + length (writes_in half.some.made))) run.manager.state half.some.one))) (sym straight)
           ∙ ap (λ actions. length (writes_in actions)) half.some.left_is
 
   few : IsWithin (crash_of run.fate) (length (begun-holds run half).made)

@@ -3,7 +3,7 @@ use Rattle.std.proofs.Common.{◌≡◌, ℕ, ◌≤◌, inl, inr, List, Some, N
 use Rattle.batch_order.specs.Managed.{Managed}
 use Rattle.replay.specs.Effects.{Effect}
 use Rattle.replay.specs.Run.{Progress}
-use Rattle.replay.specs.Running.{Running, IsRun, IsUnderWay}
+use Rattle.replay.specs.Running.{Running, IsRun, IsMidCommit}
 use Rattle.replay.specs.Unfinished.{IsUnfinished}
 use Rattle.replay.proofs.course.Rest.{HasNoCrash, Rest, as-halfway, rest-half}
 use Rattle.replay.proofs.crash.RestOnward.{as-onward, rest-onward}
@@ -24,7 +24,7 @@ pub record AnyRest (run : Running) : Type 1 where
 any-rest : (run : Running) → IsRun run → IsSome run.manager.held → HasNoCrash run → AnyRest run
 any-rest run is held none = go (is.halfway held)
   where
-    go : IsUnderWay run → AnyRest run
+    go : IsMidCommit run → AnyRest run
     go (inl half) =
         let inside : run.manager.slots ≤ run.manager.slots = omega arith in
         record { slots = run.manager.slots; inside = inside; before = _; front = _; rest = rest-half run.manager.slots run half is inside none }

@@ -3,6 +3,7 @@ use Rattle.std.proofs.Common.{◌≡◌, ℕ, ◌+◌, ◌-◌, ◌<◌, ◌≤�
 use Rattle.std.specs.Prelude.{◌&&◌}
 use Rattle.std.specs.List.{AllByRecursion, list_any}
 use Rattle.std.proofs.lemmas.List.{length-take, length-take-le}
+use Rattle.slot_order.specs.Order.{most_slots}
 use Rattle.rule_model.specs.declared.Rule.{Rule}
 use Rattle.rule_model.specs.declared.IpVersion.{IpVersion}
 use Rattle.rule_store.specs.declared.Mode.{Mode}
@@ -38,7 +39,7 @@ use Rattle.replay.specs.declared.fate.Fate.TheVariants as fates
 use Rattle.replay.specs.Effects.{Effect, effects_of, waiting_after}
 use Rattle.replay.specs.Run.{Progress}
 use Rattle.replay.specs.Fates.{commit_act}
-use Rattle.replay.specs.Running.{Running, IsHalfway, IsOnward, IsRun, MakesSome, first_actions, left_in, left_of, progress_of, routes_of, setting_of}
+use Rattle.replay.specs.Running.{Running, IsHalfway, IsOnward, IsRun, MakesSome, first_actions, left_in, actions_left, progress_of, routes_of, setting_of}
 use Rattle.replay.specs.Unfinished.{IsUnfinished, StandsHalfway, StandsOnward, TakesAtCrash}
 use Rattle.replay.specs.Carried.{IsAt}
 use Rattle.replay.specs.Crashing.{IsAtCrash, IsGoneOnWith, IsLost, after_loss}
@@ -81,7 +82,7 @@ abbrev pub none-made : (after : ℕ) (manager : Managed) (held : HeldCommit) →
 none-made after manager held is = record {
   held = held;
   made = [];
-  left = left_of None manager.state held;
+  left = actions_left None manager.state held;
   held_is = is;
   whole = refl;
   one = held;
@@ -292,7 +293,7 @@ module _ (slots after : ℕ) (base : Running) (half : IsHalfway (crashing after 
       changes = is.changes;
       routes = subst (λ (rules : List Rule). (version : IpVersion) → run.family ≡ routes_of version → AllByRecursion (IsRoute version) rules) (sym rules-over) is.routes;
       some_slots = subst (λ n. 1 ≤ n) (sym slots-over) is.some_slots;
-      most_slots = subst (λ n. n ≤ 4096) (sym slots-over) is.most_slots;
+      most_slots = subst (λ n. n ≤ most_slots) (sym slots-over) is.most_slots;
       size = size-over;
       few = is.few;
       shows = λ idle. absurd (let none : Some held_rest ≡ None = sym held-over ∙ idle in cc);

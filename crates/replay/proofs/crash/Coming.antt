@@ -49,11 +49,10 @@ made-up_to : (Seen : Type 0) (slots after : ℕ) (base : Running) (result : Resu
 made-up_to Seen slots after base (Ok done) now count events_old events_new taken taken_new pauses =
     let reached = pauses.reached in
     record { some = pauses.some; come = pauses.come; before = pauses.before; few = omega arith; events = pauses.events }
-made-up_to Seen slots after base (Err fault.Sink) now count events_old events_new taken taken_new (stops, before, few, cuts) =
+made-up_to Seen slots after base (Err why) now count events_old events_new taken taken_new (inl (sink, (stops, before, few, cuts))) =
     record { some = stops.some; come = stops.come; before = before; few = few; events = stops.events }
-made-up_to Seen slots after base (Err fault.Device) now count events_old events_new taken taken_new (stops, before, below) =
+made-up_to Seen slots after base (Err why) now count events_old events_new taken taken_new (inr (device, (stops, before, below))) =
     record { some = stops.some; come = stops.come; before = before; few = omega (arith, below); events = stops.events }
-made-up_to Seen slots after base (Err fault.Memory) now count events_old events_new taken taken_new stops = absurd stops
 
 module _ (slots after : ℕ) (base began : Running) (view_is : base ≡ began) (is : IsRun base) (within : began.manager.slots ≤ slots) (held : IsSome began.manager.held) (fate_is : began.fate ≡ fates.CrashAfter after) (more : HasMoreThan after began) where
   stop : IsToStop after base
@@ -138,9 +137,8 @@ module _ (slots after : ℕ) (base began : Running) (view_is : base ≡ began) (
       → MakesUpTo Seen after base.manager now (watching base) slots (count_of base) count result events_old events_new taken taken_new
       → IfErr result (λ why. (why ≡ fault.Sink) ⊎ (why ≡ fault.Device))
   kind-first Seen (Ok done) now count events_old events_new taken taken_new pauses = tt
-  kind-first Seen (Err fault.Sink) now count events_old events_new taken taken_new stops = inl refl
-  kind-first Seen (Err fault.Device) now count events_old events_new taken taken_new stops = inr refl
-  kind-first Seen (Err fault.Memory) now count events_old events_new taken taken_new stops = absurd stops
+  kind-first Seen (Err why) now count events_old events_new taken taken_new (inl (sink, stops)) = inl sink
+  kind-first Seen (Err why) now count events_old events_new taken taken_new (inr (device, stops)) = inr device
 
   module _ (before : Progress) (front : List Effect) (unfinished : IsUnfinished slots before front began) (events_old : List Action) (flight : Flight) (at : IsAt slots events_old (progress_of slots began)) (current : AreCurrent (live_now began.manager) flight) where
     at_base : IsAt slots events_old (progress_of slots base)

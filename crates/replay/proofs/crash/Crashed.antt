@@ -9,7 +9,7 @@ use Rattle.tcam_device.specs.declared.Write.{Write}
 use Rattle.tcam_device.specs.State.{State, Shows, state_after}
 use Rattle.tcam_device.specs.Hitless.{ShowsOldOrNew}
 use Rattle.tcam_device.proofs.Spans.{state_after-append}
-use Rattle.replay.specs.Effects.{Setting, Effect, written}
+use Rattle.replay.specs.Effects.{Setting, Effect, journal_of}
 use Rattle.replay.specs.Run.{Progress, Restarts}
 use Rattle.replay.specs.Crash.{CrashedPartsAreOldOrNew, IsOldOrNew}
 use Rattle.replay.specs.Text.{restarted_line}
@@ -43,9 +43,9 @@ joined old later state made rest after more first second n = elim (cases_lt n af
 
 -- what such a commit wrote
 pub written-restarts : (setting : Setting) (old new : Progress) (after : ℕ) (effects : List Effect) (restarts : Restarts setting old after effects new)
-    → written effects ≡ take after restarts.made ++ restarts.rest
+    → journal_of effects ≡ take after restarts.made ++ restarts.rest
 written-restarts setting old new after effects restarts =
-    ap written restarts.effects_are
+    ap journal_of restarts.effects_are
     ∙ written-crash setting old after restarts.made restarts.rest (restarted_line (old.commits + 1) after (after + length restarts.rest))
 
 pub parts_are : CrashedPartsAreOldOrNew

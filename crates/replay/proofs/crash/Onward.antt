@@ -36,7 +36,7 @@ use Rattle.replay.specs.Effects.{Setting, Effect, Prints, effects_of}
 use Rattle.replay.specs.Run.{Progress, Crashes, Judged, HasEffects, OfFamily, RestOfFamily, Restarts, actions_over, after_segment, carried}
 use Rattle.replay.specs.Text.{restarted_line}
 use Rattle.replay.specs.Fates.{commit_act}
-use Rattle.replay.specs.Running.{Running, IsOnward, IsRun, first_actions, left_of, progress_of, routes_of, setting_of}
+use Rattle.replay.specs.Running.{Running, IsOnward, IsRun, first_actions, actions_left, progress_of, routes_of, setting_of}
 use Rattle.replay.proofs.course.Course.{Course, Ending, cuts-by_step}
 use Rattle.replay.proofs.course.Returning.{writes-up_to}
 use Rattle.replay.proofs.between.Runs.{in-use, wider}
@@ -129,7 +129,7 @@ module _ (slots : ℕ) (run : Running) (onward : IsOnward slots run) (is : IsRun
 
   -- the actions of its plan
   pub rest-whole : with_drain drains goes.made ≡ onward.some.made ++ onward.some.left
-  rest-whole = ap (λ (held : HeldCommit). left_of None onward.restarted.state held) (sym held-is) ∙ onward.some.whole
+  rest-whole = ap (λ (held : HeldCommit). actions_left None onward.restarted.state held) (sym held-is) ∙ onward.some.whole
 
   -- so these are all of them, over the crash
   pub all-over : (firsts ++ onward.some.made) ++ onward.some.left ≡ actions_over (setting_of (record run { manager = begun })) began_first onward.after holds.made goes.made

@@ -1,5 +1,6 @@
 -- What is left of a commit that crashed and whose second manager goes on with it.
 use Rattle.std.proofs.Common.{◌≡◌, ℕ, ◌+◌, ◌-◌, ◌*◌, ◌^◌, ◌≤◌, inr, true, false, List, [], ◌++◌, Option, Some, None, IfSome, length, length-append, take, refl, sym, ap, ◌∙◌, subst, append_assoc, arith}
+use Rattle.slot_order.specs.Order.{most_slots}
 use Rattle.rule_model.specs.declared.Rule.{Rule}
 use Rattle.rule_model.specs.declared.IpVersion.{IpVersion}
 use Rattle.rule_store.specs.Batch.{set_after}
@@ -21,7 +22,7 @@ use Rattle.replay.specs.Effects.{Effect, effects_of, waiting_after}
 use Rattle.replay.specs.Run.{Progress}
 use Rattle.replay.specs.Text.{restarted_line}
 use Rattle.replay.specs.Fates.{most_of}
-use Rattle.replay.specs.Running.{Running, Watching, EndsBy, HasCome, IsOnward, IsRun, MakesAll, MakesSome, MayTurn, ShowsRules, ended_line, finished_line, first_actions, goes_back, left_of, rest_of, routes_of, setting_of, watching}
+use Rattle.replay.specs.Running.{Running, Watching, EndsBy, HasCome, IsOnward, IsRun, MakesAll, MakesSome, MayTurnBack, ShowsRules, ended_line, finished_line, first_actions, goes_back, actions_left, trial_rest, routes_of, setting_of, watching}
 use Rattle.replay.specs.Unfinished.{IsUnfinished, StandsOnward}
 use Rattle.replay.proofs.making.Acting.{some-held}
 use Rattle.replay.proofs.course.Course.{count_of}
@@ -79,21 +80,21 @@ module _ (slots : ℕ) (run : Running) (onward : IsOnward slots run) (is : IsRun
       }
 
   -- few writes are told or left
-  few-left : IfSome run.manager.held (λ held. run.told + length (writes_in (left_of (rest_of None run.told) run.manager.state held)) ≤ 2 ^ 40)
+  few-left : IfSome run.manager.held (λ held. run.told + length (writes_in (actions_left (trial_rest None run.told) run.manager.state held)) ≤ 2 ^ 40)
   few-left =
       let number = whole-number in
       let told = onward.told in
       let firsts = first-run_few slots run onward is inside in
       let few = (goes slots run onward is inside).few in
-      let same : length (writes_in (left_of (rest_of None run.told) run.manager.state onward.some.one)) ≡ length (writes_in onward.some.left) = ap (λ actions. length (writes_in actions)) onward.some.left_is in
-      let most : run.told + length (writes_in (left_of (rest_of None run.told) run.manager.state onward.some.one)) ≤ 2 ^ 40 = omega arith in
-      subst (λ held. IfSome held (λ (one : HeldCommit). run.told + length (writes_in (left_of (rest_of None run.told) run.manager.state one)) ≤ 2 ^ 40)) (sym (some-held None onward.after onward.restarted run.manager onward.some)) most
+      let same : length (writes_in (actions_left (trial_rest None run.told) run.manager.state onward.some.one)) ≡ length (writes_in onward.some.left) = ap (λ actions. length (writes_in actions)) onward.some.left_is in
+      let most : run.told + length (writes_in (actions_left (trial_rest None run.told) run.manager.state onward.some.one)) ≤ 2 ^ 40 = omega arith in
+      subst (λ held. IfSome held (λ (one : HeldCommit). run.told + length (writes_in (actions_left (trial_rest None run.told) run.manager.state one)) ≤ 2 ^ 40)) (sym (some-held None onward.after onward.restarted run.manager onward.some)) most
     where
       whole-number : length (writes_in onward.some.made) + length (writes_in onward.some.left) ≡ length (goes slots run onward is inside).made
       whole-number = sym (length-append (writes_in onward.some.made) (writes_in onward.some.left)) ∙ ap length (rest-writes slots run onward is inside)
 
-  may-turn : MayTurn (most_of run.fate) run.manager.held
-  may-turn = subst (λ most. MayTurn most run.manager.held) (sym none-most) tt
+  may-turn : MayTurnBack (most_of run.fate) run.manager.held
+  may-turn = subst (λ most. MayTurnBack most run.manager.held) (sym none-most) tt
 
   few-waiting : run.waiting ≤ run.depth
   few-waiting =
@@ -108,7 +109,7 @@ module _ (slots : ℕ) (run : Running) (onward : IsOnward slots run) (is : IsRun
         cc
 
     pub actions-left : all.actions ≡ onward.some.left
-    actions-left = all.actions_are ∙ ap (left_of None run.manager.state) held-one ∙ onward.some.left_is
+    actions-left = all.actions_are ∙ ap (actions_left None run.manager.state) held-one ∙ onward.some.left_is
 
     -- it isn't taken back
     forward : goes_back None all.held ≡ false
@@ -173,7 +174,7 @@ module _ (slots : ℕ) (run : Running) (onward : IsOnward slots run) (is : IsRun
           changes = changes;
           routes = λ version route. routes_after version onward.begun.rules run.pending (routes-first slots run onward is inside version route) (is.changes version route);
           some_slots = subst (λ n. 1 ≤ n) (ap (λ (manager : Managed). manager.slots) onward.some.now_is) is.some_slots;
-          most_slots = subst (λ n. n ≤ 4096) (ap (λ (manager : Managed). manager.slots) onward.some.now_is) is.most_slots;
+          most_slots = subst (λ n. n ≤ most_slots) (ap (λ (manager : Managed). manager.slots) onward.some.now_is) is.most_slots;
           size = slots-after onward.restarted.state (goes slots run onward is inside).made ∙ restarted-size slots run onward is inside ∙ sym (ap (λ (manager : Managed). manager.slots) (goes slots run onward is inside).restarted_is);
           few = few;
           shows = shows-anywhere;
@@ -195,7 +196,7 @@ module _ (slots : ℕ) (run : Running) (onward : IsOnward slots run) (is : IsRun
     line = line_over slots run onward is inside;
     ended = ended_over slots run onward is inside;
     ending = ending-over slots run onward is inside;
-    few_left = subst (λ most. IfSome run.manager.held (λ held. run.told + length (writes_in (left_of (rest_of most run.told) run.manager.state held)) ≤ 2 ^ 40)) (sym none-most) few-left;
+    few_left = subst (λ most. IfSome run.manager.held (λ held. run.told + length (writes_in (actions_left (trial_rest most run.told) run.manager.state held)) ≤ 2 ^ 40)) (sym none-most) few-left;
     may_turn = may-turn;
     few_waiting = few-waiting;
     part = λ now some. with-most (λ most. (some : MakesSome most run.told run.manager now) → onward.some.left ≡ some.made ++ some.left) (onward-part now) some;

@@ -23,7 +23,7 @@ use Rattle.replay.specs.Fates.{IsUpTo, commit_act}
 use Rattle.replay.specs.Pausing.{MakesUpTo}
 use Rattle.replay.specs.Crashing.{ComesToCrash, HasMoreThan}
 use Rattle.replay.specs.InFlight.{IsSeen}
-use Rattle.replay.specs.Running.{Running, HasCome, IsHalfway, IsRun, IsUnderWay, MakesSome, first_actions, goes_back, left_in, left_of, progress_of, setting_of, turns_in, watching}
+use Rattle.replay.specs.Running.{Running, HasCome, IsHalfway, IsRun, IsMidCommit, MakesSome, first_actions, goes_back, left_in, actions_left, progress_of, setting_of, turns_back, watching}
 use Rattle.replay.specs.Unfinished.{IsUnfinished, StandsHalfway}
 use Rattle.replay.proofs.course.Course.{Course, at-more, breaks, count_of, does-made, later, stays, told-then}
 use Rattle.replay.proofs.making.Upto.{left-writes, next-up_to}
@@ -222,7 +222,7 @@ module _ (slots after : ℕ) (base : Running) (half : IsHalfway (crashing after 
           stands = stands-some now count pauses.some pauses.come pauses.before few events_old events_new at pauses.events;
           current = current_new (λ e. absurd (cc));
         }
-    comes (Err fault.Device) now count old taken (stops, before, below) current_new =
+    comes (Err why) now count old taken (inr (device, (stops, before, below))) current_new =
         let few : count.told ≤ after = omega (arith, below) in
         let left = left-first now count stops.some stops.come before few in
         let told = stops.come.told in
@@ -230,23 +230,24 @@ module _ (slots after : ℕ) (base : Running) (half : IsHalfway (crashing after 
         let some_left : 0 < ahead = omega (arith, below) in
         let due : up_to_writes ahead stops.some.left ≡ Written stops.due ∷ up_to_writes (ahead - 1) stops.left =
         ap (up_to_writes ahead) stops.left_is ∙ next-up_to ahead (Written stops.due) stops.left some_left in
-        stays slots first (so_far slots run half is inside) run course-first events_old events_new at (record run { manager = now; told = count.told; waiting = count.waiting })
+        subst (λ one. ComesToCrash slots first (commit_act run.fate) (so_far slots run half is inside) (record run { manager = now; told = count.told; waiting = count.waiting }) (Err one) events_old events_new flight_new old taken) (sym device)
+        (stays slots first (so_far slots run half is inside) run course-first events_old events_new at (record run { manager = now; told = count.told; waiting = count.waiting })
         stops.some.made (up_to_writes (ahead - 1) stops.left) stops.due flight_new old taken
         (left ∙ ap (λ actions. stops.some.made ++ actions) due)
         (ap (λ (manager : Managed). setting_of (record run { manager = manager })) stops.some.now_is)
         refl
         (ap (λ (manager : Managed). manager.state) stops.some.now_is)
-        stops.next stops.events (stops.report seen) (unfinished-new now count stops.some stops.come before few) (current_new (λ e. absurd (cc)))
-    comes (Err fault.Sink) now count old taken (stops, before, few, cuts) current_new =
-        breaks slots first (so_far slots run half is inside) run course-first events_old events_new at (record run { manager = now; told = count.told; waiting = count.waiting })
+        stops.next stops.events (stops.report seen) (unfinished-new now count stops.some stops.come before few) (current_new (λ e. absurd (let bad : fault.Device ≡ fault.Sink = cc in cc))))
+    comes (Err why) now count old taken (inl (sink, (stops, before, few, cuts))) current_new =
+        subst (λ one. ComesToCrash slots first (commit_act run.fate) (so_far slots run half is inside) (record run { manager = now; told = count.told; waiting = count.waiting }) (Err one) events_old events_new flight_new old taken) (sym sink)
+        (breaks slots first (so_far slots run half is inside) run course-first events_old events_new at (record run { manager = now; told = count.told; waiting = count.waiting })
         (stops.some.made ++ up_to_writes (after - run.told - length (writes_in stops.some.made)) stops.some.left) [] old taken
         (left-first now count stops.some stops.come before few ∙ sym (append-nil (stops.some.made ++ up_to_writes (after - run.told - length (writes_in stops.some.made)) stops.some.left)))
         (ap (λ (manager : Managed). setting_of (record run { manager = manager })) stops.some.now_is)
-        (cuts (enough-left now stops.some) seen)
-    comes (Err fault.Memory) now count old taken stops current_new = absurd stops
+        (cuts (enough-left now stops.some) seen))
 
 -- one that isn't taken back isn't turned round
-pub goes-straight : (turned : Option ℕ) (actions : List Action) → turns_in turned None actions ≡ false → turned ≡ None
+pub goes-straight : (turned : Option ℕ) (actions : List Action) → turns_back turned None actions ≡ false → turned ≡ None
 goes-straight None actions on = refl
 goes-straight (Some undone) actions on = absurd (let bad : true ≡ false = on in cc)
 
@@ -264,7 +265,7 @@ module _ (after : ℕ) (run : Running) (half : IsHalfway (crashing after run)) w
   due-one : writes_due one ≡ writes_in one.actions
   due-one = ap (λ turned. elim turned [ None ↦ writes_in one.actions | Some undone ↦ one.undo ]) one-turned
 
-  left-one : left_of None run.manager.state one ≡ one.actions
+  left-one : actions_left None run.manager.state one ≡ one.actions
   left-one = ap (λ turned. left_in turned None run.manager.state one.actions one.undo) one-turned
 
   pub held-forward : IfSome run.manager.held (λ held. held.turned ≡ None)
@@ -277,8 +278,8 @@ module _ (after : ℕ) (run : Running) (half : IsHalfway (crashing after run)) w
 
   pub held-few : IfSome run.manager.held (λ held. run.told + length (writes_in held.actions) ≤ 2 ^ 40)
   held-few =
-      let few : run.told + length (writes_in (left_of None run.manager.state one)) ≤ 2 ^ 40 =
-      subst (λ held. IfSome held (λ (x : HeldCommit). run.told + length (writes_in (left_of None run.manager.state x)) ≤ 2 ^ 40)) held-one (few-left (crashing after run) half) in
+      let few : run.told + length (writes_in (actions_left None run.manager.state one)) ≤ 2 ^ 40 =
+      subst (λ held. IfSome held (λ (x : HeldCommit). run.told + length (writes_in (actions_left None run.manager.state x)) ≤ 2 ^ 40)) held-one (few-left (crashing after run) half) in
       subst (λ held. IfSome held (λ (x : HeldCommit). run.told + length (writes_in x.actions) ≤ 2 ^ 40)) (sym held-one) (subst (λ actions. run.told + length (writes_in actions) ≤ 2 ^ 40) left-one few)
 
 -- ---- by what a run is
@@ -312,7 +313,7 @@ more-made after run half more =
 first-half : (after : ℕ) (run : Running) → IsRun (crashing after run) → IsSome run.manager.held → IsHalfway (crashing after run)
 first-half after run is held = go (is.halfway held)
   where
-    go : IsUnderWay (crashing after run) → IsHalfway (crashing after run)
+    go : IsMidCommit (crashing after run) → IsHalfway (crashing after run)
     go (inl half) = half
     go (inr (slots, within, onward)) = absurd (let bad : fates.CrashAfter after ≡ fates.RestartedAfter onward.after = onward.fate_is in cc)
 
@@ -329,7 +330,7 @@ few-due after run is held fate_is =
     let half = first-half after run (subst IsRun (ap (λ fate. record run { fate = fate }) fate_is) is) held in
     subst (λ held. IfSome held (λ (x : HeldCommit). run.told + length (writes_due x) ≤ 2 ^ 40)) (sym (held-one after run half))
     (subst (λ writes. run.told + length writes ≤ 2 ^ 40) (left-writes run.manager.state half.some.one)
-    (subst (λ held. IfSome held (λ (x : HeldCommit). run.told + length (writes_in (left_of None run.manager.state x)) ≤ 2 ^ 40)) (held-one after run half) (few-left (crashing after run) half)))
+    (subst (λ held. IfSome held (λ (x : HeldCommit). run.told + length (writes_in (actions_left None run.manager.state x)) ≤ 2 ^ 40)) (held-one after run half) (few-left (crashing after run) half)))
 
 pub stop-at : (after : ℕ) (base now : Running) → base ≡ now → IsRun base → IsSome now.manager.held → now.fate ≡ fates.CrashAfter after → HasMoreThan after now → IsToStop after base
 stop-at after base now same is held fate_is more =

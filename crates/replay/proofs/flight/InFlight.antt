@@ -15,7 +15,7 @@ use Rattle.commit_writes.specs.InFlight.{IsCurrent, AreCurrent, ServesLive}
 use Rattle.commit_writes.proofs.Current.{current_answers, translated_current}
 use Rattle.replay.specs.declared.Family.{Family}
 use Rattle.replay.specs.Effects.{Effect, Prints, flushed, searches_of}
-use Rattle.replay.specs.InFlight.{AreOf, repeated, words_of, found_lines, found_all, found_after, flight_after}
+use Rattle.replay.specs.InFlight.{AreOf, repeated, probe_words, found_lines, found_all, found_after, flight_left}
 use Rattle.replay.specs.Running.{Watching}
 use Rattle.replay.specs.Text.{probe_line}
 
@@ -26,11 +26,11 @@ keys_of flight = map {B = Key} (λ flying. flying.0) flight
 keys-append : (a b : Flight) → keys_of (a ++ b) ≡ keys_of a ++ keys_of b
 keys-append a b = map-append {A = Key × Word} {B = Key} (λ flying. flying.0) a b
 
-keys-of-words : (state : State) (probes : List Key) → keys_of (words_of state probes) ≡ probes
+keys-of-words : (state : State) (probes : List Key) → keys_of (probe_words state probes) ≡ probes
 keys-of-words state [] = refl
 keys-of-words state (key ∷ probes) = ap (λ keys. key ∷ keys) (keys-of-words state probes)
 
-words-current : (bits : FieldBits) (state : State) (probes : List Key) → ServesLive bits state → AllByRecursion IsKey probes → AreCurrent bits (words_of state probes)
+words-current : (bits : FieldBits) (state : State) (probes : List Key) → ServesLive bits state → AllByRecursion IsKey probes → AreCurrent bits (probe_words state probes)
 words-current bits state [] serves valid = tt
 words-current bits state (key ∷ probes) serves valid = (translated_current bits state key serves valid.0, words-current bits state probes serves valid.1)
 
@@ -130,14 +130,14 @@ flushed-none family number state (key ∷ probes) (suc more) are = absurd (cc)
 -- behind a write the words of all probes are the last in flight
 module _ (probes : List Key) (depth waiting : ℕ) (state : State) (flight : Flight) (few : waiting ≤ depth) (are : AreOf probes waiting flight) where
   abbrev pub with_words : Flight
-  with_words = flight ++ words_of state probes
+  with_words = flight ++ probe_words state probes
 
   pub are-more : AreOf probes (suc waiting) with_words
   are-more =
-      keys-append flight (words_of state probes) ∙ ap (λ keys. keys ++ keys_of (words_of state probes)) are
+      keys-append flight (probe_words state probes) ∙ ap (λ keys. keys ++ keys_of (probe_words state probes)) are
       ∙ ap (λ keys. repeated probes waiting ++ keys) (keys-of-words state probes) ∙ repeated-more probes waiting
 
-  pub are-after : AreOf probes (min (waiting + 1) depth) (flight_after probes depth waiting state flight)
+  pub are-after : AreOf probes (min (waiting + 1) depth) (flight_left probes depth waiting state flight)
   are-after = go (waiting == depth) refl
     where
       go : (full : Bool) → (waiting == depth) ≡ full → AreOf probes (min (waiting + 1) depth) (elim full [ true ↦ drop (length probes) with_words | false ↦ with_words ])
@@ -155,9 +155,9 @@ module _ (probes : List Key) (depth waiting : ℕ) (state : State) (flight : Fli
 
   module _ (bits : FieldBits) (serves : ServesLive bits state) (valid : AllByRecursion IsKey probes) (current : AreCurrent bits flight) where
     current-more : AreCurrent bits with_words
-    current-more = all_append (λ (flying : Key × Word). IsCurrent bits flying.0 flying.1) flight (words_of state probes) current (words-current bits state probes serves valid)
+    current-more = all_append (λ (flying : Key × Word). IsCurrent bits flying.0 flying.1) flight (probe_words state probes) current (words-current bits state probes serves valid)
 
-    pub current-after : AreCurrent bits (flight_after probes depth waiting state flight)
+    pub current-after : AreCurrent bits (flight_left probes depth waiting state flight)
     current-after = go (waiting == depth)
       where
         go : (full : Bool) → AreCurrent bits (elim full [ true ↦ drop (length probes) with_words | false ↦ with_words ])
@@ -184,10 +184,10 @@ module _ (inside watch : Watching) (place : ℕ) (key : Key) (same : inside ≡ 
       ∙ subst (λ (one : Watching). take (suc place) one.probes ≡ take place one.probes ++ key ∷ []) same
       (take-suc inside.probes place key within ∙ ap (λ one. take place inside.probes ++ one ∷ []) (sym is))
 
-  pub translated : (state : State) (flight mid new : Flight) → mid ≡ flight ++ words_of state (take place watch.probes) → new ≡ with_word state key mid → new ≡ flight ++ words_of state (take (place + 1) watch.probes)
+  pub translated : (state : State) (flight mid new : Flight) → mid ≡ flight ++ probe_words state (take place watch.probes) → new ≡ with_word state key mid → new ≡ flight ++ probe_words state (take (place + 1) watch.probes)
   translated state flight mid new was more =
-      more ∙ ap (λ words. words ++ (key, search_word state key) ∷ []) was ∙ append_assoc flight (words_of state (take place watch.probes)) ((key, search_word state key) ∷ [])
-      ∙ ap (λ words. flight ++ words) (sym (ap (words_of state) next-probe ∙ map-append {A = Key} {B = Key × Word} (λ one. (one, search_word state one)) (take place watch.probes) (key ∷ [])))
+      more ∙ ap (λ words. words ++ (key, search_word state key) ∷ []) was ∙ append_assoc flight (probe_words state (take place watch.probes)) ((key, search_word state key) ∷ [])
+      ∙ ap (λ words. flight ++ words) (sym (ap (probe_words state) next-probe ∙ map-append {A = Key} {B = Key × Word} (λ one. (one, search_word state one)) (take place watch.probes) (key ∷ [])))
 
   pub keys-more : AllByRecursion IsKey (take place watch.probes) → IsKey key → AllByRecursion IsKey (take (place + 1) watch.probes)
   keys-more keys valid = subst (AllByRecursion IsKey) (sym next-probe) (all_append IsKey (take place watch.probes) (key ∷ []) keys (valid, tt))
@@ -201,6 +201,6 @@ full-now waiting depth is = go (waiting == depth) refl
     go false other = absurd (eqb-false waiting depth other is)
 
 pub found-full : (family : Family) (probes : List Key) (depth number waiting : ℕ) (state : State) (flight : Flight) → waiting ≡ depth
-    → found_after family probes depth number waiting state flight ≡ found_lines family number state 1 (take (length probes) (flight ++ words_of state probes))
+    → found_after family probes depth number waiting state flight ≡ found_lines family number state 1 (take (length probes) (flight ++ probe_words state probes))
 found-full family probes depth number waiting state flight is =
-    ap (λ full. elim full [ true ↦ found_lines family number state 1 (take (length probes) (flight ++ words_of state probes)) | false ↦ [] ]) (full-now waiting depth is)
+    ap (λ full. elim full [ true ↦ found_lines family number state 1 (take (length probes) (flight ++ probe_words state probes)) | false ↦ [] ]) (full-now waiting depth is)

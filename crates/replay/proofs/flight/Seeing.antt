@@ -16,7 +16,7 @@ use Rattle.batch_order.specs.declared.Step.TheVariants as step
 use Rattle.batch_order.specs.Managed.{IsOn, Managed, live_now}
 use Rattle.batch_order.specs.Steps.{KeepsCurrent, ServesNow}
 use Rattle.replay.specs.Effects.{Effect, flushed, searched_after, searches_of}
-use Rattle.replay.specs.InFlight.{AreOf, IsSeen, flight_after, found_after, found_all}
+use Rattle.replay.specs.InFlight.{AreOf, IsSeen, flight_left, found_after, found_all}
 use Rattle.replay.specs.Running.{Watching, telling}
 use Rattle.replay.proofs.flight.InFlight.{current-after, found-after-is, found-all-is, flushed-none}
 
@@ -53,7 +53,7 @@ module _ (watch : Watching) (slots : ℕ) (manager : Managed) (events : List Act
 
   module _ (few : waiting ≤ watch.depth) (valid : AllByRecursion IsKey watch.probes) where
     -- those that are searched after a write, and what is left in flight
-    pub seen-after : (flight_new : Flight) → flight_new ≡ flight_after watch.probes watch.depth waiting state flight → IsSeen slots events flight_new manager
+    pub seen-after : (flight_new : Flight) → flight_new ≡ flight_left watch.probes watch.depth waiting state flight → IsSeen slots events flight_new manager
     seen-after flight_new is = record {
       on = seen.on;
       current = subst (AreCurrent (live_now manager)) (sym is) (current-after watch.probes watch.depth waiting state flight few are (live_now manager) serving valid seen.current);
@@ -77,12 +77,12 @@ module _ (begun now new : Managed) (watch : Watching) (did : Step) (write : Writ
   are-mid : AreOf watch.probes waiting flight_mid
   are-mid = subst (AreOf watch.probes waiting) (sym kept) are
 
-  pub seen-written : (events_new : List Action) (flight_new : Flight) → events_new ≡ events_mid → flight_new ≡ flight_after watch.probes watch.depth waiting (replay slots journal_mid) flight_mid
+  pub seen-written : (events_new : List Action) (flight_new : Flight) → events_new ≡ events_mid → flight_new ≡ flight_left watch.probes watch.depth waiting (replay slots journal_mid) flight_mid
       → IsSeen slots events_new flight_new new
   seen-written events_new flight_new same is =
       subst (λ actions. IsSeen slots actions flight_new new) (sym same)
       (seen-after watch slots new events_mid flight_mid waiting within serves seen-mid are-mid few valid flight_new
-      (is ∙ ap (λ writes. flight_after watch.probes watch.depth waiting (replay slots writes) flight_mid) agrees_mid))
+      (is ∙ ap (λ writes. flight_left watch.probes watch.depth waiting (replay slots writes) flight_mid) agrees_mid))
 
   pub as-written : (P : List Effect → Type 0) (lines : List Effect) (number : ℕ) → P (lines ++ found_after watch.family watch.probes watch.depth number waiting (replay slots journal_mid) flight_mid)
       → P (lines ++ searched_after (telling begun watch) watch.probes number waiting (apply (replay slots (writes_in events)) write))

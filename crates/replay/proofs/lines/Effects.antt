@@ -10,8 +10,8 @@ use Rattle.tcam_device.specs.Flight.{writes_in}
 use Rattle.tcam_device.specs.State.{State, apply, state_after}
 use Rattle.commit_writes.proofs.WritesIn.{writes_in-append}
 use Rattle.replay.specs.declared.Family.{Family}
-use Rattle.replay.specs.Effects.{Setting, Effect, Acts, Prints, events_in, written, printed, traced, searches_of, flushed, searched_after, waiting_after, effects_of}
-use Rattle.replay.specs.Text.{trace_line, drain_line}
+use Rattle.replay.specs.Effects.{Setting, Effect, Acts, Prints, events_in, journal_of, printed, traced, searches_of, flushed, searched_after, waiting_after, effects_of}
+use Rattle.replay.specs.Text.{write_line, drain_line}
 use Rattle.replay.specs.Carried.{Does}
 
 -- some actions, and others behind them
@@ -28,7 +28,7 @@ printed-append [] b = refl
 printed-append (Acts action ∷ a) b = printed-append a b
 printed-append (Prints line ∷ a) b = ap (λ text. line ++ text) (printed-append a b) ∙ sym (append_assoc line (printed a) (printed b))
 
-pub written-append : (a b : List Effect) → written (a ++ b) ≡ written a ++ written b
+pub written-append : (a b : List Effect) → journal_of (a ++ b) ≡ journal_of a ++ journal_of b
 written-append a b = ap writes_in (events-append a b) ∙ writes_in-append (events_in a) (events_in b)
 
 -- lines do nothing to the device
@@ -63,7 +63,7 @@ events-actions setting probes number waiting state (Written write ∷ actions) =
     let next = apply state write in
     let later = effects_of setting probes (number + 1) (min (waiting + 1) setting.depth) next actions in
     ap (λ made. Written write ∷ made)
-    (none-behind (traced setting.trace (trace_line setting.family (number + 1) write)) (searched_after setting probes (number + 1) waiting next ++ later) (events-traced setting.trace (trace_line setting.family (number + 1) write))
+    (none-behind (traced setting.trace (write_line setting.family (number + 1) write)) (searched_after setting probes (number + 1) waiting next ++ later) (events-traced setting.trace (write_line setting.family (number + 1) write))
     ∙ none-behind (searched_after setting probes (number + 1) waiting next) later (events-searched setting probes (number + 1) waiting next)
     ∙ events-actions setting probes (number + 1) (min (waiting + 1) setting.depth) next actions)
 events-actions setting probes number waiting state (Drained ∷ actions) =
@@ -93,7 +93,7 @@ effects-append setting probes number waiting state [] more = let same : number �
 effects-append setting probes number waiting state (Written write ∷ made) more =
     let next = apply state write in
     let later = min (waiting + 1) setting.depth in
-    let here = traced setting.trace (trace_line setting.family (number + 1) write) in
+    let here = traced setting.trace (write_line setting.family (number + 1) write) in
     let found = searched_after setting probes (number + 1) waiting next in
     let front = effects_of setting probes (number + 1) later next made in
     let back : ℕ → List Effect = λ n. effects_of setting probes n (waiting_after setting.depth later made) (state_after next (writes_in made)) more in

@@ -4,7 +4,7 @@ use Rattle.std.specs.Io.KnownBytes.{Appends}
 use Rattle.std.proofs.KnownBytes.{Appends-trans}
 use Rattle.tcam_device.specs.declared.Write.{Write}
 use Rattle.replay.specs.declared.Family.{Family}
-use Rattle.replay.specs.Text.{trace_line}
+use Rattle.replay.specs.Text.{write_line}
 use Rattle.replay.specs.Effects.{Effect, Prints, printed}
 use Rattle.replay.specs.Outside.{WritesLine, WritesLines, CutsLines}
 use Rattle.replay.proofs.lines.Effects.{printed-append}
@@ -24,9 +24,9 @@ line-cut taken accepted faults line more (Err other) old new fault failed front 
 
 -- a write's line names its rule by the family that is told
 pub trace-named : {S T E : Type 0} (taken : S → Option (List ℕ)) (accepted : S → List ℕ) (faults : S → ℕ) (old new : S) (result : Result T E) (family told : Family) (number : ℕ) (write : Write)
-    → told ≡ family → WritesLine taken accepted faults old new (trace_line told number write) result → WritesLine taken accepted faults old new (trace_line family number write) result
+    → told ≡ family → WritesLine taken accepted faults old new (write_line told number write) result → WritesLine taken accepted faults old new (write_line family number write) result
 trace-named taken accepted faults old new result family told number write same line =
-    subst (λ (named : Family). WritesLine taken accepted faults old new (trace_line named number write) result) same line
+    subst (λ (named : Family). WritesLine taken accepted faults old new (write_line named number write) result) same line
 
 -- some lines are told, and of those behind them one is cut
 pub cuts-within : (all front lines back : List Effect) (old mid new : Option (List ℕ)) → all ≡ front ++ (lines ++ back) → Appends old mid (printed front) → CutsLines lines mid new → CutsLines all old new

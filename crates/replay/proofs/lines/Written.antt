@@ -9,7 +9,7 @@ use Rattle.commit_writes.specs.Actions.{have_bits, up_to_writes, with_drain}
 use Rattle.commit_writes.specs.Undo.{undo_writes}
 use Rattle.commit_writes.specs.Bits.{bits_with, new_bits}
 use Rattle.commit_writes.proofs.WritesIn.{writes_of_commit, writes_of_map, writes_in-append}
-use Rattle.replay.specs.Effects.{Setting, Prints, events_in, written, effects_of, flushed, waiting_after}
+use Rattle.replay.specs.Effects.{Setting, Prints, events_in, journal_of, effects_of, flushed, waiting_after}
 use Rattle.readback.specs.Going.{needs_drain}
 use Rattle.replay.specs.Run.{Progress, actions_back, actions_before, actions_for, actions_over, carried, crash_state}
 use Rattle.replay.proofs.course.Returning.{writes-up_to}
@@ -28,14 +28,14 @@ events-carried setting old actions line =
     ∙ append-nil (events_in front) ∙ events-actions setting old.probes 0 0 old.state actions
 
 -- so it writes its segment
-pub written-segment : (setting : Setting) (old : Progress) (made : List Write) (line : List ℕ) → written (carried setting old (actions_for setting old made) ++ Prints line ∷ []) ≡ made
+pub written-segment : (setting : Setting) (old : Progress) (made : List Write) (line : List ℕ) → journal_of (carried setting old (actions_for setting old made) ++ Prints line ∷ []) ≡ made
 written-segment setting old made line =
     ap writes_in (events-carried setting old (actions_for setting old made) line)
     ∙ writes_of_commit (have_bits (new_bits old.bits (bits_with setting.mode old.rules old.batch old.bits))) made
 
 -- and one that is taken back its first writes, and those that undo them
 pub written-return : (setting : Setting) (old : Progress) (most : ℕ) (made : List Write) (line : List ℕ)
-    → written (carried setting old (actions_back setting old most made) ++ Prints line ∷ []) ≡ take most made ++ undo_writes old.state (take most made)
+    → journal_of (carried setting old (actions_back setting old most made) ++ Prints line ∷ []) ≡ take most made ++ undo_writes old.state (take most made)
 written-return setting old most made line =
     let actions = actions_for setting old made in
     let front = up_to_writes most actions in
@@ -48,7 +48,7 @@ written-return setting old most made line =
 
 -- and one that crashed those up to the crash, and then those of the plan that goes on
 pub written-crash : (setting : Setting) (old : Progress) (after : ℕ) (made rest : List Write) (line : List ℕ)
-    → written (carried setting old (actions_over setting old after made rest) ++ Prints line ∷ []) ≡ take after made ++ rest
+    → journal_of (carried setting old (actions_over setting old after made rest) ++ Prints line ∷ []) ≡ take after made ++ rest
 written-crash setting old after made rest line =
     let actions = actions_for setting old made in
     let front = actions_before setting old after made in

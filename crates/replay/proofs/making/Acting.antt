@@ -17,7 +17,7 @@ use Rattle.batch_order.specs.declared.Step.TheVariants as step
 use Rattle.batch_order.specs.Managed.{HeldCommit, Managed}
 use Rattle.tcam_device.specs.Insertion.{is_table_write}
 use Rattle.batch_order.specs.Steps.{Steps, StepsEither, awaits_drain, current_back, due_write, next_of}
-use Rattle.replay.specs.Running.{IsSame, MakesSome, TurnsAt, goes_back, left_in, left_of, rest_of, trial_left, turned_where}
+use Rattle.replay.specs.Running.{IsSame, MakesSome, TurnsBackAt, goes_back, left_in, actions_left, trial_rest, trial_left, turned_back}
 
 -- a commit by its parts
 abbrev pub held_of : Bool → List Action → List Write → Option ℕ → Done → List Rule → FieldBits → FieldBits → FieldBits → HeldCommit
@@ -56,29 +56,29 @@ lt-suc a b = go (nat_lt a b) refl
     go false is = (let above = ltb-false a b is in le-ltb (suc a) (suc b) (omega arith)) ∙ sym is
 
 -- so many writes less may be made
-pub rest-more : (most : Option ℕ) (a b : ℕ) → rest_of (rest_of most a) b ≡ rest_of most (a + b)
+pub rest-more : (most : Option ℕ) (a b : ℕ) → trial_rest (trial_rest most a) b ≡ trial_rest most (a + b)
 rest-more None a b = refl
 rest-more (Some limit) a b = let same : (limit - a) - b ≡ limit - (a + b) = omega arith in ap Some same
 
 -- one action that is left is made
 pub record ActsOnce (rest : Option ℕ) (now : Managed) (held : HeldCommit) (action : Action) (new : Managed) : Type 0 where
   pub left : List Action
-  pub is : left_of rest now.state held ≡ action ∷ left
+  pub is : actions_left rest now.state held ≡ action ∷ left
   pub next : Option ℕ
-  pub next_is : next ≡ rest_of rest (length (writes_in (action ∷ [])))
+  pub next_is : next ≡ trial_rest rest (length (writes_in (action ∷ [])))
   pub one : HeldCommit
   pub new_is : new ≡ record now { state = state_after now.state (writes_in (action ∷ [])); held = Some one }
-  pub left_is : left_of next (state_after now.state (writes_in (action ∷ []))) one ≡ left
+  pub left_is : actions_left next (state_after now.state (writes_in (action ∷ []))) one ≡ left
   pub same : IsSame rest next held one
 
 -- What a step does to a commit: it makes the next action, waits with a drain for the words in flight, or comes to the
 -- end.
 pub data GoesOn (rest : Option ℕ) (now : Managed) (held : HeldCommit) (words : ℕ) (did : Step) (new : Managed) : Type 0 where
-  Finishes : left_of rest now.state held ≡ [] → goes_back rest held ≡ false → did ≡ step.Finished held.counts → new ≡ record now { rules = held.rules; bits = held.bits; held = None } → GoesOn rest now held words did new
-  Reverts : (undone : ℕ) → left_of rest now.state held ≡ [] → goes_back rest held ≡ true → did ≡ step.Reverted undone → new ≡ record now { held = None } → GoesOn rest now held words did new
+  Finishes : actions_left rest now.state held ≡ [] → goes_back rest held ≡ false → did ≡ step.Finished held.counts → new ≡ record now { rules = held.rules; bits = held.bits; held = None } → GoesOn rest now held words did new
+  Reverts : (undone : ℕ) → actions_left rest now.state held ≡ [] → goes_back rest held ≡ true → did ≡ step.Reverted undone → new ≡ record now { held = None } → GoesOn rest now held words did new
   MakesWrite : (write : Write) → ActsOnce rest now held (Written write) new → did ≡ step.Wrote write → GoesOn rest now held words did new
   PassesDrain : ActsOnce rest now held Drained new → words ≡ 0 → did ≡ step.Drained → GoesOn rest now held words did new
-  Waits : (left : List Action) → left_of rest now.state held ≡ Drained ∷ left → awaits_drain (Some held) ≡ true → 0 < words → did ≡ step.Waiting words → new ≡ now → GoesOn rest now held words did new
+  Waits : (left : List Action) → actions_left rest now.state held ≡ Drained ∷ left → awaits_drain (Some held) ≡ true → 0 < words → did ≡ step.Waiting words → new ≡ now → GoesOn rest now held words did new
 
 module _ (now : Managed) (prepared : Bool) (counts : Done) (rules : List Rule) (during bits current : FieldBits) (did : Step) (new : Managed) where
   abbrev of : List Action → List Write → Option ℕ → HeldCommit
@@ -158,7 +158,7 @@ module _ (now : Managed) (prepared : Bool) (counts : Done) (rules : List Rule) (
       (record {
         left = map Written undo;
         is = refl;
-        next = rest_of rest 1;
+        next = trial_rest rest 1;
         next_is = refl;
         one = record (of actions undo (Some undone)) { current = current_back now.bits current (is_table_write write) };
         new_is = on.1;
@@ -214,7 +214,7 @@ goes-on rest now held words did new is straight steps =
 pub record IsTurned (rest : Option ℕ) (now : Managed) (held : HeldCommit) (new : Managed) : Type 0 where
   pub one : HeldCommit
   pub new_is : new ≡ record now { held = Some one }
-  pub left_is : left_of rest now.state one ≡ left_of rest now.state held
+  pub left_is : actions_left rest now.state one ≡ actions_left rest now.state held
   pub same : IsSame rest rest held one
   pub straight : Straight one.turned rest one.actions
 
@@ -236,7 +236,7 @@ module _ (now : Managed) (prepared : Bool) (counts : Done) (rules : List Rule) (
   by actions undo turned = held_of prepared actions undo turned counts rules during bits current
 
   turned-now : (actions : List Action) (undo : List Write) (due : Bool) → now.held ≡ Some (by actions undo None) → (nat_le limit told && nat_lt 0 (length (writes_in actions))) ≡ due
-      → new ≡ turned_where now (by actions undo None) None due → IsTurned (Some (limit - told)) now (by actions undo None) new
+      → new ≡ turned_back now (by actions undo None) None due → IsTurned (Some (limit - told)) now (by actions undo None) new
   turned-now actions undo true is due at =
       let late = both-true (nat_le limit told) (nat_lt 0 (length (writes_in actions))) due in
       let over : limit ≤ told = leb-true limit told late.0 in
@@ -261,14 +261,14 @@ module _ (now : Managed) (prepared : Bool) (counts : Done) (rules : List Rule) (
       early true true a-is b-is due = absurd (let both : (true && true) ≡ false = ap (λ one. one && true) (sym a-is) ∙ ap (λ one. nat_le limit told && one) (sym b-is) ∙ due in cc)
 
   turned-parts : (actions : List Action) (undo : List Write) (turned : Option ℕ) → now.held ≡ Some (by actions undo turned)
-      → new ≡ turned_where now (by actions undo turned) turned (nat_le limit told && nat_lt 0 (length (writes_in actions))) → IsTurned (Some (limit - told)) now (by actions undo turned) new
+      → new ≡ turned_back now (by actions undo turned) turned (nat_le limit told && nat_lt 0 (length (writes_in actions))) → IsTurned (Some (limit - told)) now (by actions undo turned) new
   turned-parts actions undo (Some undone) is at = is-straight (Some (limit - told)) now (by actions undo (Some undone)) new is at tt
   turned-parts actions undo None is at = turned-now actions undo (nat_le limit told && nat_lt 0 (length (writes_in actions))) is refl at
 
-pub turns-at : (most : Option ℕ) (told : ℕ) (now : Managed) (held : HeldCommit) (new : Managed) → now.held ≡ Some held → TurnsAt most told now now.held new → IsTurned (rest_of most told) now held new
+pub turns-at : (most : Option ℕ) (told : ℕ) (now : Managed) (held : HeldCommit) (new : Managed) → now.held ≡ Some held → TurnsBackAt most told now now.held new → IsTurned (trial_rest most told) now held new
 turns-at None told now held new is turns = is-straight None now held new is turns (none-straight held.turned held.actions)
 turns-at (Some limit) told now held new is turns =
-    turned-parts now held.prepared held.counts held.rules held.during held.bits held.current new limit told held.actions held.undo held.turned is (subst (λ one. TurnsAt (Some limit) told now one new) is turns)
+    turned-parts now held.prepared held.counts held.rules held.during held.bits held.current new limit told held.actions held.undo held.turned is (subst (λ one. TurnsBackAt (Some limit) told now one new) is turns)
 
 -- ---- some of the actions are made
 
@@ -317,7 +317,7 @@ due-parts (Some more) state (Written first ∷ actions) undo None write straight
     go zero true back (inr none) = absurd (omega arith)
 
 pub due-first : (rest : Option ℕ) (state : State) (held : HeldCommit) (write : Write) → Straight held.turned rest held.actions → next_of (Some held) ≡ Some write
-    → (left : List Action) × (left_of rest state held ≡ Written write ∷ left)
+    → (left : List Action) × (actions_left rest state held ≡ Written write ∷ left)
 due-first rest state held write straight due = due-parts rest state held.actions held.undo held.turned write straight due
 
 -- ---- what a step did, by its answer
@@ -343,7 +343,7 @@ module _ (rest : Option ℕ) (now : Managed) (held : HeldCommit) (words : ℕ) (
 
   -- one that waited has a drain next
   pub waiting-first : (number : ℕ) → GoesOn rest now held words did new → did ≡ step.Waiting number
-      → (left : List Action) × (left_of rest now.state held ≡ Drained ∷ left) × (awaits_drain (Some held) ≡ true) × (new ≡ now)
+      → (left : List Action) × (actions_left rest now.state held ≡ Drained ∷ left) × (awaits_drain (Some held) ≡ true) × (new ≡ now)
   waiting-first number (Finishes none on ended is) waits = absurd (let bad : step.Finished held.counts ≡ step.Waiting number = sym ended ∙ waits in cc)
   waiting-first number (Reverts undone none back ended is) waits = absurd (let bad : step.Reverted undone ≡ step.Waiting number = sym ended ∙ waits in cc)
   waiting-first number (MakesWrite first acts made) waits = absurd (let bad : step.Wrote first ≡ step.Waiting number = sym made ∙ waits in cc)
@@ -352,7 +352,7 @@ module _ (rest : Option ℕ) (now : Managed) (held : HeldCommit) (words : ℕ) (
 
   -- one that finished found none, and wasn't to be taken back
   pub finished-first : (counts : Done) → GoesOn rest now held words did new → did ≡ step.Finished counts
-      → (left_of rest now.state held ≡ []) × (goes_back rest held ≡ false) × (counts ≡ held.counts) × (new ≡ record now { rules = held.rules; bits = held.bits; held = None })
+      → (actions_left rest now.state held ≡ []) × (goes_back rest held ≡ false) × (counts ≡ held.counts) × (new ≡ record now { rules = held.rules; bits = held.bits; held = None })
   finished-first counts (Finishes none on ended is) finished =
       let both : step.Finished held.counts ≡ step.Finished counts = sym ended ∙ finished in
       let same : counts ≡ held.counts = cc in
@@ -364,7 +364,7 @@ module _ (rest : Option ℕ) (now : Managed) (held : HeldCommit) (words : ℕ) (
 
   -- one that took it back found none, and it was to be
   pub reverted-first : (number : ℕ) → GoesOn rest now held words did new → did ≡ step.Reverted number
-      → (left_of rest now.state held ≡ []) × (goes_back rest held ≡ true) × (new ≡ record now { held = None })
+      → (actions_left rest now.state held ≡ []) × (goes_back rest held ≡ true) × (new ≡ record now { held = None })
   reverted-first number (Finishes none on ended is) reverted = absurd (let bad : step.Finished held.counts ≡ step.Reverted number = sym ended ∙ reverted in cc)
   reverted-first number (Reverts undone none back ended is) reverted = (none, back, is)
   reverted-first number (MakesWrite first acts made) reverted = absurd (let bad : step.Wrote first ≡ step.Reverted number = sym made ∙ reverted in cc)

@@ -16,8 +16,8 @@ use Rattle.batch_order.specs.Managed.{Managed, HeldCommit}
 use Rattle.batch_order.specs.Steps.{Steps, actions_of, awaits_drain, next_of}
 use Rattle.replay.specs.declared.watch.Count.{Count}
 use Rattle.replay.specs.Effects.{waiting_after}
-use Rattle.replay.specs.InFlight.{AreOf, flight_after}
-use Rattle.replay.specs.Running.{Watching, HasCome, IsSame, MakesSome, MayTurn, TurnsAt, left_of, rest_of}
+use Rattle.replay.specs.InFlight.{AreOf, flight_left}
+use Rattle.replay.specs.Running.{Watching, HasCome, IsSame, MakesSome, MayTurnBack, TurnsBackAt, actions_left, trial_rest}
 use Rattle.replay.proofs.making.Acting.{ActsOnce, GoesOn, IsTurned, Straight, drained-first, due-first, goes-on, never-idle, rest-more, same-then, some-held, turns-at, waiting-first, wrote-first}
 use Rattle.replay.proofs.lines.Effects.{grown-more, waiting-append}
 use Rattle.replay.proofs.flight.InFlight.{are-after, few-after}
@@ -25,7 +25,7 @@ use Rattle.replay.proofs.flight.InFlight.{are-after, few-after}
 -- how many actions are left
 abbrev pub left_number : Option ℕ → State → Option HeldCommit → ℕ
 left_number rest state None = 0
-left_number rest state (Some held) = length (left_of rest state held)
+left_number rest state (Some held) = length (actions_left rest state held)
 
 -- it has come by some actions, and by some more
 pub come-then : (watch : Watching) (first second third : Count) (made more : List Action) → HasCome watch first second made → HasCome watch second third more → HasCome watch first third (made ++ more)
@@ -48,8 +48,8 @@ module _ (most : Option ℕ) (told between : ℕ) (first second third : Managed)
 
   pub then-left : was.left ≡ is.made ++ is.left
   then-left =
-      sym was.left_is ∙ ap (λ n. left_of (rest_of most n) second.state was.one) (sym between_is)
-      ∙ ap (left_of (rest_of most between) second.state) (sym then-held) ∙ is.whole
+      sym was.left_is ∙ ap (λ n. actions_left (trial_rest most n) second.state was.one) (sym between_is)
+      ∙ ap (actions_left (trial_rest most between) second.state) (sym then-held) ∙ is.whole
 
   pub then-number : between + length (writes_in is.made) ≡ told + length (writes_in (was.made ++ is.made))
   then-number =
@@ -57,10 +57,10 @@ module _ (most : Option ℕ) (told between : ℕ) (first second third : Managed)
       ap length (writes_in-append was.made is.made) ∙ length-append (writes_in was.made) (writes_in is.made) in
       omega arith
 
-  pub then-same : IsSame (rest_of most between) (rest_of most (told + length (writes_in (was.made ++ is.made)))) was.one is.one
+  pub then-same : IsSame (trial_rest most between) (trial_rest most (told + length (writes_in (was.made ++ is.made)))) was.one is.one
   then-same =
-      subst (λ n. IsSame (rest_of most between) (rest_of most n) was.one is.one) then-number
-      (subst (λ held. IsSame (rest_of most between) (rest_of most (between + length (writes_in is.made))) held is.one) then-held is.same)
+      subst (λ n. IsSame (trial_rest most between) (trial_rest most n) was.one is.one) then-number
+      (subst (λ held. IsSame (trial_rest most between) (trial_rest most (between + length (writes_in is.made))) held is.one) then-held is.same)
 
   abbrev pub makes-then : MakesSome most told first third
   makes-then = record {
@@ -74,16 +74,16 @@ module _ (most : Option ℕ) (told between : ℕ) (first second third : Managed)
         ∙ ap (λ (manager : Managed). record manager { state = state_after manager.state (writes_in is.made); held = Some is.one }) was.now_is
         ∙ ap (λ (state : State). record first { state = state; held = Some is.one })
         (sym (state_after-append first.state (writes_in was.made) (writes_in is.made)) ∙ ap (state_after first.state) (sym (writes_in-append was.made is.made)));
-    left_is = ap (λ n. left_of (rest_of most n) third.state is.one) (sym then-number) ∙ is.left_is;
-    same = same-then (rest_of most told) (rest_of most between) (rest_of most (told + length (writes_in (was.made ++ is.made)))) was.held was.one is.one
-        (subst (λ n. IsSame (rest_of most told) (rest_of most n) was.held was.one) (sym between_is) was.same) then-same;
+    left_is = ap (λ n. actions_left (trial_rest most n) third.state is.one) (sym then-number) ∙ is.left_is;
+    same = same-then (trial_rest most told) (trial_rest most between) (trial_rest most (told + length (writes_in (was.made ++ is.made)))) was.held was.one is.one
+        (subst (λ n. IsSame (trial_rest most told) (trial_rest most n) was.held was.one) (sym between_is) was.same) then-same;
   }
 
 -- one action
-abbrev pub makes-once : (most : Option ℕ) (told : ℕ) (now : Managed) (held : HeldCommit) (action : Action) (new : Managed) → now.held ≡ Some held → ActsOnce (rest_of most told) now held action new
+abbrev pub makes-once : (most : Option ℕ) (told : ℕ) (now : Managed) (held : HeldCommit) (action : Action) (new : Managed) → now.held ≡ Some held → ActsOnce (trial_rest most told) now held action new
     → MakesSome most told now new
 makes-once most told now held action new is acts =
-    let next : acts.next ≡ rest_of most (told + length (writes_in (action ∷ []))) = acts.next_is ∙ rest-more most told (length (writes_in (action ∷ []))) in record {
+    let next : acts.next ≡ trial_rest most (told + length (writes_in (action ∷ []))) = acts.next_is ∙ rest-more most told (length (writes_in (action ∷ []))) in record {
       held = held;
       made = action ∷ [];
       left = acts.left;
@@ -91,8 +91,8 @@ makes-once most told now held action new is acts =
       whole = acts.is;
       one = acts.one;
       now_is = acts.new_is;
-      left_is = ap (λ rest. left_of rest new.state acts.one) (sym next) ∙ ap (λ (manager : Managed). left_of acts.next manager.state acts.one) acts.new_is ∙ acts.left_is;
-      same = subst (λ rest. IsSame (rest_of most told) rest held acts.one) next acts.same;
+      left_is = ap (λ rest. actions_left rest new.state acts.one) (sym next) ∙ ap (λ (manager : Managed). actions_left acts.next manager.state acts.one) acts.new_is ∙ acts.left_is;
+      same = subst (λ rest. IsSame (trial_rest most told) rest held acts.one) next acts.same;
     }
 
 -- Actions of a commit under way are being made: so many writes are told and the words of so many of these are in
@@ -110,11 +110,11 @@ some_held (Some one) some = (one, refl)
 some_held None some = absurd (cc)
 
 -- a commit that can be taken back can be still
-pub may-be : (most : Option ℕ) (now : Option HeldCommit) (one : HeldCommit) → now ≡ Some one → one.prepared ≡ true → MayTurn most now
+pub may-be : (most : Option ℕ) (now : Option HeldCommit) (one : HeldCommit) → now ≡ Some one → one.prepared ≡ true → MayTurnBack most now
 may-be None now one is prepared = tt
 may-be (Some limit) now one is prepared = subst (λ held. IfSome held (λ (x : HeldCommit). x.prepared ≡ true)) (sym is) prepared
 
-may-still : (most : Option ℕ) (before now : Option HeldCommit) (held one : HeldCommit) → before ≡ Some held → now ≡ Some one → one.prepared ≡ held.prepared → MayTurn most before → MayTurn most now
+may-still : (most : Option ℕ) (before now : Option HeldCommit) (held one : HeldCommit) → before ≡ Some held → now ≡ Some one → one.prepared ≡ held.prepared → MayTurnBack most before → MayTurnBack most now
 may-still None before now held one was is same may = tt
 may-still (Some limit) before now held one was is same may =
     may-be (Some limit) now one is (same ∙ subst (λ some. IfSome some (λ (x : HeldCommit). x.prepared ≡ true)) was may)
@@ -128,13 +128,13 @@ making-none most begun watch count events flight spare some room words few =
       some = record {
         held = held;
         made = [];
-        left = left_of (rest_of most count.told) begun.state held;
+        left = actions_left (trial_rest most count.told) begun.state held;
         held_is = is;
         whole = refl;
         one = held;
         now_is = ap (λ one. record begun { held = one }) is;
-        left_is = ap (λ n. left_of (rest_of most n) begun.state held) (sym same);
-        same = subst (λ n. IsSame (rest_of most count.told) (rest_of most n) held held) same (record { prepared = refl; counts = refl; rules = refl; during = refl; bits = refl; back = refl });
+        left_is = ap (λ n. actions_left (trial_rest most n) begun.state held) (sym same);
+        same = subst (λ n. IsSame (trial_rest most count.told) (trial_rest most n) held held) same (record { prepared = refl; counts = refl; rules = refl; during = refl; bits = refl; back = refl });
       };
       come = record { told = same; waiting = refl };
       events = sym (append-nil events);
@@ -146,14 +146,14 @@ making-none most begun watch count events flight spare some room words few =
 module _ (most : Option ℕ) (begun now new : Managed) (watch : Watching) (count count_now : Count) (events_begun events_now : List Action) (flight : Flight) (spare : ℕ)
     (making : IsMaking most begun now watch count count_now events_begun events_now flight spare) where
   -- a trial is turned round where it is time
-  module _ (turns : TurnsAt most count_now.told now now.held new) (both_ways : (spare : ℕ) → HasRoomBothWays now.held spare → HasRoomBothWays new.held spare) where
+  module _ (turns : TurnsBackAt most count_now.told now now.held new) (both_ways : (spare : ℕ) → HasRoomBothWays now.held spare → HasRoomBothWays new.held spare) where
     abbrev pub rest_now : Option ℕ
-    rest_now = rest_of most (count.told + length (writes_in making.some.made))
+    rest_now = trial_rest most (count.told + length (writes_in making.some.made))
 
     abbrev pub turned : IsTurned rest_now now making.some.one new
     turned =
         turns-at most (count.told + length (writes_in making.some.made)) now making.some.one new (some-held most count.told begun now making.some)
-        (subst (λ n. TurnsAt most n now now.held new) making.come.told turns)
+        (subst (λ n. TurnsBackAt most n now now.held new) making.come.told turns)
 
     pub turned-state : new.state ≡ now.state
     turned-state = ap (λ (manager : Managed). manager.state) turned.new_is
@@ -169,8 +169,8 @@ module _ (most : Option ℕ) (begun now new : Managed) (watch : Watching) (count
             whole = was.whole;
             one = turned.one;
             now_is = turned.new_is ∙ ap (λ (manager : Managed). record manager { held = Some turned.one }) was.now_is;
-            left_is = ap (λ state. left_of rest_now state turned.one) turned-state ∙ turned.left_is ∙ was.left_is;
-            same = same-then (rest_of most count.told) rest_now rest_now was.held was.one turned.one was.same turned.same;
+            left_is = ap (λ state. actions_left rest_now state turned.one) turned-state ∙ turned.left_is ∙ was.left_is;
+            same = same-then (trial_rest most count.told) rest_now rest_now was.held was.one turned.one was.same turned.same;
           };
           come = making.come;
           events = making.events;
@@ -182,14 +182,14 @@ module _ (most : Option ℕ) (begun now new : Managed) (watch : Watching) (count
     pub turned-straight : Straight making-turned.some.one.turned rest_now making-turned.some.one.actions
     turned-straight = turned.straight
 
-  pub may-now : MayTurn most begun.held → MayTurn most now.held
+  pub may-now : MayTurnBack most begun.held → MayTurnBack most now.held
   may-now may =
       may-still most begun.held now.held making.some.held making.some.one making.some.held_is (some-held most count.told begun now making.some) making.some.same.prepared may
 
-  pub left-now : left_number (rest_of most count_now.told) now.state now.held ≡ length making.some.left
+  pub left-now : left_number (trial_rest most count_now.told) now.state now.held ≡ length making.some.left
   left-now =
-      ap (λ held. left_number (rest_of most count_now.told) now.state held) (some-held most count.told begun now making.some)
-      ∙ ap (λ n. length (left_of (rest_of most n) now.state making.some.one)) making.come.told
+      ap (λ held. left_number (trial_rest most count_now.told) now.state held) (some-held most count.told begun now making.some)
+      ∙ ap (λ n. length (actions_left (trial_rest most n) now.state making.some.one)) making.come.told
       ∙ ap length making.some.left_is
 
 -- a drain is told, and no word is in flight behind it
@@ -199,13 +199,13 @@ come-drained watch now new told waiting = record { told = omega (arith, told); w
 -- few writes are told
 pub few-number : (most : Option ℕ) (begun now : Managed) (watch : Watching) (count count_now : Count) (events_begun events_now : List Action) (flight : Flight) (spare : ℕ)
     → (making : IsMaking most begun now watch count count_now events_begun events_now flight spare)
-    → IfSome begun.held (λ held. count.told + length (writes_in (left_of (rest_of most count.told) begun.state held)) ≤ 2 ^ 40)
+    → IfSome begun.held (λ held. count.told + length (writes_in (actions_left (trial_rest most count.told) begun.state held)) ≤ 2 ^ 40)
     → count_now.told + length (writes_in making.some.left) ≤ 2 ^ 40
 few-number most begun now watch count count_now events_begun events_now flight spare making all =
     let was = making.some in
-    let few : count.told + length (writes_in (left_of (rest_of most count.told) begun.state was.held)) ≤ 2 ^ 40 =
-    subst (λ held. IfSome held (λ (one : HeldCommit). count.told + length (writes_in (left_of (rest_of most count.told) begun.state one)) ≤ 2 ^ 40)) was.held_is all in
-    let lengths : length (writes_in (left_of (rest_of most count.told) begun.state was.held)) ≡ length (writes_in was.made) + length (writes_in was.left) =
+    let few : count.told + length (writes_in (actions_left (trial_rest most count.told) begun.state was.held)) ≤ 2 ^ 40 =
+    subst (λ held. IfSome held (λ (one : HeldCommit). count.told + length (writes_in (actions_left (trial_rest most count.told) begun.state one)) ≤ 2 ^ 40)) was.held_is all in
+    let lengths : length (writes_in (actions_left (trial_rest most count.told) begun.state was.held)) ≡ length (writes_in was.made) + length (writes_in was.left) =
     ap (λ actions. length (writes_in actions)) was.whole ∙ ap length (writes_in-append was.made was.left) ∙ length-append (writes_in was.made) (writes_in was.left) in
     let told = making.come.told in
     omega arith
@@ -214,7 +214,7 @@ few-number most begun now watch count count_now events_begun events_now flight s
 module _ (most : Option ℕ) (begun now new : Managed) (watch : Watching) (count count_now count_new : Count) (events_begun events_now events_new : List Action) (flight flight_new : Flight) (spare spare_new : ℕ)
     (making : IsMaking most begun now watch count count_now events_begun events_now flight spare) where
   abbrev pub rest_here : Option ℕ
-  rest_here = rest_of most (count.told + length (writes_in making.some.made))
+  rest_here = trial_rest most (count.told + length (writes_in making.some.made))
 
   pub held-one : now.held ≡ Some making.some.one
   held-one = some-held most count.told begun now making.some
@@ -242,12 +242,12 @@ module _ (most : Option ℕ) (begun now new : Managed) (watch : Watching) (count
     }
 
     -- then fewer are left
-    pub fewer-action : HasCome watch count_now count_new (action ∷ []) → left_number (rest_of most count_new.told) new.state new.held < length making.some.left
+    pub fewer-action : HasCome watch count_now count_new (action ∷ []) → left_number (trial_rest most count_new.told) new.state new.held < length making.some.left
     fewer-action come =
         let both : HasCome watch count count_new (making.some.made ++ action ∷ []) = come-then watch count count_now count_new making.some.made (action ∷ []) making.come come in
-        let after : left_number (rest_of most count_new.told) new.state new.held ≡ length acts.left =
-        ap (λ held. left_number (rest_of most count_new.told) new.state held) (some-held most count.told begun new some-more)
-        ∙ ap (λ n. length (left_of (rest_of most n) new.state some-more.one)) both.told
+        let after : left_number (trial_rest most count_new.told) new.state new.held ≡ length acts.left =
+        ap (λ held. left_number (trial_rest most count_new.told) new.state held) (some-held most count.told begun new some-more)
+        ∙ ap (λ n. length (actions_left (trial_rest most n) new.state some-more.one)) both.told
         ∙ ap length some-more.left_is in
         let before : length making.some.left ≡ length (action ∷ acts.left) = ap length more-left in
         omega arith
@@ -268,24 +268,24 @@ module _ (most : Option ℕ) (begun now new : Managed) (watch : Watching) (count
       wrote-come told waiting = record { told = told; waiting = waiting }
 
       -- and few writes were told before it
-      pub few-written : IfSome begun.held (λ held. count.told + length (writes_in (left_of (rest_of most count.told) begun.state held)) ≤ 2 ^ 40) → count_now.told < 2 ^ 40
+      pub few-written : IfSome begun.held (λ held. count.told + length (writes_in (actions_left (trial_rest most count.told) begun.state held)) ≤ 2 ^ 40) → count_now.told < 2 ^ 40
       few-written all =
           let few = few-number most begun now watch count count_now events_begun events_now flight spare making all in
           let size : length (writes_in making.some.left) ≡ length (write ∷ writes_in wrote-acts.left) = ap (λ actions. length (writes_in actions)) wrote-left in
           omega arith
 
       pub fewer-written : count_new.told ≡ count_now.told + 1 → count_new.waiting ≡ min (count_now.waiting + 1) watch.depth
-          → left_number (rest_of most count_new.told) new.state new.held < length making.some.left
+          → left_number (trial_rest most count_new.told) new.state new.held < length making.some.left
       fewer-written told waiting = fewer-action (action.Written write) wrote-acts (wrote-come told waiting)
 
       abbrev pub making-written : (state : State) → events_new ≡ events_now ++ actions_of step → HasRoomBothWays new.held spare_new → count_new.told ≡ count_now.told + 1
-          → count_new.waiting ≡ min (count_now.waiting + 1) watch.depth → flight_new ≡ flight_after watch.probes watch.depth count_now.waiting state flight
+          → count_new.waiting ≡ min (count_now.waiting + 1) watch.depth → flight_new ≡ flight_left watch.probes watch.depth count_now.waiting state flight
           → IsMaking most begun new watch count count_new events_begun events_new flight_new spare_new
       making-written state events room told waiting words =
           let few : min (count_now.waiting + 1) watch.depth ≤ watch.depth = few-after watch.probes watch.depth count_now.waiting state flight making.few making.words in
           making-action (action.Written write) wrote-acts (events ∙ ap (λ one. events_now ++ actions_of one) wrote) room (wrote-come told waiting)
           (subst (AreOf watch.probes count_new.waiting) (sym words)
-          (subst (λ n. AreOf watch.probes n (flight_after watch.probes watch.depth count_now.waiting state flight)) (sym waiting)
+          (subst (λ n. AreOf watch.probes n (flight_left watch.probes watch.depth count_now.waiting state flight)) (sym waiting)
           (are-after watch.probes watch.depth count_now.waiting state flight making.few making.words)))
           (subst (λ n. n ≤ watch.depth) (sym waiting) few)
 
@@ -300,7 +300,7 @@ module _ (most : Option ℕ) (begun now new : Managed) (watch : Watching) (count
       pub drained-none : length flight ≡ 0
       drained-none = (drained-first rest_here now making.some.one (length flight) step new goes drained).1
 
-      pub fewer-drained : count_new.told ≡ count_now.told → count_new.waiting ≡ 0 → left_number (rest_of most count_new.told) new.state new.held < length making.some.left
+      pub fewer-drained : count_new.told ≡ count_now.told → count_new.waiting ≡ 0 → left_number (trial_rest most count_new.told) new.state new.held < length making.some.left
       fewer-drained told waiting = fewer-action action.Drained drained-acts (come-drained watch count_now count_new told waiting)
 
       abbrev pub making-drained : events_new ≡ events_now ++ actions_of step → HasRoomBothWays new.held spare_new → count_new.told ≡ count_now.told → count_new.waiting ≡ 0
@@ -334,10 +334,10 @@ module _ (most : Option ℕ) (begun now new : Managed) (watch : Watching) (count
 -- a step that waited, and then the drain that was next
 module _ (most : Option ℕ) (begun now new passed : Managed) (watch : Watching) (count count_now count_new : Count) (events_begun events_now events_new : List Action) (flight flight_new : Flight) (spare spare_new : ℕ)
     (making : IsMaking most begun now watch count count_now events_begun events_now flight spare)
-    (straight : Straight making.some.one.turned (rest_of most (count.told + length (writes_in making.some.made))) making.some.one.actions) (stood : new ≡ now) (steps : Steps new 0 new.held Drained passed) where
-  abbrev pub passed-acts : ActsOnce (rest_of most (count.told + length (writes_in making.some.made))) now making.some.one action.Drained passed
+    (straight : Straight making.some.one.turned (trial_rest most (count.told + length (writes_in making.some.made))) making.some.one.actions) (stood : new ≡ now) (steps : Steps new 0 new.held Drained passed) where
+  abbrev pub passed-acts : ActsOnce (trial_rest most (count.told + length (writes_in making.some.made))) now making.some.one action.Drained passed
   passed-acts =
-      let rest = rest_of most (count.told + length (writes_in making.some.made)) in
+      let rest = trial_rest most (count.told + length (writes_in making.some.made)) in
       let held = some-held most count.told begun now making.some in
       (drained-first rest now making.some.one 0 Drained passed
       (goes-on rest now making.some.one 0 Drained passed held straight (subst (λ (manager : Managed). Steps manager 0 manager.held Drained passed) stood steps)) refl).0
@@ -349,6 +349,6 @@ module _ (most : Option ℕ) (begun now new passed : Managed) (watch : Watching)
       (subst (AreOf watch.probes count_new.waiting) (sym words) (subst (λ n. AreOf watch.probes n []) (sym waiting) refl))
       (omega (arith, waiting))
 
-  pub fewer-passed : count_new.told ≡ count_now.told → count_new.waiting ≡ 0 → left_number (rest_of most count_new.told) passed.state passed.held < length making.some.left
+  pub fewer-passed : count_new.told ≡ count_now.told → count_new.waiting ≡ 0 → left_number (trial_rest most count_new.told) passed.state passed.held < length making.some.left
   fewer-passed told waiting =
       fewer-action most begun now passed watch count count_now count_new events_begun events_now events_new flight flight_new spare spare_new making action.Drained passed-acts (come-drained watch count_now count_new told waiting)

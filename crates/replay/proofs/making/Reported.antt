@@ -15,8 +15,8 @@ use Rattle.replay.specs.declared.watch.Count.{Count}
 use Rattle.replay.specs.Effects.{Effect, Acts, Prints, events_in, printed, traced, flushed, searched_after, waiting_after, effects_of}
 use Rattle.replay.specs.Outside.{CutsLines}
 use Rattle.replay.specs.Carried.{CutsEffects}
-use Rattle.replay.specs.Running.{Watching, HasCome, Tells, effects_on, telling}
-use Rattle.replay.specs.Text.{trace_line, drain_line}
+use Rattle.replay.specs.Running.{Watching, HasCome, TellsActions, effects_on, telling}
+use Rattle.replay.specs.Text.{write_line, drain_line}
 use Rattle.replay.proofs.lines.Effects.{effects-append, events-actions, events-append, events-front, events-flushed, events-searched, events-traced, printed-append}
 
 -- lines that are cut, behind effects that were told
@@ -70,8 +70,8 @@ module _ (begun : Managed) (watch : Watching) (slots : ℕ) (count : Count) (eve
       ∙ ap (λ one. so_far ++ effects_of (telling begun watch) watch.probes now.told now.waiting one more) (sym at)
 
   -- some more are told
-  pub tells-then : (more : List Action) (old mid new : Option (List ℕ)) → Tells begun watch slots count events_begun made old mid
-      → Appends mid new (printed (effects_on begun watch slots now events more)) → Tells begun watch slots count events_begun (made ++ more) old new
+  pub tells-then : (more : List Action) (old mid new : Option (List ℕ)) → TellsActions begun watch slots count events_begun made old mid
+      → Appends mid new (printed (effects_on begun watch slots now events more)) → TellsActions begun watch slots count events_begun (made ++ more) old new
   tells-then more old mid new before told =
       subst (Appends old new) (sym (ap printed (effects-then more) ∙ printed-append so_far (effects_on begun watch slots now events more)))
       (Appends-trans old mid new (printed so_far) (printed (effects_on begun watch slots now events more)) before told)
@@ -79,30 +79,30 @@ module _ (begun : Managed) (watch : Watching) (slots : ℕ) (count : Count) (eve
   -- the lines of a write
   abbrev pub lines_of : Write → List Effect
   lines_of write =
-      traced watch.trace (trace_line watch.family (now.told + 1) write) ++ searched_after (telling begun watch) watch.probes (now.told + 1) now.waiting (apply state_now write)
+      traced watch.trace (write_line watch.family (now.told + 1) write) ++ searched_after (telling begun watch) watch.probes (now.told + 1) now.waiting (apply state_now write)
 
   lines-none : (write : Write) → events_in (lines_of write) ≡ []
   lines-none write =
       let found = searched_after (telling begun watch) watch.probes (now.told + 1) now.waiting (apply state_now write) in
-      events-append (traced watch.trace (trace_line watch.family (now.told + 1) write)) found
-      ∙ ap (λ actions. actions ++ events_in found) (events-traced watch.trace (trace_line watch.family (now.told + 1) write))
+      events-append (traced watch.trace (write_line watch.family (now.told + 1) write)) found
+      ∙ ap (λ actions. actions ++ events_in found) (events-traced watch.trace (write_line watch.family (now.told + 1) write))
       ∙ events-searched (telling begun watch) watch.probes (now.told + 1) now.waiting (apply state_now write)
 
   -- a write is told
-  pub tells-write : (write : Write) (old mid new : Option (List ℕ)) → Tells begun watch slots count events_begun made old mid → Appends mid new (printed (lines_of write))
-      → Tells begun watch slots count events_begun (made ++ Written write ∷ []) old new
+  pub tells-write : (write : Write) (old mid new : Option (List ℕ)) → TellsActions begun watch slots count events_begun made old mid → Appends mid new (printed (lines_of write))
+      → TellsActions begun watch slots count events_begun (made ++ Written write ∷ []) old new
   tells-write write old mid new before lines =
-      let trace = traced watch.trace (trace_line watch.family (now.told + 1) write) in
+      let trace = traced watch.trace (write_line watch.family (now.told + 1) write) in
       let found = searched_after (telling begun watch) watch.probes (now.told + 1) now.waiting (apply state_now write) in
       tells-then (Written write ∷ []) old mid new before
       (subst (λ effects. Appends mid new (printed effects)) (ap (λ effects. trace ++ effects) (sym (append-nil found))) lines)
 
   -- or cut
   pub cuts-write : (write : Write) (rest all : List Action) (events_new : List Action) (old mid new : Option (List ℕ)) → all ≡ made ++ Written write ∷ rest → events_new ≡ events ++ Written write ∷ []
-      → Tells begun watch slots count events_begun made old mid → CutsLines (lines_of write) mid new
+      → TellsActions begun watch slots count events_begun made old mid → CutsLines (lines_of write) mid new
       → CutsEffects (effects_on begun watch slots count events_begun all) events_begun events_new old new
   cuts-write write rest all events_new old mid new whole grown before cuts =
-      let trace = traced watch.trace (trace_line watch.family (now.told + 1) write) in
+      let trace = traced watch.trace (write_line watch.family (now.told + 1) write) in
       let found = searched_after (telling begun watch) watch.probes (now.told + 1) now.waiting (apply state_now write) in
       let later = effects_of (telling begun watch) watch.probes (now.told + 1) (min (now.waiting + 1) watch.depth) (apply state_now write) rest in
       cut-lines (effects_on begun watch slots count events_begun all) (so_far ++ Acts (Written write) ∷ []) (lines_of write) later events_begun events_new old mid new
@@ -123,8 +123,8 @@ module _ (begun : Managed) (watch : Watching) (slots : ℕ) (count : Count) (eve
   lines_behind = traced watch.trace (drain_line now.told)
 
   -- a drain is told, behind the words that it waited for
-  pub tells-drain : (old mid searched new : Option (List ℕ)) → Tells begun watch slots count events_begun made old mid → Appends mid searched (printed lines_before)
-      → Appends searched new (printed lines_behind) → Tells begun watch slots count events_begun (made ++ Drained ∷ []) old new
+  pub tells-drain : (old mid searched new : Option (List ℕ)) → TellsActions begun watch slots count events_begun made old mid → Appends mid searched (printed lines_before)
+      → Appends searched new (printed lines_behind) → TellsActions begun watch slots count events_begun (made ++ Drained ∷ []) old new
   tells-drain old mid searched new before flush trace =
       tells-then (Drained ∷ []) old mid new before
       (subst (Appends mid new)
@@ -133,7 +133,7 @@ module _ (begun : Managed) (watch : Watching) (slots : ℕ) (count : Count) (eve
 
   -- a line of the words that it waits for is cut
   pub cuts-before : (rest all : List Action) (old mid new : Option (List ℕ)) → all ≡ made ++ Drained ∷ rest
-      → Tells begun watch slots count events_begun made old mid → CutsLines lines_before mid new → CutsEffects (effects_on begun watch slots count events_begun all) events_begun events old new
+      → TellsActions begun watch slots count events_begun made old mid → CutsLines lines_before mid new → CutsEffects (effects_on begun watch slots count events_begun all) events_begun events old new
   cuts-before rest all old mid new whole before cuts =
       let later = Acts Drained ∷ (lines_behind ++ effects_of (telling begun watch) watch.probes now.told 0 state_now rest) in
       cut-lines (effects_on begun watch slots count events_begun all) so_far lines_before later events_begun events old mid new
@@ -143,7 +143,7 @@ module _ (begun : Managed) (watch : Watching) (slots : ℕ) (count : Count) (eve
 
   -- or its own
   pub cuts-drain : (rest all : List Action) (events_new : List Action) (old mid searched new : Option (List ℕ)) → all ≡ made ++ Drained ∷ rest → events_new ≡ events ++ Drained ∷ []
-      → Tells begun watch slots count events_begun made old mid → Appends mid searched (printed lines_before) → CutsLines lines_behind searched new
+      → TellsActions begun watch slots count events_begun made old mid → Appends mid searched (printed lines_before) → CutsLines lines_behind searched new
       → CutsEffects (effects_on begun watch slots count events_begun all) events_begun events_new old new
   cuts-drain rest all events_new old mid searched new whole grown before flush cuts =
       let later = effects_of (telling begun watch) watch.probes now.told 0 state_now rest in

@@ -14,16 +14,16 @@ use Rattle.batch_order.specs.Steps.{Steps, actions_of, next_of}
 use Rattle.replay.specs.declared.watch.Count.{Count}
 use Rattle.replay.specs.declared.steps.Ended.TheVariants as ended
 use Rattle.replay.specs.Carried.{CutsEffects}
-use Rattle.replay.specs.Running.{Watching, HasCome, MakesAll, MakesSome, StopsAtLine, StopsAtWrite, Tells, effects_on, left_of, rest_of}
+use Rattle.replay.specs.Running.{Watching, HasCome, MakesAll, MakesSome, StopsAtLine, StopsAtWrite, TellsActions, effects_on, actions_left, trial_rest}
 use Rattle.replay.proofs.making.Acting.{ActsOnce, GoesOn, Straight, finished-first, reverted-first}
 use Rattle.replay.proofs.lines.Effects.{grown-more}
 use Rattle.replay.proofs.making.Making.{IsMaking, come-then, due-left, goes, some-more}
 
 module _ (Seen : Type 0) (most : Option ℕ) (begun now new : Managed) (watch : Watching) (slots : ℕ) (count count_now count_new : Count) (events_begun events_now events_new : List Action) (flight : Flight) (spare : ℕ)
     (making : IsMaking most begun now watch count count_now events_begun events_now flight spare) (taken_begun taken : Option (List ℕ))
-    (told : Seen → Tells begun watch slots count events_begun making.some.made taken_begun taken) where
+    (told : Seen → TellsActions begun watch slots count events_begun making.some.made taken_begun taken) where
   abbrev pub rest_now : Option ℕ
-  rest_now = rest_of most (count.told + length (writes_in making.some.made))
+  rest_now = trial_rest most (count.told + length (writes_in making.some.made))
 
   -- the same commit at a manager that is the same
   abbrev pub stands : new ≡ now → MakesSome most count.told begun new
@@ -36,7 +36,7 @@ module _ (Seen : Type 0) (most : Option ℕ) (begun now new : Managed) (watch : 
         whole = was.whole;
         one = was.one;
         now_is = same ∙ was.now_is;
-        left_is = ap (λ (manager : Managed). left_of rest_now manager.state was.one) same ∙ was.left_is;
+        left_is = ap (λ (manager : Managed). actions_left rest_now manager.state was.one) same ∙ was.left_is;
         same = was.same;
       }
 
@@ -46,7 +46,7 @@ module _ (Seen : Type 0) (most : Option ℕ) (begun now new : Managed) (watch : 
       did =
           goes most begun now new watch count count_now count_new events_begun events_now events_new flight flight spare spare making straight step steps
 
-      whole-made : left_of rest_now now.state making.some.one ≡ [] → making.some.made ≡ left_of (rest_of most count.told) begun.state making.some.held
+      whole-made : actions_left rest_now now.state making.some.one ≡ [] → making.some.made ≡ actions_left (trial_rest most count.told) begun.state making.some.held
       whole-made none =
           let was = making.some in
           sym (was.whole ∙ ap (λ left. was.made ++ left) (sym was.left_is ∙ none) ∙ append-nil was.made)

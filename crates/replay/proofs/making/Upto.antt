@@ -13,7 +13,7 @@ use Rattle.batch_order.specs.Managed.{HeldCommit, Managed, writes_due}
 use Rattle.replay.specs.declared.watch.Count.{Count}
 use Rattle.replay.specs.Fates.{IsBefore, IsUpTo, IsWithinCrash, crash_due}
 use Rattle.replay.specs.Pausing.{Pauses}
-use Rattle.replay.specs.Running.{Watching, Tells, left_in, left_of}
+use Rattle.replay.specs.Running.{Watching, TellsActions, left_in, actions_left}
 use Rattle.replay.proofs.making.Acting.{some-held}
 use Rattle.replay.proofs.making.Making.{IsMaking}
 
@@ -117,7 +117,7 @@ before-none None told left = tt
 before-none (Some after) told left = λ more. let same : after - told ≡ after - told - 0 = omega arith in ap (λ n. up_to_writes n left) same
 
 -- a commit that is no trial has these writes left
-pub left-writes : (state : State) (held : HeldCommit) → writes_in (left_of None state held) ≡ writes_due held
+pub left-writes : (state : State) (held : HeldCommit) → writes_in (actions_left None state held) ≡ writes_due held
 left-writes state held = go held.turned
   where
     go : (turned : Option ℕ) → writes_in (left_in turned None state held.actions held.undo) ≡ elim turned [ None ↦ writes_in held.actions | Some undone ↦ held.undo ]
@@ -150,7 +150,7 @@ module _ (stop : Option ℕ) (begun now : Managed) (watch : Watching) (count cou
 
   -- at the crash
   pauses-by : (Seen : Type 0) (slots : ℕ) (taken taken_now : Option (List ℕ)) (stop : Option ℕ) → crash_due stop count_now.told now.held ≡ true → IsWithinCrash stop count_now.told
-      → IsBefore stop count.told making.some.made making.some.left → (Seen → Tells begun watch slots count events_begun making.some.made taken taken_now)
+      → IsBefore stop count.told making.some.made making.some.left → (Seen → TellsActions begun watch slots count events_begun making.some.made taken taken_now)
       → StopsThere Seen stop begun now watch slots count count_now events_begun events_now taken taken_now
   pauses-by Seen slots taken taken_now None due within before told = absurd (cc)
   pauses-by Seen slots taken taken_now (Some after) due within before told =
@@ -185,7 +185,7 @@ module _ (most stop : Option ℕ) (begun now : Managed) (watch : Watching) (coun
           turn (Some limit) none m = absurd (cc)
 
   pub making-pauses : (Seen : Type 0) (slots : ℕ) (taken taken_now : Option (List ℕ)) → crash_due stop count_now.told now.held ≡ true → IsWithinCrash stop count_now.told
-      → IsBefore stop count.told making.some.made making.some.left → (Seen → Tells begun watch slots count events_begun making.some.made taken taken_now)
+      → IsBefore stop count.told making.some.made making.some.left → (Seen → TellsActions begun watch slots count events_begun making.some.made taken taken_now)
       → StopsThere Seen stop begun now watch slots count count_now events_begun events_now taken taken_now
   making-pauses Seen slots taken taken_now due within before told = go stop refl
     where
@@ -194,7 +194,7 @@ module _ (most stop : Option ℕ) (begun now : Managed) (watch : Watching) (coun
       go (Some after) is = turn most (alone (subst (λ s. IsSome s) (sym is) refl)) making before told
         where
           turn : (way : Option ℕ) → way ≡ None → (m : IsMaking way begun now watch count count_now events_begun events_now flight spare)
-              → IsBefore stop count.told m.some.made m.some.left → (Seen → Tells begun watch slots count events_begun m.some.made taken taken_now)
+              → IsBefore stop count.told m.some.made m.some.left → (Seen → TellsActions begun watch slots count events_begun m.some.made taken taken_now)
               → Pauses Seen after begun now watch slots count count_now events_begun events_now taken taken_now
           turn None none m prior said =
               pauses-by stop begun now watch count count_now events_begun events_now flight spare m Seen slots taken taken_now (Some after) (ap (λ s. crash_due s count_now.told now.held) (sym is) ∙ due)

@@ -1,5 +1,5 @@
 -- What the loop comes to where there is no crash, and where there is one.
-use Rattle.std.proofs.Common.{◌≡◌, ℕ, ◌+◌, ◌^◌, ◌<◌, ◌≤◌, List, None, Some, Option, IfSome, Ok, Err, length, sym, ap, ◌∙◌, subst, arith}
+use Rattle.std.proofs.Common.{◌≡◌, inl, inr, ℕ, ◌+◌, ◌^◌, ◌<◌, ◌≤◌, List, None, Some, Option, IfSome, Ok, Err, length, sym, ap, ◌∙◌, subst, arith}
 use Rattle.tcam_device.specs.declared.Action.{Action}
 use Rattle.tcam_device.specs.Flight.{writes_in}
 use Rattle.tcam_device.specs.State.{State}
@@ -7,16 +7,14 @@ use Rattle.batch_order.specs.Managed.{HeldCommit, Managed}
 use Rattle.replay.specs.declared.watch.Count.{Count}
 use Rattle.replay.specs.declared.steps.Ended.{Ended}
 use Rattle.replay.specs.declared.RunFault.{RunFault}
-use Rattle.replay.specs.declared.RunFault.TheVariants as fault
 use Rattle.replay.specs.Pausing.{MakesUntil}
-use Rattle.replay.specs.Running.{Watching, Makes, left_in, left_of}
+use Rattle.replay.specs.Running.{Watching, Makes, left_in, actions_left}
 
 -- a fault without a crash
 pub stops-whole : (why : RunFault) (Seen : Type 0) (most : Option ℕ) (begun now : Managed) (watch : Watching) (slots : ℕ) (count count_now : Count) (events events_now : List Action) (taken taken_now : Option (List ℕ))
     → MakesUntil Seen most None begun now watch slots count count_now (Err why) events events_now taken taken_now → Makes Seen most begun now watch slots count count_now (Err why) events events_now taken taken_now
-stops-whole fault.Sink Seen most begun now watch slots count count_now events events_now taken taken_now stops = stops.0
-stops-whole fault.Device Seen most begun now watch slots count count_now events events_now taken taken_now stops = stops.0
-stops-whole fault.Memory Seen most begun now watch slots count count_now events events_now taken taken_now stops = stops
+stops-whole why Seen most begun now watch slots count count_now events events_now taken taken_now (inl (sink, stops)) = inl (sink, stops.0)
+stops-whole why Seen most begun now watch slots count count_now events events_now taken taken_now (inr (device, stops)) = inr (device, stops.0)
 
 -- a commit that has more writes than come before its crash doesn't come to its end before that
 pub not-ended : (ended : Ended) (Seen : Type 0) (after : ℕ) (begun now : Managed) (watch : Watching) (slots : ℕ) (count count_now : Count) (events events_now : List Action) (taken taken_now : Option (List ℕ))
@@ -32,7 +30,7 @@ not-ended ended Seen after begun now watch slots count count_now events events_n
 
 -- one that isn't turned round has few writes left where its actions are few
 pub few-forward : (told : ℕ) (state : State) (held : Option HeldCommit) → IfSome held (λ one. one.turned ≡ None) → IfSome held (λ one. told + length (writes_in one.actions) ≤ 2 ^ 40)
-    → IfSome held (λ one. told + length (writes_in (left_of None state one)) ≤ 2 ^ 40)
+    → IfSome held (λ one. told + length (writes_in (actions_left None state one)) ≤ 2 ^ 40)
 few-forward told state None forward few = tt
 few-forward told state (Some one) forward few =
     subst (λ actions. told + length (writes_in actions) ≤ 2 ^ 40) (sym (ap (λ turned. left_in turned None state one.actions one.undo) forward)) few

@@ -11,7 +11,7 @@ use Rattle.batch_order.proofs.planning.Refused.{adds_first, kept_back}
 use Rattle.batch_order.proofs.writes.plan_writes.Goals as goal
 
 pub plan_additions-requires : goal.plan_additions-requires
-plan_additions-requires g c = record {
+plan_additions-requires c = record {
   standing = c.requires.standing ∙ ap (λ (m : Mode). entries_of m c.args.rules.now.rules) (sym c.encoding.ensures);
   room = rw c.deref.ensures.value c.requires.room;
   encodable = rw c.deref.ensures.value c.requires.encodable;
@@ -19,7 +19,7 @@ plan_additions-requires g c = record {
 }
 
 pub plan_changes-requires : goal.plan_changes-requires
-plan_changes-requires g c =
+plan_changes-requires c =
     let live = c.args.live.now.live in
     let new = c.plan_additions.new.live in
     let adds = c.in_ok-ids.ensures.adds in
@@ -37,13 +37,13 @@ plan_changes-requires g c =
     }
 
 pub plan_undo-requires : goal.plan_undo-requires
-plan_undo-requires g c =
+plan_undo-requires c =
     let size : length c.plan_additions.new.arrangement ≡ length c.args.before.now =
     c.in_ok-ids.ensures.plannable.settled.size ∙ c.plan_additions.ensures.slots ∙ sym c.requires.size in
     record { within = subst (λ (n : ℕ). AllByRecursion (IsWithin n) (all_writes c.plan_changes.new.plan.writes)) size c.in-Ok.ensures.within }
 
 pub returns-in-Ok-plan_undo-clause-planned : goal.returns-in-Ok-plan_undo-clause-planned
-returns-in-Ok-plan_undo-clause-planned g c =
+returns-in-Ok-plan_undo-clause-planned c =
     let first = c.in_ok-ids.ensures in
     let rest = c.in-Ok.ensures in
     record {
@@ -58,9 +58,9 @@ returns-in-Ok-plan_undo-clause-planned g c =
     }
 
 pub returns-in-Ok-plan_undo-clause-undo : goal.returns-in-Ok-plan_undo-clause-undo
-returns-in-Ok-plan_undo-clause-undo g c = c.in-Ok-plan_undo.ensures
+returns-in-Ok-plan_undo-clause-undo c = c.in-Ok-plan_undo.ensures
 
 pub returns-in-Err-plan_undo-clause-kept : goal.returns-in-Err-plan_undo-clause-kept
-returns-in-Err-plan_undo-clause-kept g c =
+returns-in-Err-plan_undo-clause-kept c =
     kept_back c.args.live.now c.plan_additions.new.live c.forget_all-in-Err-plan_undo.new.live c.plan_additions.ensures.kept c.forget_all-in-Err-plan_undo.ensures.kept
     (c.forget_all-in-Err-plan_undo.ensures.live ∙ adds_first c.args.live.now c.plan_additions.new.live c.in_ok-ids.ids.items c.in_ok-ids.ensures.adds)

@@ -4,12 +4,12 @@ use Rattle.commit_writes.specs.InFlight.{AreCurrent}
 use Rattle.batch_order.specs.Managed.{IsOn, live_now}
 use Rattle.batch_order.specs.Passed.{WayBackFrom}
 use Rattle.batch_order.specs.CarriedOut.{HasRoomBothWays, HasRoomLeft}
-use Rattle.lookup_turns.specs.Turns.{IsDriven}
+use Rattle.lookup_turns.specs.Turns.{AreDriven}
 use Rattle.lookup_turns.proofs.turns.drive.Given as goal
 
 abbrev pub invariant-loop-place : goal.invariant-loop-place
 invariant-loop-place g l = record {
-  driven : IsDriven (g.D.Writable.slot_count l.initial.device) (g.D.Writable.events l.initial.device) (g.D.Writable.events l.device) l.initial.manager (g.D.Writable.flight l.initial.device)
+  driven : AreDriven (g.D.Writable.slot_count l.initial.device) (g.D.Writable.events l.initial.device) (g.D.Writable.events l.device) l.initial.manager (g.D.Writable.flight l.initial.device)
       (take l.place l.turns) l.answers.items l.manager (g.D.Writable.flight l.device);
   few : length l.answers.items ≤ l.place;
   capacity : length l.turns ≤ vec_capacity l.answers;

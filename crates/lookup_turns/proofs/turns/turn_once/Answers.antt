@@ -6,7 +6,7 @@ use Rattle.batch_order.specs.Managed.{live_now}
 use Rattle.batch_order.specs.Steps.{actions_of}
 use Rattle.lookup_turns.specs.declared.Turn.{Turn}
 use Rattle.lookup_turns.specs.declared.Turn.TheVariants.{Search}
-use Rattle.lookup_turns.specs.Turns.{Outcome, TurnsOnce, translated}
+use Rattle.lookup_turns.specs.Turns.{Outcome, TakesTurn, translated}
 use Rattle.lookup_turns.proofs.Turned.{step_current, search_seen, translate_current}
 use Rattle.lookup_turns.proofs.turns.turn_once.Goals as goal
 
@@ -19,7 +19,7 @@ returns-in_ok-step-in-Step-clause-turned g c =
     record {
       actions = actions_of made;
       turned =
-          subst (λ (t : Turn). TurnsOnce (g.D.Writable.slot_count c.args.device.now) old flight t (record { answered = None; actions = actions_of made; manager = new; flight = g.D.Writable.flight c.step.new.device }))
+          subst (λ (t : Turn). TakesTurn (g.D.Writable.slot_count c.args.device.now) old flight t (record { answered = None; actions = actions_of made; manager = new; flight = g.D.Writable.flight c.step.new.device }))
           (sym c.in-Step.is) (made, new, c.in_ok-step-in-Step.ensures.stepped, ap (λ (f : Flight). let left : Outcome = record { answered = None; actions = actions_of made; manager = new; flight = f } in left) c.in_ok-step-in-Step.ensures.flight);
       events = c.in_ok-step-in-Step.ensures.events;
     }
@@ -40,7 +40,7 @@ returns-in-Translate-clause-turned g c =
     record {
       actions = [];
       turned =
-          subst (λ (t : Turn). TurnsOnce slots manager flight t (record { answered = None; actions = []; manager = manager; flight = g.D.Writable.flight c.translate.new.device }))
+          subst (λ (t : Turn). TakesTurn slots manager flight t (record { answered = None; actions = []; manager = manager; flight = g.D.Writable.flight c.translate.new.device }))
           (sym c.in-Translate.is) (ap (λ (f : Flight). let left : Outcome = record { answered = None; actions = []; manager = manager; flight = f } in left) did);
       events = c.translate.ensures.events ∙ sym (append-nil (g.D.Writable.events c.args.device.now));
     }
@@ -66,7 +66,7 @@ returns-in-Search-clause-turned g c =
     record {
       actions = [];
       turned =
-          subst (λ (t : Turn). TurnsOnce slots manager flight t (record { answered = c.search.result; actions = []; manager = manager; flight = g.D.Writable.flight c.search.new.self }))
-          (sym c.in-Search.is) (subst (λ (f : Flight). TurnsOnce slots manager flight Search (record { answered = c.search.result; actions = []; manager = manager; flight = f })) (sym c.search.ensures.flight) seen);
+          subst (λ (t : Turn). TakesTurn slots manager flight t (record { answered = c.search.result; actions = []; manager = manager; flight = g.D.Writable.flight c.search.new.self }))
+          (sym c.in-Search.is) (subst (λ (f : Flight). TakesTurn slots manager flight Search (record { answered = c.search.result; actions = []; manager = manager; flight = f })) (sym c.search.ensures.flight) seen);
       events = c.search.ensures.events ∙ sym (append-nil (g.D.Writable.events c.args.device.now));
     }

@@ -1,6 +1,6 @@
 -- It stops at a crash, and a trial is turned round where it is time; a step makes the next action that is left, and one that fails leaves it;
 -- each is told.
-use Rattle.std.proofs.Common.{refl, sym, ap, arith, append-nil, ◌≡◌, ◌+◌, ◌-◌, ◌≤◌, ◌∙◌, length, ◌++◌, ◌∷◌, [], subst, append_assoc}
+use Rattle.std.proofs.Common.{refl, inl, inr, sym, ap, arith, append-nil, ◌≡◌, ◌+◌, ◌-◌, ◌≤◌, ◌∙◌, length, ◌++◌, ◌∷◌, [], subst, append_assoc}
 use Rattle.std.specs.Io.KnownBytes.{Appends}
 use Rattle.std.proofs.KnownBytes.{Appends-nil}
 use Rattle.script_lines.specs.Given.{counted}
@@ -11,7 +11,7 @@ use Rattle.batch_order.specs.Steps.{KeepsCurrent, actions_of}
 use Rattle.replay.specs.Effects.{printed, traced}
 use Rattle.replay.specs.InFlight.{IsSeen}
 use Rattle.replay.specs.Outside.{CutsLines}
-use Rattle.replay.specs.Text.{trace_line}
+use Rattle.replay.specs.Text.{write_line}
 use Rattle.replay.proofs.making.Acting.{some-slots}
 use Rattle.replay.proofs.between.Leaving.{uncounted, leaves-line, leaves-writes, leaves-then}
 use Rattle.replay.proofs.making.Making.{come-drained, drained-acts, drained-none, few-written, fewer-drained, fewer-passed, fewer-written, goes-idle, left-now, making-drained, making-none, making-passed, making-turned, making-written, may-now, more-left, passed-acts, turned-straight, waits-left, wrote-acts}
@@ -80,7 +80,7 @@ making-preserved-in-Ok g c =
           (rw told.spare made.room) told.told told.waiting (rw made.flight at told.flight);
       told = λ which seen. tells-write c.args.manager.now c.args.watch.now (g.D.Writable.slot_count c.args.device.now) c.args.count.now (g.D.Writable.events c.args.device.now) m.some.made c.making.count (g.D.Writable.events c.making.device) m.come m.events write (counted which (g.K.Sink.taken c.args.sink.now) (g.K.Sink.accepted c.args.sink.now)) (counted which (g.K.Sink.taken c.making.sink) (g.K.Sink.accepted c.making.sink)) (counted which (g.K.Sink.taken c.tell_write.new.sink) (g.K.Sink.accepted c.tell_write.new.sink)) (i.told which seen)
           (as-written c.args.manager.now c.turn_round.new.manager c.step_tried.new.manager c.args.watch.now step write (g.D.Writable.slot_count c.args.device.now) (g.D.Writable.journal c.making.device) (g.D.Writable.journal c.step_tried.new.device) (g.D.Writable.events c.making.device) (g.D.Writable.events c.step_tried.new.device) (g.D.Writable.flight c.making.device) (g.D.Writable.flight c.step_tried.new.device) c.making.count.waiting agrees agrees_mid grown made.flight stays wrote made.keeps within made.serves m.words m.few told.keys (seen-turned c.making.manager c.turn_round.new.manager (g.D.Writable.slot_count c.args.device.now) (g.D.Writable.events c.making.device) (g.D.Writable.flight c.making.device) c.turn_round.ensures.state c.turn_round.ensures.current (i.seen seen))
-          (λ lines. Appends (counted which (g.K.Sink.taken c.making.sink) (g.K.Sink.accepted c.making.sink)) (counted which (g.K.Sink.taken c.tell_write.new.sink) (g.K.Sink.accepted c.tell_write.new.sink)) (printed lines)) (traced c.args.watch.now.trace (trace_line c.args.watch.now.family (c.making.count.told + 1) write)) (c.making.count.told + 1) (rw (made.slot_count, i.leaves.slot_count) at (told.lines.whole which)));
+          (λ lines. Appends (counted which (g.K.Sink.taken c.making.sink) (g.K.Sink.accepted c.making.sink)) (counted which (g.K.Sink.taken c.tell_write.new.sink) (g.K.Sink.accepted c.tell_write.new.sink)) (printed lines)) (traced c.args.watch.now.trace (write_line c.args.watch.now.family (c.making.count.told + 1) write)) (c.making.count.told + 1) (rw (made.slot_count, i.leaves.slot_count) at (told.lines.whole which)));
       seen = λ seen. seen-written c.args.manager.now c.turn_round.new.manager c.step_tried.new.manager c.args.watch.now step write (g.D.Writable.slot_count c.args.device.now) (g.D.Writable.journal c.making.device) (g.D.Writable.journal c.step_tried.new.device) (g.D.Writable.events c.making.device) (g.D.Writable.events c.step_tried.new.device) (g.D.Writable.flight c.making.device) (g.D.Writable.flight c.step_tried.new.device) c.making.count.waiting agrees agrees_mid grown made.flight stays wrote made.keeps within made.serves m.words m.few told.keys (seen-turned c.making.manager c.turn_round.new.manager (g.D.Writable.slot_count c.args.device.now) (g.D.Writable.events c.making.device) (g.D.Writable.flight c.making.device) c.turn_round.ensures.state c.turn_round.ensures.current (i.seen seen))
           (g.D.Writable.events c.tell_write.new.device) (g.D.Writable.flight c.tell_write.new.device) told.events (rw (made.slot_count, i.leaves.slot_count) at told.flight);
       before = before;
@@ -120,20 +120,23 @@ returns-in-Err-tell_write-clause-makes g c = λ which.
     let acts = wrote-acts c.args.most c.args.manager.now c.turn_round.new.manager c.step_tried.new.manager c.args.watch.now c.args.count.now c.making.count c.tell_write.new.count (g.D.Writable.events c.args.device.now) (g.D.Writable.events c.making.device) (g.D.Writable.events c.tell_write.new.device) (g.D.Writable.flight c.making.device) (g.D.Writable.flight c.tell_write.new.device) (g.D.Writable.spare c.making.device) (g.D.Writable.spare c.tell_write.new.device) m straight step made.stepped write wrote in
     let early = early-due c.args.most c.args.stop c.args.manager.now c.making.manager c.args.watch.now c.args.count.now c.making.count (g.D.Writable.events c.args.device.now) (g.D.Writable.events c.making.device) (g.D.Writable.flight c.making.device) (g.D.Writable.spare c.making.device) i.making (λ some. (c.requires.forward some).0) (sym c.stops_here.ensures ∙ c.if-stops_here.false) in
     let left = more-left c.args.most c.args.manager.now c.turn_round.new.manager c.step_tried.new.manager c.args.watch.now c.args.count.now c.making.count c.tell_write.new.count (g.D.Writable.events c.args.device.now) (g.D.Writable.events c.making.device) (g.D.Writable.events c.tell_write.new.device) (g.D.Writable.flight c.making.device) (g.D.Writable.flight c.tell_write.new.device) (g.D.Writable.spare c.making.device) (g.D.Writable.spare c.tell_write.new.device) m (action.Written write) acts in
-    let before = before-one c.args.stop c.args.count.now.told c.making.count.told m.some.made m.some.left acts.left (action.Written write) m.come.told i.reach left early i.before in (
-      making-stops_behind (IsSeen (g.D.Writable.slot_count c.args.device.now) (g.D.Writable.events c.args.device.now) (g.D.Writable.flight c.args.device.now) c.args.manager.now) c.args.most c.args.manager.now c.turn_round.new.manager c.step_tried.new.manager c.args.watch.now (g.D.Writable.slot_count c.args.device.now) c.args.count.now c.making.count c.tell_write.new.count (g.D.Writable.events c.args.device.now) (g.D.Writable.events c.making.device) (g.D.Writable.events c.tell_write.new.device) (g.D.Writable.flight c.making.device) (g.D.Writable.spare c.making.device) m (counted which (g.K.Sink.taken c.args.sink.now) (g.K.Sink.accepted c.args.sink.now)) (counted which (g.K.Sink.taken c.making.sink) (g.K.Sink.accepted c.making.sink)) (i.told which) (counted which (g.K.Sink.taken c.tell_write.new.sink) (g.K.Sink.accepted c.tell_write.new.sink)) (action.Written write) acts
-          (told.events ∙ grown)
-          (record { told = told.told; waiting = told.waiting })
-          (λ seen. cuts-write c.args.manager.now c.args.watch.now (g.D.Writable.slot_count c.args.device.now) c.args.count.now (g.D.Writable.events c.args.device.now) m.some.made c.making.count (g.D.Writable.events c.making.device) m.come m.events write acts.left (m.some.made ++ action.Written write ∷ acts.left) (g.D.Writable.events c.tell_write.new.device) (counted which (g.K.Sink.taken c.args.sink.now) (g.K.Sink.accepted c.args.sink.now)) (counted which (g.K.Sink.taken c.making.sink) (g.K.Sink.accepted c.making.sink)) (counted which (g.K.Sink.taken c.tell_write.new.sink) (g.K.Sink.accepted c.tell_write.new.sink))
-          refl (told.events ∙ grown) (i.told which seen)
-          (as-written c.args.manager.now c.turn_round.new.manager c.step_tried.new.manager c.args.watch.now step write (g.D.Writable.slot_count c.args.device.now) (g.D.Writable.journal c.making.device) (g.D.Writable.journal c.step_tried.new.device) (g.D.Writable.events c.making.device) (g.D.Writable.events c.step_tried.new.device) (g.D.Writable.flight c.making.device) (g.D.Writable.flight c.step_tried.new.device) c.making.count.waiting agrees agrees_mid grown made.flight stays wrote made.keeps within made.serves m.words m.few told.keys (seen-turned c.making.manager c.turn_round.new.manager (g.D.Writable.slot_count c.args.device.now) (g.D.Writable.events c.making.device) (g.D.Writable.flight c.making.device) c.turn_round.ensures.state c.turn_round.ensures.current (i.seen seen))
-          (λ lines. CutsLines lines (counted which (g.K.Sink.taken c.making.sink) (g.K.Sink.accepted c.making.sink)) (counted which (g.K.Sink.taken c.tell_write.new.sink) (g.K.Sink.accepted c.tell_write.new.sink))) (traced c.args.watch.now.trace (trace_line c.args.watch.now.family (c.making.count.told + 1) write)) (c.making.count.told + 1) (rw (made.slot_count, i.leaves.slot_count) at (told.lines.part which)))),
-      before,
-      within-written c.args.stop c.args.count.now.told c.making.count.told c.tell_write.new.count.told m.some.made m.some.left acts.left write m.come.told i.reach left early told.told,
-      all-some c.args.stop _ (λ after. λ enough. (λ seen. cuts-write c.args.manager.now c.args.watch.now (g.D.Writable.slot_count c.args.device.now) c.args.count.now (g.D.Writable.events c.args.device.now) m.some.made c.making.count (g.D.Writable.events c.making.device) m.come m.events write (up_to_writes (after - c.args.count.now.told - length (writes_in (m.some.made ++ action.Written write ∷ []))) acts.left) ((m.some.made ++ action.Written write ∷ []) ++ up_to_writes (after - c.args.count.now.told - length (writes_in (m.some.made ++ action.Written write ∷ []))) acts.left) (g.D.Writable.events c.tell_write.new.device) (counted which (g.K.Sink.taken c.args.sink.now) (g.K.Sink.accepted c.args.sink.now)) (counted which (g.K.Sink.taken c.making.sink) (g.K.Sink.accepted c.making.sink)) (counted which (g.K.Sink.taken c.tell_write.new.sink) (g.K.Sink.accepted c.tell_write.new.sink))
-          (append_assoc m.some.made (action.Written write ∷ []) (up_to_writes (after - c.args.count.now.told - length (writes_in (m.some.made ++ action.Written write ∷ []))) acts.left)) (told.events ∙ grown) (i.told which seen)
-          (as-written c.args.manager.now c.turn_round.new.manager c.step_tried.new.manager c.args.watch.now step write (g.D.Writable.slot_count c.args.device.now) (g.D.Writable.journal c.making.device) (g.D.Writable.journal c.step_tried.new.device) (g.D.Writable.events c.making.device) (g.D.Writable.events c.step_tried.new.device) (g.D.Writable.flight c.making.device) (g.D.Writable.flight c.step_tried.new.device) c.making.count.waiting agrees agrees_mid grown made.flight stays wrote made.keeps within made.serves m.words m.few told.keys (seen-turned c.making.manager c.turn_round.new.manager (g.D.Writable.slot_count c.args.device.now) (g.D.Writable.events c.making.device) (g.D.Writable.flight c.making.device) c.turn_round.ensures.state c.turn_round.ensures.current (i.seen seen))
-          (λ lines. CutsLines lines (counted which (g.K.Sink.taken c.making.sink) (g.K.Sink.accepted c.making.sink)) (counted which (g.K.Sink.taken c.tell_write.new.sink) (g.K.Sink.accepted c.tell_write.new.sink))) (traced c.args.watch.now.trace (trace_line c.args.watch.now.family (c.making.count.told + 1) write)) (c.making.count.told + 1) (rw (made.slot_count, i.leaves.slot_count) at (told.lines.part which))))),
+    let before = before-one c.args.stop c.args.count.now.told c.making.count.told m.some.made m.some.left acts.left (action.Written write) m.come.told i.reach left early i.before in inl (
+      refl,
+      (
+        making-stops_behind (IsSeen (g.D.Writable.slot_count c.args.device.now) (g.D.Writable.events c.args.device.now) (g.D.Writable.flight c.args.device.now) c.args.manager.now) c.args.most c.args.manager.now c.turn_round.new.manager c.step_tried.new.manager c.args.watch.now (g.D.Writable.slot_count c.args.device.now) c.args.count.now c.making.count c.tell_write.new.count (g.D.Writable.events c.args.device.now) (g.D.Writable.events c.making.device) (g.D.Writable.events c.tell_write.new.device) (g.D.Writable.flight c.making.device) (g.D.Writable.spare c.making.device) m (counted which (g.K.Sink.taken c.args.sink.now) (g.K.Sink.accepted c.args.sink.now)) (counted which (g.K.Sink.taken c.making.sink) (g.K.Sink.accepted c.making.sink)) (i.told which) (counted which (g.K.Sink.taken c.tell_write.new.sink) (g.K.Sink.accepted c.tell_write.new.sink)) (action.Written write) acts
+            (told.events ∙ grown)
+            (record { told = told.told; waiting = told.waiting })
+            (λ seen. cuts-write c.args.manager.now c.args.watch.now (g.D.Writable.slot_count c.args.device.now) c.args.count.now (g.D.Writable.events c.args.device.now) m.some.made c.making.count (g.D.Writable.events c.making.device) m.come m.events write acts.left (m.some.made ++ action.Written write ∷ acts.left) (g.D.Writable.events c.tell_write.new.device) (counted which (g.K.Sink.taken c.args.sink.now) (g.K.Sink.accepted c.args.sink.now)) (counted which (g.K.Sink.taken c.making.sink) (g.K.Sink.accepted c.making.sink)) (counted which (g.K.Sink.taken c.tell_write.new.sink) (g.K.Sink.accepted c.tell_write.new.sink))
+            refl (told.events ∙ grown) (i.told which seen)
+            (as-written c.args.manager.now c.turn_round.new.manager c.step_tried.new.manager c.args.watch.now step write (g.D.Writable.slot_count c.args.device.now) (g.D.Writable.journal c.making.device) (g.D.Writable.journal c.step_tried.new.device) (g.D.Writable.events c.making.device) (g.D.Writable.events c.step_tried.new.device) (g.D.Writable.flight c.making.device) (g.D.Writable.flight c.step_tried.new.device) c.making.count.waiting agrees agrees_mid grown made.flight stays wrote made.keeps within made.serves m.words m.few told.keys (seen-turned c.making.manager c.turn_round.new.manager (g.D.Writable.slot_count c.args.device.now) (g.D.Writable.events c.making.device) (g.D.Writable.flight c.making.device) c.turn_round.ensures.state c.turn_round.ensures.current (i.seen seen))
+            (λ lines. CutsLines lines (counted which (g.K.Sink.taken c.making.sink) (g.K.Sink.accepted c.making.sink)) (counted which (g.K.Sink.taken c.tell_write.new.sink) (g.K.Sink.accepted c.tell_write.new.sink))) (traced c.args.watch.now.trace (write_line c.args.watch.now.family (c.making.count.told + 1) write)) (c.making.count.told + 1) (rw (made.slot_count, i.leaves.slot_count) at (told.lines.part which)))),
+        before,
+        within-written c.args.stop c.args.count.now.told c.making.count.told c.tell_write.new.count.told m.some.made m.some.left acts.left write m.come.told i.reach left early told.told,
+        all-some c.args.stop _ (λ after. λ enough. (λ seen. cuts-write c.args.manager.now c.args.watch.now (g.D.Writable.slot_count c.args.device.now) c.args.count.now (g.D.Writable.events c.args.device.now) m.some.made c.making.count (g.D.Writable.events c.making.device) m.come m.events write (up_to_writes (after - c.args.count.now.told - length (writes_in (m.some.made ++ action.Written write ∷ []))) acts.left) ((m.some.made ++ action.Written write ∷ []) ++ up_to_writes (after - c.args.count.now.told - length (writes_in (m.some.made ++ action.Written write ∷ []))) acts.left) (g.D.Writable.events c.tell_write.new.device) (counted which (g.K.Sink.taken c.args.sink.now) (g.K.Sink.accepted c.args.sink.now)) (counted which (g.K.Sink.taken c.making.sink) (g.K.Sink.accepted c.making.sink)) (counted which (g.K.Sink.taken c.tell_write.new.sink) (g.K.Sink.accepted c.tell_write.new.sink))
+            (append_assoc m.some.made (action.Written write ∷ []) (up_to_writes (after - c.args.count.now.told - length (writes_in (m.some.made ++ action.Written write ∷ []))) acts.left)) (told.events ∙ grown) (i.told which seen)
+            (as-written c.args.manager.now c.turn_round.new.manager c.step_tried.new.manager c.args.watch.now step write (g.D.Writable.slot_count c.args.device.now) (g.D.Writable.journal c.making.device) (g.D.Writable.journal c.step_tried.new.device) (g.D.Writable.events c.making.device) (g.D.Writable.events c.step_tried.new.device) (g.D.Writable.flight c.making.device) (g.D.Writable.flight c.step_tried.new.device) c.making.count.waiting agrees agrees_mid grown made.flight stays wrote made.keeps within made.serves m.words m.few told.keys (seen-turned c.making.manager c.turn_round.new.manager (g.D.Writable.slot_count c.args.device.now) (g.D.Writable.events c.making.device) (g.D.Writable.flight c.making.device) c.turn_round.ensures.state c.turn_round.ensures.current (i.seen seen))
+            (λ lines. CutsLines lines (counted which (g.K.Sink.taken c.making.sink) (g.K.Sink.accepted c.making.sink)) (counted which (g.K.Sink.taken c.tell_write.new.sink) (g.K.Sink.accepted c.tell_write.new.sink))) (traced c.args.watch.now.trace (write_line c.args.watch.now.family (c.making.count.told + 1) write)) (c.making.count.told + 1) (rw (made.slot_count, i.leaves.slot_count) at (told.lines.part which))))),
+      ),
     )
 
 pub returns-in-Err-tell_write-clause-room : goal.returns-in-Err-tell_write-clause-room
@@ -196,19 +199,22 @@ returns-in-Err-tell_drain-2-clause-makes g c = λ which.
     let grown = made.events ∙ ap (λ one. g.D.Writable.events c.making.device ++ actions_of one) drained in
     let early = early-due c.args.most c.args.stop c.args.manager.now c.making.manager c.args.watch.now c.args.count.now c.making.count (g.D.Writable.events c.args.device.now) (g.D.Writable.events c.making.device) (g.D.Writable.flight c.making.device) (g.D.Writable.spare c.making.device) i.making (λ some. (c.requires.forward some).0) (sym c.stops_here.ensures ∙ c.if-stops_here.false) in
     let left = more-left c.args.most c.args.manager.now c.turn_round.new.manager c.step_tried.new.manager c.args.watch.now c.args.count.now c.making.count c.tell_drain-in-Ok-Drained.new.count (g.D.Writable.events c.args.device.now) (g.D.Writable.events c.making.device) (g.D.Writable.events c.step_tried.new.device) (g.D.Writable.flight c.making.device) (g.D.Writable.flight c.step_tried.new.device) (g.D.Writable.spare c.making.device) (g.D.Writable.spare c.step_tried.new.device) m action.Drained acts in
-    let before = before-one c.args.stop c.args.count.now.told c.making.count.told m.some.made m.some.left acts.left action.Drained m.come.told i.reach left early i.before in (
-      making-stops_behind (IsSeen (g.D.Writable.slot_count c.args.device.now) (g.D.Writable.events c.args.device.now) (g.D.Writable.flight c.args.device.now) c.args.manager.now) c.args.most c.args.manager.now c.turn_round.new.manager c.step_tried.new.manager c.args.watch.now (g.D.Writable.slot_count c.args.device.now) c.args.count.now c.making.count c.tell_drain-in-Ok-Drained.new.count (g.D.Writable.events c.args.device.now) (g.D.Writable.events c.making.device) (g.D.Writable.events c.step_tried.new.device) (g.D.Writable.flight c.making.device) (g.D.Writable.spare c.making.device) m (counted which (g.K.Sink.taken c.args.sink.now) (g.K.Sink.accepted c.args.sink.now)) (counted which (g.K.Sink.taken c.making.sink) (g.K.Sink.accepted c.making.sink)) (i.told which) (counted which (g.K.Sink.taken c.tell_drain-in-Ok-Drained.new.sink) (g.K.Sink.accepted c.tell_drain-in-Ok-Drained.new.sink)) action.Drained acts grown
-          (come-drained c.args.watch.now c.making.count c.tell_drain-in-Ok-Drained.new.count told.told told.waiting)
-          (λ seen. cuts-drain c.args.manager.now c.args.watch.now (g.D.Writable.slot_count c.args.device.now) c.args.count.now (g.D.Writable.events c.args.device.now) m.some.made c.making.count (g.D.Writable.events c.making.device) m.come m.events acts.left (m.some.made ++ action.Drained ∷ acts.left) (g.D.Writable.events c.step_tried.new.device) (counted which (g.K.Sink.taken c.args.sink.now) (g.K.Sink.accepted c.args.sink.now)) (counted which (g.K.Sink.taken c.making.sink) (g.K.Sink.accepted c.making.sink)) (counted which (g.K.Sink.taken c.making.sink) (g.K.Sink.accepted c.making.sink)) (counted which (g.K.Sink.taken c.tell_drain-in-Ok-Drained.new.sink) (g.K.Sink.accepted c.tell_drain-in-Ok-Drained.new.sink))
-          refl grown (i.told which seen)
-          (subst (λ lines. Appends (counted which (g.K.Sink.taken c.making.sink) (g.K.Sink.accepted c.making.sink)) (counted which (g.K.Sink.taken c.making.sink) (g.K.Sink.accepted c.making.sink)) (printed lines))
-          (sym (lines-empty c.args.watch.now c.making.count.told (replay (g.D.Writable.slot_count c.args.device.now) (writes_in (g.D.Writable.events c.making.device))) c.making.count.waiting (g.D.Writable.flight c.making.device) m.words none)) (Appends-nil (counted which (g.K.Sink.taken c.making.sink) (g.K.Sink.accepted c.making.sink)))) (told.lines.part which)),
-      before,
-      within-same c.args.stop c.making.count.told c.tell_drain-in-Ok-Drained.new.count.told i.reach told.told,
-      all-some c.args.stop _ (λ after. λ enough. (λ seen. cuts-drain c.args.manager.now c.args.watch.now (g.D.Writable.slot_count c.args.device.now) c.args.count.now (g.D.Writable.events c.args.device.now) m.some.made c.making.count (g.D.Writable.events c.making.device) m.come m.events (up_to_writes (after - c.args.count.now.told - length (writes_in (m.some.made ++ action.Drained ∷ []))) acts.left) ((m.some.made ++ action.Drained ∷ []) ++ up_to_writes (after - c.args.count.now.told - length (writes_in (m.some.made ++ action.Drained ∷ []))) acts.left) (g.D.Writable.events c.step_tried.new.device) (counted which (g.K.Sink.taken c.args.sink.now) (g.K.Sink.accepted c.args.sink.now)) (counted which (g.K.Sink.taken c.making.sink) (g.K.Sink.accepted c.making.sink)) (counted which (g.K.Sink.taken c.making.sink) (g.K.Sink.accepted c.making.sink)) (counted which (g.K.Sink.taken c.tell_drain-in-Ok-Drained.new.sink) (g.K.Sink.accepted c.tell_drain-in-Ok-Drained.new.sink))
-          (append_assoc m.some.made (action.Drained ∷ []) (up_to_writes (after - c.args.count.now.told - length (writes_in (m.some.made ++ action.Drained ∷ []))) acts.left)) grown (i.told which seen)
-          (subst (λ lines. Appends (counted which (g.K.Sink.taken c.making.sink) (g.K.Sink.accepted c.making.sink)) (counted which (g.K.Sink.taken c.making.sink) (g.K.Sink.accepted c.making.sink)) (printed lines))
-          (sym (lines-empty c.args.watch.now c.making.count.told (replay (g.D.Writable.slot_count c.args.device.now) (writes_in (g.D.Writable.events c.making.device))) c.making.count.waiting (g.D.Writable.flight c.making.device) m.words none)) (Appends-nil (counted which (g.K.Sink.taken c.making.sink) (g.K.Sink.accepted c.making.sink)))) (told.lines.part which))),
+    let before = before-one c.args.stop c.args.count.now.told c.making.count.told m.some.made m.some.left acts.left action.Drained m.come.told i.reach left early i.before in inl (
+      refl,
+      (
+        making-stops_behind (IsSeen (g.D.Writable.slot_count c.args.device.now) (g.D.Writable.events c.args.device.now) (g.D.Writable.flight c.args.device.now) c.args.manager.now) c.args.most c.args.manager.now c.turn_round.new.manager c.step_tried.new.manager c.args.watch.now (g.D.Writable.slot_count c.args.device.now) c.args.count.now c.making.count c.tell_drain-in-Ok-Drained.new.count (g.D.Writable.events c.args.device.now) (g.D.Writable.events c.making.device) (g.D.Writable.events c.step_tried.new.device) (g.D.Writable.flight c.making.device) (g.D.Writable.spare c.making.device) m (counted which (g.K.Sink.taken c.args.sink.now) (g.K.Sink.accepted c.args.sink.now)) (counted which (g.K.Sink.taken c.making.sink) (g.K.Sink.accepted c.making.sink)) (i.told which) (counted which (g.K.Sink.taken c.tell_drain-in-Ok-Drained.new.sink) (g.K.Sink.accepted c.tell_drain-in-Ok-Drained.new.sink)) action.Drained acts grown
+            (come-drained c.args.watch.now c.making.count c.tell_drain-in-Ok-Drained.new.count told.told told.waiting)
+            (λ seen. cuts-drain c.args.manager.now c.args.watch.now (g.D.Writable.slot_count c.args.device.now) c.args.count.now (g.D.Writable.events c.args.device.now) m.some.made c.making.count (g.D.Writable.events c.making.device) m.come m.events acts.left (m.some.made ++ action.Drained ∷ acts.left) (g.D.Writable.events c.step_tried.new.device) (counted which (g.K.Sink.taken c.args.sink.now) (g.K.Sink.accepted c.args.sink.now)) (counted which (g.K.Sink.taken c.making.sink) (g.K.Sink.accepted c.making.sink)) (counted which (g.K.Sink.taken c.making.sink) (g.K.Sink.accepted c.making.sink)) (counted which (g.K.Sink.taken c.tell_drain-in-Ok-Drained.new.sink) (g.K.Sink.accepted c.tell_drain-in-Ok-Drained.new.sink))
+            refl grown (i.told which seen)
+            (subst (λ lines. Appends (counted which (g.K.Sink.taken c.making.sink) (g.K.Sink.accepted c.making.sink)) (counted which (g.K.Sink.taken c.making.sink) (g.K.Sink.accepted c.making.sink)) (printed lines))
+            (sym (lines-empty c.args.watch.now c.making.count.told (replay (g.D.Writable.slot_count c.args.device.now) (writes_in (g.D.Writable.events c.making.device))) c.making.count.waiting (g.D.Writable.flight c.making.device) m.words none)) (Appends-nil (counted which (g.K.Sink.taken c.making.sink) (g.K.Sink.accepted c.making.sink)))) (told.lines.part which)),
+        before,
+        within-same c.args.stop c.making.count.told c.tell_drain-in-Ok-Drained.new.count.told i.reach told.told,
+        all-some c.args.stop _ (λ after. λ enough. (λ seen. cuts-drain c.args.manager.now c.args.watch.now (g.D.Writable.slot_count c.args.device.now) c.args.count.now (g.D.Writable.events c.args.device.now) m.some.made c.making.count (g.D.Writable.events c.making.device) m.come m.events (up_to_writes (after - c.args.count.now.told - length (writes_in (m.some.made ++ action.Drained ∷ []))) acts.left) ((m.some.made ++ action.Drained ∷ []) ++ up_to_writes (after - c.args.count.now.told - length (writes_in (m.some.made ++ action.Drained ∷ []))) acts.left) (g.D.Writable.events c.step_tried.new.device) (counted which (g.K.Sink.taken c.args.sink.now) (g.K.Sink.accepted c.args.sink.now)) (counted which (g.K.Sink.taken c.making.sink) (g.K.Sink.accepted c.making.sink)) (counted which (g.K.Sink.taken c.making.sink) (g.K.Sink.accepted c.making.sink)) (counted which (g.K.Sink.taken c.tell_drain-in-Ok-Drained.new.sink) (g.K.Sink.accepted c.tell_drain-in-Ok-Drained.new.sink))
+            (append_assoc m.some.made (action.Drained ∷ []) (up_to_writes (after - c.args.count.now.told - length (writes_in (m.some.made ++ action.Drained ∷ []))) acts.left)) grown (i.told which seen)
+            (subst (λ lines. Appends (counted which (g.K.Sink.taken c.making.sink) (g.K.Sink.accepted c.making.sink)) (counted which (g.K.Sink.taken c.making.sink) (g.K.Sink.accepted c.making.sink)) (printed lines))
+            (sym (lines-empty c.args.watch.now c.making.count.told (replay (g.D.Writable.slot_count c.args.device.now) (writes_in (g.D.Writable.events c.making.device))) c.making.count.waiting (g.D.Writable.flight c.making.device) m.words none)) (Appends-nil (counted which (g.K.Sink.taken c.making.sink) (g.K.Sink.accepted c.making.sink)))) (told.lines.part which))),
+      ),
     )
 
 pub returns-in-Err-tell_drain-2-clause-room : goal.returns-in-Err-tell_drain-2-clause-room
@@ -245,7 +251,7 @@ returns-in-Err-clause-makes g c = λ which.
     let failed = c.in-Err.ensures in
     let early = early-due c.args.most c.args.stop c.args.manager.now c.making.manager c.args.watch.now c.args.count.now c.making.count (g.D.Writable.events c.args.device.now) (g.D.Writable.events c.making.device) (g.D.Writable.flight c.making.device) (g.D.Writable.spare c.making.device) i.making (λ some. (c.requires.forward some).0) (sym c.stops_here.ensures ∙ c.if-stops_here.false) in
     let stops = making-cut (IsSeen (g.D.Writable.slot_count c.args.device.now) (g.D.Writable.events c.args.device.now) (g.D.Writable.flight c.args.device.now) c.args.manager.now) c.args.most c.args.manager.now c.turn_round.new.manager c.step_tried.new.manager c.args.watch.now (g.D.Writable.slot_count c.args.device.now) c.args.count.now c.making.count c.making.count (g.D.Writable.events c.args.device.now) (g.D.Writable.events c.making.device) (g.D.Writable.events c.step_tried.new.device) (g.D.Writable.flight c.making.device) (g.D.Writable.spare c.making.device) m (counted which (g.K.Sink.taken c.args.sink.now) (g.K.Sink.accepted c.args.sink.now)) (counted which (g.K.Sink.taken c.making.sink) (g.K.Sink.accepted c.making.sink)) (i.told which) straight failed.failed failed.events_err failed.due in
-    (stops, i.before, below-written c.args.stop c.args.count.now.told c.making.count.told m.some.made m.some.left stops.left stops.due m.come.told i.reach stops.left_is early)
+    inr (refl, (stops, i.before, below-written c.args.stop c.args.count.now.told c.making.count.told m.some.made m.some.left stops.left stops.due m.come.told i.reach stops.left_is early))
 
 -- ---- a drain that waits: the words in flight are searched, then it is made and told
 
@@ -327,19 +333,22 @@ returns-in-Err-search_all-clause-makes g c = λ which.
     made.events ∙ ap (λ one. g.D.Writable.events c.making.device ++ actions_of one) c.in-Ok-Waiting.field-0-is ∙ append-nil (g.D.Writable.events c.making.device) in
     let within = subst (λ n. n ≤ g.D.Writable.slot_count c.args.device.now) (sym (made.same_slots ∙ some-slots c.args.most c.args.count.now.told c.args.manager.now c.turn_round.new.manager m.some)) c.requires.slots in
     let early = early-due c.args.most c.args.stop c.args.manager.now c.making.manager c.args.watch.now c.args.count.now c.making.count (g.D.Writable.events c.args.device.now) (g.D.Writable.events c.making.device) (g.D.Writable.flight c.making.device) (g.D.Writable.spare c.making.device) i.making (λ some. (c.requires.forward some).0) (sym c.stops_here.ensures ∙ c.if-stops_here.false) in
-    rw (searched.events, kept) (
-      (making-stops (IsSeen (g.D.Writable.slot_count c.args.device.now) (g.D.Writable.events c.args.device.now) (g.D.Writable.flight c.args.device.now) c.args.manager.now) c.args.most c.args.manager.now c.turn_round.new.manager c.step_tried.new.manager c.args.watch.now (g.D.Writable.slot_count c.args.device.now) c.args.count.now c.making.count c.making.count (g.D.Writable.events c.args.device.now) (g.D.Writable.events c.making.device) (g.D.Writable.events c.making.device) (g.D.Writable.flight c.making.device) (g.D.Writable.spare c.making.device) m (counted which (g.K.Sink.taken c.args.sink.now) (g.K.Sink.accepted c.args.sink.now)) (counted which (g.K.Sink.taken c.making.sink) (g.K.Sink.accepted c.making.sink)) (i.told which) (counted which (g.K.Sink.taken c.search_all.new.sink) (g.K.Sink.accepted c.search_all.new.sink)) waits.3 refl
-          (λ seen. cuts-before c.args.manager.now c.args.watch.now (g.D.Writable.slot_count c.args.device.now) c.args.count.now (g.D.Writable.events c.args.device.now) m.some.made c.making.count (g.D.Writable.events c.making.device) m.come m.events waits.0 (m.some.made ++ m.some.left) (counted which (g.K.Sink.taken c.args.sink.now) (g.K.Sink.accepted c.args.sink.now)) (counted which (g.K.Sink.taken c.making.sink) (g.K.Sink.accepted c.making.sink)) (counted which (g.K.Sink.taken c.search_all.new.sink) (g.K.Sink.accepted c.search_all.new.sink))
-          (ap (λ more. m.some.made ++ more) waits.1) (i.told which seen)
-          (as-searched c.turn_round.new.manager c.step_tried.new.manager c.args.watch.now (g.D.Writable.slot_count c.args.device.now) (g.D.Writable.journal c.step_tried.new.device) (g.D.Writable.events c.making.device) (g.D.Writable.events c.step_tried.new.device) (g.D.Writable.flight c.making.device) (g.D.Writable.flight c.step_tried.new.device) c.making.count.waiting (g.met.D.Writable.agrees c.step_tried.new.device) kept made.flight waits.3 within made.serves m.words (seen-turned c.making.manager c.turn_round.new.manager (g.D.Writable.slot_count c.args.device.now) (g.D.Writable.events c.making.device) (g.D.Writable.flight c.making.device) c.turn_round.ensures.state c.turn_round.ensures.current (i.seen seen))
-          (λ lines. CutsLines lines (counted which (g.K.Sink.taken c.making.sink) (g.K.Sink.accepted c.making.sink)) (counted which (g.K.Sink.taken c.search_all.new.sink) (g.K.Sink.accepted c.search_all.new.sink))) c.making.count.told (rw (made.slot_count, i.leaves.slot_count) at (searched.lines.part which))))),
-      i.before,
-      i.reach,
-      with-some c.args.stop _ _ (early-within c.args.stop c.args.count.now.told c.making.count.told m.some.made m.some.left m.come.told i.reach early) (λ after ahead. λ enough. (λ seen. cuts-before c.args.manager.now c.args.watch.now (g.D.Writable.slot_count c.args.device.now) c.args.count.now (g.D.Writable.events c.args.device.now) m.some.made c.making.count (g.D.Writable.events c.making.device) m.come m.events (up_to_writes (after - c.args.count.now.told - length (writes_in m.some.made)) waits.0) (m.some.made ++ up_to_writes (after - c.args.count.now.told - length (writes_in m.some.made)) m.some.left) (counted which (g.K.Sink.taken c.args.sink.now) (g.K.Sink.accepted c.args.sink.now)) (counted which (g.K.Sink.taken c.making.sink) (g.K.Sink.accepted c.making.sink)) (counted which (g.K.Sink.taken c.search_all.new.sink) (g.K.Sink.accepted c.search_all.new.sink))
-          (ap (λ more. m.some.made ++ more) (drain-next after c.args.count.now.told m.some.made m.some.left waits.0 waits.1 ahead.0 ahead.1 enough)) (i.told which seen)
-          (as-searched c.turn_round.new.manager c.step_tried.new.manager c.args.watch.now (g.D.Writable.slot_count c.args.device.now) (g.D.Writable.journal c.step_tried.new.device) (g.D.Writable.events c.making.device) (g.D.Writable.events c.step_tried.new.device) (g.D.Writable.flight c.making.device) (g.D.Writable.flight c.step_tried.new.device) c.making.count.waiting (g.met.D.Writable.agrees c.step_tried.new.device) kept made.flight waits.3 within made.serves m.words (seen-turned c.making.manager c.turn_round.new.manager (g.D.Writable.slot_count c.args.device.now) (g.D.Writable.events c.making.device) (g.D.Writable.flight c.making.device) c.turn_round.ensures.state c.turn_round.ensures.current (i.seen seen))
-          (λ lines. CutsLines lines (counted which (g.K.Sink.taken c.making.sink) (g.K.Sink.accepted c.making.sink)) (counted which (g.K.Sink.taken c.search_all.new.sink) (g.K.Sink.accepted c.search_all.new.sink))) c.making.count.told (rw (made.slot_count, i.leaves.slot_count) at (searched.lines.part which))))),
-    )
+    rw (searched.events, kept) (inl (
+      refl,
+      (
+        (making-stops (IsSeen (g.D.Writable.slot_count c.args.device.now) (g.D.Writable.events c.args.device.now) (g.D.Writable.flight c.args.device.now) c.args.manager.now) c.args.most c.args.manager.now c.turn_round.new.manager c.step_tried.new.manager c.args.watch.now (g.D.Writable.slot_count c.args.device.now) c.args.count.now c.making.count c.making.count (g.D.Writable.events c.args.device.now) (g.D.Writable.events c.making.device) (g.D.Writable.events c.making.device) (g.D.Writable.flight c.making.device) (g.D.Writable.spare c.making.device) m (counted which (g.K.Sink.taken c.args.sink.now) (g.K.Sink.accepted c.args.sink.now)) (counted which (g.K.Sink.taken c.making.sink) (g.K.Sink.accepted c.making.sink)) (i.told which) (counted which (g.K.Sink.taken c.search_all.new.sink) (g.K.Sink.accepted c.search_all.new.sink)) waits.3 refl
+            (λ seen. cuts-before c.args.manager.now c.args.watch.now (g.D.Writable.slot_count c.args.device.now) c.args.count.now (g.D.Writable.events c.args.device.now) m.some.made c.making.count (g.D.Writable.events c.making.device) m.come m.events waits.0 (m.some.made ++ m.some.left) (counted which (g.K.Sink.taken c.args.sink.now) (g.K.Sink.accepted c.args.sink.now)) (counted which (g.K.Sink.taken c.making.sink) (g.K.Sink.accepted c.making.sink)) (counted which (g.K.Sink.taken c.search_all.new.sink) (g.K.Sink.accepted c.search_all.new.sink))
+            (ap (λ more. m.some.made ++ more) waits.1) (i.told which seen)
+            (as-searched c.turn_round.new.manager c.step_tried.new.manager c.args.watch.now (g.D.Writable.slot_count c.args.device.now) (g.D.Writable.journal c.step_tried.new.device) (g.D.Writable.events c.making.device) (g.D.Writable.events c.step_tried.new.device) (g.D.Writable.flight c.making.device) (g.D.Writable.flight c.step_tried.new.device) c.making.count.waiting (g.met.D.Writable.agrees c.step_tried.new.device) kept made.flight waits.3 within made.serves m.words (seen-turned c.making.manager c.turn_round.new.manager (g.D.Writable.slot_count c.args.device.now) (g.D.Writable.events c.making.device) (g.D.Writable.flight c.making.device) c.turn_round.ensures.state c.turn_round.ensures.current (i.seen seen))
+            (λ lines. CutsLines lines (counted which (g.K.Sink.taken c.making.sink) (g.K.Sink.accepted c.making.sink)) (counted which (g.K.Sink.taken c.search_all.new.sink) (g.K.Sink.accepted c.search_all.new.sink))) c.making.count.told (rw (made.slot_count, i.leaves.slot_count) at (searched.lines.part which))))),
+        i.before,
+        i.reach,
+        with-some c.args.stop _ _ (early-within c.args.stop c.args.count.now.told c.making.count.told m.some.made m.some.left m.come.told i.reach early) (λ after ahead. λ enough. (λ seen. cuts-before c.args.manager.now c.args.watch.now (g.D.Writable.slot_count c.args.device.now) c.args.count.now (g.D.Writable.events c.args.device.now) m.some.made c.making.count (g.D.Writable.events c.making.device) m.come m.events (up_to_writes (after - c.args.count.now.told - length (writes_in m.some.made)) waits.0) (m.some.made ++ up_to_writes (after - c.args.count.now.told - length (writes_in m.some.made)) m.some.left) (counted which (g.K.Sink.taken c.args.sink.now) (g.K.Sink.accepted c.args.sink.now)) (counted which (g.K.Sink.taken c.making.sink) (g.K.Sink.accepted c.making.sink)) (counted which (g.K.Sink.taken c.search_all.new.sink) (g.K.Sink.accepted c.search_all.new.sink))
+            (ap (λ more. m.some.made ++ more) (drain-next after c.args.count.now.told m.some.made m.some.left waits.0 waits.1 ahead.0 ahead.1 enough)) (i.told which seen)
+            (as-searched c.turn_round.new.manager c.step_tried.new.manager c.args.watch.now (g.D.Writable.slot_count c.args.device.now) (g.D.Writable.journal c.step_tried.new.device) (g.D.Writable.events c.making.device) (g.D.Writable.events c.step_tried.new.device) (g.D.Writable.flight c.making.device) (g.D.Writable.flight c.step_tried.new.device) c.making.count.waiting (g.met.D.Writable.agrees c.step_tried.new.device) kept made.flight waits.3 within made.serves m.words (seen-turned c.making.manager c.turn_round.new.manager (g.D.Writable.slot_count c.args.device.now) (g.D.Writable.events c.making.device) (g.D.Writable.flight c.making.device) c.turn_round.ensures.state c.turn_round.ensures.current (i.seen seen))
+            (λ lines. CutsLines lines (counted which (g.K.Sink.taken c.making.sink) (g.K.Sink.accepted c.making.sink)) (counted which (g.K.Sink.taken c.search_all.new.sink) (g.K.Sink.accepted c.search_all.new.sink))) c.making.count.told (rw (made.slot_count, i.leaves.slot_count) at (searched.lines.part which))))),
+      ),
+    ))
 
 pub returns-in-Err-search_all-clause-room : goal.returns-in-Err-search_all-clause-room
 returns-in-Err-search_all-clause-room g c = rw c.in-Err-search_all.ensures.spare c.in-Ok-Waiting.ensures.room
@@ -362,21 +371,24 @@ returns-in-Err-tell_drain-clause-makes g c = λ which.
     let grown = passed.events ∙ ap (λ events. events ++ action.Drained ∷ []) (searched.events ∙ kept) in
     let early = early-due c.args.most c.args.stop c.args.manager.now c.making.manager c.args.watch.now c.args.count.now c.making.count (g.D.Writable.events c.args.device.now) (g.D.Writable.events c.making.device) (g.D.Writable.flight c.making.device) (g.D.Writable.spare c.making.device) i.making (λ some. (c.requires.forward some).0) (sym c.stops_here.ensures ∙ c.if-stops_here.false) in
     let left = more-left c.args.most c.args.manager.now c.turn_round.new.manager c.pass_drain.new.manager c.args.watch.now c.args.count.now c.making.count c.tell_drain.new.count (g.D.Writable.events c.args.device.now) (g.D.Writable.events c.making.device) (g.D.Writable.events c.pass_drain.new.device) (g.D.Writable.flight c.making.device) (g.D.Writable.flight c.pass_drain.new.device) (g.D.Writable.spare c.making.device) (g.D.Writable.spare c.pass_drain.new.device) m action.Drained acts in
-    let before = before-one c.args.stop c.args.count.now.told c.making.count.told m.some.made m.some.left acts.left action.Drained m.come.told i.reach left early i.before in (
-      making-stops_behind (IsSeen (g.D.Writable.slot_count c.args.device.now) (g.D.Writable.events c.args.device.now) (g.D.Writable.flight c.args.device.now) c.args.manager.now) c.args.most c.args.manager.now c.turn_round.new.manager c.pass_drain.new.manager c.args.watch.now (g.D.Writable.slot_count c.args.device.now) c.args.count.now c.making.count c.tell_drain.new.count (g.D.Writable.events c.args.device.now) (g.D.Writable.events c.making.device) (g.D.Writable.events c.pass_drain.new.device) (g.D.Writable.flight c.making.device) (g.D.Writable.spare c.making.device) m (counted which (g.K.Sink.taken c.args.sink.now) (g.K.Sink.accepted c.args.sink.now)) (counted which (g.K.Sink.taken c.making.sink) (g.K.Sink.accepted c.making.sink)) (i.told which) (counted which (g.K.Sink.taken c.tell_drain.new.sink) (g.K.Sink.accepted c.tell_drain.new.sink)) action.Drained acts grown
-          (come-drained c.args.watch.now c.making.count c.tell_drain.new.count told.told told.waiting)
-          (λ seen. cuts-drain c.args.manager.now c.args.watch.now (g.D.Writable.slot_count c.args.device.now) c.args.count.now (g.D.Writable.events c.args.device.now) m.some.made c.making.count (g.D.Writable.events c.making.device) m.come m.events acts.left (m.some.made ++ action.Drained ∷ acts.left) (g.D.Writable.events c.pass_drain.new.device) (counted which (g.K.Sink.taken c.args.sink.now) (g.K.Sink.accepted c.args.sink.now)) (counted which (g.K.Sink.taken c.making.sink) (g.K.Sink.accepted c.making.sink)) (counted which (g.K.Sink.taken c.search_all.new.sink) (g.K.Sink.accepted c.search_all.new.sink)) (counted which (g.K.Sink.taken c.tell_drain.new.sink) (g.K.Sink.accepted c.tell_drain.new.sink))
-          refl grown (i.told which seen)
-          (as-searched c.turn_round.new.manager c.step_tried.new.manager c.args.watch.now (g.D.Writable.slot_count c.args.device.now) (g.D.Writable.journal c.step_tried.new.device) (g.D.Writable.events c.making.device) (g.D.Writable.events c.step_tried.new.device) (g.D.Writable.flight c.making.device) (g.D.Writable.flight c.step_tried.new.device) c.making.count.waiting (g.met.D.Writable.agrees c.step_tried.new.device) kept made.flight waits.3 within made.serves m.words (seen-turned c.making.manager c.turn_round.new.manager (g.D.Writable.slot_count c.args.device.now) (g.D.Writable.events c.making.device) (g.D.Writable.flight c.making.device) c.turn_round.ensures.state c.turn_round.ensures.current (i.seen seen))
-          (λ lines. Appends (counted which (g.K.Sink.taken c.making.sink) (g.K.Sink.accepted c.making.sink)) (counted which (g.K.Sink.taken c.search_all.new.sink) (g.K.Sink.accepted c.search_all.new.sink)) (printed lines)) c.making.count.told (rw (made.slot_count, i.leaves.slot_count) at (searched.lines.whole which)))
-          (told.lines.part which)),
-      before,
-      within-same c.args.stop c.making.count.told c.tell_drain.new.count.told i.reach told.told,
-      all-some c.args.stop _ (λ after. λ enough. (λ seen. cuts-drain c.args.manager.now c.args.watch.now (g.D.Writable.slot_count c.args.device.now) c.args.count.now (g.D.Writable.events c.args.device.now) m.some.made c.making.count (g.D.Writable.events c.making.device) m.come m.events (up_to_writes (after - c.args.count.now.told - length (writes_in (m.some.made ++ action.Drained ∷ []))) acts.left) ((m.some.made ++ action.Drained ∷ []) ++ up_to_writes (after - c.args.count.now.told - length (writes_in (m.some.made ++ action.Drained ∷ []))) acts.left) (g.D.Writable.events c.pass_drain.new.device) (counted which (g.K.Sink.taken c.args.sink.now) (g.K.Sink.accepted c.args.sink.now)) (counted which (g.K.Sink.taken c.making.sink) (g.K.Sink.accepted c.making.sink)) (counted which (g.K.Sink.taken c.search_all.new.sink) (g.K.Sink.accepted c.search_all.new.sink)) (counted which (g.K.Sink.taken c.tell_drain.new.sink) (g.K.Sink.accepted c.tell_drain.new.sink))
-          (append_assoc m.some.made (action.Drained ∷ []) (up_to_writes (after - c.args.count.now.told - length (writes_in (m.some.made ++ action.Drained ∷ []))) acts.left)) grown (i.told which seen)
-          (as-searched c.turn_round.new.manager c.step_tried.new.manager c.args.watch.now (g.D.Writable.slot_count c.args.device.now) (g.D.Writable.journal c.step_tried.new.device) (g.D.Writable.events c.making.device) (g.D.Writable.events c.step_tried.new.device) (g.D.Writable.flight c.making.device) (g.D.Writable.flight c.step_tried.new.device) c.making.count.waiting (g.met.D.Writable.agrees c.step_tried.new.device) kept made.flight waits.3 within made.serves m.words (seen-turned c.making.manager c.turn_round.new.manager (g.D.Writable.slot_count c.args.device.now) (g.D.Writable.events c.making.device) (g.D.Writable.flight c.making.device) c.turn_round.ensures.state c.turn_round.ensures.current (i.seen seen))
-          (λ lines. Appends (counted which (g.K.Sink.taken c.making.sink) (g.K.Sink.accepted c.making.sink)) (counted which (g.K.Sink.taken c.search_all.new.sink) (g.K.Sink.accepted c.search_all.new.sink)) (printed lines)) c.making.count.told (rw (made.slot_count, i.leaves.slot_count) at (searched.lines.whole which)))
-          (told.lines.part which))),
+    let before = before-one c.args.stop c.args.count.now.told c.making.count.told m.some.made m.some.left acts.left action.Drained m.come.told i.reach left early i.before in inl (
+      refl,
+      (
+        making-stops_behind (IsSeen (g.D.Writable.slot_count c.args.device.now) (g.D.Writable.events c.args.device.now) (g.D.Writable.flight c.args.device.now) c.args.manager.now) c.args.most c.args.manager.now c.turn_round.new.manager c.pass_drain.new.manager c.args.watch.now (g.D.Writable.slot_count c.args.device.now) c.args.count.now c.making.count c.tell_drain.new.count (g.D.Writable.events c.args.device.now) (g.D.Writable.events c.making.device) (g.D.Writable.events c.pass_drain.new.device) (g.D.Writable.flight c.making.device) (g.D.Writable.spare c.making.device) m (counted which (g.K.Sink.taken c.args.sink.now) (g.K.Sink.accepted c.args.sink.now)) (counted which (g.K.Sink.taken c.making.sink) (g.K.Sink.accepted c.making.sink)) (i.told which) (counted which (g.K.Sink.taken c.tell_drain.new.sink) (g.K.Sink.accepted c.tell_drain.new.sink)) action.Drained acts grown
+            (come-drained c.args.watch.now c.making.count c.tell_drain.new.count told.told told.waiting)
+            (λ seen. cuts-drain c.args.manager.now c.args.watch.now (g.D.Writable.slot_count c.args.device.now) c.args.count.now (g.D.Writable.events c.args.device.now) m.some.made c.making.count (g.D.Writable.events c.making.device) m.come m.events acts.left (m.some.made ++ action.Drained ∷ acts.left) (g.D.Writable.events c.pass_drain.new.device) (counted which (g.K.Sink.taken c.args.sink.now) (g.K.Sink.accepted c.args.sink.now)) (counted which (g.K.Sink.taken c.making.sink) (g.K.Sink.accepted c.making.sink)) (counted which (g.K.Sink.taken c.search_all.new.sink) (g.K.Sink.accepted c.search_all.new.sink)) (counted which (g.K.Sink.taken c.tell_drain.new.sink) (g.K.Sink.accepted c.tell_drain.new.sink))
+            refl grown (i.told which seen)
+            (as-searched c.turn_round.new.manager c.step_tried.new.manager c.args.watch.now (g.D.Writable.slot_count c.args.device.now) (g.D.Writable.journal c.step_tried.new.device) (g.D.Writable.events c.making.device) (g.D.Writable.events c.step_tried.new.device) (g.D.Writable.flight c.making.device) (g.D.Writable.flight c.step_tried.new.device) c.making.count.waiting (g.met.D.Writable.agrees c.step_tried.new.device) kept made.flight waits.3 within made.serves m.words (seen-turned c.making.manager c.turn_round.new.manager (g.D.Writable.slot_count c.args.device.now) (g.D.Writable.events c.making.device) (g.D.Writable.flight c.making.device) c.turn_round.ensures.state c.turn_round.ensures.current (i.seen seen))
+            (λ lines. Appends (counted which (g.K.Sink.taken c.making.sink) (g.K.Sink.accepted c.making.sink)) (counted which (g.K.Sink.taken c.search_all.new.sink) (g.K.Sink.accepted c.search_all.new.sink)) (printed lines)) c.making.count.told (rw (made.slot_count, i.leaves.slot_count) at (searched.lines.whole which)))
+            (told.lines.part which)),
+        before,
+        within-same c.args.stop c.making.count.told c.tell_drain.new.count.told i.reach told.told,
+        all-some c.args.stop _ (λ after. λ enough. (λ seen. cuts-drain c.args.manager.now c.args.watch.now (g.D.Writable.slot_count c.args.device.now) c.args.count.now (g.D.Writable.events c.args.device.now) m.some.made c.making.count (g.D.Writable.events c.making.device) m.come m.events (up_to_writes (after - c.args.count.now.told - length (writes_in (m.some.made ++ action.Drained ∷ []))) acts.left) ((m.some.made ++ action.Drained ∷ []) ++ up_to_writes (after - c.args.count.now.told - length (writes_in (m.some.made ++ action.Drained ∷ []))) acts.left) (g.D.Writable.events c.pass_drain.new.device) (counted which (g.K.Sink.taken c.args.sink.now) (g.K.Sink.accepted c.args.sink.now)) (counted which (g.K.Sink.taken c.making.sink) (g.K.Sink.accepted c.making.sink)) (counted which (g.K.Sink.taken c.search_all.new.sink) (g.K.Sink.accepted c.search_all.new.sink)) (counted which (g.K.Sink.taken c.tell_drain.new.sink) (g.K.Sink.accepted c.tell_drain.new.sink))
+            (append_assoc m.some.made (action.Drained ∷ []) (up_to_writes (after - c.args.count.now.told - length (writes_in (m.some.made ++ action.Drained ∷ []))) acts.left)) grown (i.told which seen)
+            (as-searched c.turn_round.new.manager c.step_tried.new.manager c.args.watch.now (g.D.Writable.slot_count c.args.device.now) (g.D.Writable.journal c.step_tried.new.device) (g.D.Writable.events c.making.device) (g.D.Writable.events c.step_tried.new.device) (g.D.Writable.flight c.making.device) (g.D.Writable.flight c.step_tried.new.device) c.making.count.waiting (g.met.D.Writable.agrees c.step_tried.new.device) kept made.flight waits.3 within made.serves m.words (seen-turned c.making.manager c.turn_round.new.manager (g.D.Writable.slot_count c.args.device.now) (g.D.Writable.events c.making.device) (g.D.Writable.flight c.making.device) c.turn_round.ensures.state c.turn_round.ensures.current (i.seen seen))
+            (λ lines. Appends (counted which (g.K.Sink.taken c.making.sink) (g.K.Sink.accepted c.making.sink)) (counted which (g.K.Sink.taken c.search_all.new.sink) (g.K.Sink.accepted c.search_all.new.sink)) (printed lines)) c.making.count.told (rw (made.slot_count, i.leaves.slot_count) at (searched.lines.whole which)))
+            (told.lines.part which))),
+      ),
     )
 
 pub returns-in-Err-tell_drain-clause-room : goal.returns-in-Err-tell_drain-clause-room

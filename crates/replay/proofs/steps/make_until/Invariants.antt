@@ -3,7 +3,7 @@ use Rattle.script_lines.specs.Given.{counted}
 use Rattle.replay.specs.InFlight.{IsSeen}
 use Rattle.replay.specs.Outside.{Leaves}
 use Rattle.replay.specs.Fates.{IsBefore, IsWithinCrash}
-use Rattle.replay.specs.Running.{Tells, rest_of}
+use Rattle.replay.specs.Running.{TellsActions, trial_rest}
 use Rattle.replay.proofs.making.Making.{IsMaking, left_number}
 use Rattle.replay.proofs.steps.make_until.Given as goal
 
@@ -11,7 +11,7 @@ abbrev pub invariant-making : goal.invariant-making
 invariant-making g l = record {
   making : IsMaking l.fn.most l.fn.manager l.manager l.fn.watch l.fn.count l.count (g.D.Writable.events l.fn.device) (g.D.Writable.events l.device) (g.D.Writable.flight l.device) (g.D.Writable.spare l.device);
   told : (which : Bool) → IsSeen (g.D.Writable.slot_count l.fn.device) (g.D.Writable.events l.fn.device) (g.D.Writable.flight l.fn.device) l.fn.manager
-      → Tells l.fn.manager l.fn.watch (g.D.Writable.slot_count l.fn.device) l.fn.count (g.D.Writable.events l.fn.device) making.some.made
+      → TellsActions l.fn.manager l.fn.watch (g.D.Writable.slot_count l.fn.device) l.fn.count (g.D.Writable.events l.fn.device) making.some.made
       (counted which (g.K.Sink.taken l.fn.sink) (g.K.Sink.accepted l.fn.sink)) (counted which (g.K.Sink.taken l.sink) (g.K.Sink.accepted l.sink));
   seen : IsSeen (g.D.Writable.slot_count l.fn.device) (g.D.Writable.events l.fn.device) (g.D.Writable.flight l.fn.device) l.fn.manager
       → IsSeen (g.D.Writable.slot_count l.fn.device) (g.D.Writable.events l.device) (g.D.Writable.flight l.device) l.manager;
@@ -21,4 +21,4 @@ invariant-making g l = record {
 }
 
 abbrev pub decreases-making : goal.decreases-making
-decreases-making g l = left_number (rest_of l.fn.most l.count.told) l.manager.state l.manager.held
+decreases-making g l = left_number (trial_rest l.fn.most l.count.told) l.manager.state l.manager.held

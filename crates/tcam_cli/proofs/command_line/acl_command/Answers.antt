@@ -1,10 +1,10 @@
 use Rattle.std.proofs.Common.{◌∙◌, ap₂}
 use Rattle.clap.specs.Words.{with_rule}
-use Rattle.tcam_cli.specs.CommandLine.{acl_command}
+use Rattle.tcam_cli.specs.CommandLine.{acl_app}
 use Rattle.tcam_cli.proofs.command_line.acl_command.Goals as goal
 
 pub returns-clause-app : goal.returns-clause-app
-unfolding acl_command
+unfolding acl_app
 returns-clause-app c =
     let slots = c.in_ok-arg.ensures.shape c.slots_arg.ensures.global ∙ ap₂ with_rule c.new.ensures.app c.slots_arg.ensures.rule in
     let ranges = c.in_ok-arg-2.ensures.shape c.ranges_arg.ensures.global ∙ ap₂ with_rule slots c.ranges_arg.ensures.rule in

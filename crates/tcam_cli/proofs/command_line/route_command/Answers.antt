@@ -1,10 +1,10 @@
 use Rattle.std.proofs.Common.{◌∙◌, ap₂}
 use Rattle.clap.specs.Words.{with_rule}
-use Rattle.tcam_cli.specs.CommandLine.{route_command}
+use Rattle.tcam_cli.specs.CommandLine.{route_app}
 use Rattle.tcam_cli.proofs.command_line.route_command.Goals as goal
 
 pub returns-clause-app : goal.returns-clause-app
-unfolding route_command
+unfolding route_app
 returns-clause-app c =
     let slots = c.in_ok-arg.ensures.shape c.slots_arg.ensures.global ∙ ap₂ with_rule c.new.ensures.app c.slots_arg.ensures.rule in
     let placement = c.in_ok-arg-2.ensures.shape c.placement_arg.ensures.global ∙ ap₂ with_rule slots c.placement_arg.ensures.rule in

@@ -1,7 +1,7 @@
 use Rattle.std.proofs.Common.{◌≡◌, ◌∙◌, ap, ap₂, true, codes}
 use Rattle.clap.specs.Words.{App, app_of, with_subcommand, new_app}
 use Rattle.clap.specs.Simple.{app_of_fields, on_top}
-use Rattle.tcam_cli.specs.CommandLine.{route_command, tcam_command, tcam_top}
+use Rattle.tcam_cli.specs.CommandLine.{route_app, tcam_app, tcam_top}
 use Rattle.tcam_cli.proofs.command_line.tcam_command.Goals as goal
 
 abbrev versioned : App → App
@@ -14,7 +14,7 @@ abbrev unhelped : App → App
 unhelped = on_top (λ top. record top { disable_help_subcommand = true })
 
 pub returns : goal.returns
-unfolding tcam_command tcam_top
+unfolding tcam_app tcam_top
 returns c =
     let version : app_of c.version.result ≡ versioned (new_app (codes "tcam")) =
     ap app_of_fields c.version.ensures ∙ ap versioned c.new.ensures.app in
@@ -22,7 +22,7 @@ returns c =
     ap app_of_fields c.subcommand_required.ensures ∙ ap wanting version in
     let no_help : app_of c.disable_help_subcommand.result ≡ unhelped (wanting (versioned (new_app (codes "tcam")))) =
     ap app_of_fields c.disable_help_subcommand.ensures ∙ ap unhelped required in
-    let routes : app_of c.in_ok-subcommand.field-0 ≡ with_subcommand (unhelped (wanting (versioned (new_app (codes "tcam"))))) (route_command (codes "route")).top =
+    let routes : app_of c.in_ok-subcommand.field-0 ≡ with_subcommand (unhelped (wanting (versioned (new_app (codes "tcam"))))) (route_app (codes "route")).top =
     c.in_ok-subcommand.ensures.shape c.in_ok-route_command.ensures.local
     ∙ ap₂ with_subcommand no_help (ap (λ (a : App). a.top) c.in_ok-route_command.ensures.app) in
     let lists = c.in_ok-subcommand-2.ensures.shape c.in_ok-acl_command.ensures.local

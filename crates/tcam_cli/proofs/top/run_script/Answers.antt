@@ -2,7 +2,7 @@ use Rattle.std.proofs.Common.{true, false, ◌≡◌, ◌++◌, [], Some, refl, 
 use Rattle.std.specs.List.{concat}
 use Rattle.script_lines.specs.Given.{HasEnd, counted}
 use Rattle.tcam_cli.proofs.GivenRuns.{gives-none, gives-trans, may-first, may-second, ended-both, no-more, may-all, ends-told, promised}
-use Rattle.tcam_cli.proofs.InTime.{in-time-none, stands-first, stands-next, turn-in-time, wants-in-time, reads-in-time}
+use Rattle.tcam_cli.proofs.InTime.{in-time-none, stands-first, stands-next, round-in-time, wants-in-time, reads-in-time}
 use Rattle.script_lines.specs.Reader.{HeldBytes}
 use Rattle.replay.specs.Run.{Progress}
 use Rattle.replay.specs.Running.{progress_of, setting_of}
@@ -47,12 +47,12 @@ acts-preserved g c =
             let stays : HasEnd i.gives.0 → t.gives.0 ≡ [] = λ e. (t.gives.2 true).rests (no-more _ (i.gives.2 e)) in
             let s = i.gives.3 which left (concat t.gives.0 ++ now) (may-first left now i.gives.0 t.gives.0 may stays) in
             rw (← i.setting, ← i.leaves.slot_count) (stands-next _ _ i.gives.0 t.gives.0 _ _ _ _ _ _ _ _ _ left now (t.gives.2 which) may (rw (i.setting, i.leaves.slot_count) s)),
-        let turn = t.gives.2 false in
-            let stays : HasEnd i.gives.0 → t.gives.0 ≡ [] = λ e. turn.rests (no-more _ (i.gives.2 e)) in
+        let round = t.gives.2 false in
+            let stays : HasEnd i.gives.0 → t.gives.0 ≡ [] = λ e. round.rests (no-more _ (i.gives.2 e)) in
             let may = may-all (i.gives.0 ++ t.gives.0) in
             let s = i.gives.3 false _ (concat t.gives.0 ++ []) (may-first _ [] i.gives.0 t.gives.0 may stays) in
-            turn-in-time (setting_of c.args.run.now) (g.D.Writable.slot_count c.args.device.now) i.gives.0 t.gives.0 c.acts.lines (progress_of (g.D.Writable.slot_count c.args.device.now) c.acts.run) (g.D.Writable.events c.acts.device) _ _ _ _ (λ left now may. (i.gives.3 false left now may).so_far) stays turn.rests turn.last
-            (turn.grows (concat (i.gives.0 ++ t.gives.0)) (concat t.gives.0 ++ []) [] (Some (g.K.Sink.accepted c.args.sink.now)) (may-second _ [] i.gives.0 t.gives.0 may) (rw (i.setting, i.leaves.slot_count) s.so_far)) i.gives.4,
+            round-in-time (setting_of c.args.run.now) (g.D.Writable.slot_count c.args.device.now) i.gives.0 t.gives.0 c.acts.lines (progress_of (g.D.Writable.slot_count c.args.device.now) c.acts.run) (g.D.Writable.events c.acts.device) _ _ _ _ (λ left now may. (i.gives.3 false left now may).so_far) stays round.rests round.last
+            (round.grows (concat (i.gives.0 ++ t.gives.0)) (concat t.gives.0 ++ []) [] (Some (g.K.Sink.accepted c.args.sink.now)) (may-second _ [] i.gives.0 t.gives.0 may) (rw (i.setting, i.leaves.slot_count) s.so_far)) i.gives.4,
       );
       none_in_flight = t.none_in_flight;
       leaves = leaves-then _ _ _ _ _ _ _ _ _ _ _ ⊥ ⊥ ⊥ ⊥ (λ e. e) (λ e. e) i.leaves (leaves-none _ _ _ _ _ _ _ _ _ _ _ t.leaves (λ e. cc) (λ e. cc));
@@ -65,7 +65,7 @@ returns-in-Some-clause-carried_out g c =
     let t = c.in-Some.ensures in
     let stays : HasEnd i.gives.0 → t.gives.0 ≡ [] = λ e. (t.gives.2 true).rests (no-more _ (i.gives.2 e)) in
     let all = gives-trans _ _ _ _ _ _ i.gives.0 t.gives.0 i.gives.1 t.gives.1 stays (λ e. (t.rests (no-more _ (i.gives.2 e))).0) in
-    carried (setting_of c.args.run.now) (g.D.Writable.slot_count c.args.device.now) c.in-Some.status (g.S.Source.left c.args.source.now) (g.S.Source.left c.turn.new.source) (g.D.Writable.events c.turn.new.device) (g.K.Sink.taken c.args.sink.now) (g.K.Sink.taken c.turn.new.sink)
+    carried (setting_of c.args.run.now) (g.D.Writable.slot_count c.args.device.now) c.in-Some.status (g.S.Source.left c.args.source.now) (g.S.Source.left c.round.new.source) (g.D.Writable.events c.round.new.device) (g.K.Sink.taken c.args.sink.now) (g.K.Sink.taken c.round.new.sink)
     (concat (i.gives.0 ++ t.gives.0), all.taken) (ends-told _ _ c.in-Some.status _ _ _ _ (i.gives.0 ++ t.gives.0) _ _ _ all (λ left taken now may parts.
     let s = i.gives.3 true left (concat t.gives.0 ++ now) (may-first left now i.gives.0 t.gives.0 may stays) in
     rw (← i.setting, ← i.leaves.slot_count) ((t.gives.2 true).ends left taken (concat t.gives.0 ++ now) now _ (may-second left now i.gives.0 t.gives.0 may) parts (rw (i.setting, i.leaves.slot_count) s.so_far))))
@@ -76,8 +76,8 @@ returns-in-Some-clause-given g c = λ which.
     let t = c.in-Some.ensures in
     let stays : HasEnd i.gives.0 → t.gives.0 ≡ [] = λ e. (t.gives.2 true).rests (no-more _ (i.gives.2 e)) in
     let all = gives-trans _ _ _ _ _ _ i.gives.0 t.gives.0 i.gives.1 t.gives.1 stays (λ e. (t.rests (no-more _ (i.gives.2 e))).0) in
-    promised (setting_of c.args.run.now) (g.D.Writable.slot_count c.args.device.now) c.in-Some.status (g.S.Source.given c.args.source.now) (g.S.Source.given c.turn.new.source) (g.S.Source.left c.args.source.now) (g.S.Source.left c.turn.new.source) (i.gives.0 ++ t.gives.0)
-    (g.D.Writable.events c.turn.new.device) (counted which (g.K.Sink.taken c.args.sink.now) (g.K.Sink.accepted c.args.sink.now)) (counted which (g.K.Sink.taken c.turn.new.sink) (g.K.Sink.accepted c.turn.new.sink))
+    promised (setting_of c.args.run.now) (g.D.Writable.slot_count c.args.device.now) c.in-Some.status (g.S.Source.given c.args.source.now) (g.S.Source.given c.round.new.source) (g.S.Source.left c.args.source.now) (g.S.Source.left c.round.new.source) (i.gives.0 ++ t.gives.0)
+    (g.D.Writable.events c.round.new.device) (counted which (g.K.Sink.taken c.args.sink.now) (g.K.Sink.accepted c.args.sink.now)) (counted which (g.K.Sink.taken c.round.new.sink) (g.K.Sink.accepted c.round.new.sink))
     (λ e. t.no_usage (ap Some e)) all (λ left taken now may parts.
     let s = i.gives.3 which left (concat t.gives.0 ++ now) (may-first left now i.gives.0 t.gives.0 may stays) in
     rw (← i.setting, ← i.leaves.slot_count) ((t.gives.2 which).ends left taken (concat t.gives.0 ++ now) now _ (may-second left now i.gives.0 t.gives.0 may) parts (rw (i.setting, i.leaves.slot_count) s.so_far)))
@@ -88,13 +88,13 @@ returns-in-Some-clause-causes g c =
     let t = c.in-Some.ensures in
     let stays : HasEnd i.gives.0 → t.gives.0 ≡ [] = λ e. (t.gives.2 true).rests (no-more _ (i.gives.2 e)) in
     let all = gives-trans _ _ _ _ _ _ i.gives.0 t.gives.0 i.gives.1 t.gives.1 stays (λ e. (t.rests (no-more _ (i.gives.2 e))).0) in
-    let whole : Leaves g.K.Sink.taken g.K.Sink.faults c.args.sink.now c.turn.new.sink g.D.Writable.slot_count g.D.Writable.journal g.D.Writable.faults c.args.device.now c.turn.new.device (c.in-Some.status ≡ WriteFault) (c.in-Some.status ≡ DeviceFault) =
+    let whole : Leaves g.K.Sink.taken g.K.Sink.faults c.args.sink.now c.round.new.sink g.D.Writable.slot_count g.D.Writable.journal g.D.Writable.faults c.args.device.now c.round.new.device (c.in-Some.status ≡ WriteFault) (c.in-Some.status ≡ DeviceFault) =
     leaves-then _ _ _ _ _ _ _ _ _ _ _ ⊥ ⊥ _ _ (λ e. e) (λ e. e) i.leaves (status-leaves _ _ _ _ _ _ _ _ _ c.in-Some.status t.leaves) in
     record {
-      read = counted-last (g.S.Source.faults c.args.source.now) (g.S.Source.faults c.acts.source) (g.S.Source.faults c.turn.new.source) c.in-Some.status _ i.reads t.read;
+      read = counted-last (g.S.Source.faults c.args.source.now) (g.S.Source.faults c.acts.source) (g.S.Source.faults c.round.new.source) c.in-Some.status _ i.reads t.read;
       write = whole.sink_cause;
       device = made-tried _ _ _ _ _ _ _ _ _ _ _ (g.met.D.Writable.agrees c.args.device.now ∙ ap writes_in c.requires.blank) whole;
-      ends = may-end (setting_of c.args.run.now) (g.D.Writable.slot_count c.args.device.now) c.in-Some.status (g.S.Source.left c.args.source.now) (g.S.Source.left c.turn.new.source) (g.D.Writable.events c.turn.new.device) (g.K.Sink.taken c.args.sink.now) (g.K.Sink.taken c.turn.new.sink)
+      ends = may-end (setting_of c.args.run.now) (g.D.Writable.slot_count c.args.device.now) c.in-Some.status (g.S.Source.left c.args.source.now) (g.S.Source.left c.round.new.source) (g.D.Writable.events c.round.new.device) (g.K.Sink.taken c.args.sink.now) (g.K.Sink.taken c.round.new.sink)
           (concat (i.gives.0 ++ t.gives.0), all.taken) (λ e. t.no_usage (ap Some e)) (ends-told _ _ c.in-Some.status _ _ _ _ (i.gives.0 ++ t.gives.0) _ _ _ all (λ left taken now may parts.
           let s = i.gives.3 true left (concat t.gives.0 ++ now) (may-first left now i.gives.0 t.gives.0 may stays) in
           rw (← i.setting, ← i.leaves.slot_count) ((t.gives.2 true).ends left taken (concat t.gives.0 ++ now) now _ (may-second left now i.gives.0 t.gives.0 may) parts (rw (i.setting, i.leaves.slot_count) s.so_far))));
@@ -109,19 +109,19 @@ returns-in-Some-clause-told g c =
       λ some. t.leaves.told (i.leaves.told some),
     )
 
--- the last turn too comes in time
+-- the last round too comes in time
 pub returns-in-Some-clause-in_time : goal.returns-in-Some-clause-in_time
 returns-in-Some-clause-in_time g c =
     let i = c.acts.invariant in
     let t = c.in-Some.ensures in
-    let turn = t.gives.2 false in
-    let stays : HasEnd i.gives.0 → t.gives.0 ≡ [] = λ e. turn.rests (no-more _ (i.gives.2 e)) in
+    let round = t.gives.2 false in
+    let stays : HasEnd i.gives.0 → t.gives.0 ≡ [] = λ e. round.rests (no-more _ (i.gives.2 e)) in
     let all = gives-trans _ _ _ _ _ _ i.gives.0 t.gives.0 i.gives.1 t.gives.1 stays (λ e. (t.rests (no-more _ (i.gives.2 e))).0) in
     let may = may-all (i.gives.0 ++ t.gives.0) in
     let s = i.gives.3 false _ (concat t.gives.0 ++ []) (may-first _ [] i.gives.0 t.gives.0 may stays) in
     reads-in-time (setting_of c.args.run.now) (g.D.Writable.slot_count c.args.device.now) c.in-Some.status _ _ (i.gives.0 ++ t.gives.0) _ _ _ all.given
-    (turn-in-time (setting_of c.args.run.now) (g.D.Writable.slot_count c.args.device.now) i.gives.0 t.gives.0 c.acts.lines (progress_of (g.D.Writable.slot_count c.args.device.now) c.acts.run) (g.D.Writable.events c.acts.device) _ _ _ _ (λ left now may. (i.gives.3 false left now may).so_far) stays turn.rests turn.last
-    (turn.grows (concat (i.gives.0 ++ t.gives.0)) (concat t.gives.0 ++ []) [] (Some (g.K.Sink.accepted c.args.sink.now)) (may-second _ [] i.gives.0 t.gives.0 may) (rw (i.setting, i.leaves.slot_count) s.so_far)) i.gives.4)
+    (round-in-time (setting_of c.args.run.now) (g.D.Writable.slot_count c.args.device.now) i.gives.0 t.gives.0 c.acts.lines (progress_of (g.D.Writable.slot_count c.args.device.now) c.acts.run) (g.D.Writable.events c.acts.device) _ _ _ _ (λ left now may. (i.gives.3 false left now may).so_far) stays round.rests round.last
+    (round.grows (concat (i.gives.0 ++ t.gives.0)) (concat t.gives.0 ++ []) [] (Some (g.K.Sink.accepted c.args.sink.now)) (may-second _ [] i.gives.0 t.gives.0 may) (rw (i.setting, i.leaves.slot_count) s.so_far)) i.gives.4)
     (λ memory front last e left after may.
-    rw (← i.setting, ← i.leaves.slot_count) (wants-in-time _ _ i.gives.0 t.gives.0 _ _ _ _ _ _ _ _ _ _ left after last front turn memory may
+    rw (← i.setting, ← i.leaves.slot_count) (wants-in-time _ _ i.gives.0 t.gives.0 _ _ _ _ _ _ _ _ _ _ left after last front round memory may
     (rw (i.setting, i.leaves.slot_count) (i.gives.3 false left (concat t.gives.0 ++ after) (may-first left after i.gives.0 t.gives.0 may stays))) e))

@@ -4,7 +4,7 @@ use Rattle.script_lines.specs.declared.Over.TheVariants as over
 use Rattle.replay.specs.Carried.{IsAt}
 use Rattle.replay.specs.Outside.{Leaves}
 use Rattle.replay.specs.Running.{progress_of, setting_of}
-use Rattle.tcam_cli.specs.Turns.{IsBetweenLines}
+use Rattle.tcam_cli.specs.Rounds.{IsBetweenLines}
 use Rattle.tcam_cli.proofs.InTime.{InTime, StandsAt}
 use Rattle.tcam_cli.proofs.top.run_script.Given as goal
 

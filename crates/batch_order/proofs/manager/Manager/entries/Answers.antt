@@ -1,4 +1,5 @@
 use Rattle.std.proofs.Common.{◌≡◌, ◌≤◌, ◌∙◌, ap, arith}
+use Rattle.slot_order.specs.Order.{most_slots}
 use Rattle.rule_store.specs.declared.Mode.{Mode}
 use Rattle.rule_store.specs.Verdict.{entries_of}
 use Rattle.batch_order.specs.Kept.{mode_of}
@@ -8,6 +9,6 @@ use Rattle.batch_order.proofs.manager.Manager.entries.Goals as goal
 pub overflow_cast-result : goal.overflow_cast-result
 overflow_cast-result c =
     let i = c.self.inside in
-    let few : entries_of (mode_of i.translation) i.rules.rules ≤ 4096 = entries_few i.translation i.rules i.live i.arrangement i.held c.self.invariant in
+    let few : entries_of (mode_of i.translation) i.rules.rules ≤ most_slots = entries_few i.translation i.rules i.live i.arrangement i.held c.self.invariant in
     let is : c.entries_of.result ≡ entries_of (mode_of i.translation) i.rules.rules = c.entries_of.ensures.count ∙ ap (λ (m : Mode). entries_of m i.rules.rules) c.encoding.ensures in
     omega arith

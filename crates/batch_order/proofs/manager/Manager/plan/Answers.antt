@@ -1,6 +1,7 @@
 use Rattle.std.proofs.Common.{◌≡◌, ℕ, ◌≤◌, ◌+◌, ◌*◌, ◌^◌, ◌∙◌, false, true, List, length, map, Option, Some, None, Ok, Err, OnErr, Result, refl, sym, ap, subst, arith}
 use Rattle.std.specs.List.{AllByRecursion, AllZip}
 use Rattle.std.proofs.lemmas.List.{length-map}
+use Rattle.slot_order.specs.Order.{most_slots}
 use Rattle.slot_pool.specs.Arrangement.{Slots}
 use Rattle.rule_model.specs.declared.Rule.{Rule}
 use Rattle.placement.specs.declared.LivePiece.{LivePiece}
@@ -36,8 +37,7 @@ use Rattle.batch_order.proofs.under_way.Carried.{view_of}
 use Rattle.batch_order.proofs.planning.Refused.{managed_same, view_same}
 use Rattle.batch_order.proofs.planning.Taken.{ArePartsOf, IsCoded, IsTaken, behind_by, behind_serves, during_by, inserted_room, kept_so, pieces_have_ids, plan_made, plan_words, said_so, words_by}
 use Rattle.batch_order.proofs.planning.Leading.{AreLiveParts, few_rewrites, live_parts, parts_live_before}
-use Rattle.batch_order.proofs.planning.Holding.{IsHeldPlan, held_room, holds_plan, managed_held}
-use Rattle.batch_order.proofs.manager.Manager.plan.Given.{Over}
+use Rattle.batch_order.proofs.planning.Holding.{IsHeldPlan, holds_plan, managed_held}
 use Rattle.batch_order.proofs.manager.Manager.plan.Goals as goal
 
 -- what is known where a batch is to be planned, as the call tells it
@@ -69,7 +69,7 @@ words_as placement translation rules kept slots held now batch writes view idle 
     subst (λ (h : Option Held). writes ≡ map Tabled (words_of (mode_of translation) (bits_of translation) rules.rules batch (view_of placement translation rules kept slots h).state)) none said
 
 pub parts_of-requires : goal.parts_of-requires
-parts_of-requires g c =
+parts_of-requires c =
     let i = c.self.inside in
     let t = taken_as i.placement i.translation i.rules i.live i.arrangement i.held c.args.self.now c.args.batch.now c.self.invariant c.self.view_is c.requires.idle c.requires.changes c.requires.sound c.requires.fits in
     let coded = coded_as i.placement i.translation i.rules i.live i.arrangement i.held c.args.self.now c.args.batch.now c.in_ok-bits.bits c.self.view_is c.in_ok-bits.ensures.bits in
@@ -85,11 +85,11 @@ parts_of-requires g c =
     }
 
 pub reserve-requires : goal.reserve-requires
-reserve-requires g c =
+reserve-requires c =
     let i = c.self.inside in
     let few = entries_few i.translation i.rules i.live i.arrangement i.held c.self.invariant in
     let fewer = rules_entries (mode_of i.translation) i.rules.rules c.self.invariant.right in
-    let most : c.len.result ≤ 4096 = c.len.ensures.most in
+    let most : c.len.result ≤ most_slots = c.len.ensures.most in
     omega arith
 
 -- the parts of the commit, with the live ranges of the plan
@@ -109,7 +109,7 @@ parts_live translation rules old new slots batch ids rewrites erased t adds part
     (live_parts (mode_of translation) (during_by translation rules batch) rules.rules batch old.slots old.live adds.made rewrites erased t.managed.carried.settled.apart t.change parts)
 
 pub plan_writes-requires : goal.plan_writes-requires
-plan_writes-requires g c =
+plan_writes-requires c =
     let i = c.self.inside in
     let batch = c.args.batch.now in
     let t = taken_as i.placement i.translation i.rules i.live i.arrangement i.held c.args.self.now batch c.self.invariant c.self.view_is c.requires.idle c.requires.changes c.requires.sound c.requires.fits in
@@ -141,7 +141,7 @@ plan_writes-requires g c =
     }
 
 pub erase_all-requires : goal.erase_all-requires
-erase_all-requires g c =
+erase_all-requires c =
     let i = c.self.inside in
     let batch = c.args.batch.now in
     let t = taken_as i.placement i.translation i.rules i.live i.arrangement i.held c.args.self.now batch c.self.invariant c.self.view_is c.requires.idle c.requires.changes c.requires.sound c.requires.fits in
@@ -161,7 +161,7 @@ at_err (Ok value) P holds = tt
 at_err (Err fault) P holds = holds
 
 pub invariant_of-self-in_err-planned : goal.invariant_of-self-in_err-planned
-invariant_of-self-in_err-planned g c =
+invariant_of-self-in_err-planned c =
     let i = c.self.inside in
     let none = idle_held (held_of i.translation i.arrangement i.rules.rules i.live.entries) i.held (rw (← c.self.view_is) at c.requires.idle) in
     let managed : IsManaged i.translation i.rules i.live i.arrangement None = subst (IsManaged i.translation i.rules i.live i.arrangement) none c.self.invariant in
@@ -169,7 +169,7 @@ invariant_of-self-in_err-planned g c =
     (managed_same i.translation i.rules c.reserve.new.self i.live c.plan_writes.new.live i.arrangement managed c.reserve.ensures.rules c.in_err-planned.ensures.refused c.plan_writes.ensures.slots c.plan_writes.ensures.kept)
 
 pub returns-in_err-planned-clause-refused : goal.returns-in_err-planned-clause-refused
-returns-in_err-planned-clause-refused g c =
+returns-in_err-planned-clause-refused c =
     let i = c.self.inside in
     let none = idle_held (held_of i.translation i.arrangement i.rules.rules i.live.entries) i.held (rw (← c.self.view_is) at c.requires.idle) in
     let managed : IsManaged i.translation i.rules i.live i.arrangement None = subst (IsManaged i.translation i.rules i.live i.arrangement) none c.self.invariant in
@@ -188,8 +188,8 @@ planned_from old new slots copy middle plan plan' placement mode rules set piece
     (subst (λ (some : List Rule). ArePlannedSince old new copy middle plan plan' listed (aims_of placement mode (length copy) some listed)) same_rules planned))
 
 -- the commit that is held in the end, and that it is the plan of the batch
-abbrev held_now : (g : Over) (c : goal.After-drop-parts-2 g) → Held
-held_now g c = record {
+abbrev held_now : goal.After-drop-parts-2 → Held
+held_now c = record {
   prepared = true;
   writes = c.plan_writes.new.plan.writes;
   undo = c.in_ok-planned.planned.undo;
@@ -199,17 +199,18 @@ held_now g c = record {
   drained = false;
   counts = c.counts-counts.result;
   bits = c.in_ok-bits.bits;
-  batch = c.in_ok-copy.copy;
+  batch = c.in_ok-commands.commands;
   rewrites = c.in_ok-parts.parts.rewrites;
   erased = c.in_ok-parts.parts.erased;
   ids = c.in_ok-planned.planned.ids;
   arrangement = c.erase_all.new.arrangement;
+  most_parts = c.plan_writes.new.plan.most_parts;
 }
 
-plan_now : (g : Over) (c : goal.After-drop-parts-2 g)
+plan_now : (c : goal.After-drop-parts-2)
     → IsHeldPlan c.self.inside.placement c.self.inside.translation c.self.inside.rules c.reserve.new.self c.self.inside.live c.plan_writes.new.live c.self.inside.arrangement c.plan_writes.new.arrangement
-    c.args.batch.now (held_now g c)
-plan_now g c =
+    c.args.batch.now (held_now c)
+plan_now c =
     let i = c.self.inside in
     let batch = c.args.batch.now in
     let bits = c.in_ok-bits.bits in
@@ -250,37 +251,25 @@ plan_now g c =
       forward = refl;
       undo = c.in_ok-planned.ensures.undo c.plan_writes.new.live.entries parts.rewrites.items;
       adds = c.in_ok-planned.ensures.adds;
-      batch_is = c.in_ok-copy.ensures;
+      batch_is = c.in_ok-commands.ensures;
       coded = coded;
     }
 
 pub invariant_of-self-2 : goal.invariant_of-self-2
-invariant_of-self-2 g c =
+invariant_of-self-2 c =
     let i = c.self.inside in
     let spare : length c.args.batch.now ≤ c.reserve.new.self.spare = (let n : c.len.result ≡ length c.args.batch.now = c.len.ensures.count in let e : c.len.result ≤ c.reserve.new.self.spare = c.in_ok-reserve.ensures.enough in omega arith) in
-    managed_held i.placement i.translation i.rules c.reserve.new.self i.live c.plan_writes.new.live i.arrangement c.plan_writes.new.arrangement c.args.batch.now (held_now g c) (plan_now g c) spare
+    managed_held i.placement i.translation i.rules c.reserve.new.self i.live c.plan_writes.new.live i.arrangement c.plan_writes.new.arrangement c.args.batch.now (held_now c) (plan_now c) spare
     (c.erase_all.ensures ∙ ap (erased_slots c.plan_writes.new.arrangement) c.deref.ensures.value)
 
 pub returns-clause-ready : goal.returns-clause-ready
-returns-clause-ready g c =
+returns-clause-ready c =
     let i = c.self.inside in
     let batch = c.args.batch.now in
     let none = idle_held (held_of i.translation i.arrangement i.rules.rules i.live.entries) i.held (rw (← c.self.view_is) at c.requires.idle) in
     let view : view_of i.placement i.translation i.rules i.live i.arrangement i.held ≡ c.args.self.now = c.self.view_is in
-    let new = view_of i.placement i.translation c.reserve.new.self c.plan_writes.new.live i.arrangement (Some (held_now g c)) in
+    let new = view_of i.placement i.translation c.reserve.new.self c.plan_writes.new.live i.arrangement (Some (held_now c)) in
     let holds : Holds (view_of i.placement i.translation i.rules i.live i.arrangement None) batch c.counts-counts.result new =
-    holds_plan i.placement i.translation i.rules c.reserve.new.self i.live c.plan_writes.new.live i.arrangement c.plan_writes.new.arrangement batch (held_now g c) (plan_now g c) in
+    holds_plan i.placement i.translation i.rules c.reserve.new.self i.live c.plan_writes.new.live i.arrangement c.plan_writes.new.arrangement batch (held_now c) (plan_now c) in
     subst (λ (old : Managed). Holds old batch c.counts-counts.result new) view
     (subst (λ (h : Option Held). Holds (view_of i.placement i.translation i.rules i.live i.arrangement h) batch c.counts-counts.result new) (sym none) holds)
-
-pub returns-clause-reserved : goal.returns-clause-reserved
-returns-clause-reserved g c =
-    let i = c.self.inside in
-    held_room i.placement i.translation i.rules c.reserve.new.self i.live c.plan_writes.new.live i.arrangement c.plan_writes.new.arrangement c.args.batch.now (held_now g c) (plan_now g c)
-    (g.D.Writable.spare c.plan_writes.new.device) c.in_ok-planned.ensures.enough
-
-pub returns-clause-enough : goal.returns-clause-enough
-returns-clause-enough g c =
-    let enough : 2 * length (all_writes c.plan_writes.new.plan.writes) + 1 ≤ g.D.Writable.spare c.plan_writes.new.device = c.in_ok-planned.ensures.enough in
-    let number : c.counts-counts.result.writes ≡ length (all_writes c.plan_writes.new.plan.writes) = c.counts-counts.ensures.writes in
-    omega arith

@@ -1,55 +1,45 @@
-use Rattle.std.proofs.Common.{◌≡◌, List, length, ℕ, Option, Some, None, Err, refl, sym, ap, subst}
-use Rattle.std.specs.Prelude.{option_map}
-use Rattle.rule_store.specs.declared.Command.{Command}
-use Rattle.rule_store.specs.Batch.{batch_fault}
-use Rattle.rule_store.specs.Verdict.{verdict, verdict_by, room_verdict}
-use Rattle.readback.specs.declared.Rejection.{Rejection}
-use Rattle.readback.specs.declared.Rejection.TheVariants as rejection
-use Rattle.readback.specs.Judged.{judgement}
-use Rattle.batch_order.specs.declared.Refusal.TheVariants as refusal
-use Rattle.batch_order.specs.Managed.{Managed, HeldCommit, Judges, Answers, writes_due}
+use Rattle.std.proofs.Common.{◌≡◌, Ok, subst}
+use Rattle.batch_order.specs.Managed.{Judges}
 use Rattle.batch_order.proofs.served.Ahead.{by_journal}
+use Rattle.batch_order.proofs.planning.Prepared.{dropped, reserved, room_left, wants_memory}
+use Rattle.batch_order.proofs.manager.Manager.prepare.Given.{Over}
 use Rattle.batch_order.proofs.manager.Manager.prepare.Goals as goal
 
--- no commit is under way where none has a number of writes left
-idle_from : (held : Option HeldCommit) (left : Option ℕ) → left ≡ option_map (λ one. length (writes_due one)) held → ((n : ℕ) → left ≡ Some n → ⊥) → held ≡ None
-idle_from None left is none = refl
-idle_from (Some held) left is none = absurd (none (length (writes_due held)) is)
-
--- a batch is rejected as it is judged
-rejected_answer : (manager : Managed) (held : Option HeldCommit) (batch : List Command) (rejection : Rejection) → held ≡ None
-    → judgement (verdict manager.slots manager.mode manager.rules batch) ≡ Err rejection → Judges manager held batch (Err (refusal.Rejected rejection))
-rejected_answer manager held batch rejection none is =
-    subst (λ h. Judges manager h batch (Err (refusal.Rejected rejection))) (sym none)
-    (subst (λ judged. Answers judged (Err (refusal.Rejected rejection))) (sym is) refl)
-
-pub returns-in-Err-clause-judged : goal.returns-in-Err-clause-judged
-returns-in-Err-clause-judged g c =
-    let now = c.args.self.now in
-    let idle = idle_from now.held c.left.result c.left.ensures (λ n is. c.in_default.not-Some n is) in
-    let fault : batch_fault now.rules c.args.batch.now ≡ Some c.in-Err.fault = subst (λ (m : Managed). batch_fault m.rules c.args.batch.now ≡ Some c.in-Err.fault) c.self.view_is c.in-Err.ensures in
-    rejected_answer now now.held c.args.batch.now (rejection.Unsound c.in-Err.fault) idle
-    (ap (λ one. judgement (verdict_by one (room_verdict now.slots now.mode now.rules c.args.batch.now))) fault)
-
-pub returns-in-Err-check_room-clause-judged : goal.returns-in-Err-check_room-clause-judged
-returns-in-Err-check_room-clause-judged g c =
-    let now = c.args.self.now in
-    let idle = idle_from now.held c.left.result c.left.ensures (λ n is. c.in_default.not-Some n is) in
-    rejected_answer now now.held c.args.batch.now c.in-Err-check_room.rejection idle c.in-Err-check_room.ensures.short
-
-pub returns-in-Some-clause-serves : goal.returns-in-Some-clause-serves
-returns-in-Some-clause-serves g c =
+pub returns-in_err-counts-clause-serves : goal.returns-in_err-counts-clause-serves
+returns-in_err-counts-clause-serves g c =
     by_journal (g.D.Writable.slot_count c.args.device.now) (g.D.Writable.journal c.args.device.now) c.args.self.now c.requires.slots c.serving.ensures.serves
+
+pub returns-in-Ok-clause-serves : goal.returns-in-Ok-clause-serves
+returns-in-Ok-clause-serves g c =
+    rw (c.reserve.ensures.slots, c.reserve.ensures.journal)
+    (by_journal (g.D.Writable.slot_count c.args.device.now) (g.D.Writable.journal c.args.device.now) c.args.self.now c.requires.slots c.serving.ensures.serves)
 
 pub returns-in-Err-clause-serves : goal.returns-in-Err-clause-serves
 returns-in-Err-clause-serves g c =
-    by_journal (g.D.Writable.slot_count c.args.device.now) (g.D.Writable.journal c.args.device.now) c.args.self.now c.requires.slots c.serving.ensures.serves
-
-pub returns-in-Err-check_room-clause-serves : goal.returns-in-Err-check_room-clause-serves
-returns-in-Err-check_room-clause-serves g c =
-    by_journal (g.D.Writable.slot_count c.args.device.now) (g.D.Writable.journal c.args.device.now) c.args.self.now c.requires.slots c.serving.ensures.serves
-
-pub returns-in-Err-plan-clause-serves : goal.returns-in-Err-plan-clause-serves
-returns-in-Err-plan-clause-serves g c =
-    rw (c.plan.ensures.slot_count, c.plan.ensures.journal)
+    rw (c.reserve.ensures.slots, c.reserve.ensures.journal)
     (by_journal (g.D.Writable.slot_count c.args.device.now) (g.D.Writable.journal c.args.device.now) c.args.self.now c.requires.slots c.serving.ensures.serves)
+
+pub returns-in-Ok-clause-reserved : goal.returns-in-Ok-clause-reserved
+returns-in-Ok-clause-reserved g c =
+    reserved c.args.self.now c.plan_commit.new.self c.args.batch.now c.in_ok-counts.counts c.in_ok-counts.ensures.ready (g.D.Writable.spare c.reserve.new.self) c.in-Ok.ensures.enough
+
+pub returns-in-Ok-clause-room : goal.returns-in-Ok-clause-room
+returns-in-Ok-clause-room g c was =
+    room_left c.args.self.now c.plan_commit.new.self c.args.batch.now c.in_ok-counts.counts c.in_ok-counts.ensures.ready (g.D.Writable.spare c.reserve.new.self) c.in-Ok.ensures.enough
+
+pub returns-in-Ok-clause-both_ways : goal.returns-in-Ok-clause-both_ways
+returns-in-Ok-clause-both_ways g c was =
+    reserved c.args.self.now c.plan_commit.new.self c.args.batch.now c.in_ok-counts.counts c.in_ok-counts.ensures.ready (g.D.Writable.spare c.reserve.new.self) c.in-Ok.ensures.enough
+
+-- the batch was taken
+taken : (g : Over) (c : goal.After-cancel g) → Judges c.args.self.now c.args.self.now.held c.args.batch.now (Ok c.in_ok-counts.counts)
+taken g c =
+    let is : c.plan_commit.result ≡ Ok c.in_ok-counts.counts = cc in
+    subst (Judges c.args.self.now c.args.self.now.held c.args.batch.now) is c.plan_commit.ensures.judged
+
+pub returns-in-Err-clause-judged : goal.returns-in-Err-clause-judged
+returns-in-Err-clause-judged g c = wants_memory c.args.self.now c.args.self.now.held c.args.batch.now c.in_ok-counts.counts (taken g c)
+
+pub returns-in-Err-clause-refused : goal.returns-in-Err-clause-refused
+returns-in-Err-clause-refused g c =
+    dropped c.args.self.now c.plan_commit.new.self c.args.batch.now c.in_ok-counts.counts c.in_ok-counts.ensures.ready (taken g c) c.cancel.new.self c.cancel.result c.cancel.ensures.cancels c.cancel.ensures.dropped

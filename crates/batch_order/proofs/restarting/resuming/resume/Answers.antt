@@ -1,4 +1,5 @@
 use Rattle.std.proofs.Common.{◌≡◌, ◌≤◌, List, Option, length, sym, subst, arith}
+use Rattle.slot_order.specs.Order.{most_slots}
 use Rattle.rule_model.specs.Entry.{RankedPiece}
 use Rattle.tcam_device.specs.State.{replay}
 use Rattle.batch_order.specs.Standing.{AreEncodable, AreStanding, HasPieceOf, without_twin}
@@ -50,7 +51,7 @@ pub reserve-requires : goal.reserve-requires
 reserve-requires g c =
     let r = c.requires in
     let few = few_rules (stopped_by r.least r.most r.slots r.is_state r.can r.accepted r.found r.shown r.encodable) in
-    let most : c.len.result ≤ 4096 = c.len.ensures.most in
+    let most : c.len.result ≤ most_slots = c.len.ensures.most in
     omega arith
 
 -- what it makes in the end
@@ -67,7 +68,7 @@ made g c =
     made_now c.args.parts.now r.is_state (stopped_by r.least r.most r.slots r.is_state r.can r.accepted r.found r.shown r.encodable) c.in_ok-translation.translation read.mode read.bits read.tables r.plain
     c.deref.ensures.value stand.standing stand.slots c.are_apart.ensures c.args.placement c.in_ok-before.before c.deref-2.ensures.value c.in_ok-before.ensures c.in_ok-rest.ensures.planned c.reserve.new.self c.reserve.ensures.rules room
     c.gives_bits-new.result c.has_begun.result drain.result.0 drain.result.1 c.gives_bits-new.ensures c.has_begun.ensures drain.ensures.awaits drain.ensures.drained
-    c.in_ok-copy.copy c.in_ok-copy.ensures c.hold-held.result c.hold-held.ensures.held (g.D.Writable.spare c.plan_all.new.device) c.in_ok-rest.ensures.enough
+    c.in_ok-commands.commands c.in_ok-commands.ensures c.hold-held.result c.hold-held.ensures.held (g.D.Writable.spare c.plan_all.new.device) c.in_ok-rest.ensures.enough
 
 pub returns-clause-managed : goal.returns-clause-managed
 returns-clause-managed g c = (made g c).managed

@@ -6,7 +6,7 @@ use Rattle.replay.specs.Effects.{traced}
 use Rattle.replay.specs.InFlight.{found_after}
 use Rattle.replay.specs.Outside.{CutsLines}
 use Rattle.replay.specs.Running.{Watching}
-use Rattle.replay.specs.Text.{trace_line}
+use Rattle.replay.specs.Text.{write_line}
 use Rattle.replay.proofs.flight.InFlight.{found-full, room-of}
 use Rattle.replay.proofs.lines.Telling.{cuts-behind}
 use Rattle.replay.proofs.watch.Watch.tell.Goals as goal
@@ -29,7 +29,7 @@ returns-in_err-search-clause-lines g c =
     let full : c.args.waiting ≡ c.args.self.now.depth = subst (λ (one : Watching). c.args.waiting ≡ one.depth) c.self.view_is c.if-waiting-depth.true in
     record {
       whole = λ which. search rules;
-      part = λ which. cuts-behind c.from_residual-in_err-search.result (traced watch.trace (trace_line watch.family c.args.number c.args.write.now))
+      part = λ which. cuts-behind c.from_residual-in_err-search.result (traced watch.trace (write_line watch.family c.args.number c.args.write.now))
           (found_after watch.family watch.probes watch.depth c.args.number c.args.waiting state flight)
           (counted which (g.K.Sink.taken c.args.sink.now) (g.K.Sink.accepted c.args.sink.now)) (counted which (g.K.Sink.taken c.tell_write.new.sink) (g.K.Sink.accepted c.tell_write.new.sink)) (counted which (g.K.Sink.taken c.search.new.sink) (g.K.Sink.accepted c.search.new.sink)) (first.whole which)
           (subst (λ more. CutsLines more (counted which (g.K.Sink.taken c.tell_write.new.sink) (g.K.Sink.accepted c.tell_write.new.sink)) (counted which (g.K.Sink.taken c.search.new.sink) (g.K.Sink.accepted c.search.new.sink)))

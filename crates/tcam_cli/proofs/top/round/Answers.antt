@@ -3,15 +3,15 @@ use Rattle.tcam_cli.proofs.FaultCounts.{closed-leaves, closes-leaves, some-leave
 use Rattle.tcam_cli.proofs.Outcomes.{stops, stops-grows, stops-memory}
 use Rattle.tcam_cli.proofs.Exits.{exit-bytes, exit-end, exit-read, goes-none, exit-word, exit-full, goes-on, exit-stopped, wants-next}
 use Rattle.tcam_cli.proofs.InTime.{does-grows, same-grows, closes-grows, so-far-at}
-use Rattle.tcam_cli.proofs.GivenRuns.{turns-some, turns-stopped, turns-none, rests-same}
-use Rattle.tcam_cli.proofs.top.turn.Goals as goal
+use Rattle.tcam_cli.proofs.GivenRuns.{rounds-some, rounds-stopped, rounds-none, rests-same}
+use Rattle.tcam_cli.proofs.top.round.Goals as goal
 
 pub returns-in-Err-Read-clause-gives : goal.returns-in-Err-Read-clause-gives
 returns-in-Err-Read-clause-gives g c =
     let h = c.in-Err-Read in (
       h.ensures.gives.0,
       h.ensures.gives.1,
-      λ which. turns-some _ _ _ _ _ _ _ _ _ _ _ _ _ _ h.ensures.gives.2 (λ e. cc) (λ bytes left now start may s. same-grows _ _)
+      λ which. rounds-some _ _ _ _ _ _ _ _ _ _ _ _ _ _ h.ensures.gives.2 (λ e. cc) (λ bytes left now start may s. same-grows _ _)
           (λ bytes taken begun now start may parts s.
           exit-read _ _ bytes _ begun _ _ start _ s c.next.new.self taken now (rw h.field-0-is at h.ensures.again) (λ going. rw h.field-0-is at (h.ensures.gives.2.hands going begun now may)) parts),
     )
@@ -21,7 +21,7 @@ returns-in-Err-ScriptTooLong-clause-gives g c =
     let h = c.in-Err-ScriptTooLong in (
       h.ensures.gives.0,
       h.ensures.gives.1,
-      λ which. turns-some _ _ _ _ _ _ _ _ _ _ _ _ _ _ h.ensures.gives.2 c.fault.ensures.kind.3 (λ bytes left now start may s. closes-grows _ _ _ _ _ _ (c.fault.ensures.closes.closes which))
+      λ which. rounds-some _ _ _ _ _ _ _ _ _ _ _ _ _ _ h.ensures.gives.2 c.fault.ensures.kind.3 (λ bytes left now start may s. closes-grows _ _ _ _ _ _ (c.fault.ensures.closes.closes which))
           (λ bytes taken begun now start may parts s.
           exit-bytes _ _ bytes _ begun _ _ start _ s taken now _ _ _ _ _ refl (rw h.field-0-is at h.ensures.again) (λ going. rw h.field-0-is at (h.ensures.gives.2.hands going begun now may)) (c.fault.ensures.closes.closes which)),
     )
@@ -31,7 +31,7 @@ returns-in-Err-TooLong-clause-gives g c =
     let h = c.in-Err-TooLong in (
       h.ensures.gives.0,
       h.ensures.gives.1,
-      λ which. turns-some _ _ _ _ _ _ _ _ _ _ _ _ _ _ h.ensures.gives.2 c.fault-in-Err-TooLong.ensures.kind.3 (λ bytes left now start may s. closes-grows _ _ _ _ _ _ (c.fault-in-Err-TooLong.ensures.closes.closes which))
+      λ which. rounds-some _ _ _ _ _ _ _ _ _ _ _ _ _ _ h.ensures.gives.2 c.fault-in-Err-TooLong.ensures.kind.3 (λ bytes left now start may s. closes-grows _ _ _ _ _ _ (c.fault-in-Err-TooLong.ensures.closes.closes which))
           (λ bytes taken begun now start may parts s.
           exit-bytes _ _ bytes _ begun _ _ start _ s taken now _ _ _ _ _ refl (rw h.field-0-is at h.ensures.again) (λ going. rw h.field-0-is at (h.ensures.gives.2.hands going begun now may)) (c.fault-in-Err-TooLong.ensures.closes.closes which)),
     )
@@ -41,7 +41,7 @@ returns-in-Err-BadByte-clause-gives g c =
     let h = c.in-Err-BadByte in (
       h.ensures.gives.0,
       h.ensures.gives.1,
-      λ which. turns-some _ _ _ _ _ _ _ _ _ _ _ _ _ _ h.ensures.gives.2 c.fault-in-Err-BadByte.ensures.kind.3 (λ bytes left now start may s. closes-grows _ _ _ _ _ _ (c.fault-in-Err-BadByte.ensures.closes.closes which))
+      λ which. rounds-some _ _ _ _ _ _ _ _ _ _ _ _ _ _ h.ensures.gives.2 c.fault-in-Err-BadByte.ensures.kind.3 (λ bytes left now start may s. closes-grows _ _ _ _ _ _ (c.fault-in-Err-BadByte.ensures.closes.closes which))
           (λ bytes taken begun now start may parts s.
           exit-bytes _ _ bytes _ begun _ _ start _ s taken now _ _ _ _ _ refl (rw h.field-0-is at h.ensures.again) (λ going. rw h.field-0-is at (h.ensures.gives.2.hands going begun now may)) (c.fault-in-Err-BadByte.ensures.closes.closes which)),
     )
@@ -51,7 +51,7 @@ returns-in-Ok-None-clause-gives g c =
     let h = c.in-Ok-None in (
       h.ensures.gives.0,
       h.ensures.gives.1,
-      λ which. turns-some _ _ _ _ _ _ _ _ _ _ _ _ _ _ h.ensures.gives.2 c.finish.ensures.kind.3 (λ bytes left now start may s. closes-grows _ _ _ _ _ _ ((c.finish.ensures.closes (g.D.Writable.slot_count c.args.device.now)).closes which))
+      λ which. rounds-some _ _ _ _ _ _ _ _ _ _ _ _ _ _ h.ensures.gives.2 c.finish.ensures.kind.3 (λ bytes left now start may s. closes-grows _ _ _ _ _ _ ((c.finish.ensures.closes (g.D.Writable.slot_count c.args.device.now)).closes which))
           (λ bytes taken begun now start may parts s.
           exit-end _ _ bytes _ begun _ _ start _ s c.next.new.self taken now _ _ (λ going. rw h.field-0-is at (h.ensures.gives.2.hands going begun now may))
           (λ other. rests-same _ _ _ _ begun now h.ensures.gives.2 may other) ((c.finish.ensures.closes (g.D.Writable.slot_count c.args.device.now)).closes which)),
@@ -62,7 +62,7 @@ returns-in-Err-clause-gives g c =
     let h = c.in-Ok-Some in (
       h.ensures.gives.0,
       h.ensures.gives.1,
-      λ which. turns-some _ _ _ _ _ _ _ _ _ _ _ _ _ _ h.ensures.gives.2 c.fault-in-Err.ensures.kind.3 (λ bytes left now start may s. closes-grows _ _ _ _ _ _ (c.fault-in-Err.ensures.closes.closes which))
+      λ which. rounds-some _ _ _ _ _ _ _ _ _ _ _ _ _ _ h.ensures.gives.2 c.fault-in-Err.ensures.kind.3 (λ bytes left now start may s. closes-grows _ _ _ _ _ _ (c.fault-in-Err.ensures.closes.closes which))
           (λ bytes taken begun now start may parts s.
           exit-word _ _ bytes _ begun _ _ start _ s h.line c.next.new.self now (rw h.field-0-is at h.ensures.again) (λ going. rw h.field-0-is at (h.ensures.gives.2.hands going begun now may))
           taken _ _ _ c.in-Err.ensures.err (c.fault-in-Err.ensures.closes.closes which)),
@@ -73,7 +73,7 @@ returns-in-Ok-None-read_act-clause-gives g c =
     let h = c.in-Ok-Some in (
       h.ensures.gives.0,
       h.ensures.gives.1,
-      λ which. turns-none _ _ _ _ _ _ _ _ _ _ _ _ h.ensures.gives.2 (λ bytes left now start may s. same-grows _ _)
+      λ which. rounds-none _ _ _ _ _ _ _ _ _ _ _ _ h.ensures.gives.2 (λ bytes left now start may s. same-grows _ _)
           (λ bytes begun now start may s.
           goes-none _ _ bytes _ begun _ _ start _ s h.line c.next.new.self now (rw h.field-0-is at h.ensures.again) (λ going. rw h.field-0-is at (h.ensures.gives.2.hands going begun now may))
           (c.in-Ok-None-read_act.ensures.ok ∙ ap Ok c.in-Ok-None-read_act.field-0-is)),
@@ -84,7 +84,7 @@ returns-in-Ok-clause-gives g c =
     let h = c.in-Ok-Some in (
       h.ensures.gives.0,
       h.ensures.gives.1,
-      λ which. turns-none _ _ _ _ _ _ _ _ _ _ _ _ h.ensures.gives.2 (λ bytes left now start may s. does-grows _ _ _ _ _ _ (c.in-Ok.ensures.acts which (so-far-at _ _ _ _ _ _ _ _ _ s)).does)
+      λ which. rounds-none _ _ _ _ _ _ _ _ _ _ _ _ h.ensures.gives.2 (λ bytes left now start may s. does-grows _ _ _ _ _ _ (c.in-Ok.ensures.acts which (so-far-at _ _ _ _ _ _ _ _ _ s)).does)
           (λ bytes begun now start may s.
           goes-on _ _ bytes _ begun _ _ start _ s h.line c.next.new.self now (rw h.field-0-is at h.ensures.again) (λ going. rw h.field-0-is at (h.ensures.gives.2.hands going begun now may))
           _ (c.in-Ok-Some-read_act.ensures.ok ∙ ap Ok c.in-Ok-Some-read_act.field-0-is) (sym (c.in-Ok.ensures.limit c.requires.stands.idle)) _ _ _ (c.in-Ok.ensures.acts which)),
@@ -95,7 +95,7 @@ returns-in-Err-BatchFull-clause-gives g c =
     let h = c.in-Ok-Some in (
       h.ensures.gives.0,
       h.ensures.gives.1,
-      λ which. turns-some _ _ _ _ _ _ _ _ _ _ _ _ _ _ h.ensures.gives.2 c.fault-in-Err-BatchFull.ensures.kind.3 (λ bytes left now start may s.
+      λ which. rounds-some _ _ _ _ _ _ _ _ _ _ _ _ _ _ h.ensures.gives.2 c.fault-in-Err-BatchFull.ensures.kind.3 (λ bytes left now start may s.
           let same = rw c.in-Err-BatchFull.field-0-is at (c.in-Err-BatchFull.ensures.acts which) in
           rw same.events (closes-grows _ _ _ _ _ _ (rw same.report at (c.fault-in-Err-BatchFull.ensures.closes.closes which))))
           (λ bytes taken begun now start may parts s.
@@ -109,7 +109,7 @@ returns-in-Err-ProbesFull-clause-gives g c =
     let h = c.in-Ok-Some in (
       h.ensures.gives.0,
       h.ensures.gives.1,
-      λ which. turns-some _ _ _ _ _ _ _ _ _ _ _ _ _ _ h.ensures.gives.2 c.fault-in-Err-ProbesFull.ensures.kind.3 (λ bytes left now start may s.
+      λ which. rounds-some _ _ _ _ _ _ _ _ _ _ _ _ _ _ h.ensures.gives.2 c.fault-in-Err-ProbesFull.ensures.kind.3 (λ bytes left now start may s.
           let same = rw c.in-Err-ProbesFull.field-0-is at (c.in-Err-ProbesFull.ensures.acts which) in
           rw same.events (closes-grows _ _ _ _ _ _ (rw same.report at (c.fault-in-Err-ProbesFull.ensures.closes.closes which))))
           (λ bytes taken begun now start may parts s.
@@ -128,7 +128,7 @@ returns-in-Err-Stopped-clause-gives g c =
       h.ensures.gives.1,
       λ which.
           let comes = stops _ _ _ _ why _ _ _ _ (rw is at (c.in-Err-Stopped.ensures.acts which)) in
-          rw c.status_of_fault.ensures.status (turns-stopped _ _ _ _ _ _ _ why _ _ _ _ _ _ h.ensures.gives.2
+          rw c.status_of_fault.ensures.status (rounds-stopped _ _ _ _ _ _ _ why _ _ _ _ _ _ h.ensures.gives.2
           (λ bytes left now start may s. stops-grows _ _ _ _ why _ _ _ _ (so-far-at _ _ _ _ _ _ _ _ _ s) comes)
           (λ bytes taken begun now start may parts s.
           exit-stopped _ _ bytes _ begun _ _ start _ s h.line c.next.new.self now (rw h.field-0-is at h.ensures.again) (λ going. rw h.field-0-is at (h.ensures.gives.2.hands going begun now may))

@@ -1,4 +1,4 @@
--- Where a run over a script stands between two lines, what a turn comes to, how a run ends, and what a command of it
+-- Where a run over a script stands between two lines, what a round comes to, how a run ends, and what a command of it
 -- has.
 use Rattle.std.specs.Prelude.{◌≡◌, ◌≢◌, ◌⊎◌, ℕ, ◌≤◌, ◌++◌, ◌∷◌, Bool, false, Option, None, Some, IsSome, IfNone, IfSome, List, [], length, map}
 use Rattle.std.specs.Io.KnownBytes.{Appends}
@@ -67,10 +67,10 @@ status_of_fault fault.Device = DeviceFault
 status_of_fault fault.Memory = Memory
 
 -- what of the script is read
-abbrev pub IsRead : Over → Reading → List ℕ → HeldBytes → List ℕ → List NumberedAct → ℕ → ℕ → Type 0
-IsRead over.Going reads bytes held left acts pending probes = IsGoing reads bytes held left acts pending probes
-IsRead over.Ended reads bytes held left acts pending probes = IsAllRead reads bytes left acts
-IsRead (over.Stopped fault) reads bytes held left acts pending probes = ⊥
+abbrev pub IsReadSoFar : Over → Reading → List ℕ → HeldBytes → List ℕ → List NumberedAct → ℕ → ℕ → Type 0
+IsReadSoFar over.Going reads bytes held left acts pending probes = IsGoing reads bytes held left acts pending probes
+IsReadSoFar over.Ended reads bytes held left acts pending probes = IsAllRead reads bytes left acts
+IsReadSoFar (over.Stopped fault) reads bytes held left acts pending probes = ⊥
 
 -- the acts alone
 abbrev pub acts_only : List NumberedAct → List Act
@@ -83,10 +83,10 @@ pub record SoFar (setting : Setting) (slots : ℕ) (bytes : List ℕ) (held : He
   pub run : Runs setting slots (acts_only acts) effects progress
   pub events_is : events ≡ events_in effects
   pub report : Appends taken_old taken_new (printed effects)
-  pub read : IsRead held.over (reading setting.family) bytes held left acts (length progress.batch) (length progress.probes)
+  pub read : IsReadSoFar held.over (reading setting.family) bytes held left acts (length progress.batch) (length progress.probes)
 
 -- a run over a script ends, with these bytes taken of it
-pub record Ends (setting : Setting) (slots : ℕ) (bytes taken left : List ℕ) (status : Status) (events : List Action) (taken_old taken_new : Option (List ℕ)) : Type 0 where
+pub record EndsRun (setting : Setting) (slots : ℕ) (bytes taken left : List ℕ) (status : Status) (events : List Action) (taken_old taken_new : Option (List ℕ)) : Type 0 where
   pub effects : List Effect
   pub partial : List ℕ
   pub outcome : IsOutcome setting slots (script_of (reading setting.family) bytes) (script_so_far (reading setting.family) taken) status effects partial
@@ -121,8 +121,8 @@ pub record Grows (events_old events_new : List Action) (taken_old taken_new : Op
   pub bytes : List ℕ
   pub report : Appends taken_old taken_new bytes
 
--- one turn more: the acts carried out before it, and perhaps one
-pub record GoesOn (setting : Setting) (slots : ℕ) (acts : List NumberedAct) (bytes : List ℕ) (held : HeldBytes) (left : List ℕ) (progress : Progress) (events : List Action) (taken_old taken_new : Option (List ℕ)) : Type 0 where
+-- one round more: the acts carried out before it, and perhaps one
+pub record RunsOn (setting : Setting) (slots : ℕ) (acts : List NumberedAct) (bytes : List ℕ) (held : HeldBytes) (left : List ℕ) (progress : Progress) (events : List Action) (taken_old taken_new : Option (List ℕ)) : Type 0 where
   pub so_far : SoFar setting slots bytes held left progress events taken_old taken_new
   pub more : List Act
   pub acts_are : acts_only so_far.acts ≡ acts_only acts ++ more
@@ -134,12 +134,12 @@ pub record WantsNext (setting : Setting) (acts : List NumberedAct) (bytes : List
   pub acts_are : acts_of (script_of (reading setting.family) bytes) ≡ acts_only acts ++ act ∷ later
   pub wants : Wants setting before act events_old events_new taken_old taken_new
 
--- what a turn of a run comes to, whatever bytes come after those that were given in it
-pub record TurnsBy (setting : Setting) (slots : ℕ) (old : HeldBytes) (before : Progress) (pieces : List (List ℕ)) (result : Option Status) (new : HeldBytes) (after : Progress) (events_old events_new : List Action) (taken_old taken_new : Option (List ℕ)) : Type 0 where
+-- what a round of a run comes to, whatever bytes come after those that were given in it
+pub record RoundsBy (setting : Setting) (slots : ℕ) (old : HeldBytes) (before : Progress) (pieces : List (List ℕ)) (result : Option Status) (new : HeldBytes) (after : Progress) (events_old events_new : List Action) (taken_old taken_new : Option (List ℕ)) : Type 0 where
   pub goes : IfNone result ((bytes left now : List ℕ) (start : Option (List ℕ)) → MayGive left pieces now
-      → (so_far : SoFar setting slots bytes old left before events_old start taken_old) → GoesOn setting slots so_far.acts bytes new now after events_new start taken_new)
+      → (so_far : SoFar setting slots bytes old left before events_old start taken_old) → RunsOn setting slots so_far.acts bytes new now after events_new start taken_new)
   pub ends : IfSome result (λ status. (bytes taken left now : List ℕ) (start : Option (List ℕ)) → MayGive left pieces now → bytes ≡ taken ++ now
-      → SoFar setting slots bytes old left before events_old start taken_old → Ends setting slots bytes taken now status events_new start taken_new)
+      → SoFar setting slots bytes old left before events_old start taken_old → EndsRun setting slots bytes taken now status events_new start taken_new)
   pub wants : result ≡ Some Memory → (bytes left now : List ℕ) (start : Option (List ℕ)) → MayGive left pieces now
       → (so_far : SoFar setting slots bytes old left before events_old start taken_old) → WantsNext setting so_far.acts bytes before events_old events_new taken_old taken_new
   pub ended : HasEnd pieces → IfNone result (new.over ≡ over.Ended)

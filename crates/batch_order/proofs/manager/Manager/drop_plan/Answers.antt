@@ -1,0 +1,49 @@
+use Rattle.std.proofs.Common.{◌≡◌, true, Option, Some, None, subst, sym, ap, ◌∙◌}
+use Rattle.batch_order.specs.declared.held.Held.{Held}
+use Rattle.batch_order.specs.Kept.{IsManaged}
+use Rattle.batch_order.specs.Managed.{Managed}
+use Rattle.batch_order.specs.Steps.{cancelled, is_unwritten}
+use Rattle.batch_order.proofs.under_way.Carried.{view_of}
+use Rattle.batch_order.proofs.back.Reverted.{IsReverted, dropped_view, managed_reverted}
+use Rattle.batch_order.proofs.under_way.Unwritten.{IsUnwritten, unwritten_is, unwritten_parts}
+use Rattle.batch_order.proofs.manager.Manager.drop_plan.Goals as goal
+
+pub forget_all-requires : goal.forget_all-requires
+forget_all-requires c =
+    let i = c.self.inside in
+    let held = c.in-Some.held in
+    let was : i.held ≡ Some held = cc in
+    let before = subst (IsManaged i.translation i.rules i.live i.arrangement) was c.self.invariant in
+    let said : is_unwritten (view_of i.placement i.translation i.rules i.live i.arrangement i.held).held ≡ true = rw (← c.self.view_is) at c.requires in
+    let here = subst (λ (h : Option Held). is_unwritten (view_of i.placement i.translation i.rules i.live i.arrangement h).held ≡ true) was said in
+    let one = unwritten_parts held (sym (unwritten_is i.translation i.rules i.live i.arrangement held before) ∙ here) in
+    (before.carried.way_back one.prepared).added
+
+pub invariant_of-self-in-Some : goal.invariant_of-self-in-Some
+invariant_of-self-in-Some c =
+    let i = c.self.inside in
+    let held = c.in-Some.held in
+    let was : i.held ≡ Some held = cc in
+    let before = subst (IsManaged i.translation i.rules i.live i.arrangement) was c.self.invariant in
+    let reverted : IsReverted i.live c.forget_all.new.live held = record { live = c.forget_all.ensures.live; entries = c.forget_all.ensures.kept; slots = c.forget_all.ensures.slots } in
+    let said : is_unwritten (view_of i.placement i.translation i.rules i.live i.arrangement i.held).held ≡ true = rw (← c.self.view_is) at c.requires in
+    let here = subst (λ (h : Option Held). is_unwritten (view_of i.placement i.translation i.rules i.live i.arrangement h).held ≡ true) was said in
+    let one = unwritten_parts held (sym (unwritten_is i.translation i.rules i.live i.arrangement held before) ∙ here) in
+    rw c.take.ensures.after (managed_reverted i.translation i.rules i.live c.forget_all.new.live i.arrangement held before (before.carried.way_back one.prepared) reverted)
+
+pub returns-in-Some : goal.returns-in-Some
+returns-in-Some c =
+    let i = c.self.inside in
+    let held = c.in-Some.held in
+    let was : i.held ≡ Some held = cc in
+    let before = subst (IsManaged i.translation i.rules i.live i.arrangement) was c.self.invariant in
+    let reverted : IsReverted i.live c.forget_all.new.live held = record { live = c.forget_all.ensures.live; entries = c.forget_all.ensures.kept; slots = c.forget_all.ensures.slots } in
+    let view : view_of i.placement i.translation i.rules i.live i.arrangement i.held ≡ c.args.self.now = c.self.view_is in
+    let said : is_unwritten (view_of i.placement i.translation i.rules i.live i.arrangement i.held).held ≡ true = rw (← c.self.view_is) at c.requires in
+    let here = subst (λ (h : Option Held). is_unwritten (view_of i.placement i.translation i.rules i.live i.arrangement h).held ≡ true) was said in
+    let one = unwritten_parts held (sym (unwritten_is i.translation i.rules i.live i.arrangement held before) ∙ here) in
+    let new = view_of i.placement i.translation i.rules c.forget_all.new.live i.arrangement None in
+    let dropped : new ≡ cancelled true (view_of i.placement i.translation i.rules i.live i.arrangement i.held) =
+    subst (λ (h : Option Held). new ≡ cancelled true (view_of i.placement i.translation i.rules i.live i.arrangement h)) (sym was)
+    (dropped_view i.translation i.rules i.live c.forget_all.new.live i.arrangement held before (before.carried.way_back one.prepared) reverted i.placement one.none) in
+    rw c.take.ensures.after (dropped ∙ ap (cancelled true) view)
