@@ -1,7 +1,7 @@
 pub mod Whole
-pub mod Wider
 pub mod Moments
 pub mod Lookups
+pub mod Course
 pub mod Flights
 pub mod Currents
 pub mod Twice

@@ -1,5 +1,5 @@
 -- The state of a device whose results stand beside the slots, what a look-up answers, and what a journal leaves.
-use Rattle.std.specs.Prelude.{◌≡◌, ℕ, ◌<◌, ◌-◌, ◌++◌, Bool, false, Option, Some, None, List, [], ◌∷◌, length, replicate, fold, position, slice_index_or, slice_set}
+use Rattle.std.specs.Prelude.{◌≡◌, ℕ, ◌<◌, Bool, false, Option, Some, None, List, [], ◌∷◌, length, replicate, fold, position, slice_index_or, slice_set}
 use Rattle.rule_model.specs.declared.Key.{Key}
 use Rattle.rule_model.specs.declared.Field.TheVariants.{Src, Dst}
 use Rattle.rule_model.specs.RuleSet.{Answer}
@@ -91,11 +91,3 @@ split_after state writes = fold split_apply state writes
 -- the state that a journal of writes leaves a blank device in
 abbrev pub split_replay : ℕ → List SplitWrite → SplitState
 split_replay slots journal = split_after (blank_split slots) journal
-
--- the state of a device of so many slots whose first slots hold this, and whose others were never written
-abbrev pub on_split_device : ℕ → SplitState → SplitState
-on_split_device slots state =
-    record state {
-      slots = state.slots ++ replicate (slots - length state.slots) None;
-      results = state.results ++ replicate (slots - length state.results) no_result;
-    }

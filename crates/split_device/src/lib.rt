@@ -19,9 +19,9 @@
 //!   the next and its result changed in the third, and would read what no undivided look-up of its key ever answered
 //!   (`neither` in `proofs/Examples`). So the laws speak of look-ups that wait, in whatever commit they were searched
 //!   (`AreWaiting`), and hand them on.
-//! - **Each read is of a moment, and old or new by the commit of that moment.** A look-up that was searched in an earlier
-//!   commit may be of a moment then. So that a read gets the old or the new set's answer of the commit in hand is said
-//!   where the look-ups that waited before it have seen no other (`AreBetweenSets`).
+//! - **Each read is of a moment, and old or new by the commit of that moment** (`reads_are_by_commits`). A look-up that was
+//!   searched in an earlier commit may be of a moment then. So that a read gets the old or the new set's answer of the
+//!   commit in hand is said where the look-ups that waited before it have seen no other (`AreBetweenSets`).
 //! - **`MemSplit` is for tests**: its search goes through all slots, and it keeps all its events. A program's device is to
 //!   keep none, as `memory_tcam::Shadowed` over hardware does for whole entries.
 #![tactic(auto)]
@@ -33,7 +33,10 @@ mod mem;
 mod memory;
 
 pub use device::SplitDevice;
-pub use laws::{answers_as_undivided, devices_are_pipelines, reads_are_of_a_moment, twice_as_once};
+pub use laws::{
+    answers_as_undivided, devices_are_pipelines, reads_are_by_commits, reads_are_of_a_moment,
+    twice_as_once, twice_in_time,
+};
 pub use mem::MemSplit;
 use rule_model::{Field, Rank, Word};
 

@@ -1,4 +1,4 @@
--- The insertions of a planned batch by parts are within the bound.
+-- The insertions of a planned batch by parts are exactly as long as their puts have it, and within the bound.
 use Rattle.std.proofs.Common.{◌≡◌, ℕ, ◌+◌, ◌-◌, ◌*◌, ◌≤◌, Option, List, [], ◌∷◌, ◌++◌, length, map, Contains, refl, sym, ◌∙◌, subst, ap}
 use Rattle.std.specs.List.{AllByRecursion, AllZip}
 use Rattle.std.proofs.lemmas.List.{length-map}
@@ -46,7 +46,7 @@ use Rattle.commit_writes.proofs.SlotWrites.{batch_slots}
 use Rattle.commit_writes.proofs.Start.{commit_piece, commit_readable, commit_done, commit_makes, contents_are, arranged_ordered, old_live}
 use Rattle.commit_writes.proofs.Front.{fresh_state}
 use Rattle.commit_writes.proofs.ServedTables.{fresh_writes}
-use Rattle.commit_writes.proofs.TableWrites.{AreToTables, bit_writes-tables, tables_in_use}
+use Rattle.commit_writes.proofs.TableWrites.{AreToTables, bit_writes-tables, insertions-behind, tables_in_use}
 use Rattle.commit_writes.proofs.WholeBatch.{in_use}
 use Rattle.split_device.specs.declared.SplitWrite.TheVariants.{Table}
 use Rattle.split_device.specs.State.{SplitState, IsSized, undivided, split_apply}
@@ -55,6 +55,7 @@ use Rattle.split_writes.specs.Insertion.{SplitInsertion, split_insertions, IsWit
 use Rattle.split_writes.specs.Segment.{most_by_parts}
 use Rattle.split_writes.proofs.Insertions.{IsParted, insertions_parted}
 use Rattle.split_writes.proofs.RowCost.{IsCheap, row_cost}
+use Rattle.split_writes.proofs.RowExact.{IsExact, IsExactly, row_exact}
 
 -- insertions that are cheap by parts are within the bound,
 within : (piece : ℕ → RankedPiece) (all : List LivePiece) (more m : ℕ) (planned : List Planned) (made : List Insertion) (split : List SplitInsertion)
@@ -101,6 +102,10 @@ uncrossed piece all more m most (p ∷ planned) (n ∷ made) (s ∷ split) is ne
   where
     none : p.span ≡ 0
     none = told.0.uncrossed nested
+
+all_wide : (more : ℕ) (made : List Insertion) → AllByRecursion (IsExact more) made → AllByRecursion IsExactly (map (widened more) made)
+all_wide more [] all = tt
+all_wide more (insertion ∷ made) all = (all.0, all_wide more made all.1)
 
 routes_most : (version : IpVersion) → 2 + 3 * (prefix_lengths version - 1) * (1 + 0) ≡ most_by_parts version
 routes_most V4 = refl
@@ -150,12 +155,15 @@ module _ (mode : Mode) (bits : FieldBits) (start : State) (rules : List Rule) (b
   in_start : AllByRecursion (IsInUse (length start.slots)) made
   in_start = subst (λ n. AllByRecursion (IsInUse n) made) (sym size) (in_use mode bits start rules batch live slots entries planned rewrites erased plan)
 
+  made_is : insertions (undivided state) made ≡ map (widened more) (made_by entries piece start planned)
+  made_is =
+      ap (λ (s : State). insertions s made) is
+      ∙ (insertions-padded more start made in_start
+      ∙ ap (map (widened more)) (batch_insertions mode bits start rules batch live slots entries planned rewrites erased plan ∙ commit_makes start old added live slots entries planned row))
+
   parted : AllZip IsParted (map (widened more) (made_by entries piece start planned)) (split_insertions state (parts_of_writes (undivided state) made))
   parted =
-      subst (λ xs. AllZip IsParted xs (split_insertions state (parts_of_writes (undivided state) made)))
-      (ap (λ (s : State). insertions s made) is
-      ∙ (insertions-padded more start made in_start
-      ∙ ap (map (widened more)) (batch_insertions mode bits start rules batch live slots entries planned rewrites erased plan ∙ commit_makes start old added live slots entries planned row)))
+      subst (λ xs. AllZip IsParted xs (split_insertions state (parts_of_writes (undivided state) made))) made_is
       (insertions_parted state made sized inside (batch_slots entries slots planned rewrites erased))
 
   mirrored : start.slots ≡ images (entry_by piece) slots
@@ -179,7 +187,16 @@ module _ (mode : Mode) (bits : FieldBits) (start : State) (rules : List Rule) (b
       (λ p member. Contains-append_right live (map (λ (insertion : Planned). insertion.one) planned) p.one (map_in (λ (insertion : Planned). insertion.one) planned p member))
       mirrored size begins (λ i j id a b. row.arranged.standing.once i j id a b) hits row.are_planned
 
-  -- Each insertion of the parts is within the bound,
+  -- Each insertion takes three parts of each entry that it puts, but one,
+  pub batch_split_exact : AllByRecursion IsExactly (insertions (undivided state) (batch_writes entries slots planned rewrites erased))
+  batch_split_exact =
+      subst (AllByRecursion IsExactly) (sym made_is)
+      (all_wide more (made_by entries piece start planned)
+      (row_exact entries piece all live more slots start planned (commit_readable start old added live slots entries planned row) up
+      (λ p member. Contains-append_right live (map (λ (insertion : Planned). insertion.one) planned) p.one (map_in (λ (insertion : Planned). insertion.one) planned p member))
+      mirrored size begins (λ i j id a b. row.arranged.standing.once i j id a b) hits row.are_planned))
+
+  -- is within the bound,
   pub batch_split_bound : (chain : ℕ) → BoundsChains (rules ++ additions batch) chain
       → IsWithinSplitBound chain (split_insertions state (parts_of_writes (undivided state) (batch_writes entries slots planned rewrites erased)))
   batch_split_bound chain bounds =
@@ -242,7 +259,25 @@ module _ (mode : Mode) (bits : FieldBits) (rules : List Rule) (batch : List Comm
   same : split_insertions state (parts_of_writes (undivided state) (tables ++ writes)) ≡ split_insertions behind (parts_of_writes (undivided behind) writes)
   same = split_insertions-behind state tables writes words
 
-  -- Its insertions by parts are within the bound,
+  whole_same : insertions (undivided state) (tables ++ writes) ≡ insertions (undivided behind) writes
+  whole_same = insertions-behind (undivided state) tables writes words ∙ ap (λ (s : State). insertions s writes) (sym (behind_is state tables words))
+
+  -- The insertions by parts are the parts of its insertions,
+  pub commit_parted : AllZip IsParted (insertions (undivided state) (fresh_writes mode bits rules batch own ++ batch_writes entries slots planned rewrites erased))
+      (split_insertions state (parts_of_writes (undivided state) (fresh_writes mode bits rules batch own ++ batch_writes entries slots planned rewrites erased)))
+  commit_parted =
+      subst (λ xs. AllZip IsParted xs (split_insertions state (parts_of_writes (undivided state) (tables ++ writes)))) (sym whole_same)
+      (subst (AllZip IsParted (insertions (undivided behind) writes)) (sym same)
+      (insertions_parted behind writes (behind_sized state tables sized) inside_behind (batch_slots entries slots planned rewrites erased)))
+
+  -- take three of each entry that they put, but one,
+  pub commit_split_exact : AllByRecursion IsExactly (insertions (undivided state) (fresh_writes mode bits rules batch own ++ batch_writes entries slots planned rewrites erased))
+  commit_split_exact =
+      subst (AllByRecursion IsExactly) (sym whole_same)
+      (batch_split_exact mode (bits_with mode rules batch bits) (fresh_state mode bits rules batch own) rules batch live slots entries planned rewrites erased plan more behind
+      (behind_sized state tables sized) reached inside_behind)
+
+  -- are within the bound,
   pub commit_split_bound : (chain : ℕ) → BoundsChains (rules ++ additions batch) chain
       → IsWithinSplitBound chain (split_insertions state (parts_of_writes (undivided state) (fresh_writes mode bits rules batch own ++ batch_writes entries slots planned rewrites erased)))
   commit_split_bound chain bounds =

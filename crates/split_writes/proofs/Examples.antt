@@ -15,7 +15,7 @@ use Rattle.split_device.specs.declared.SplitWrite.{SplitWrite}
 use Rattle.split_device.specs.declared.SplitWrite.TheVariants.{Slot, Result}
 use Rattle.split_device.specs.State.{SplitState, no_result, undivided, split_lookup, split_after}
 use Rattle.split_writes.specs.Parts.{put_parts, parts_of_writes}
-use Rattle.split_writes.specs.Insertion.{split_insertions, longest_split}
+use Rattle.split_writes.specs.Insertion.{SplitInsertion, put_writes, split_insertions}
 
 abbrev entry : ℕ → ℕ → ℕ → Entry
 entry address len answer =
@@ -54,11 +54,12 @@ parts = put_parts 1 wide ++ Slot 0 None ∷ put_parts 0 narrow
 five : parts_of_writes (undivided before) insertion ≡ parts
 five = refl
 
-one-insertion : length (split_insertions before parts) ≡ 1
+-- it is one insertion, which takes three parts of each of its two entries, but one
+one-insertion : map (λ (one : SplitInsertion). length one.writes) (split_insertions before parts) ≡ 5 ∷ []
 one-insertion = refl
 
-longest : longest_split before parts ≡ 5
-longest = refl
+two-puts : put_writes insertion ≡ 2
+two-puts = refl
 
 wide-all-through : answers parts 0x0a020304
     ≡ Some (rank_of 8 0x0a000000, 7) ∷ Some (rank_of 8 0x0a000000, 7) ∷ Some (rank_of 8 0x0a000000, 7) ∷ Some (rank_of 8 0x0a000000, 7)

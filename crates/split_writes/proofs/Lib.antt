@@ -13,6 +13,9 @@ pub mod Seen
 pub mod Insertions
 pub mod Cost
 pub mod RowCost
+pub mod Exact
+pub mod RowExact
+pub mod Counts
 pub mod Bound
 pub mod Segment
 mod Examples

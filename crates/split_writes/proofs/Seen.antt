@@ -43,7 +43,7 @@ current_slot bits state key word serves current =
     ∙ (hitting_same word (search_word (undivided state) key) (undivided state).slots (λ at entry stands. serves.tested at entry stands key word (search_word (undivided state) key) current now)
     ∙ sym (hit_slot-whole (search_word (undivided state) key) state.slots state.results))
 
-oldest_current : (bits : FieldBits) (state : SplitState) (words : List (Key × Word)) → ServesLive bits (undivided state) → AreCurrent bits words → OldestIsCurrent state words
+pub oldest_current : (bits : FieldBits) (state : SplitState) (words : List (Key × Word)) → ServesLive bits (undivided state) → AreCurrent bits words → OldestIsCurrent state words
 oldest_current bits state [] serves current = tt
 oldest_current bits state (oldest ∷ words) serves current = current_slot bits state oldest.0 oldest.1 serves current.0
 

@@ -30,7 +30,7 @@ use Rattle.split_writes.proofs.Through.{empty_parts}
 use Rattle.split_writes.proofs.Made.{inside_after}
 
 -- a state that serves live ranges serves them with a slot erased
-erased_serves : (bits : FieldBits) (state : State) (at : ℕ) → ServesLive bits state → ServesLive bits (apply state (whole.Slot at None))
+pub erased_serves : (bits : FieldBits) (state : State) (at : ℕ) → ServesLive bits state → ServesLive bits (apply state (whole.Slot at None))
 erased_serves bits state at serves = record {
   src_words = serves.src_words;
   dst_words = serves.dst_words;

@@ -1,9 +1,11 @@
 -- Insertions by parts: the runs of writes that each put one new entry into the memory, and how many writes they take.
-use Rattle.std.specs.Prelude.{◌≡◌, ℕ, ◌+◌, ◌-◌, ◌*◌, ◌≤◌, ◌⊎◌, max, Bool, true, false, Some, None, List, [], ◌∷◌, ◌++◌, Contains, length, map, fold, count_by}
+use Rattle.std.specs.Prelude.{◌≡◌, ℕ, suc, ◌+◌, ◌-◌, ◌*◌, ◌≤◌, ◌⊎◌, Bool, true, false, Some, None, List, [], ◌∷◌, ◌++◌, Contains, length, count_by}
 use Rattle.std.specs.List.{AllByRecursion}
 use Rattle.rule_model.specs.declared.words.Word.{Word}
 use Rattle.rule_model.specs.declared.words.Entry.{Entry}
-use Rattle.tcam_device.specs.Insertion.{is_new, IsCrossingSpan}
+use Rattle.tcam_device.specs.declared.Write.{Write}
+use Rattle.tcam_device.specs.declared.Write.TheVariants as whole
+use Rattle.tcam_device.specs.Insertion.{Insertion, is_new, IsCrossingSpan}
 use Rattle.split_device.specs.declared.SplitWrite.{SplitWrite}
 use Rattle.split_device.specs.declared.SplitWrite.TheVariants.{Slot, Result, Table}
 use Rattle.split_device.specs.State.{SplitState, undivided, result_at, split_apply}
@@ -52,9 +54,17 @@ split_insertions_from begun (first ∷ run) state (Table field port word ∷ wri
 abbrev pub split_insertions : SplitState → List SplitWrite → List SplitInsertion
 split_insertions state writes = split_insertions_from state [] state writes
 
--- the number of writes of the longest insertion
-abbrev pub longest_split : SplitState → List SplitWrite → ℕ
-longest_split state writes = fold max 0 (map (λ insertion. length insertion.writes) (split_insertions state writes))
+-- how many undivided writes put an entry into a slot
+abbrev pub put_writes : List Write → ℕ
+put_writes [] = 0
+put_writes (whole.Slot at None ∷ writes) = put_writes writes
+put_writes (whole.Slot at (Some entry) ∷ writes) = suc (put_writes writes)
+put_writes (whole.Table field port word ∷ writes) = put_writes writes
+
+-- An insertion by parts takes exactly three writes for each entry that the undivided one puts, but one: three for each that is put
+-- over another one, and two for each that fills an empty slot, of which there is one more than erases.
+abbrev pub TakesThreeEach : Insertion → SplitInsertion → Type 0
+TakesThreeEach undivided split = length split.writes + 1 ≡ 3 * put_writes undivided.writes
 
 -- the write changes a table's word
 abbrev pub is_table_part : SplitWrite → Bool

@@ -1,6 +1,6 @@
--- What an accepted commit makes of a device whose results stand beside the slots, and its numbers.
-use Rattle.std.specs.Prelude.{◌≡◌, ℕ, List, length, take, ◌++◌}
-use Rattle.std.specs.List.{AllByRecursion}
+-- What an accepted commit makes of a device whose results stand beside the slots.
+use Rattle.std.specs.Prelude.{◌≡◌, ℕ, List, take, ◌++◌}
+use Rattle.std.specs.List.{AllByRecursion, AllZip}
 use Rattle.rule_model.specs.declared.Rule.{Rule}
 use Rattle.rule_model.specs.RuleSet.{BoundsChains}
 use Rattle.rule_model.specs.declared.IpVersion.{IpVersion}
@@ -11,6 +11,7 @@ use Rattle.rule_store.specs.Batch.{additions, set_after}
 use Rattle.tcam_device.specs.declared.Write.{Write}
 use Rattle.tcam_device.specs.State.{Shows, state_after}
 use Rattle.tcam_device.specs.Hitless.{ShowsOldOrNew}
+use Rattle.tcam_device.specs.Insertion.{insertions}
 use Rattle.commit_writes.specs.Actions.{commit_actions}
 use Rattle.commit_writes.specs.Bits.{FieldBits}
 use Rattle.commit_writes.specs.Commit.{IsSegment}
@@ -20,9 +21,8 @@ use Rattle.split_device.specs.State.{SplitState, undivided, split_after}
 use Rattle.split_device.specs.declared.SplitAction.{SplitAction}
 use Rattle.split_device.specs.Flight.{written}
 use Rattle.split_device.specs.Drains.{SinceDrain, AreTimely}
-use Rattle.split_writes.specs.declared.SplitDone.{SplitDone}
 use Rattle.split_writes.specs.Parts.{made_of}
-use Rattle.split_writes.specs.Insertion.{split_insertions, longest_split, table_parts, IsGreatestSplitSpan, IsWithinSplitBound, IsSplitUncrossed}
+use Rattle.split_writes.specs.Insertion.{split_insertions, TakesThreeEach, IsWithinSplitBound, IsSplitUncrossed}
 
 -- on the way from one set to another: the old set before, and after each write an undivided look-up of any key gets the
 -- old or the new answer
@@ -36,7 +36,8 @@ pub record IsSplitHitless (old new : List Rule) (state : SplitState) (writes : L
   pub after : Shows (undivided (split_after state writes)) new
 
 -- What an accepted commit makes: the parts of a segment of undivided writes, which lead where these lead, hitless after
--- each part, each part in its time, and within the bound on insertions.
+-- each part, each part in its time; each insertion takes three parts for each entry that it puts, but one, and is within the
+-- bound.
 pub record IsSplitSegment (mode : Mode) (bits : FieldBits) (rules : List Rule) (batch : List Command) (state : SplitState) (since : SinceDrain) (made : List SplitAction) : Type 0 where
   pub writes : List Write
   pub undivided_segment : IsSegment mode bits rules batch (undivided state) writes
@@ -44,14 +45,8 @@ pub record IsSplitSegment (mode : Mode) (bits : FieldBits) (rules : List Rule) (
   pub leads : undivided (split_after state (written made)) ≡ state_after (undivided state) writes
   pub hitless : IsSplitHitless rules (set_after rules batch) state (written made)
   pub timely : AreTimely state since made
+  pub exact : AllZip TakesThreeEach (insertions (undivided state) writes) (split_insertions state (written made))
   pub bound : (chain : ℕ) → BoundsChains (rules ++ additions batch) chain → IsWithinSplitBound chain (split_insertions state (written made))
-
--- the numbers are those of what was made, from the state on: a drain is no write
-pub record AreSplitCounts (state : SplitState) (made : List SplitAction) (counts : SplitDone) : Type 0 where
-  pub writes : counts.writes ≡ length (written made)
-  pub words : counts.words ≡ table_parts (written made)
-  pub most : counts.most ≡ longest_split state (written made)
-  pub span : IsGreatestSplitSpan (split_insertions state (written made)) counts.span
 
 -- how many writes an insertion of a route takes at most: 2 and 3 for each shorter prefix that it may have
 abbrev pub most_by_parts : IpVersion → ℕ

@@ -16,7 +16,8 @@
 //!   (`IsSplitSegment`) is the parts and drains of a segment, and no other list.
 //! - **An insertion by parts ends with the write of a slot that completes an entry which stood in no slot**, by the result
 //!   word that stands there; a result word ends none (`split_insertions`). So insertions by parts are the parts of
-//!   insertions, with the same spans. The bound is `2 + 3(m - 1)(1 + c)`: two for the new entry, and three for each
+//!   insertions, with the same spans, and one that puts `p` entries takes exactly `3p - 1` parts: three for each, but that
+//!   one slot more is filled than erased. The bound is `2 + 3(m - 1)(1 + c)`: two for the new entry, and three for each
 //!   entry that moves.
 //! - **That parts are hitless follows from the clauses of a segment, and the bound from its plan** (`ArePlannedOn`, which
 //!   `Holds.placed` gives). The former holds in both modes by one proof, over `rising`.

@@ -1,0 +1,14 @@
+pub mod Dues
+pub mod Behind
+pub mod Nexts
+pub mod Advanced
+pub mod Drained
+pub mod Rested
+pub mod Served
+pub mod Live
+pub mod Planned
+pub mod Stepped
+pub mod Told
+pub mod Calls
+pub mod Judged
+pub mod Carrying

@@ -1,0 +1,9 @@
+pub mod Due
+pub mod Since
+pub mod Managed
+pub mod Left
+pub mod Steps
+pub mod Prepared
+pub mod Kept
+pub mod Next
+pub mod CarriedOut
