@@ -51,10 +51,11 @@
 extern "C" {
 #endif
 
-/* The version of this header, and of the library beside it. */
+/* The version of this header, and as one number as tcam_version tells it. */
 #define TCAM_VERSION_MAJOR 0
 #define TCAM_VERSION_MINOR 1
 #define TCAM_VERSION_PATCH 0
+#define TCAM_VERSION (TCAM_VERSION_MAJOR << 16 | TCAM_VERSION_MINOR << 8 | TCAM_VERSION_PATCH)
 
 /* What a function answers. */
 enum tcam_error {
@@ -199,6 +200,7 @@ struct tcam_refusal {
 };
 
 /* The functions of the library, which test no pointer. Call those below. */
+uint32_t tcam_c_version(void);
 uint32_t tcam_c_new(struct tcam_manager *manager, uint32_t slots, uint32_t mode, uint32_t placement);
 uint32_t tcam_c_free(struct tcam_manager *manager);
 uint32_t tcam_c_add_route(struct tcam_manager *manager, uint32_t address, uint8_t length, uint32_t result);
@@ -214,6 +216,12 @@ uint32_t tcam_c_made(struct tcam_manager *manager);
 uint32_t tcam_c_drained(struct tcam_manager *manager);
 uint32_t tcam_c_abort(struct tcam_manager *manager, uint64_t *left);
 uint32_t tcam_c_answer(struct tcam_manager *manager, const struct tcam_key *key, struct tcam_answer *answer);
+
+/* The version of the library that the program runs with, which may be another than that of the header that it was
+ * compiled with: the major version times 65,536, the minor one times 256, and the patch. */
+static inline uint32_t tcam_version(void) {
+    return tcam_c_version();
+}
 
 /* Makes a manager without rules, of a blank memory with so many slots, 0 to slots - 1. It belongs to the handle
  * until tcam_free. Other answers are TCAM_MADE_ALREADY, TCAM_SLOTS_RANGE, TCAM_NO_MODE, TCAM_NO_PLACEMENT and

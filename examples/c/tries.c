@@ -2,6 +2,7 @@
  * are compared after every write with the old and the new rules by plain loops; every wrong use that is answered by a
  * code; no memory between a prepare and the last write; and each allocation failing in turn. It prints the first thing
  * that is wrong, and fails. */
+#include "lists.h"
 #include "registers.h"
 #include "tries.h"
 
@@ -20,76 +21,14 @@ void *__wrap_realloc(void *block, size_t size) {
     return ++allocations == failing ? NULL : __real_realloc(block, size);
 }
 
-/* Rules by number, and what a list of them answers: the lowest number that matches decides. */
-#define NUMBERS 24
-struct list {
-    bool there[NUMBERS];
-    struct tcam_rule rules[NUMBERS];
-};
-
-static bool in_prefix(uint32_t address, uint32_t prefix, uint8_t length) {
-    return length == 0 || (address ^ prefix) >> (32 - length) == 0;
-}
-
-static bool matches(const struct tcam_rule *rule, const struct tcam_key *key) {
-    return in_prefix(key->source, rule->source, rule->source_length) &&
-           in_prefix(key->destination, rule->destination, rule->destination_length) &&
-           (rule->protocol == TCAM_ANY_PROTOCOL || rule->protocol == key->protocol) &&
-           rule->source_port_first <= key->source_port && key->source_port <= rule->source_port_last &&
-           rule->destination_port_first <= key->destination_port &&
-           key->destination_port <= rule->destination_port_last;
-}
-
-static int64_t list_answer(const struct list *list, const struct tcam_key *key) {
-    for (int number = 0; number < NUMBERS; number++)
-        if (list->there[number] && matches(&list->rules[number], key)) return list->rules[number].result;
-    return -1;
-}
-
 /* Numbers at random, the same in every run. */
-static uint32_t seed = 1;
-
-static uint32_t below(uint32_t bound) {
-    seed = seed * 1664525u + 1013904223u;
-    return (seed >> 8) % bound;
-}
-
-/* Few addresses and ports, so that rules overlap. The ports are low ones, since a range takes a word of a table for
- * each. */
-static uint32_t address(uint8_t length) {
-    uint32_t any = 0x0a000000u | below(4) << 22 | below(4) << 14 | below(4);
-    return length == 0 ? 0 : any >> (32 - length) << (32 - length);
-}
-
-static uint16_t port(void) {
-    static const uint16_t ports[] = {0, 1, 2, 3, 5, 8, 9, 12, 17, 30};
-    return ports[below(sizeof ports / sizeof *ports)];
-}
-
-static struct tcam_rule rule_at_random(uint32_t number) {
-    struct tcam_rule rule = {.number = number, .result = below(1000)};
-    rule.source_length = (uint8_t)(below(2) * 16);
-    rule.destination_length = (uint8_t)(below(3) * 12);
-    rule.source = address(rule.source_length);
-    rule.destination = address(rule.destination_length);
-    rule.protocol = (uint16_t)(below(2) ? TCAM_ANY_PROTOCOL : 6 + below(2) * 11);
-    rule.source_port_last = 65535;
-    uint16_t one = port(), other = port();
-    rule.destination_port_first = one < other ? one : other;
-    rule.destination_port_last = one < other ? other : one;
-    return rule;
-}
-
-static struct tcam_key key_at_random(void) {
-    struct tcam_key key = {address(32), address(32), port(), port(), (uint8_t)(6 + below(2) * 11)};
-    return key;
-}
+static struct draws draws = {1};
 
 /* The registers and the library's own answer agree with the old rules or with the new ones. */
 static void compare(struct tcam_manager *manager, const struct registers *registers, const struct list *old,
                     const struct list *new) {
     for (int i = 0; i < 40; i++) {
-        struct tcam_key key = key_at_random();
+        struct tcam_key key = key_at_random(&draws);
         struct tcam_answer answer;
         int64_t was = list_answer(old, &key), is = list_answer(new, &key), got = registers_answer(registers, &key);
         CHECK(got == was || got == is);
@@ -117,8 +56,8 @@ static void search(const struct registers *registers, const struct list *old, co
 /* Some look-ups are begun and some searched, at random. */
 static void look_up(const struct registers *registers, const struct list *old, const struct list *new) {
     for (int i = 0; i < 8; i++) {
-        if (flying < IN_FLIGHT && below(2)) {
-            flight[flying].key = key_at_random();
+        if (flying < IN_FLIGHT && below(&draws, 2)) {
+            flight[flying].key = key_at_random(&draws);
             registers_translate(registers, &flight[flying].key, flight[flying].word);
             flying++;
         } else if (flying > 0) {
@@ -200,16 +139,16 @@ static uint64_t carry_out(struct tcam_manager *manager, struct registers *regist
 /* Some changes at random, in the batch and in a list. */
 static void change(struct tcam_manager *manager, struct list *list) {
     bool named[NUMBERS] = {false};
-    for (uint32_t changes = 1 + below(5); changes > 0; changes--) {
-        uint32_t number = below(NUMBERS);
+    for (uint32_t changes = 1 + below(&draws, 5); changes > 0; changes--) {
+        uint32_t number = below(&draws, NUMBERS);
         if (named[number]) continue;
         named[number] = true;
         if (!list->there[number]) {
-            list->rules[number] = rule_at_random(number);
+            list->rules[number] = rule_at_random(&draws, number, 1000);
             list->there[number] = true;
             CHECK(tcam_add_rule(manager, &list->rules[number]) == TCAM_OK);
-        } else if (below(2)) {
-            list->rules[number].result = below(1000);
+        } else if (below(&draws, 2)) {
+            list->rules[number].result = below(&draws, 1000);
             CHECK(tcam_set_rule(manager, number, list->rules[number].result) == TCAM_OK);
         } else {
             list->there[number] = false;
@@ -256,7 +195,7 @@ static void take_back(struct tcam_manager *manager, struct registers *registers,
     struct tcam_write write;
     for (uint64_t writes = 0; writes < numbers.writes; writes++) {
         struct list new = *old;
-        seed = changes;
+        draws.seed = changes;
         change(manager, &new);
         before = *registers;
         if (tcam_prepare(manager, &numbers, &refusal) != TCAM_OK) numbers.writes = 0;
@@ -264,7 +203,7 @@ static void take_back(struct tcam_manager *manager, struct registers *registers,
         unsigned long taken = allocations;
         for (uint64_t made = 0; made < writes;) made += make_due(manager, registers, old, &new) != TCAM_DRAIN;
         CHECK(tcam_next(manager, &write) == TCAM_OK);
-        if (write.kind == TCAM_DRAIN && below(2)) make_due(manager, registers, old, &new);
+        if (write.kind == TCAM_DRAIN && below(&draws, 2)) make_due(manager, registers, old, &new);
         turn_round(manager, registers, old, &new, &before, writes);
         CHECK(allocations == taken);
         turned++;
@@ -285,7 +224,7 @@ static void commits_at_random(enum tcam_mode mode, enum tcam_placement placement
         struct tcam_numbers numbers;
         struct tcam_refusal refusal;
         new = old;
-        if (commit % 5 == 0) take_back(&manager, &registers, &old, seed);
+        if (commit % 5 == 0) take_back(&manager, &registers, &old, draws.seed);
         change(&manager, &new);
         enum tcam_error error = tcam_prepare(&manager, &numbers, &refusal);
         if (error == TCAM_OK) {

@@ -1,0 +1,63 @@
+#include "lists.h"
+
+static bool in_prefix(uint32_t address, uint32_t prefix, uint8_t length) {
+    return length == 0 || (address ^ prefix) >> (32 - length) == 0;
+}
+
+static bool matches(const struct tcam_rule *rule, const struct tcam_key *key) {
+    return in_prefix(key->source, rule->source, rule->source_length) &&
+           in_prefix(key->destination, rule->destination, rule->destination_length) &&
+           (rule->protocol == TCAM_ANY_PROTOCOL || rule->protocol == key->protocol) &&
+           rule->source_port_first <= key->source_port && key->source_port <= rule->source_port_last &&
+           rule->destination_port_first <= key->destination_port &&
+           key->destination_port <= rule->destination_port_last;
+}
+
+int64_t list_answer(const struct list *list, const struct tcam_key *key) {
+    for (int number = 0; number < NUMBERS; number++)
+        if (list->there[number] && matches(&list->rules[number], key)) return list->rules[number].result;
+    return -1;
+}
+
+uint32_t below(struct draws *draws, uint32_t bound) {
+    draws->seed = draws->seed * 1664525u + 1013904223u;
+    return (draws->seed >> 8) % bound;
+}
+
+static uint32_t address(struct draws *draws, uint8_t length) {
+    uint32_t any = 0x0a000000u;
+    any |= below(draws, 4) << 22;
+    any |= below(draws, 4) << 14;
+    any |= below(draws, 4);
+    return length == 0 ? 0 : any >> (32 - length) << (32 - length);
+}
+
+/* The ports are low ones, since a range takes a word of a table for each. */
+static uint16_t port(struct draws *draws) {
+    static const uint16_t ports[] = {0, 1, 2, 3, 5, 8, 9, 12, 17, 30};
+    return ports[below(draws, sizeof ports / sizeof *ports)];
+}
+
+struct tcam_rule rule_at_random(struct draws *draws, uint32_t number, uint32_t results) {
+    struct tcam_rule rule = {.number = number, .result = below(draws, results)};
+    rule.source_length = (uint8_t)(below(draws, 2) * 16);
+    rule.destination_length = (uint8_t)(below(draws, 3) * 12);
+    rule.source = address(draws, rule.source_length);
+    rule.destination = address(draws, rule.destination_length);
+    rule.protocol = (uint16_t)(below(draws, 2) ? TCAM_ANY_PROTOCOL : 6 + below(draws, 2) * 11);
+    rule.source_port_last = 65535;
+    uint16_t one = port(draws), other = port(draws);
+    rule.destination_port_first = one < other ? one : other;
+    rule.destination_port_last = one < other ? other : one;
+    return rule;
+}
+
+struct tcam_key key_at_random(struct draws *draws) {
+    struct tcam_key key;
+    key.source = address(draws, 32);
+    key.destination = address(draws, 32);
+    key.source_port = port(draws);
+    key.destination_port = port(draws);
+    key.protocol = (uint8_t)(6 + below(draws, 2) * 11);
+    return key;
+}

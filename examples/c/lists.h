@@ -1,0 +1,26 @@
+/* Access lists at random, and what a list answers by a plain loop: the library has no part in it. */
+#ifndef LISTS_H
+#define LISTS_H
+
+#include "tcam.h"
+
+/* Rules by number, in their order. */
+#define NUMBERS 24
+struct list {
+    bool there[NUMBERS];
+    struct tcam_rule rules[NUMBERS];
+};
+
+/* What a list answers: the result of the first rule that matches, or -1. */
+int64_t list_answer(const struct list *list, const struct tcam_key *key);
+
+/* Numbers at random, the same ones behind the same seed: one below a bound, a rule with a number and a result below a
+ * bound, and a packet, of few addresses and ports, so that rules overlap. */
+struct draws {
+    uint32_t seed;
+};
+uint32_t below(struct draws *draws, uint32_t bound);
+struct tcam_rule rule_at_random(struct draws *draws, uint32_t number, uint32_t results);
+struct tcam_key key_at_random(struct draws *draws);
+
+#endif
