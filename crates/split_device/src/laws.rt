@@ -7,8 +7,8 @@ pub fn reads_are_of_a_moment()
     ensures { ReadsAreOfAMoment }
 {}
 
-/// Where each state shows each key the old or the new answer of the commit under way then, each read is old or new by the
-/// commit of its moment: one between the commit that it was searched in and the one that it is read in.
+/// Where each state shows each key the old or the new answer of the commit under way then, each read is of a
+/// moment, and old or new by a commit whose sets that moment shows: none that comes after the read.
 pub fn reads_are_by_commits()
     ensures { ReadsAreByCommits }
 {}

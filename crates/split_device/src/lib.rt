@@ -19,9 +19,10 @@
 //!   the next and its result changed in the third, and would read what no undivided look-up of its key ever answered
 //!   (`neither` in `proofs/Examples`). So the laws speak of look-ups that wait, in whatever commit they were searched
 //!   (`AreWaiting`), and hand them on.
-//! - **Each read is of a moment, and old or new by the commit of that moment** (`reads_are_by_commits`). A look-up that was
-//!   searched in an earlier commit may be of a moment then. So that a read gets the old or the new set's answer of the
-//!   commit in hand is said where the look-ups that waited before it have seen no other (`AreBetweenSets`).
+//! - **Each read is of a moment, and old or new by a commit begun by then whose sets that moment shows**
+//!   (`reads_are_by_commits`). Which commit a moment is within `split_turns` says, whose moments have the rules. A look-up
+//!   that was searched in an earlier commit may be of a moment then. So that a read gets the old or the new set's answer of
+//!   the commit in hand is said where the look-ups that waited before it have seen no other (`AreBetweenSets`).
 //! - **`MemSplit` is for tests**: its search goes through all slots, and it keeps all its events. A program's device is to
 //!   keep none, as `memory_tcam::Shadowed` over hardware does for whole entries.
 #![tactic(auto)]

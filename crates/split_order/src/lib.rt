@@ -10,7 +10,7 @@
 //! slot was written since the last one. Then what a look-up reads is what some moment between its search and its read
 //! would have answered (`split_device`), and each moment shows the old or the new rules (`split_writes`).
 //!
-//! **What it keeps** beside the planner is what was done since the last drain (`since`), a bit a slot, and how far it came
+//! **What it keeps** beside the planner is what was done since the last drain (`since`), of each slot, and how far it came
 //! with the write that is due. What stands in that write's slot the planner tells (`Manager::replaced`).
 //!
 //! # Decided

@@ -35,7 +35,7 @@ impl SplitManager {
     /// Makes the next part of the commit under way, over the device that `prepare` reserved, with room for what is left.
     /// Where a drain is next it drains if nothing is in flight, and else the answer is `Waiting` with the number of words and
     /// found slots, and nothing changes. With nothing left the rules become the new set, and the answer is `Finished`. With no
-    /// commit under way the answer is `Idle`, and nothing changes. It takes no memory. What is in flight stays as it is.
+    /// commit under way the answer is `Idle`, and nothing changes. What is in flight stays as it is.
     ///
     /// After it, also after a failure, each key is answered, by what was made of the device, as the rules do, and while a
     /// commit is under way as the old ones or the new ones do. Words in flight that were current are so still.
@@ -188,7 +188,7 @@ impl SplitManager {
 
     /// Makes all parts and drains that are left of the commit under way, in their order, over the device that `prepare`
     /// reserved, each part tried up to `tries` times, at least once. With the last of them the rules become the new set, and
-    /// the answer has the numbers of the commit. With no commit under way they are all 0, and nothing changes.
+    /// the answer has the numbers of the commit. With no commit under way they are all 0.
     ///
     /// `Stuck` comes where one part has failed `tries` times, `Waiting` exactly where a drain is next and look-ups are in
     /// flight: what came before was made, and the call may be made again.
