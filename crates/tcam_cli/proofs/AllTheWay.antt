@@ -1,6 +1,8 @@
 -- After each write of a run every key has the answer of one of the script's sets or of the next one.
-use Rattle.std.proofs.Common.{◌≡◌, inl, inr, ℕ, zero, suc, ◌+◌, ◌-◌, ◌≤◌, Bool, true, false, drop, min, le_trans, Option, Some, None, List, [], ◌∷◌, ◌++◌, length, take, slice_get, refl, ap, sym, ◌∙◌, subst, arith, append_assoc}
+use Rattle.std.proofs.Common.{◌≡◌, inl, inr, ℕ, zero, suc, ◌+◌, ◌-◌, ◌<◌, ◌≤◌, le_refl, Bool, true, false, drop, min, le_trans, Option, Some, None, List, [], ◌∷◌, ◌++◌, length, take, slice_get, refl, ap, sym, ◌∙◌, subst, arith, append_assoc}
+use Rattle.std.proofs.lemmas.Bool.{cases_lt}
 use Rattle.std.proofs.Math.Seq.{take-nil}
+use Rattle.std.specs.Prelude.{option_map}
 use Rattle.std.proofs.Math.Nat.{min-le_left, min-le_right, le-min}
 use Rattle.std.proofs.lemmas.List.{length-take-le, take_min, take-append-le, take-take}
 use Rattle.rule_model.specs.declared.Rule.{Rule}
@@ -16,7 +18,7 @@ use Rattle.replay.specs.declared.Act.{Act}
 use Rattle.replay.specs.declared.Act.TheVariants.{Command, Probe, Packet, Commit, Trial, Crash}
 use Rattle.replay.specs.Effects.{Setting, Effect, journal_of}
 use Rattle.replay.specs.Run.{Progress, start, Commits, Returns, Restarts, Refuses, Tries, Crashes, Judged, HasEffects, Run, Runs}
-use Rattle.tcam_cli.specs.AllTheWay.{sets_through, ShowsSetOrNext, AnswersAllTheWay, EndsAtLast}
+use Rattle.tcam_cli.specs.AllTheWay.{Led, Stands, TakenBack, rules_in, set_at, sets_through, ShowsSetOrNext, IsFirstPast, AnswersAllTheWay, AreShownInTurn, EndsAtLast}
 use Rattle.replay.proofs.lines.Effects.{written-append}
 use Rattle.replay.proofs.crash.Crashed.{joined, written-restarts}
 use Rattle.replay.proofs.lines.Written.{written-return, written-segment}
@@ -27,22 +29,22 @@ use Rattle.tcam_cli.specs.Headline.{is_back}
 -- ---- lists of sets
 
 -- the sets by the verdict on a commit
-abbrev sets_judged : Setting → List Bool → List Rule → List Change → List Act → Verdict → List (List Rule)
+abbrev sets_judged : Setting → List Bool → List Rule → List Change → List Act → Verdict → List Led
 sets_judged setting backs rules batch acts is =
     elim is [
-      | Accepted ↦ rules ∷ sets_through setting backs (set_after rules batch) [] acts
+      | Accepted ↦ Stands rules ∷ sets_through setting backs (set_after rules batch) [] acts
       | _ ↦ sets_through setting backs rules [] acts
     ]
 
 -- and on a trial, which is taken back or not
-abbrev sets_tried : Setting → List Bool → List Rule → List Change → List Act → Bool → List (List Rule)
+abbrev sets_tried : Setting → List Bool → List Rule → List Change → List Act → Bool → List Led
 sets_tried setting backs rules batch acts back =
     elim back [
-      | true ↦ rules ∷ set_after rules batch ∷ sets_through setting backs rules [] acts
-      | false ↦ rules ∷ sets_through setting backs (set_after rules batch) [] acts
+      | true ↦ Stands rules ∷ TakenBack (set_after rules batch) ∷ sets_through setting backs rules [] acts
+      | false ↦ Stands rules ∷ sets_through setting backs (set_after rules batch) [] acts
     ]
 
-abbrev trial_judged : Setting → List Bool → List Rule → List Change → List Act → Verdict → List (List Rule)
+abbrev trial_judged : Setting → List Bool → List Rule → List Change → List Act → Verdict → List Led
 trial_judged setting backs rules batch acts is =
     elim is [
       | Accepted ↦ sets_tried setting (drop 1 backs) rules batch acts (is_back backs)
@@ -50,8 +52,8 @@ trial_judged setting backs rules batch acts is =
     ]
 
 -- the first set is the one before the acts
-abbrev StartsAt : List Rule → List (List Rule) → Type 0
-StartsAt rules sets = (behind : List (List Rule)) × (sets ≡ rules ∷ behind)
+abbrev StartsAt : List Rule → List Led → Type 0
+StartsAt rules sets = (behind : List Led) × (sets ≡ Stands rules ∷ behind)
 
 starts-judged : (setting : Setting) (backs : List Bool) (rules : List Rule) (batch : List Change) (acts : List Act) (is : Verdict)
     → StartsAt rules (sets_through setting backs rules [] acts) → StartsAt rules (sets_judged setting backs rules batch acts is)
@@ -61,7 +63,7 @@ starts-judged setting backs rules batch acts (OutOfBits field needed free) more 
 starts-judged setting backs rules batch acts (OutOfSlots needed free) more = more
 
 starts-back : (setting : Setting) (backs : List Bool) (rules : List Rule) (batch : List Change) (acts : List Act) (back : Bool) → StartsAt rules (sets_tried setting backs rules batch acts back)
-starts-back setting backs rules batch acts true = (set_after rules batch ∷ sets_through setting backs rules [] acts, refl)
+starts-back setting backs rules batch acts true = (TakenBack (set_after rules batch) ∷ sets_through setting backs rules [] acts, refl)
 starts-back setting backs rules batch acts false = (sets_through setting backs (set_after rules batch) [] acts, refl)
 
 starts-tried : (setting : Setting) (backs : List Bool) (rules : List Rule) (batch : List Change) (acts : List Act) (is : Verdict)
@@ -83,12 +85,12 @@ starts setting backs rules batch (Trial most ∷ acts) =
 starts setting backs rules batch (Crash after ∷ acts) =
     starts-judged setting backs rules batch acts (verdict setting.slots setting.mode rules batch) (starts setting backs rules [] acts)
 
-first-set : (setting : Setting) (backs : List Bool) (rules : List Rule) (batch : List Change) (acts : List Act) → slice_get (sets_through setting backs rules batch acts) 0 ≡ Some rules
+first-set : (setting : Setting) (backs : List Bool) (rules : List Rule) (batch : List Change) (acts : List Act) → slice_get (sets_through setting backs rules batch acts) 0 ≡ Some (Stands rules)
 first-set setting backs rules batch acts = ap (λ sets. slice_get sets 0) (starts setting backs rules batch acts).1
 
 -- the sets of some first acts are the first sets
-abbrev Continues : List (List Rule) → List (List Rule) → Type 0
-Continues sets all = (behind : List (List Rule)) × (all ≡ sets ++ behind)
+abbrev Continues : List Led → List Led → Type 0
+Continues sets all = (behind : List Led) × (all ≡ sets ++ behind)
 
 -- so they are, whatever is pending
 abbrev ContinuesWith : Setting → List Act → List Act → Type 0
@@ -98,7 +100,7 @@ ContinuesWith setting acts later =
 more-judged : (setting : Setting) (backs : List Bool) (rules : List Rule) (batch : List Change) (acts later : List Act) (is : Verdict) → ContinuesWith setting acts later
     → Continues (sets_judged setting backs rules batch acts is) (sets_judged setting backs rules batch (acts ++ later) is)
 more-judged setting backs rules batch acts later Accepted more =
-    let new = more backs (set_after rules batch) [] in (new.0, ap (λ sets. rules ∷ sets) new.1)
+    let new = more backs (set_after rules batch) [] in (new.0, ap (λ sets. Stands rules ∷ sets) new.1)
 more-judged setting backs rules batch acts later (Unsound fault) more = more backs rules []
 more-judged setting backs rules batch acts later (OutOfBits field needed free) more = more backs rules []
 more-judged setting backs rules batch acts later (OutOfSlots needed free) more = more backs rules []
@@ -106,9 +108,9 @@ more-judged setting backs rules batch acts later (OutOfSlots needed free) more =
 more-back : (setting : Setting) (backs : List Bool) (rules : List Rule) (batch : List Change) (acts later : List Act) (back : Bool) → ContinuesWith setting acts later
     → Continues (sets_tried setting backs rules batch acts back) (sets_tried setting backs rules batch (acts ++ later) back)
 more-back setting backs rules batch acts later true more =
-    let old = more backs rules [] in (old.0, ap (λ sets. rules ∷ set_after rules batch ∷ sets) old.1)
+    let old = more backs rules [] in (old.0, ap (λ sets. Stands rules ∷ TakenBack (set_after rules batch) ∷ sets) old.1)
 more-back setting backs rules batch acts later false more =
-    let new = more backs (set_after rules batch) [] in (new.0, ap (λ sets. rules ∷ sets) new.1)
+    let new = more backs (set_after rules batch) [] in (new.0, ap (λ sets. Stands rules ∷ sets) new.1)
 
 more-tried : (setting : Setting) (backs : List Bool) (rules : List Rule) (batch : List Change) (acts later : List Act) (is : Verdict) → ContinuesWith setting acts later
     → Continues (trial_judged setting backs rules batch acts is) (trial_judged setting backs rules batch (acts ++ later) is)
@@ -136,11 +138,12 @@ more-sets setting backs rules batch acts later = more-sets-from setting acts lat
 -- ---- answers on the way
 
 -- no write
-stays : (state : State) (rules : List Rule) (sets : List (List Rule)) → slice_get sets 0 ≡ Some rules → Shows state rules → AnswersAllTheWay state sets []
+stays : (state : State) (rules : List Rule) (sets : List Led) → set_at sets 0 ≡ Some rules → Shows state rules → AnswersAllTheWay state sets []
 stays state rules sets first shows = record {
   place = λ n. 0;
   rises = λ n m less. omega arith;
   answers = λ n. (rules, rules, first, inr refl, λ key valid. inl (ap (λ writes. lookup (state_after state writes) key) (take-nil {A = Write} n) ∙ shows key valid));
+  whole = λ k n some is past. absurd (let none : k < 0 = past.0 in omega arith);
 }
 
 -- one write more in front
@@ -153,45 +156,85 @@ later-rises place rises zero m less = omega arith
 later-rises place rises (suc n) zero less = absurd (omega (arith, less))
 later-rises place rises (suc n) (suc m) less = let within : n ≤ m = omega (arith, less) in rises n m within
 
-later-answers : (state : State) (write : Write) (sets : List (List Rule)) (writes : List Write) (place : ℕ → ℕ) → ShowsSetOrNext state sets 0
+later-answers : (state : State) (write : Write) (sets : List Led) (writes : List Write) (place : ℕ → ℕ) → ShowsSetOrNext state sets 0
     → ((n : ℕ) → ShowsSetOrNext (state_after (apply state write) (take n writes)) sets (place n))
     → (n : ℕ) → ShowsSetOrNext (state_after state (take n (write ∷ writes))) sets (later place n)
 later-answers state write sets writes place here more zero = here
 later-answers state write sets writes place here more (suc n) = more n
 
-one-more : (state : State) (write : Write) (sets : List (List Rule)) (writes : List Write) → ShowsSetOrNext state sets 0
+later-whole : (state : State) (write : Write) (sets : List Led) (writes : List Write) (more : AnswersAllTheWay (apply state write) sets writes)
+    → (k n : ℕ) (rules : List Rule) → slice_get sets (suc k) ≡ Some (Stands rules) → IsFirstPast (later more.place) k n → Shows (state_after state (take n (write ∷ writes))) rules
+later-whole state write sets writes more k zero rules is past = absurd (let none : k < 0 = past.0 in omega arith)
+later-whole state write sets writes more k (suc n) rules is past = more.whole k n rules is (past.0, λ m less. past.1 (suc m) (omega arith))
+
+one-more : (state : State) (write : Write) (sets : List Led) (writes : List Write) → ShowsSetOrNext state sets 0
     → AnswersAllTheWay (apply state write) sets writes → AnswersAllTheWay state sets (write ∷ writes)
 one-more state write sets writes here more = record {
   place = later more.place;
   rises = later-rises more.place more.rises;
   answers = later-answers state write sets writes more.place here more.answers;
+  whole = later-whole state write sets writes more;
 }
 
 -- one set more in front
-next-set : (old : List Rule) (sets : List (List Rule)) (place : ℕ) (state : State) → ShowsSetOrNext state sets place → ShowsSetOrNext state (old ∷ sets) (suc place)
+next-set : (old : Led) (sets : List Led) (place : ℕ) (state : State) → ShowsSetOrNext state sets place → ShowsSetOrNext state (old ∷ sets) (suc place)
 next-set old sets place state is =
     let same : suc place + 1 ≡ suc (place + 1) = omega arith in
-    let get : ℕ → Option (List Rule) = λ at. slice_get (old ∷ sets) at in
+    let get : ℕ → Option (List Rule) = λ at. set_at (old ∷ sets) at in
     (is.0, is.1, is.2, elim is.3 [ inl next ↦ inl (ap get same ∙ next) | inr last ↦ inr last ], is.4)
 
-past : (state : State) (old : List Rule) (sets : List (List Rule)) (writes : List Write) → AnswersAllTheWay state sets writes → AnswersAllTheWay state (old ∷ sets) writes
-past state old sets writes is = record {
+-- the state shows the first set, if that stands
+abbrev ShowsFirst : State → List Led → Type 0
+ShowsFirst state sets = (rules : List Rule) → slice_get sets 0 ≡ Some (Stands rules) → Shows state rules
+
+past-whole : (state : State) (old : Led) (sets : List Led) (writes : List Write) → ShowsFirst state sets → (is : AnswersAllTheWay state sets writes)
+    → (k n : ℕ) (rules : List Rule) → slice_get (old ∷ sets) (suc k) ≡ Some (Stands rules) → IsFirstPast (λ n. suc (is.place n)) k n → Shows (state_after state (take n writes)) rules
+past-whole state old sets writes first is zero zero rules here past = first rules here
+past-whole state old sets writes first is zero (suc n) rules here past = absurd (let none : suc (is.place 0) ≤ 0 = past.1 0 (omega arith) in omega arith)
+past-whole state old sets writes first is (suc k) n rules here past =
+    is.whole k n rules here (let more : suc k < suc (is.place n) = past.0 in omega arith, λ m less. let few : suc (is.place m) ≤ suc k = past.1 m less in omega arith)
+
+past : (state : State) (old : Led) (sets : List Led) (writes : List Write) → ShowsFirst state sets → AnswersAllTheWay state sets writes → AnswersAllTheWay state (old ∷ sets) writes
+past state old sets writes first is = record {
   place = λ n. suc (is.place n);
   rises = λ n m less. let le = is.rises n m less in omega (arith, le);
   answers = λ n. next-set old sets (is.place n) (state_after state (take n writes)) (is.answers n);
+  whole = past-whole state old sets writes first is;
 }
 
 -- the writes of a commit, and those behind them
-segment : (old new : List Rule) (sets : List (List Rule)) (state : State) (made rest : List Write) → slice_get sets 0 ≡ Some new
-    → ((n : ℕ) → ShowsOldOrNew (state_after state (take n made)) old new) → AnswersAllTheWay (state_after state made) sets rest
+segment : (old new : Led) (sets : List Led) (state : State) (made rest : List Write) → slice_get sets 0 ≡ Some new
+    → ((n : ℕ) → ShowsOldOrNew (state_after state (take n made)) (rules_in old) (rules_in new)) → ShowsFirst (state_after state made) sets → AnswersAllTheWay (state_after state made) sets rest
     → AnswersAllTheWay state (old ∷ sets) (made ++ rest)
-segment old new sets state [] rest first during more = past state old sets rest more
-segment old new sets state (write ∷ made) rest first during more =
-    one-more state write (old ∷ sets) (made ++ rest) (old, new, refl, inl first, during 0)
-    (segment old new sets (apply state write) made rest first (λ n. during (suc n)) more)
+segment old new sets state [] rest first during last more = past state old sets rest last more
+segment old new sets state (write ∷ made) rest first during last more =
+    one-more state write (old ∷ sets) (made ++ rest) (rules_in old, rules_in new, refl, inl (ap (option_map rules_in) first), during 0)
+    (segment old new sets (apply state write) made rest first (λ n. during (suc n)) last more)
+
+min-here : (n most : ℕ) → n ≤ most → min n most ≡ n
+min-here n most within = let low = min-le_left n most in let high = le-min (le_refl n) within in omega (arith, low, high)
+
+min-most : (n most : ℕ) → most ≤ n → min n most ≡ most
+min-most n most within = let low = min-le_right n most in let high = le-min within (le_refl most) in omega (arith, low, high)
 
 -- some first writes
-cut : (state : State) (sets : List (List Rule)) (front back : List Write) → AnswersAllTheWay state sets (front ++ back) → AnswersAllTheWay state sets front
+cut-whole : (state : State) (sets : List Led) (front back : List Write) (is : AnswersAllTheWay state sets (front ++ back))
+    → (k n : ℕ) (rules : List Rule) → slice_get sets (suc k) ≡ Some (Stands rules) → IsFirstPast (λ n. is.place (min n (length front))) k n → Shows (state_after state (take n front)) rules
+cut-whole state sets front back is k n rules here past = elim (cases_lt (length front) n) [
+  | inl beyond ↦
+      absurd (let few : is.place (min (length front) (length front)) ≤ k = past.1 (length front) beyond in
+      let same : min n (length front) ≡ min (length front) (length front) = min-most n (length front) (omega arith) ∙ sym (min-most (length front) (length front) (le_refl _)) in
+      let more : k < is.place (min (length front) (length front)) = subst (λ m. k < is.place m) same past.0 in
+      omega arith)
+  | inr within ↦
+      subst (λ writes. Shows (state_after state writes) rules) (take-append-le n front back within)
+      (is.whole k n rules here (
+        subst (λ m. k < is.place m) (min-here n (length front) within) past.0,
+        λ m less. subst (λ i. is.place i ≤ k) (min-here m (length front) (omega arith)) (past.1 m less),
+      ))
+]
+
+cut : (state : State) (sets : List Led) (front back : List Write) → AnswersAllTheWay state sets (front ++ back) → AnswersAllTheWay state sets front
 cut state sets front back is = record {
   place = λ n. is.place (min n (length front));
   rises = λ n m less. is.rises (min n (length front)) (min m (length front))
@@ -199,30 +242,42 @@ cut state sets front back is = record {
   answers = λ n. subst (λ writes. ShowsSetOrNext (state_after state writes) sets (is.place (min n (length front))))
       (take-append-le (min n (length front)) front back (min-le_right n (length front)) ∙ take_min n front)
       (is.answers (min n (length front)));
+  whole = cut-whole state sets front back is;
 }
 
 -- more sets behind
-get-append : (sets behind : List (List Rule)) (place : ℕ) (rules : List Rule) → slice_get sets place ≡ Some rules → slice_get (sets ++ behind) place ≡ Some rules
+get-append : (sets behind : List Led) (place : ℕ) (rules : List Rule) → set_at sets place ≡ Some rules → set_at (sets ++ behind) place ≡ Some rules
 get-append [] behind place rules is = absurd (let none : None ≡ Some rules = is in cc)
 get-append (set ∷ sets) behind zero rules is = is
 get-append (set ∷ sets) behind (suc place) rules is = get-append sets behind place rules is
 
-wider-at : (sets behind : List (List Rule)) (place : ℕ) (state : State) → ShowsSetOrNext state sets place → ShowsSetOrNext state (sets ++ behind) place
+-- a set before one of these is one of these
+get-front : (sets behind : List Led) (place : ℕ) (rules : List Rule) (k : ℕ) (one : Led) → set_at sets place ≡ Some rules → k ≤ place → slice_get (sets ++ behind) k ≡ Some one → slice_get sets k ≡ Some one
+get-front [] behind place rules k one some within is = absurd (let none : None ≡ Some rules = some in cc)
+get-front (set ∷ sets) behind place rules zero one some within is = is
+get-front (set ∷ sets) behind zero rules (suc k) one some within is = absurd (omega (arith, within))
+get-front (set ∷ sets) behind (suc place) rules (suc k) one some within is = get-front sets behind place rules k one some (omega (arith, within)) is
+
+wider-at : (sets behind : List Led) (place : ℕ) (state : State) → ShowsSetOrNext state sets place → ShowsSetOrNext state (sets ++ behind) place
 wider-at sets behind place state is =
     (is.0, is.1, get-append sets behind place is.0 is.2, elim is.3 [ inl next ↦ inl (get-append sets behind (place + 1) is.1 next) | inr last ↦ inr last ], is.4)
 
-pub wider : (state : State) (sets all : List (List Rule)) (writes : List Write) → Continues sets all → AnswersAllTheWay state sets writes → AnswersAllTheWay state all writes
+pub wider : (state : State) (sets all : List Led) (writes : List Write) → Continues sets all → AnswersAllTheWay state sets writes → AnswersAllTheWay state all writes
 wider state sets all writes (behind, same) is = record {
   place = is.place;
   rises = is.rises;
   answers = λ n. subst (λ sets. ShowsSetOrNext (state_after state (take n writes)) sets (is.place n)) (sym same)
       (wider-at sets behind (is.place n) (state_after state (take n writes)) (is.answers n));
+  whole = λ k n rules here past.
+      (let stands = is.answers n in
+      let got : slice_get (sets ++ behind) (suc k) ≡ Some (Stands rules) = subst (λ sets. slice_get sets (suc k) ≡ Some (Stands rules)) same here in
+      is.whole k n rules (get-front sets behind (is.place n) stands.0 (suc k) (Stands rules) stands.2 past.0 got) past);
 }
 
 -- ---- a run
 
 -- on the way, and at its end
-abbrev Goes : State → List (List Rule) → List Write → Type 0
+abbrev Goes : State → List Led → List Write → Type 0
 Goes state sets writes = AnswersAllTheWay state sets writes × EndsAtLast state sets writes
 
 -- where a run stands its state shows its set
@@ -240,46 +295,81 @@ GoesOn setting old acts writes = (backs : List Bool) × GoesBy setting backs old
 abbrev Later : Setting → Progress → List Act → List Write → Type 0
 Later setting mid acts back = IsShown mid → GoesOn setting mid acts back
 
+-- where a run stands its state shows the first of the sets to come
+shows-first : (state : State) (setting : Setting) (backs : List Bool) (rules : List Rule) (acts : List Act) → Shows state rules → ShowsFirst state (sets_through setting backs rules [] acts)
+shows-first state setting backs rules acts shows other is =
+    let both : Some (Stands rules) ≡ Some (Stands other) = sym (first-set setting backs rules [] acts) ∙ is in
+    let same : rules ≡ other = cc in
+    subst (Shows state) same shows
+
+-- sets that are shown in turn behind some writes are so from before them on
+shown-behind : (state : State) (sets : List Led) (made back : List Write) → AreShownInTurn (state_after state made) sets back → AreShownInTurn state sets (made ++ back)
+shown-behind state [] made back shown = shown
+shown-behind state (Stands rules ∷ sets) made back (front, behind, same, shows, more) =
+    let now : state_after state (made ++ front) ≡ state_after (state_after state made) front = state_after-append state made front in (
+      made ++ front,
+      behind,
+      ap (λ writes. made ++ writes) same ∙ sym (append_assoc made front behind),
+      subst (λ state. Shows state rules) (sym now) shows,
+      subst (λ state. AreShownInTurn state sets behind) (sym now) more,
+    )
+shown-behind state (TakenBack rules ∷ sets) made back shown = shown-behind state sets made back shown
+
+-- the state shows this set, if that stands
+abbrev ShowsLed : State → Led → Type 0
+ShowsLed state (Stands rules) = Shows state rules
+ShowsLed state (TakenBack rules) = Unit {0}
+
+shown-first : (state : State) (first : Led) (sets : List Led) (writes : List Write) → ShowsLed state first → AreShownInTurn state sets writes → AreShownInTurn state (first ∷ sets) writes
+shown-first state (Stands rules) sets writes here more = ([], writes, refl, here, more)
+shown-first state (TakenBack rules) sets writes here more = more
+
 -- the last set stays the last behind one more
-ends-behind : (state : State) (first : List Rule) (sets : List (List Rule)) (made back : List Write) → EndsAtLast (state_after state made) sets back → EndsAtLast state (first ∷ sets) (made ++ back)
-ends-behind state first sets made back ends = record {
+ends-behind : (state : State) (first : Led) (sets : List Led) (made back : List Write) → ShowsLed state first → EndsAtLast (state_after state made) sets back → EndsAtLast state (first ∷ sets) (made ++ back)
+ends-behind state first sets made back here ends = record {
   front = first ∷ ends.front;
   rules = ends.rules;
   sets_are = ap (λ behind. first ∷ behind) ends.sets_are;
   shows = subst (λ state. Shows state ends.rules) (sym (state_after-append state made back)) ends.shows;
+  in_turn = shown-first state first sets (made ++ back) here (shown-behind state sets made back ends.in_turn);
 }
 
 -- a commit that finishes
-goes-commit : (setting : Setting) (old : Progress) (front : List Effect) (mid : Progress) (acts : List Act) (back : List Write) → Commits setting old front mid → Later setting mid acts back
-    → (backs : List Bool) × Goes old.state (old.rules ∷ sets_through setting backs (set_after old.rules old.batch) [] acts) (journal_of front ++ back)
-goes-commit setting old front mid acts back step more =
+goes-commit : (setting : Setting) (old : Progress) (front : List Effect) (mid : Progress) (acts : List Act) (back : List Write) → IsShown old → Commits setting old front mid → Later setting mid acts back
+    → (backs : List Bool) × Goes old.state (Stands old.rules ∷ sets_through setting backs (set_after old.rules old.batch) [] acts) (journal_of front ++ back)
+goes-commit setting old front mid acts back shown step more =
     let new : List Rule = set_after old.rules old.batch in
     let P : Progress → Type 0 = λ p. Later setting p acts back in
     let last = subst P step.after more step.segment.hitless.after in
-    let sets : List (List Rule) = sets_through setting last.0 new [] acts in
+    let sets : List Led = sets_through setting last.0 new [] acts in
     let made : step.made ++ back ≡ journal_of front ++ back =
     sym (ap (λ writes. writes ++ back) (ap journal_of step.effects_are ∙ written-segment setting old step.made _)) in (
       last.0,
-      subst (λ writes. Goes old.state (old.rules ∷ sets) writes) made
-          (segment old.rules new sets old.state step.made back (first-set setting last.0 new [] acts) step.segment.hitless.on_the_way.during last.1.0, ends-behind old.state old.rules sets step.made back last.1.1),
+      subst (λ writes. Goes old.state (Stands old.rules ∷ sets) writes) made (
+        segment (Stands old.rules) (Stands new) sets old.state step.made back (first-set setting last.0 new [] acts) step.segment.hitless.on_the_way.during
+            (shows-first (state_after old.state step.made) setting last.0 new acts step.segment.hitless.after) last.1.0,
+        ends-behind old.state (Stands old.rules) sets step.made back shown last.1.1,
+      ),
     )
 
 -- one that crashes and is gone on with
-goes-restarted : (setting : Setting) (old : Progress) (after : ℕ) (front : List Effect) (mid : Progress) (acts : List Act) (back : List Write) → Restarts setting old after front mid → Later setting mid acts back
-    → (backs : List Bool) × Goes old.state (old.rules ∷ sets_through setting backs (set_after old.rules old.batch) [] acts) (journal_of front ++ back)
-goes-restarted setting old after front mid acts back step more =
+goes-restarted : (setting : Setting) (old : Progress) (after : ℕ) (front : List Effect) (mid : Progress) (acts : List Act) (back : List Write) → IsShown old → Restarts setting old after front mid → Later setting mid acts back
+    → (backs : List Bool) × Goes old.state (Stands old.rules ∷ sets_through setting backs (set_after old.rules old.batch) [] acts) (journal_of front ++ back)
+goes-restarted setting old after front mid acts back shown step more =
     let new : List Rule = set_after old.rules old.batch in
     let P : Progress → Type 0 = λ p. Later setting p acts back in
     let made : List Write = take after step.made ++ step.rest in
     let shows : Shows (state_after old.state made) new = subst (λ (now : State). Shows now new) (sym (state_after-append old.state (take after step.made) step.rest)) step.goes_on.after in
     let last = subst P step.new_is more shows in
-    let sets : List (List Rule) = sets_through setting last.0 new [] acts in
+    let sets : List Led = sets_through setting last.0 new [] acts in
     let same : made ++ back ≡ journal_of front ++ back = sym (ap (λ writes. writes ++ back) (written-restarts setting old mid after front step)) in
     let during : (n : ℕ) → ShowsOldOrNew (state_after old.state (take n made)) old.rules new =
     joined old.rules new old.state step.made step.rest after step.crash.more step.crash.segment.hitless.on_the_way.during step.goes_on.during in (
       last.0,
-      subst (λ writes. Goes old.state (old.rules ∷ sets) writes) same
-          (segment old.rules new sets old.state made back (first-set setting last.0 new [] acts) during last.1.0, ends-behind old.state old.rules sets made back last.1.1),
+      subst (λ writes. Goes old.state (Stands old.rules ∷ sets) writes) same (
+        segment (Stands old.rules) (Stands new) sets old.state made back (first-set setting last.0 new [] acts) during (shows-first (state_after old.state made) setting last.0 new acts shows) last.1.0,
+        ends-behind old.state (Stands old.rules) sets made back shown last.1.1,
+      ),
     )
 
 -- on the way back each key has the new answer or the old one
@@ -298,12 +388,12 @@ back-passes state front n =
 
 -- a trial that is taken back
 goes-return : (setting : Setting) (old : Progress) (most : ℕ) (front : List Effect) (mid : Progress) (acts : List Act) (back : List Write) → IsShown old → Returns setting old most front mid → Later setting mid acts back
-    → (backs : List Bool) × Goes old.state (old.rules ∷ set_after old.rules old.batch ∷ sets_through setting backs old.rules [] acts) (journal_of front ++ back)
+    → (backs : List Bool) × Goes old.state (Stands old.rules ∷ TakenBack (set_after old.rules old.batch) ∷ sets_through setting backs old.rules [] acts) (journal_of front ++ back)
 goes-return setting old most front mid acts back shown step more =
     let new : List Rule = set_after old.rules old.batch in
     let P : Progress → Type 0 = λ p. Later setting p acts back in
     let last = subst P step.after more shown in
-    let sets : List (List Rule) = sets_through setting last.0 old.rules [] acts in
+    let sets : List Led = sets_through setting last.0 old.rules [] acts in
     let there : List Write = take most step.made in
     let undo : List Write = undo_writes old.state there in
     let begins : state_after (state_after old.state there) undo ≡ old.state = sym (state_after-append old.state there undo) ∙ undo_ends old.state there in
@@ -318,13 +408,18 @@ goes-return setting old most front mid acts back shown step more =
     λ n. (let passes = back-passes old.state there n in
     subst (λ state. ShowsOldOrNew state new old.rules) (sym passes.1) (shows-back (state_after old.state (take passes.0 there)) old.rules new (on passes.0))) in
     let rest : Goes (state_after (state_after old.state there) undo) sets back = subst (λ state. Goes state sets back) (sym begins) last.1 in
-    let again : Goes (state_after old.state there) (new ∷ sets) (undo ++ back) =
-    (segment new old.rules sets (state_after old.state there) undo back (first-set setting last.0 old.rules [] acts) off rest.0, ends-behind (state_after old.state there) new sets undo back rest.1) in
+    let again : Goes (state_after old.state there) (TakenBack new ∷ sets) (undo ++ back) = (
+      segment (TakenBack new) (Stands old.rules) sets (state_after old.state there) undo back (first-set setting last.0 old.rules [] acts) off
+          (shows-first (state_after (state_after old.state there) undo) setting last.0 old.rules acts (subst (λ now. Shows now old.rules) (sym begins) shown)) rest.0,
+      ends-behind (state_after old.state there) (TakenBack new) sets undo back tt rest.1,
+    ) in
     let made : there ++ (undo ++ back) ≡ journal_of front ++ back =
     sym (append_assoc there undo back) ∙ sym (ap (λ writes. writes ++ back) (ap journal_of step.effects_are ∙ written-return setting old most step.made _)) in (
       last.0,
-      subst (λ writes. Goes old.state (old.rules ∷ new ∷ sets) writes) made
-          (segment old.rules new (new ∷ sets) old.state there (undo ++ back) refl on again.0, ends-behind old.state old.rules (new ∷ sets) there (undo ++ back) again.1),
+      subst (λ writes. Goes old.state (Stands old.rules ∷ TakenBack new ∷ sets) writes) made (
+        segment (Stands old.rules) (TakenBack new) (TakenBack new ∷ sets) old.state there (undo ++ back) refl on (λ rules stands. absurd (let bad : TakenBack new ≡ Stands rules = cc in cc)) again.0,
+        ends-behind old.state (Stands old.rules) (TakenBack new ∷ sets) there (undo ++ back) shown again.1,
+      ),
     )
 
 -- one that is refused
@@ -338,7 +433,7 @@ goes-refused setting old reason front mid acts back shown step more =
 goes-judged : (setting : Setting) (old : Progress) (is : Verdict) (front : List Effect) (mid : Progress) (acts : List Act) (back : List Write)
     → IsShown old → Judged Commits setting old is front mid → Later setting mid acts back
     → (backs : List Bool) × Goes old.state (sets_judged setting backs old.rules old.batch acts is) (journal_of front ++ back)
-goes-judged setting old Accepted front mid acts back shown step more = goes-commit setting old front mid acts back step more
+goes-judged setting old Accepted front mid acts back shown step more = goes-commit setting old front mid acts back shown step more
 goes-judged setting old (Unsound fault) front mid acts back shown step more = goes-refused setting old (Unsound fault) front mid acts back shown step more
 goes-judged setting old (OutOfBits field needed free) front mid acts back shown step more = goes-refused setting old (OutOfBits field needed free) front mid acts back shown step more
 goes-judged setting old (OutOfSlots needed free) front mid acts back shown step more = goes-refused setting old (OutOfSlots needed free) front mid acts back shown step more
@@ -347,7 +442,7 @@ goes-tried : (most : ℕ) (setting : Setting) (old : Progress) (is : Verdict) (f
     → IsShown old → Judged (Tries most) setting old is front mid → Later setting mid acts back
     → (backs : List Bool) × Goes old.state (trial_judged setting backs old.rules old.batch acts is) (journal_of front ++ back)
 goes-tried most setting old Accepted front mid acts back shown (inl commits) more =
-    let last = goes-commit setting old front mid acts back commits.0 more in (false ∷ last.0, last.1)
+    let last = goes-commit setting old front mid acts back shown commits.0 more in (false ∷ last.0, last.1)
 goes-tried most setting old Accepted front mid acts back shown (inr returns) more =
     let last = goes-return setting old most front mid acts back shown returns more in (true ∷ last.0, last.1)
 goes-tried most setting old (Unsound fault) front mid acts back shown step more = goes-refused setting old (Unsound fault) front mid acts back shown step more
@@ -357,8 +452,8 @@ goes-tried most setting old (OutOfSlots needed free) front mid acts back shown s
 goes-crashed : (after : ℕ) (setting : Setting) (old : Progress) (is : Verdict) (front : List Effect) (mid : Progress) (acts : List Act) (back : List Write)
     → IsShown old → Judged (Crashes after) setting old is front mid → Later setting mid acts back
     → (backs : List Bool) × Goes old.state (sets_judged setting backs old.rules old.batch acts is) (journal_of front ++ back)
-goes-crashed after setting old Accepted front mid acts back shown (inl commits) more = goes-commit setting old front mid acts back commits.0 more
-goes-crashed after setting old Accepted front mid acts back shown (inr restarts) more = goes-restarted setting old after front mid acts back restarts more
+goes-crashed after setting old Accepted front mid acts back shown (inl commits) more = goes-commit setting old front mid acts back shown commits.0 more
+goes-crashed after setting old Accepted front mid acts back shown (inr restarts) more = goes-restarted setting old after front mid acts back shown restarts more
 goes-crashed after setting old (Unsound fault) front mid acts back shown step more = goes-refused setting old (Unsound fault) front mid acts back shown step more
 goes-crashed after setting old (OutOfBits field needed free) front mid acts back shown step more = goes-refused setting old (OutOfBits field needed free) front mid acts back shown step more
 goes-crashed after setting old (OutOfSlots needed free) front mid acts back shown step more = goes-refused setting old (OutOfSlots needed free) front mid acts back shown step more
@@ -386,7 +481,7 @@ goes-step setting old (Crash after) front mid acts back shown step more =
 goes : (setting : Setting) (old : Progress) (acts : List Act) (effects : List Effect) (new : Progress) → IsShown old → Run setting old acts effects new → GoesOn setting old acts (journal_of effects)
 goes setting old [] effects new shown run =
     subst (λ writes. GoesOn setting old [] writes) (sym (ap journal_of run.0))
-    ([], (stays old.state old.rules (old.rules ∷ []) refl shown, record { front = []; rules = old.rules; sets_are = refl; shows = shown }))
+    ([], (stays old.state old.rules (Stands old.rules ∷ []) refl shown, record { front = []; rules = old.rules; sets_are = refl; shows = shown; in_turn = ([], [], refl, shown, tt) }))
 goes setting old (act ∷ acts) effects new shown (front, mid, back, step, rest, whole) =
     subst (λ writes. GoesOn setting old (act ∷ acts) writes) (sym (ap journal_of whole ∙ written-append front back))
     (goes-step setting old act front mid acts (journal_of back) shown step (λ mid_shown. goes setting mid acts back new mid_shown rest))
@@ -406,7 +501,7 @@ cut-answers setting slots backs done act behind all body front back same goes =
     let first : List Act = done ++ act ∷ [] in
     let whole : List Effect = body ++ (front ++ back) in
     let parts : journal_of whole ≡ journal_of (body ++ front) ++ journal_of back = ap journal_of (sym (append_assoc body front back)) ∙ written-append (body ++ front) back in
-    let sets : List (List Rule) = sets_through setting backs [] [] all in
+    let sets : List Led = sets_through setting backs [] [] all in
     let answers : AnswersAllTheWay (blank slots) sets (journal_of whole) =
     subst (λ acts. AnswersAllTheWay (blank slots) (sets_through setting backs [] [] acts) (journal_of whole)) (sym (same ∙ sym (append_assoc done (act ∷ []) behind)))
     (wider (blank slots) (sets_through setting backs [] [] first) (sets_through setting backs [] [] (first ++ behind)) (journal_of whole) (more-sets setting backs [] [] first behind) goes.0) in
@@ -419,15 +514,15 @@ SetsSame setting one other = (backs : List Bool) (rules : List Rule) (batch : Li
 
 same-judged : (setting : Setting) (backs : List Bool) (rules : List Rule) (batch : List Change) (one other : List Act) (is : Verdict) → SetsSame setting one other
     → sets_judged setting backs rules batch one is ≡ sets_judged setting backs rules batch other is
-same-judged setting backs rules batch one other Accepted same = ap (λ sets. rules ∷ sets) (same backs (set_after rules batch) [])
+same-judged setting backs rules batch one other Accepted same = ap (λ sets. Stands rules ∷ sets) (same backs (set_after rules batch) [])
 same-judged setting backs rules batch one other (Unsound fault) same = same backs rules []
 same-judged setting backs rules batch one other (OutOfBits field needed free) same = same backs rules []
 same-judged setting backs rules batch one other (OutOfSlots needed free) same = same backs rules []
 
 same-back : (setting : Setting) (backs : List Bool) (rules : List Rule) (batch : List Change) (one other : List Act) (back : Bool) → SetsSame setting one other
     → sets_tried setting backs rules batch one back ≡ sets_tried setting backs rules batch other back
-same-back setting backs rules batch one other true same = ap (λ sets. rules ∷ set_after rules batch ∷ sets) (same backs rules [])
-same-back setting backs rules batch one other false same = ap (λ sets. rules ∷ sets) (same backs (set_after rules batch) [])
+same-back setting backs rules batch one other true same = ap (λ sets. Stands rules ∷ TakenBack (set_after rules batch) ∷ sets) (same backs rules [])
+same-back setting backs rules batch one other false same = ap (λ sets. Stands rules ∷ sets) (same backs (set_after rules batch) [])
 
 same-tried : (setting : Setting) (backs : List Bool) (rules : List Rule) (batch : List Change) (one other : List Act) (is : Verdict) → SetsSame setting one other
     → trial_judged setting backs rules batch one is ≡ trial_judged setting backs rules batch other is

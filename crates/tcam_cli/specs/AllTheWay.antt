@@ -1,6 +1,6 @@
 -- What packets see of a run, in the words of rule sets: the acts lead from set to set, and after each device write
 -- every packet key has the answer of one of these sets or of the next one.
-use Rattle.std.specs.Prelude.{◌≡◌, ℕ, ◌+◌, ◌-◌, ◌≤◌, ◌⊎◌, Bool, true, false, Option, Some, IfSome, List, [], ◌∷◌, ◌++◌, length, take, drop, slice_get}
+use Rattle.std.specs.Prelude.{◌≡◌, ℕ, suc, ◌+◌, ◌-◌, ◌<◌, ◌≤◌, ◌⊎◌, Bool, true, false, Option, Some, IfSome, option_map, List, [], ◌∷◌, ◌++◌, length, take, drop, slice_get}
 use Rattle.std.specs.List.{AllByRecursion}
 use Rattle.rule_model.specs.declared.Rule.{Rule}
 use Rattle.rule_store.specs.declared.Command.{Command as Change}
@@ -20,64 +20,94 @@ use Rattle.tcam_cli.specs.Headline.{Job, NoJob, Tells, Reads, Makes, acts_of, is
 use Rattle.tcam_cli.specs.MadeScript.{made_script}
 use Rattle.tcam_cli.specs.Readings.{reading}
 
+-- A set that acts lead through: one that stands when its commit is made, or the new one of a trial that is taken back.
+pub data Led : Type 0 where
+  Stands : (rules : List Rule) → Led
+  TakenBack : (rules : List Rule) → Led
+
+abbrev pub rules_in : Led → List Rule
+rules_in (Stands rules) = rules
+rules_in (TakenBack rules) = rules
+
+-- the rules of the set at this place, where there is one
+abbrev pub set_at : List Led → ℕ → Option (List Rule)
+set_at sets place = option_map rules_in (slice_get sets place)
+
 -- The sets that acts lead through, by the rule lists and by which accepted trials are taken back: the first, one more
 -- for each accepted commit, and for a trial that is taken back the new set and then the old one again.
-abbrev pub sets_through : Setting → List Bool → List Rule → List Change → List Act → List (List Rule)
-sets_through setting backs rules batch [] = rules ∷ []
+abbrev pub sets_through : Setting → List Bool → List Rule → List Change → List Act → List Led
+sets_through setting backs rules batch [] = Stands rules ∷ []
 sets_through setting backs rules batch (Command change ∷ acts) = sets_through setting backs rules (batch ++ change ∷ []) acts
 sets_through setting backs rules batch (Probe key ∷ acts) = sets_through setting backs rules batch acts
 sets_through setting backs rules batch (Packet key ∷ acts) = sets_through setting backs rules batch acts
 sets_through setting backs rules batch (Commit ∷ acts) =
     elim (verdict setting.slots setting.mode rules batch) [
-      | Accepted ↦ rules ∷ sets_through setting backs (set_after rules batch) [] acts
+      | Accepted ↦ Stands rules ∷ sets_through setting backs (set_after rules batch) [] acts
       | _ ↦ sets_through setting backs rules [] acts
     ]
 sets_through setting backs rules batch (Trial most ∷ acts) =
     elim (verdict setting.slots setting.mode rules batch) [
       | Accepted ↦
           elim (is_back backs) [
-            | true ↦ rules ∷ set_after rules batch ∷ sets_through setting (drop 1 backs) rules [] acts
-            | false ↦ rules ∷ sets_through setting (drop 1 backs) (set_after rules batch) [] acts
+            | true ↦ Stands rules ∷ TakenBack (set_after rules batch) ∷ sets_through setting (drop 1 backs) rules [] acts
+            | false ↦ Stands rules ∷ sets_through setting (drop 1 backs) (set_after rules batch) [] acts
           ]
       | _ ↦ sets_through setting backs rules [] acts
     ]
 sets_through setting backs rules batch (Crash after ∷ acts) =
     elim (verdict setting.slots setting.mode rules batch) [
-      | Accepted ↦ rules ∷ sets_through setting backs (set_after rules batch) [] acts
+      | Accepted ↦ Stands rules ∷ sets_through setting backs (set_after rules batch) [] acts
       | _ ↦ sets_through setting backs rules [] acts
     ]
 
 -- the sets that a script leads a blank device through: the empty one first
-abbrev pub sets_of : Setting → List Bool → Script → List (List Rule)
+abbrev pub sets_of : Setting → List Bool → Script → List Led
 sets_of setting backs script = sets_through setting backs [] [] (acts_of script)
 
 -- every key has the answer of the set at this place, or of the next one, where there is one
-abbrev pub ShowsSetOrNext : State → List (List Rule) → ℕ → Type 0
+abbrev pub ShowsSetOrNext : State → List Led → ℕ → Type 0
 ShowsSetOrNext state sets place =
-    (old : List Rule) × (new : List Rule) × (slice_get sets place ≡ Some old)
-    × ((slice_get sets (place + 1) ≡ Some new) ⊎ (new ≡ old)) × ShowsOldOrNew state old new
+    (old : List Rule) × (new : List Rule) × (set_at sets place ≡ Some old)
+    × ((set_at sets (place + 1) ≡ Some new) ⊎ (new ≡ old)) × ShowsOldOrNew state old new
+
+-- behind so many writes the place is past this one, and behind fewer it wasn't
+abbrev pub IsFirstPast : (ℕ → ℕ) → ℕ → ℕ → Type 0
+IsFirstPast place k n = (k < place n) × ((m : ℕ) → m < n → place m ≤ k)
 
 -- Before the first and after each of the writes every key has the answer of one of the sets or of the next one, and
 -- the places of these sets come in their order: none is gone back to. A key's answer may come again all the same, from
--- a later place, or within a commit that replaces a rule.
-pub record AnswersAllTheWay (state : State) (sets : List (List Rule)) (writes : List Write) : Type 0 where
+-- a later place, or within a commit that replaces a rule. And where a place is first come to or passed, every key has the
+-- answer of the set there, but for a trial's that is taken back: so a commit's last write leaves its new set, and no commit
+-- is made together with the next.
+pub record AnswersAllTheWay (state : State) (sets : List Led) (writes : List Write) : Type 0 where
   pub place : ℕ → ℕ
   pub rises : (n m : ℕ) → n ≤ m → place n ≤ place m
   pub answers : (n : ℕ) → ShowsSetOrNext (state_after state (take n writes)) sets (place n)
+  pub whole : (k n : ℕ) (rules : List Rule) → slice_get sets (suc k) ≡ Some (Stands rules) → IsFirstPast place k n → Shows (state_after state (take n writes)) rules
 
--- after all of the writes every key has the answer of the last set
-pub record EndsAtLast (state : State) (sets : List (List Rule)) (writes : List Write) : Type 0 where
-  pub front : List (List Rule)
+-- Every key has the answer of the first set after some of the writes, that of the second after some more, and so on: each set
+-- is shown whole, in turn, but for those of trials that are taken back.
+abbrev pub AreShownInTurn : State → List Led → List Write → Type 0
+AreShownInTurn state [] writes = Unit {0}
+AreShownInTurn state (Stands rules ∷ sets) writes =
+    (made : List Write) × (behind : List Write) × (writes ≡ made ++ behind) × Shows (state_after state made) rules
+    × AreShownInTurn (state_after state made) sets behind
+AreShownInTurn state (TakenBack rules ∷ sets) writes = AreShownInTurn state sets writes
+
+-- the sets are shown in turn, and after all of the writes every key has the answer of the last one
+pub record EndsAtLast (state : State) (sets : List Led) (writes : List Write) : Type 0 where
+  pub front : List Led
   pub rules : List Rule
-  pub sets_are : sets ≡ front ++ rules ∷ []
+  pub sets_are : sets ≡ front ++ Stands rules ∷ []
   pub shows : Shows (state_after state writes) rules
+  pub in_turn : AreShownInTurn state sets writes
 
 -- These acts are the first of the script, and so are their sets. All of them are carried out, so the writes end at the
 -- last of their sets.
 pub record EndsAfter (state : State) (setting : Setting) (backs : List Bool) (script : Script) (done : List Act) (writes : List Write) : Type 0 where
   pub later : List Act
   pub acts : acts_of script ≡ done ++ later
-  pub behind : List (List Rule)
+  pub behind : List Led
   pub sets : sets_of setting backs script ≡ sets_through setting backs [] [] done ++ behind
   pub answers : AnswersAllTheWay state (sets_through setting backs [] [] done) writes
   pub ends : EndsAtLast state (sets_through setting backs [] [] done) writes

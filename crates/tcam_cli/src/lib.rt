@@ -24,8 +24,10 @@
 //!   `decided`): `hitless` and `causes` say that there is such a list, and `carried_out` when each is (`Tries`). In a
 //!   script without trials nothing is asked of the list.
 //! - **What packets see is stated once above the run's steps, in rule sets alone** (`AllTheWay`): the sets that a
-//!   script leads through, and after each device write the answer of one of them or of the next, in order. It follows
-//!   from `IsCarriedOut`, and stands as a clause of `run` so that no reader has to do the induction. A run that ends
+//!   script leads through, and after each device write the answer of one of them or of the next, in order. Each is shown
+//!   whole where it is come to, but for a trial's that is taken back, which the writes may never show whole (`Led` tells
+//!   them apart). It follows from `IsCarriedOut`, and stands as a clause of `run` so that no reader has to do the
+//!   induction: without this, a journal that makes two commits by the last write alone would do. A run that ends
 //!   for want of memory, but at a crash, or by a failed read leaves no commit half made; a failed device write may, and
 //!   so may a failed line of a write.
 //! - **Lines are carried out before the next read** (`in_time`). Sources and sinks have histories of their own, so no
