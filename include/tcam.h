@@ -3,25 +3,36 @@
  * Who does what: the memory is the caller's. Changes to the rules join a pending batch; tcam_prepare has it judged
  * and plans every write of its commit; then the caller asks tcam_next which write is due, makes it, and says so by
  * tcam_made, until nothing is due. A write that fails is asked for again: tcam_next tells the same one until
- * tcam_made comes, and it may be made twice. A commit by TCAM_BY_BITS that brings new port ranges drains once,
- * behind the words of the tables: tcam_next tells TCAM_DRAIN, the caller waits until no look-up whose search word
- * was made before is still to be searched, and says so by tcam_drained. Where a look-up makes its word and searches
- * the slots in one, there is nothing to wait for. Packets may be looked up between any two calls: before the first
- * write and after each of them, also where the write that is due was made and not told yet, each packet gets the
- * answer of the old rules or that of the new ones, and after the last tcam_made that of the new ones. A commit that
- * is stuck, or not wanted any more, is turned round by tcam_abort: then the writes that undo it are due in the same
- * way, and after the last of them each packet gets the answer of the old rules.
+ * tcam_made comes, and it may be made twice. A commit by TCAM_BY_BITS that brings new port ranges drains once, behind
+ * the words of the tables: tcam_next tells TCAM_DRAIN, the caller waits until no look-up whose search word was made
+ * before is still to be searched, and says so by tcam_drained. Where a look-up makes its word and searches the slots
+ * in one, there is nothing to wait for. Packets may be looked up between any two calls: before the first write and
+ * after each of them, also where the write that is due was made and not told yet, each packet gets the answer of the
+ * old rules or that of the new ones, and after the last tcam_made that of the new ones. A commit that is stuck, or
+ * not wanted any more, is turned round by tcam_abort: then the writes that undo it are due in the same way, and after
+ * the last of them each packet gets the answer of the old rules.
+ *
+ * Some memories have their results beside the slots, in a memory of their own: a search finds the least slot that
+ * hits, and the slot's result word is read later. For one of these the manager is made by tcam_new_split, and all
+ * else stays as it is. What is due are the parts of a write then: TCAM_RESULT, a slot's result word; TCAM_PUT, its
+ * value and mask alone; TCAM_ERASE, which leaves the result word; and TCAM_WORD. A TCAM_DRAIN comes in either mode,
+ * wherever a result word must not change under a look-up that may have found its slot for another entry: the caller
+ * waits until no look-up that has begun is still to be searched or to read its result word. Between any two calls a
+ * look-up may be searched, and read between any two later ones: it gets what a look-up that is made whole would at
+ * some moment between its search and its read, the answer of the rules that were the old ones or the new ones then. A
+ * commit by parts isn't turned round: tcam_abort drops it before its first part, and answers TCAM_BEGUN behind that.
  *
  * Every function answers a code: TCAM_NULL where a pointer is null, and else TCAM_NO_MANAGER where the handle has
- * none, but for tcam_new. With any code but TCAM_OK all is as it was before the call, and nothing was written
- * through a pointer, but what tcam_prepare tells of a refusal and tcam_abort with TCAM_BACK. After any code any call
- * may come.
+ * none, but for tcam_new and tcam_new_split. With any code but TCAM_OK all is as it was before the call, and nothing
+ * was written through a pointer, but what tcam_prepare tells of a refusal and tcam_abort with TCAM_BACK. After any code
+ * any call may come.
  *
- * No call locks, waits, prints, calls back, or keeps a pointer that it is given. tcam_new, the functions that put a
- * change into the batch, and tcam_prepare take memory by malloc, realloc and free, and say so by TCAM_MEMORY where
- * it is wanting. No call takes memory between a tcam_prepare and the last tcam_made of its commit, but those that
- * put changes into the next batch: so a commit that is under way can't fail for memory, nor can it be kept from
- * being taken back. The last tcam_made gives back what the commit took, or a tcam_abort with nothing to undo.
+ * No call locks, waits, prints, calls back, or keeps a pointer that it is given. tcam_new and tcam_new_split, the
+ * functions that put a change into the batch, and tcam_prepare take memory by malloc, realloc and free, and say so by
+ * TCAM_MEMORY where it is wanting. No call takes memory between a tcam_prepare and the last tcam_made of its commit, but
+ * those that put changes into the next batch: so a commit that is under way can't fail for memory, nor can want of it
+ * keep one of whole entries from being taken back. The last tcam_made gives back what the commit took, or a tcam_abort
+ * with nothing to undo.
  *
  * Addresses, ports and protocols are numbers as the processor has them: 10.0.0.0 is 0x0a000000. A result is any
  * number, and a look-up answers it: an output port, a next hop, permit or deny. Routes and rules of an access list
@@ -36,10 +47,11 @@
  *    hand one over by a lock, or by a start or join of a thread. No call comes from a signal handler, or in a forked
  *    child of a process with threads.
  *  - malloc, realloc and free come from one allocator, and a block is aligned to 16 bytes.
- *  - The memory is blank when tcam_new is called: each slot empty, and each word of both tables 0. Nobody else
- *    writes it.
+ *  - The memory is blank when tcam_new or tcam_new_split is called: each slot empty, and each word of both tables 0.
+ *    Nobody else writes it.
  *  - tcam_made comes where the write that tcam_next told was made, whole, behind those before it; and tcam_drained
- *    where no look-up is left that made its search word before, and has not been searched. */
+ *    where no look-up is left that made its search word before, and has not been searched, nor one, with results
+ *    beside the slots, that has not read its result word. */
 #ifndef TCAM_H
 #define TCAM_H
 
@@ -82,13 +94,14 @@ enum tcam_error {
     TCAM_DRAIN_DUE = 20,    /* a drain is due, and no write */
     TCAM_WRITE_DUE = 21,    /* a write is due, and no drain */
     TCAM_BACK = 22,         /* the commit is turned round already */
-    TCAM_RESTARTED = 23     /* a restart goes on with the commit: it can't be taken back */
+    TCAM_RESTARTED = 23,    /* a restart goes on with the commit: it can't be taken back */
+    TCAM_BEGUN = 24         /* the commit is made by parts and has begun: it can't be taken back */
 };
 
 /* How port ranges are cut: into an entry for each pair of blocks of their covers, up to 900 a rule, or into one
  * entry whose bits two translation tables of the memory give, up to 16 ranges of each field, beside those that are
- * one block. Only TCAM_BY_BITS has words of tables and drains among what is due: a memory without such tables takes
- * TCAM_COVER. */
+ * one block. Only TCAM_BY_BITS has words of tables among what is due, and only there or with results beside the slots
+ * are drains: a memory without such tables takes TCAM_COVER. */
 enum tcam_mode { TCAM_COVER = 0, TCAM_BY_BITS = 1 };
 
 /* Where a new entry goes: to the middle of its gap, as routes want it, or to the slot of its rank, as access lists
@@ -98,10 +111,13 @@ enum tcam_placement { TCAM_MIDDLE = 0, TCAM_RANK = 1 };
 /* What is due. Later kinds may come: a driver that meets one that it doesn't know makes nothing and tells nothing. */
 enum tcam_kind {
     TCAM_NOTHING = 0, /* no commit is under way */
-    TCAM_PUT = 1,     /* a slot gets an entry: slot, value, mask, tag, result */
-    TCAM_ERASE = 2,   /* a slot is emptied: slot */
+    TCAM_PUT = 1,     /* a slot gets an entry: slot, value, mask, tag, result; with results beside the slots its tag
+                       * and result are 0, since they stand in its result word */
+    TCAM_ERASE = 2,   /* a slot is emptied: slot; a result word beside it stays */
     TCAM_WORD = 3,    /* a table gets a word at a port: field, port, word */
-    TCAM_DRAIN = 4    /* wait until each word that a look-up made was searched, and tell it by tcam_drained */
+    TCAM_DRAIN = 4,   /* wait until each word that a look-up made was searched, and tell it by tcam_drained; with
+                       * results beside the slots also until each slot that was found has had its result word read */
+    TCAM_RESULT = 5   /* a slot gets a result word: slot, tag, result; of a manager by tcam_new_split alone */
 };
 
 enum tcam_field { TCAM_SOURCE = 0, TCAM_DESTINATION = 1 };
@@ -178,9 +194,9 @@ struct tcam_rule {
     uint32_t result;
 };
 
-/* A commit's writes, those of them to the tables, the writes of its longest insertion, and the greatest crossing
- * span of one: how many slots the last overlapping entry that must stand before it is past the first one that must
- * stand behind it, 0 where it isn't, as with routes always. A drain is no write. */
+/* A commit's writes, or parts of writes, those of them to the tables, the writes of its longest insertion, and the
+ * greatest crossing span of one: how many slots the last overlapping entry that must stand before it is past the
+ * first one that must stand behind it, 0 where it isn't, as with routes always. A drain is no write. */
 struct tcam_numbers {
     uint64_t writes;
     uint32_t words;
@@ -202,6 +218,7 @@ struct tcam_refusal {
 /* The functions of the library, which test no pointer. Call those below. */
 uint32_t tcam_c_version(void);
 uint32_t tcam_c_new(struct tcam_manager *manager, uint32_t slots, uint32_t mode, uint32_t placement);
+uint32_t tcam_c_new_split(struct tcam_manager *manager, uint32_t slots, uint32_t mode, uint32_t placement);
 uint32_t tcam_c_free(struct tcam_manager *manager);
 uint32_t tcam_c_add_route(struct tcam_manager *manager, uint32_t address, uint8_t length, uint32_t result);
 uint32_t tcam_c_set_route(struct tcam_manager *manager, uint32_t address, uint8_t length, uint32_t result);
@@ -229,6 +246,13 @@ static inline uint32_t tcam_version(void) {
 static inline enum tcam_error tcam_new(struct tcam_manager *manager, uint32_t slots, enum tcam_mode mode,
                                        enum tcam_placement placement) {
     return manager ? (enum tcam_error)tcam_c_new(manager, slots, (uint32_t)mode, (uint32_t)placement) : TCAM_NULL;
+}
+
+/* Makes a manager without rules, likewise, of a blank memory whose results stand beside the slots: each slot empty,
+ * each result word 0. What is due of its commits are parts. The answers are those of tcam_new. */
+static inline enum tcam_error tcam_new_split(struct tcam_manager *manager, uint32_t slots, enum tcam_mode mode,
+                                             enum tcam_placement placement) {
+    return manager ? (enum tcam_error)tcam_c_new_split(manager, slots, (uint32_t)mode, (uint32_t)placement) : TCAM_NULL;
 }
 
 /* Frees the manager and all that belongs to it, its batch and a commit that is under way too. The handle has no
@@ -285,9 +309,9 @@ static inline enum tcam_error tcam_prepare(struct tcam_manager *manager, struct 
     return manager && numbers && refusal ? (enum tcam_error)tcam_c_prepare(manager, numbers, refusal) : TCAM_NULL;
 }
 
-/* Tells what is due: a write, the same one until tcam_made comes; a drain until tcam_drained comes; and TCAM_NOTHING
- * where no commit is under way. Of a commit that is turned round it tells undo writes, and no drain. It changes
- * nothing but what write points to. */
+/* Tells what is due: a write or a part of one, the same one until tcam_made comes; a drain until tcam_drained comes;
+ * and TCAM_NOTHING where no commit is under way. Of a commit that is turned round it tells undo writes, and no drain.
+ * It changes nothing but what write points to. */
 static inline enum tcam_error tcam_next(struct tcam_manager *manager, struct tcam_write *write) {
     return manager && write ? (enum tcam_error)tcam_c_next(manager, write) : TCAM_NULL;
 }
@@ -300,9 +324,9 @@ static inline enum tcam_error tcam_made(struct tcam_manager *manager) {
     return manager ? (enum tcam_error)tcam_c_made(manager) : TCAM_NULL;
 }
 
-/* The drain that tcam_next tells was made: no look-up whose search word was made before is still to be searched.
- * What comes behind it is due. TCAM_NOTHING_DUE comes exactly where no commit is under way, and TCAM_WRITE_DUE
- * exactly where a write is due; then nothing changes. */
+/* The drain that tcam_next tells was made: no look-up whose search word was made before is still to be searched, nor,
+ * with results beside the slots, to read its result word. What comes behind it is due. TCAM_NOTHING_DUE comes exactly
+ * where no commit is under way, and TCAM_WRITE_DUE exactly where a write is due; then nothing changes. */
 static inline enum tcam_error tcam_drained(struct tcam_manager *manager) {
     return manager ? (enum tcam_error)tcam_c_drained(manager) : TCAM_NULL;
 }
@@ -316,13 +340,16 @@ static inline enum tcam_error tcam_drained(struct tcam_manager *manager) {
  *
  * What becomes of a write that failed: where it is sure that it did nothing, or it wasn't tried, call tcam_abort at
  * once. Where it may have been made all the same, make it first, until it succeeds, and call tcam_made; or find out
- * by reading the slot or the word back, and call tcam_made where it was made. No undo write goes to its slot
- * else. A driver that can do neither frees the manager, blanks the memory, and makes a new one. An undo write that
- * fails is due still, as any write is.
+ * by reading the slot or the word back, and call tcam_made where it was made. No undo write goes to its slot else. A
+ * driver that can do neither frees the manager, blanks the memory, and makes a new one. An undo write that fails is
+ * due still, as any write is.
  *
- * TCAM_NOTHING_DUE comes exactly where no commit is under way, and TCAM_RESTARTED exactly where a restart goes on with
- * the one that is: left isn't written then. TCAM_BACK comes exactly where the commit is turned round already, with how
- * many undo writes are left. With each of these nothing changes. */
+ * With results beside the slots a commit is dropped of which no part and no drain was made, with none left to undo,
+ * and TCAM_BEGUN comes exactly where one was made.
+ *
+ * TCAM_NOTHING_DUE comes exactly where no commit is under way, and TCAM_RESTARTED exactly where a restart goes on
+ * with the one that is: left isn't written then, nor with TCAM_BEGUN. TCAM_BACK comes exactly where the commit is
+ * turned round already, with how many undo writes are left. With each of these nothing changes. */
 static inline enum tcam_error tcam_abort(struct tcam_manager *manager, uint64_t *left) {
     return manager && left ? (enum tcam_error)tcam_c_abort(manager, left) : TCAM_NULL;
 }
@@ -362,6 +389,7 @@ static inline const char *tcam_error_text(enum tcam_error error) {
     case TCAM_WRITE_DUE: return "a write is due";
     case TCAM_BACK: return "the commit is turned round already";
     case TCAM_RESTARTED: return "a restart goes on with the commit";
+    case TCAM_BEGUN: return "the commit has begun, and is made by parts";
     }
     return "no such answer";
 }

@@ -247,20 +247,24 @@ static void commits_at_random(enum tcam_mode mode, enum tcam_placement placement
            refused, turned, drains);
 }
 
-/* Two commits with each allocation failing in turn: want of memory is told, and then the same call does what it would
- * have done. Answers how many allocations there are. */
-static unsigned long wants_memory(unsigned long nth) {
+/* Two commits, of entries or by parts, with each allocation failing in turn: want of memory is told, and then the same
+ * call does what it would have done. Answers how many allocations there are. */
+static unsigned long wants_memory(bool split, unsigned long nth) {
     struct tcam_manager manager = TCAM_MANAGER_NONE;
     struct tcam_numbers numbers;
     struct tcam_refusal refusal;
     enum tcam_error error;
     allocations = 0;
     failing = nth;
-    while ((error = tcam_new(&manager, 8, TCAM_BY_BITS, TCAM_MIDDLE)) != TCAM_OK) CHECK(error == TCAM_MEMORY);
+    while ((error = (split ? tcam_new_split : tcam_new)(&manager, 8, TCAM_BY_BITS, TCAM_MIDDLE)) != TCAM_OK)
+        CHECK(error == TCAM_MEMORY);
     for (uint32_t i = 0; i < 2; i++) {
         while ((error = tcam_add_route(&manager, i << 24, 8, i)) != TCAM_OK) CHECK(error == TCAM_MEMORY);
         while ((error = tcam_prepare(&manager, &numbers, &refusal)) != TCAM_OK) CHECK(error == TCAM_MEMORY);
-        CHECK(numbers.writes == 1 && tcam_made(&manager) == TCAM_OK && tcam_made(&manager) == TCAM_NOTHING_DUE);
+        unsigned long taken = allocations;
+        CHECK(numbers.writes == (split ? 2 : 1) && tcam_made(&manager) == TCAM_OK);
+        CHECK(!split || tcam_made(&manager) == TCAM_OK);
+        CHECK(tcam_made(&manager) == TCAM_NOTHING_DUE && allocations == taken);
     }
     CHECK(tcam_free(&manager) == TCAM_OK);
     failing = 0;
@@ -272,8 +276,10 @@ int main(void) {
     for (int mode = TCAM_COVER; mode <= TCAM_BY_BITS; mode++)
         for (int placement = TCAM_MIDDLE; placement <= TCAM_RANK; placement++)
             commits_at_random((enum tcam_mode)mode, (enum tcam_placement)placement);
-    unsigned long nth = 1;
-    while (wants_memory(nth) >= nth) nth++;
-    printf("allocations that failed in turn: %lu\n", nth - 1);
+    for (int split = 0; split < 2; split++) {
+        unsigned long nth = 1;
+        while (wants_memory(split, nth) >= nth) nth++;
+        printf("allocations that failed in turn: %lu\n", nth - 1);
+    }
     return 0;
 }

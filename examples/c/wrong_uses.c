@@ -43,6 +43,7 @@ static void null_pointers(struct tcam_manager *manager) {
     struct tcam_key key = {0};
     struct tcam_answer answer;
     CHECK(tcam_new(NULL, 8, TCAM_COVER, TCAM_MIDDLE) == TCAM_NULL);
+    CHECK(tcam_new_split(NULL, 8, TCAM_COVER, TCAM_MIDDLE) == TCAM_NULL);
     CHECK(tcam_add_rule(manager, NULL) == TCAM_NULL);
     CHECK(tcam_prepare(manager, NULL, &refusal) == TCAM_NULL);
     CHECK(tcam_prepare(manager, &numbers, NULL) == TCAM_NULL);
@@ -196,10 +197,45 @@ static void under_way(struct tcam_manager *manager) {
     CHECK(tcam_free(&moved) == TCAM_NO_MANAGER);
 }
 
+/* With results beside the slots a route is put in two parts, and a commit that has begun stays. */
+static void by_parts(struct tcam_manager *manager) {
+    struct tcam_numbers numbers;
+    struct tcam_refusal refusal;
+    struct tcam_write write;
+    uint64_t left = 99;
+    CHECK(tcam_new_split(manager, 0, TCAM_COVER, TCAM_MIDDLE) == TCAM_SLOTS_RANGE);
+    CHECK(tcam_new_split(manager, 4097, TCAM_COVER, TCAM_MIDDLE) == TCAM_SLOTS_RANGE);
+    CHECK(tcam_new_split(manager, 8, (enum tcam_mode)2, TCAM_MIDDLE) == TCAM_NO_MODE);
+    CHECK(tcam_new_split(manager, 8, TCAM_COVER, (enum tcam_placement)2) == TCAM_NO_PLACEMENT);
+    without_manager(manager, TCAM_NO_MANAGER);
+    CHECK(tcam_new_split(manager, 8, TCAM_COVER, TCAM_MIDDLE) == TCAM_OK);
+    CHECK(tcam_new(manager, 8, TCAM_COVER, TCAM_MIDDLE) == TCAM_MADE_ALREADY);
+    CHECK(tcam_new_split(manager, 8, TCAM_COVER, TCAM_MIDDLE) == TCAM_MADE_ALREADY);
+    null_pointers(manager);
+    wrong_numbers(manager);
+    CHECK(tcam_made(manager) == TCAM_NOTHING_DUE && tcam_drained(manager) == TCAM_NOTHING_DUE);
+    CHECK(tcam_abort(manager, &left) == TCAM_NOTHING_DUE && left == 99);
+    CHECK(tcam_prepare(manager, &numbers, &refusal) == TCAM_OK && numbers.writes == 0);
+    for (int dropped = 0; dropped < 2; dropped++) {
+        CHECK(tcam_add_route(manager, 0x0a000000, 8, 1) == TCAM_OK);
+        CHECK(tcam_prepare(manager, &numbers, &refusal) == TCAM_OK && numbers.writes == 2);
+        CHECK(refused(manager, &refusal) == TCAM_BUSY && tells(&refusal, 2, no_tag, 0, 0, 0));
+        if (dropped == 0) CHECK(tcam_abort(manager, &left) == TCAM_OK && left == 0);
+    }
+    CHECK(tcam_drained(manager) == TCAM_WRITE_DUE && tcam_next(manager, &write) == TCAM_OK && write.kind == TCAM_RESULT);
+    CHECK(write.result == 1 && tcam_made(manager) == TCAM_OK && tcam_next(manager, &write) == TCAM_OK);
+    left = 99;
+    CHECK(write.kind == TCAM_PUT && write.result == 0 && tcam_abort(manager, &left) == TCAM_BEGUN && left == 99);
+    CHECK(refused(manager, &refusal) == TCAM_BUSY && tells(&refusal, 1, no_tag, 0, 0, 0));
+    CHECK(tcam_made(manager) == TCAM_OK && tcam_made(manager) == TCAM_NOTHING_DUE);
+    refusals(manager);
+    CHECK(tcam_free(manager) == TCAM_OK);
+}
+
 /* Each code has a text of its own. */
 static void texts(void) {
-    const char *none = tcam_error_text((enum tcam_error)(TCAM_RESTARTED + 1));
-    for (int error = TCAM_OK; error <= TCAM_RESTARTED; error++) {
+    const char *none = tcam_error_text((enum tcam_error)(TCAM_BEGUN + 1));
+    for (int error = TCAM_OK; error <= TCAM_BEGUN; error++) {
         const char *text = tcam_error_text((enum tcam_error)error);
         CHECK(strlen(text) > 3 && strcmp(text, none) != 0);
         for (int other = TCAM_OK; other < error; other++)
@@ -227,5 +263,6 @@ void wrong_uses(void) {
     without_manager(&manager, TCAM_NO_MANAGER);
     too_many_ranges(&manager);
     under_way(&manager);
+    by_parts(&manager);
     texts();
 }

@@ -2,11 +2,13 @@
 pub mod Judged
 pub mod Meant
 pub mod Parted
+pub mod Few
 pub mod Since
 pub mod Aimed
 pub mod Padded
 pub mod Translated
 pub mod Leading
+pub mod Longest
 pub mod Taken
 pub mod Refused
 pub mod Holding

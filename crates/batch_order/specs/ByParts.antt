@@ -1,11 +1,15 @@
 -- How many parts undivided writes take, where each is made by parts: on a device whose results stand beside its slots.
-use Rattle.std.specs.Prelude.{ℕ, ◌+◌, Option, Some, None, List, [], ◌∷◌, if◌then◌else◌}
+use Rattle.std.specs.Prelude.{ℕ, suc, ◌+◌, ◌-◌, ◌*◌, Option, Some, None, List, [], ◌∷◌, if◌then◌else◌, fold, map, max}
 use Rattle.slot_order.specs.Order.{slot}
 use Rattle.rule_model.specs.declared.words.Entry.{Entry}
 use Rattle.rule_model.specs.Entry.{same_match}
+use Rattle.placement.specs.declared.Move.{Move}
+use Rattle.placement.specs.declared.Move.TheVariants.{Put, Erase}
 use Rattle.tcam_device.specs.declared.Write.{Write}
 use Rattle.tcam_device.specs.declared.Write.TheVariants.{Slot, Table}
 use Rattle.tcam_device.specs.State.{State, apply}
+use Rattle.tcam_device.specs.Insertion.{insertions}
+use Rattle.commit_writes.specs.Planned.{Planned}
 
 -- an entry that is put where this stands: two into an empty slot, one as a new result of the same entry, and three in place of
 -- another one
@@ -39,3 +43,29 @@ abbrev pub paired_number : List Write → List Write → ℕ
 paired_number [] undo = 0
 paired_number (write ∷ writes) [] = 0
 paired_number (write ∷ writes) (before ∷ undo) = part_number (put_back before) write + paired_number writes undo
+
+-- how many moves put an entry
+abbrev pub moves_put : List Move → ℕ
+moves_put [] = 0
+moves_put (Put slot id ∷ moves) = suc (moves_put moves)
+moves_put (Erase slot ∷ moves) = moves_put moves
+
+-- how many writes put an entry into a slot
+abbrev pub writes_put : List Write → ℕ
+writes_put [] = 0
+writes_put (Slot at None ∷ writes) = writes_put writes
+writes_put (Slot at (Some entry) ∷ writes) = suc (writes_put writes)
+writes_put (Table field port word ∷ writes) = writes_put writes
+
+-- The parts of an insertion that puts so many entries: three of each, but one. A put takes two into an empty slot and three
+-- over another entry, an erase one, and one slot more is filled than emptied.
+abbrev pub insertion_parts : ℕ → ℕ
+insertion_parts puts = 3 * puts - 1
+
+-- those of the longest insertion, as it was planned
+abbrev pub longest_planned_parts : List Planned → ℕ
+longest_planned_parts planned = fold max 0 (map (λ insertion. insertion_parts (moves_put insertion.moves)) planned)
+
+-- and as writes make it
+abbrev pub longest_parts : State → List Write → ℕ
+longest_parts state writes = fold max 0 (map (λ insertion. insertion_parts (writes_put insertion.writes)) (insertions state writes))

@@ -32,6 +32,7 @@ use Rattle.commit_writes.specs.Needed.{with_needed}
 use Rattle.commit_writes.specs.Changes.{coded_by, during_of}
 use Rattle.batch_order.specs.declared.held.Held.{Held}
 use Rattle.batch_order.specs.declared.translation.Translation.{Translation}
+use Rattle.batch_order.specs.ByParts.{longest_parts}
 use Rattle.batch_order.specs.Entries.{AreLast, Entries}
 use Rattle.batch_order.specs.Planning.{IsSettled, as_writes, all_writes}
 use Rattle.batch_order.specs.Managed.{HeldCommit}
@@ -163,6 +164,8 @@ pub record IsHeld (translation : Option Translation) (rules : StoredRules) (kept
   pub way_back : held.prepared ≡ true
       → IsPrepared translation rules kept slots held.ids.items (held_writes kept.entries held) (as_writes kept.entries held.rewrites.items held.undo.items)
   pub back : IsSome held.turned → held.prepared ≡ true
+  -- and the parts of its longest insertion are known
+  pub longest : held.prepared ≡ true → held.most_parts ≡ longest_parts (settled_state translation kept.entries slots) (held_writes kept.entries held)
   pub after : IsArranged (mode_of translation) (bits_after rules.rules held) (set_after rules.rules held.batch) (changed_by kept held.rewrites.items held.erased.items) held.arrangement
   pub leads : state_after (settled_state translation kept.entries slots) (held_writes kept.entries held)
       ≡ settled_state (translation_after translation rules.rules kept.entries held) (rewritten_entries kept.entries held.rewrites.items) held.arrangement

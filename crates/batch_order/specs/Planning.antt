@@ -20,6 +20,7 @@ use Rattle.batch_order.specs.declared.plan.Plan.{Plan}
 use Rattle.batch_order.specs.declared.planned_writes.PlannedWrite.{PlannedWrite}
 use Rattle.batch_order.specs.declared.planned_writes.PlannedWrites.{PlannedWrites}
 use Rattle.batch_order.specs.declared.planned_writes.PlannedWrite.TheVariants.{Tabled, Moved, Rewritten}
+use Rattle.batch_order.specs.ByParts.{insertion_parts, moves_put}
 use Rattle.batch_order.specs.Entries.{Entries, KeepEntries}
 
 -- the id stands in a slot
@@ -90,6 +91,7 @@ pub record IsInserted (kept : Entries) (slots slots' : Slots) (aim : Aim) (id : 
   pub words : plan'.words ≡ plan.words
   pub most : plan'.most ≡ max plan.most (length moves)
   pub span : plan'.span ≡ max plan.span (span_of (is_above kept.live) slots id)
+  pub most_parts : plan'.most_parts ≡ max plan.most_parts (insertion_parts (moves_put moves))
 
 -- insertions of some pieces were planned with these aims, one after the other, under ids that weren't live before
 pub record ArePlannedSince (old new : Entries) (slots slots' : Slots) (plan plan' : Plan) (pieces : List RankedPiece) (aims : List Aim) : Type 0 where
@@ -105,6 +107,7 @@ pub record ArePlannedSince (old new : Entries) (slots slots' : Slots) (plan plan
   pub words : plan'.words ≡ plan.words
   pub most : plan'.most ≡ fold max plan.most (map (λ insertion. length insertion.moves) planned)
   pub span : plan'.span ≡ fold max plan.span (map (λ insertion. insertion.span) planned)
+  pub most_parts : plan'.most_parts ≡ fold max plan.most_parts (map (λ insertion. insertion_parts (moves_put insertion.moves)) planned)
 
 -- All writes of a commit were planned: insertions of some pieces with these aims, behind them the new entry of each id that
 -- gets one, and last the erase of each id that goes.
@@ -119,3 +122,4 @@ pub record AreAllPlanned (old new : Entries) (slots slots' : Slots) (plan plan' 
   pub words : plan'.words ≡ between.words
   pub most : plan'.most ≡ between.most
   pub span : plan'.span ≡ between.span
+  pub most_parts : plan'.most_parts ≡ between.most_parts

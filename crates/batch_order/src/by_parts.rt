@@ -1,7 +1,7 @@
 //! How many parts the writes of a plan take, where each is made by parts: on a device whose results stand beside its slots.
 
-ghost use Rattle.std.specs.Prelude.{◌≡◌, ◌≤◌, ◌^◌, true, length};
-ghost use Rattle.batch_order.specs.ByParts.{paired_number, part_number, parts_number, put_back, put_number};
+ghost use Rattle.std.specs.Prelude.{◌≡◌, ◌≤◌, ◌^◌, None, true, length};
+ghost use Rattle.batch_order.specs.ByParts.{longest_parts, paired_number, part_number, parts_number, put_back, put_number};
 ghost use Rattle.batch_order.specs.CarriedOut.{writes_left};
 ghost use Rattle.batch_order.specs.Planning.{all_writes, as_writes};
 ghost use Rattle.batch_order.specs.Steps.{is_unwritten};
@@ -28,8 +28,12 @@ impl Manager {
         }
     }
 
-    /// How many parts the longest insertion of the plan that is held takes, 0 where none is held.
-    pub fn most_parts(&self) -> u32 {
+    /// How many parts the longest insertion takes of a plan of which no write was made: three of each entry that it puts, but
+    /// one. It is 0 where the plan has no insertion, and where none is held.
+    pub fn most_parts(&self) -> u32
+        ensures plan { is_unwritten self.now.held ≡ true → result ≡ longest_parts self.now.state (writes_left self.now.held) }
+        ensures none { self.now.held ≡ None → result ≡ 0 }
+    {
         match &self.held {
             None => 0,
             Some(held) => held.most_parts,

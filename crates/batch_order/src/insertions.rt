@@ -5,6 +5,7 @@ ghost use Rattle.std.specs.List.{AllByRecursion};
 ghost use Rattle.rule_store.specs.Verdict.{entries_of};
 ghost use Rattle.rule_model.specs.Entry.{IsEncodable};
 ghost use Rattle.placement.specs.Live.{is_live};
+ghost use Rattle.batch_order.specs.ByParts.{moves_put};
 ghost use Rattle.batch_order.specs.Entries.{AddsIds, AreLast, KeepEntries};
 ghost use Rattle.batch_order.specs.Placing.{aims_from, aims_of};
 ghost use Rattle.batch_order.specs.Planning.{IsPlannable, IsLastLive, IsWithin, IsInserted, ArePlannedSince, all_writes};
@@ -173,12 +174,24 @@ fn plan_moves(
 }
 
 /// How many moves put an entry somewhere, from this place on.
-fn puts_from(moves: &Moves, first: u64) -> u32 {
-    let mut puts: u32 = 0;
+fn puts_from(moves: &Moves, first: u64) -> u32
+    requires { length moves.now ≤ first + 2 ^ 31 }
+    ensures { result ≡ moves_put (drop first moves.now) }
+{
+    let mut puts = 0;
     for place in first..moves.len() {
-        if let Move::Put(_, _) = moves.at(place) {
-            puts = puts.saturating_add(1);
-        }
+        puts += puts_by(moves.at(place));
     }
     puts
+}
+
+/// How many entries a move puts somewhere.
+fn puts_by(step: Move) -> u32
+    ensures puts { result ≡ moves_put (step ∷ []) }
+    ensures few { result ≤ 1 }
+{
+    match step {
+        Move::Put(_, _) => 1,
+        Move::Erase(_) => 0,
+    }
 }

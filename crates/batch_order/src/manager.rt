@@ -83,10 +83,9 @@ impl Model for Manager {
 }
 
 impl Manager {
-    /// A manager of a blank device with so many slots in use, 1 to 4,096, and no rules. By `Cover` a rule takes an
-    /// entry for each pair of blocks of its port ranges; by `Bits` it takes one, and each range that isn't one block
-    /// takes a bit of its field's translation table. Each insertion aims where the placement says. It fails only for
-    /// want of memory.
+    /// A manager of a blank device with so many slots in use, 1 to 4,096, and no rules. By `Cover` a rule takes an entry for
+    /// each pair of blocks of its port ranges; by `Bits` it takes one, and each range that isn't one block takes a bit of its
+    /// field's translation table. Each insertion aims where the placement says. It fails only for want of memory.
     ///
     /// From here on nobody else may write the device: what is promised of it holds of one that the manager's writes
     /// alone have changed.
@@ -144,11 +143,10 @@ impl Manager {
         }
     }
 
-    /// Judges a batch of changes to the rules, over a device with at least the slots in use. Where the batch is taken,
-    /// all of its writes are planned, its insertions by the placement, and all memory for them is taken, the device's
-    /// too: then nothing can fail for memory until the commit has finished. The device is reserved for twice the writes
-    /// and a drain, so that what is made can be undone. The answer has the numbers of the writes. Words in flight stay
-    /// as they are.
+    /// Judges a batch of changes to the rules, over a device with at least the slots in use. Where the batch is taken, all of
+    /// its writes are planned, its insertions by the placement, and all memory for them is taken, the device's too: then
+    /// nothing can fail for memory until the commit has finished. The device is reserved for twice the writes and a drain, so
+    /// that what is made can be undone. The answer has the numbers of the writes. Words in flight stay as they are.
     ///
     /// Refusals are tried in this order. `Busy` comes exactly while a commit is under way, with the writes that are
     /// left. Else the rule lists alone decide (`Rejected`, by [`Rejection`]): `Unsound` by the first command that the set
@@ -197,6 +195,8 @@ impl Manager {
         ensures judged { Judges self.old self.old.held batch.now result }
         ensures ready { IfOk result (λ counts. Holds self.old batch.now counts self.new) }
         ensures refused { OnErr result (self.new ≡ self.old) }
+        ensures forward { GoesForward self.old.held → GoesForward self.new.held }
+        ensures way_back { OnOk result (WayBackFrom self.old.state self.new) }
     {
         if let Some(left) = self.left() {
             return Err(Refusal::Busy { left });
@@ -318,6 +318,7 @@ impl Manager {
         ensures few { OnOk result (length (all_writes plan.new.writes) ≤ 2 * 2 ^ 16) }
         ensures most { plan.new.most ≡ plan.old.most }
         ensures span { plan.new.span ≡ plan.old.span }
+        ensures most_parts { plan.new.most_parts ≡ plan.old.most_parts }
     {
         plan_words(&self.translation, batch, plan)
     }

@@ -1,10 +1,11 @@
 //! The plan of a commit: its writes, planned before the first of them goes out.
 
-ghost use Rattle.std.specs.Prelude.{◌≡◌, ◌≤◌, ◌++◌, [], OnOk, List, length, map, max, nat_eq};
+ghost use Rattle.std.specs.Prelude.{◌≡◌, ◌*◌, ◌^◌, ◌<◌, ◌≤◌, ◌++◌, [], OnOk, List, length, map, max, nat_eq};
 ghost use Rattle.std.specs.List.{AllByRecursion, IsDistinct};
 ghost use Rattle.commit_writes.specs.declared.Rewrite.{Rewrite};
 ghost use Rattle.commit_writes.specs.Planned.{IdEntries};
 ghost use Rattle.commit_writes.specs.PlannedBatch.{erase_write, erased_slots, rewrite_write};
+ghost use Rattle.batch_order.specs.ByParts.{insertion_parts};
 ghost use Rattle.batch_order.specs.Planning.{IsStanding, IsWithin, as_writes, all_writes};
 
 use crate::Done;
@@ -37,6 +38,7 @@ impl Plan {
         ensures words { result.words ≡ 0 }
         ensures most { result.most ≡ 0 }
         ensures span { result.span ≡ 0 }
+        ensures most_parts { result.most_parts ≡ 0 }
     {
         Plan {
             writes: PlannedWrites::new(alloc),
@@ -50,14 +52,16 @@ impl Plan {
     /// Counts an insertion whose writes were pushed, of which so many put an entry somewhere. By parts each of these takes
     /// two into an empty slot and three over another entry, each erase takes one, and one slot more is filled than emptied.
     pub(crate) fn count(&mut self, insert: Insert, puts: u32)
+        requires { 3 * puts < 2 ^ 32 }
         ensures writes { self.new.writes ≡ self.old.writes }
         ensures words { self.new.words ≡ self.old.words }
         ensures most { self.new.most ≡ max self.old.most insert.writes }
         ensures span { self.new.span ≡ max self.old.span insert.span }
+        ensures most_parts { self.new.most_parts ≡ max self.old.most_parts (insertion_parts puts) }
     {
         self.most = self.most.max(insert.writes);
         self.span = self.span.max(insert.span);
-        let parts = puts.saturating_mul(3).saturating_sub(1);
+        let parts = (3 * puts).saturating_sub(1);
         self.most_parts = self.most_parts.max(parts);
     }
 
@@ -93,6 +97,7 @@ pub(crate) fn plan_changes(
     ensures words { OnOk result (plan.new.words ≡ plan.old.words) }
     ensures most { OnOk result (plan.new.most ≡ plan.old.most) }
     ensures span { OnOk result (plan.new.span ≡ plan.old.span) }
+    ensures most_parts { OnOk result (plan.new.most_parts ≡ plan.old.most_parts) }
 {
     let changes = &mut plan.writes.changes;
     plan_rewrites(&parts.rewrites, arrangement, changes)?;

@@ -101,6 +101,7 @@ pub(crate) fn plan_words(
     ensures few { OnOk result (length (all_writes plan.new.writes) ≤ 2 * 2 ^ 16) }
     ensures most { plan.new.most ≡ plan.old.most }
     ensures span { plan.new.span ≡ plan.old.span }
+    ensures most_parts { plan.new.most_parts ≡ plan.old.most_parts }
 {
     let Some(kept) = translation else {
         return Ok(None);

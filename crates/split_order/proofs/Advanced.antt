@@ -1,5 +1,5 @@
 -- A part that is made: what is left behind it is kept, and the planner goes on with the last part of a write.
-use Rattle.std.proofs.Common.{◌≡◌, ℕ, zero, suc, ◌-◌, ◌<◌, ◌≤◌, inl, inr, true, false, Option, None, Some, List, [], ◌∷◌, ◌++◌, length, drop, take, refl, sym, ◌∙◌, ap, ap₂, subst, arith, le_refl, length-set}
+use Rattle.std.proofs.Common.{◌≡◌, ℕ, zero, suc, ◌-◌, ◌<◌, ◌≤◌, inl, inr, true, false, Option, None, Some, List, [], ◌∷◌, ◌++◌, length, drop, take, refl, sym, ◌∙◌, ap, ap₂, subst, arith, length-set}
 use Rattle.std.specs.Prelude.{IfSome}
 use Rattle.std.proofs.lemmas.Bool.{cases_Bool}
 use Rattle.std.proofs.lemmas.List.{take-append-drop}
@@ -64,6 +64,14 @@ passes_write whole new held write rest words made under_way forward are steps =
     let on : StepsOn whole held words held.actions made new = subst (λ (t : Option ℕ). StepsEither whole held words t made new) forward here in
     let did : StepsOn whole held words (action.Written write ∷ rest) made new = subst (λ (a : List Action). StepsOn whole held words a made new) are on in
     did.1
+
+-- with where its commit leads as it was
+passed_outline : (whole : Managed) (held : HeldCommit) (write : Write) (rest : List Action) → whole.held ≡ Some held → held.turned ≡ None → held.actions ≡ action.Written write ∷ rest
+    → outline (passed_write whole held write rest) ≡ outline whole
+passed_outline whole held write rest under_way forward are =
+    ap (λ (t : Option ℕ). outline (passed_write whole (record held { turned = t }) write rest)) forward
+    ∙ (sym (ap₂ (λ (t : Option ℕ) (a : List Action). outline (record whole { held = Some (record held { turned = t; actions = a }) })) forward are)
+    ∙ ap (λ (h : Option HeldCommit). outline (record whole { held = h })) (sym under_way))
 
 -- what is known of the manager behind a part
 pub record IsAdvanced (manager next : SplitManaged) (due : DuePart) : Type 0 where
@@ -189,7 +197,7 @@ module _ (since since' : Since) (left : ℕ) (m m' : SplitManaged) (kept : IsSpl
       record {
         slots = ap (λ (w : Managed). w.slots) is;
         size = ap (λ (w : Managed). length w.state.slots) is ∙ (size_after m.whole.state write ∙ (kept.whole_size ∙ sym (ap (λ (w : Managed). w.slots) is)));
-        outline_is = ap outline is ∙ ap (λ (h : Option HeldCommit). outline (record m.whole { held = h })) (sym one.under_way);
+        outline_is = ap outline is ∙ passed_outline m.whole one.held write after one.under_way one.kept.forward.1 actions_are;
         live = ap live_now is ∙ ap (λ (h : Option HeldCommit). live_now (record m.whole { held = h })) (sym one.under_way);
         held = ahead_held;
         held_is = ap (λ (w : Managed). w.held) is;
@@ -337,10 +345,3 @@ module _ (since since' : Since) (left : ℕ) (m m' : SplitManaged) (kept : IsSpl
     where
       back : (slots : ℕ) → m'.whole.slots ≤ slots → m.whole.slots ≤ slots
       back slots wide = subst (λ n. n ≤ slots) next_one.slots wide
-
-  -- and at least one part was left
-  pub some_left : suc (left - 1) ≡ left
-  some_left =
-      let was : left ≡ length (written (left_of m.whole.slots m)) = kept.left_is m.whole.slots (le_refl m.whole.slots) in
-      let less : length (written (left_of m.whole.slots m)) ≡ suc (length (written (left_of m.whole.slots m'))) = ap (λ some. length (written some)) (left_is m.whole.slots (le_refl m.whole.slots)) in
-      omega arith

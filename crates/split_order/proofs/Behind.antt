@@ -62,9 +62,6 @@ left_begun slots state since whole (action.Drained ∷ actions) same = refl
 pub first_is : (left : List SplitAction) (action : SplitAction) (rest : List SplitAction) → left ≡ action ∷ rest → left ≡ action ∷ drop 1 left
 first_is left action rest is = is ∙ ap (λ (some : List SplitAction). action ∷ drop 1 some) (sym is)
 
-pub rest_is : (left : List SplitAction) (action : SplitAction) (rest : List SplitAction) → left ≡ action ∷ rest → drop 1 left ≡ rest
-rest_is left action rest is = ap (λ (some : List SplitAction). drop 1 some) is
-
 -- one more event
 since_append : (since : SinceDrain) (xs ys : List SplitAction) → since_all since (xs ++ ys) ≡ since_all (since_all since xs) ys
 since_append since [] ys = refl

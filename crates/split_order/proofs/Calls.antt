@@ -1,15 +1,14 @@
 -- What the calls of the manager tell, from what it keeps.
 use Rattle.std.proofs.Common.{◌≡◌, ℕ, ◌≤◌, Bool, true, false, Option, None, Some, length, refl, sym, ◌∙◌, ap, subst}
-use Rattle.std.specs.Prelude.{◌&&◌, not, is_some, option_map}
+use Rattle.std.specs.Prelude.{option_map}
 use Rattle.batch_order.specs.Managed.{HeldCommit, Managed}
-use Rattle.batch_order.specs.Steps.{cancelled, is_unwritten}
+use Rattle.batch_order.specs.Steps.{cancelled}
 use Rattle.split_device.specs.Flight.{written}
 use Rattle.split_writes.specs.declared.SplitDone.{SplitDone}
 use Rattle.split_order.specs.declared.since.Since.{Since}
 use Rattle.split_order.specs.Kept.{IsCommitOrRest, IsRest, IsSplitKept}
 use Rattle.split_order.specs.Left.{left_of}
 use Rattle.split_order.specs.Managed.{SplitManaged, at_rest}
-use Rattle.split_order.specs.Steps.{is_untouched}
 use Rattle.split_order.proofs.Rested.{rested}
 
 module _ (since : Since) (left : ℕ) (m : SplitManaged) (kept : IsSplitKept since left m) where
@@ -38,26 +37,7 @@ module _ (since : Since) (left : ℕ) (m : SplitManaged) (kept : IsSplitKept sin
       ∙ (ap (λ (b : Bool). record { whole = m.whole; events = m.events; made = 0; begun = b; counts = m.counts }) rest.begun
       ∙ ap (λ (c : SplitDone). record { whole = m.whole; events = m.events; made = 0; begun = false; counts = c }) rest.counts)
 
-  -- a plan may be dropped exactly where nothing of it was made
-  pub kept_back : m.begun ≡ true → false ≡ is_untouched m
-  kept_back begun = sym (ap (λ (b : Bool). not b && is_some m.whole.held) begun)
-
-  pub none_held : m.begun ≡ false → false ≡ is_unwritten m.whole.held → false ≡ is_untouched m
-  none_held begun told = go m.whole.held refl kept.commit
-    where
-      go : (held : Option HeldCommit) → m.whole.held ≡ held → IsCommitOrRest m held → false ≡ is_untouched m
-      go None is k = sym (ap (λ (b : Bool). not b && is_some m.whole.held) begun ∙ ap (λ (h : Option HeldCommit). is_some h) is)
-      go (Some held) is k = absurd (
-          let so : is_unwritten m.whole.held ≡ true = ap is_unwritten is ∙ (k.fresh begun).1 in
-          let wrong : false ≡ true = told ∙ so in cc)
-
-  pub drops : m.begun ≡ false → true ≡ is_unwritten m.whole.held → true ≡ is_untouched m
-  drops begun told = go m.whole.held refl
-    where
-      go : (held : Option HeldCommit) → m.whole.held ≡ held → true ≡ is_untouched m
-      go None is = absurd (let wrong : true ≡ false = told ∙ ap is_unwritten is in cc)
-      go (Some held) is = sym (ap (λ (b : Bool). not b && is_some m.whole.held) begun ∙ ap (λ (h : Option HeldCommit). is_some h) is)
-
+  -- a plan may be dropped where nothing of it was made,
   no_part : m.begun ≡ false → m.made ≡ 0
   no_part begun = go m.whole.held kept.commit
     where
@@ -65,7 +45,7 @@ module _ (since : Since) (left : ℕ) (m : SplitManaged) (kept : IsSplitKept sin
       go None k = k.made
       go (Some held) k = (k.fresh begun).0
 
-  -- and is at rest then
+  -- and the manager is at rest then
   pub drop_kept : m.begun ≡ false → (whole : Managed) → whole ≡ cancelled true m.whole → IsSplitKept since 0 (at_rest whole m.events)
   drop_kept begun whole is =
       rested since left m whole kept (no_part begun) (ap (λ (w : Managed). w.held) is) (ap (λ (w : Managed). w.slots) is) (ap (λ (w : Managed). w.state) is)

@@ -6,10 +6,11 @@ use Rattle.slot_order.specs.Order.{most_slots}
 use Rattle.rule_model.specs.declared.Rule.{Rule}
 use Rattle.commit_writes.specs.Bits.{FieldBits}
 use Rattle.tcam_device.specs.declared.Write.{Write}
-use Rattle.tcam_device.specs.State.{on_device}
+use Rattle.tcam_device.specs.State.{on_device, state_after}
 use Rattle.tcam_device.specs.declared.Action.{Action}
 use Rattle.tcam_device.specs.declared.Action.TheVariants as action
 use Rattle.batch_order.specs.declared.Step.{Step}
+use Rattle.batch_order.specs.CarriedOut.{writes_left}
 use Rattle.batch_order.specs.Managed.{HeldCommit, Managed}
 use Rattle.batch_order.specs.Steps.{Steps, StepsEither, StepsOn, awaits_drain, next_of}
 use Rattle.split_device.specs.declared.SplitWrite.{SplitWrite}
@@ -116,6 +117,7 @@ module _ (since since' : Since) (left : ℕ) (m m' : SplitManaged) (kept : IsSpl
     forward : (held.prepared ≡ true) × (held.turned ≡ None)
     made : (m'.made ≡ 0) ⊎ (m'.made < length (parts_due m'))
     aims : (held.rules ≡ one.held.rules) × (held.during ≡ one.held.during) × (held.bits ≡ one.held.bits)
+    writes : writes_left (Some held) ≡ writes_left (Some one.held)
     whole_is : m'.whole ≡ record m.whole { held = Some held }
     now_is : (slots : ℕ) (on : IsKeptOn slots m) → state_on slots m' ≡ split_after on.before (take m'.made (parts_due m'))
     left_is : (slots : ℕ) → m.whole.slots ≤ slots → left_of slots m ≡ Drained ∷ left_of slots m'
@@ -133,6 +135,7 @@ module _ (since since' : Since) (left : ℕ) (m m' : SplitManaged) (kept : IsSpl
         forward = one.kept.forward;
         made = inr (subst (λ some. m'.made < length some) (sym (parts_same ∙ parts_are)) (subst (λ n. n < length (write_parts m.whole.state write)) (sym did.made) below));
         aims = (refl, refl, refl);
+        writes = refl;
         whole_is = same ∙ ap (λ (h : Option HeldCommit). record m.whole { held = h }) one.under_way;
         now_is = λ slots on. state_is slots ∙ (on.now_is ∙ ap₂ (λ (n : ℕ) (some : List SplitWrite). split_after on.before (take n some)) (sym did.made) (sym parts_same));
         left_is = λ slots wide.
@@ -165,6 +168,8 @@ module _ (since since' : Since) (left : ℕ) (m m' : SplitManaged) (kept : IsSpl
         forward = one.kept.forward;
         made = inl (did.made ∙ start);
         aims = (refl, refl, refl);
+        writes = ap (λ (t : Option ℕ). writes_left (Some (record one.held { turned = t; actions = rest; current = one.held.during }))) one.kept.forward.1
+            ∙ sym (ap₂ (λ (t : Option ℕ) (a : List Action). writes_left (Some (record one.held { turned = t; actions = a }))) one.kept.forward.1 are);
         whole_is = is;
         now_is = λ slots on.
             state_is slots
@@ -188,15 +193,24 @@ module _ (since since' : Since) (left : ℕ) (m m' : SplitManaged) (kept : IsSpl
     | of_own rest are next awaits ↦ behind_own rest are next awaits
   ]
 
+  -- where the commit leads is as it was
+  abbrev outline_by : List Write → List Rule → FieldBits → FieldBits → Managed × Option (List Rule × FieldBits × FieldBits)
+  outline_by writes rules bits during = (record m.whole { state = state_after m.whole.state writes; held = None }, Some (rules, bits, during))
+
+  same_outline : outline m'.whole ≡ outline m.whole
+  same_outline =
+      ap outline next_one.whole_is
+      ∙ (ap (λ (writes : List Write). outline_by writes next_one.held.rules next_one.held.bits next_one.held.during) next_one.writes
+      ∙ (ap (λ (rules : List Rule). outline_by (writes_left (Some one.held)) rules next_one.held.bits next_one.held.during) next_one.aims.0
+      ∙ (ap₂ (λ (bits during : FieldBits). outline_by (writes_left (Some one.held)) one.held.rules bits during) next_one.aims.2 next_one.aims.1
+      ∙ ap (λ (h : Option HeldCommit). outline (record m.whole { held = h })) (sym one.under_way))))
+
   -- A drain was made.
   pub drains : (slots : ℕ) → m.whole.slots ≤ slots → Advances slots Drained m m'
   drains slots wide = record {
     left_is = next_one.left_is slots wide;
     events = did.events;
-    outline_is = ap outline next_one.whole_is
-        ∙ (ap₂ (λ (r : List Rule) (b : FieldBits × FieldBits). (record m.whole { state = record { slots = []; src = []; dst = [] }; held = None }, Some (r, b.0, b.1))) next_one.aims.0
-        (ap₂ (λ (b d : FieldBits). (b, d)) next_one.aims.2 next_one.aims.1)
-        ∙ ap (λ (h : Option HeldCommit). outline (record m.whole { held = h })) (sym one.under_way));
+    outline_is = same_outline;
     begun = did.begun;
     counts = did.counts;
     live = tt;

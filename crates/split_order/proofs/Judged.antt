@@ -1,19 +1,14 @@
 -- What a manager answers to a batch, by what its planner does.
-use Rattle.std.proofs.Common.{◌≡◌, ℕ, Bool, true, inl, inr, Option, None, Some, Result, Ok, Err, List, length, refl, sym, ◌∙◌, ap}
+use Rattle.std.proofs.Common.{◌≡◌, ℕ, Bool, true, Option, None, Some, Err, List, length, refl, sym, ◌∙◌, ap}
 use Rattle.std.specs.Prelude.{◌&&◌, not, is_some, option_map}
 use Rattle.rule_store.specs.declared.Command.{Command}
-use Rattle.rule_store.specs.Verdict.{verdict}
-use Rattle.commit_writes.specs.declared.Done.{Done}
-use Rattle.readback.specs.declared.Rejection.{Rejection}
-use Rattle.readback.specs.Judged.{judgement}
-use Rattle.batch_order.specs.declared.Refusal.{Refusal}
 use Rattle.batch_order.specs.declared.Refusal.TheVariants as refusal
-use Rattle.batch_order.specs.Managed.{Answers, HeldCommit, Judges, Managed}
+use Rattle.batch_order.specs.Managed.{HeldCommit, Managed}
 use Rattle.split_device.specs.Flight.{written}
 use Rattle.split_writes.specs.declared.SplitDone.{SplitDone}
 use Rattle.split_order.specs.Left.{left_of}
 use Rattle.split_order.specs.Managed.{SplitManaged, at_rest}
-use Rattle.split_order.specs.Prepared.{AnswersSplit, HoldsSplit, JudgesSplit}
+use Rattle.split_order.specs.Prepared.{HoldsSplit, JudgesSplit}
 use Rattle.split_order.specs.Steps.{dropped, is_untouched}
 
 -- busy with the parts that are left
@@ -28,34 +23,6 @@ none_left m told count is none = go m.whole.held is
     go : (held : Option HeldCommit) → told ≡ option_map count held → held ≡ None
     go None same = refl
     go (Some held) same = absurd (none (count held) same)
-
--- the batch is taken, or refused as by the planner
-pub judged_ok : (slots : ℕ) (m : SplitManaged) (held : Option HeldCommit) (batch : List Command) (done : Done) (counts : SplitDone) → Judges m.whole held batch (Ok done) → JudgesSplit slots m held batch (Ok counts)
-judged_ok slots m (Some held) batch done counts judged = absurd (cc)
-judged_ok slots m None batch done counts judged = by (judgement (verdict m.whole.slots m.whole.mode m.whole.rules batch)) judged
-  where
-    by : (judged : Result (Unit {0}) Rejection) → Answers judged (Ok done) → AnswersSplit judged (Ok counts)
-    by (Ok fine) (inl ok) = inl ok
-    by (Ok fine) (inr wrong) = absurd (cc)
-    by (Err rejection) wrong = absurd (cc)
-
-pub judged_err : (slots : ℕ) (m : SplitManaged) (held : Option HeldCommit) (batch : List Command) (fault : Refusal) → held ≡ None → Judges m.whole held batch (Err fault) → JudgesSplit slots m held batch (Err fault)
-judged_err slots m (Some held) batch fault none judged = absurd (cc)
-judged_err slots m None batch fault none judged = by (judgement (verdict m.whole.slots m.whole.mode m.whole.rules batch)) judged
-  where
-    by : (judged : Result (Unit {0}) Rejection) → Answers judged (Err fault) → AnswersSplit judged (Err fault)
-    by (Ok fine) (inl ok) = inl ok
-    by (Ok fine) (inr is) = inr (let same : fault ≡ refusal.Memory = cc in ap (λ f. Err f) same)
-    by (Err rejection) is = let same : fault ≡ refusal.Rejected rejection = cc in ap (λ f. Err f) same
-
--- where the device has no memory for it
-pub wants_memory : (slots : ℕ) (m : SplitManaged) (held : Option HeldCommit) (batch : List Command) (counts : SplitDone) → JudgesSplit slots m held batch (Ok counts) → JudgesSplit slots m held batch (Err refusal.Memory)
-wants_memory slots m (Some held) batch counts judged = absurd (cc)
-wants_memory slots m None batch counts judged = by (judgement (verdict m.whole.slots m.whole.mode m.whole.rules batch)) judged
-  where
-    by : (judged : Result (Unit {0}) Rejection) → AnswersSplit judged (Ok counts) → AnswersSplit judged (Err refusal.Memory)
-    by (Ok fine) answers = inr refl
-    by (Err rejection) wrong = absurd (cc)
 
 -- a plan that is dropped leaves the manager as it was
 pub dropped_back : (old new last : SplitManaged) (batch : List Command) (counts : SplitDone) (did : Bool) → HoldsSplit old batch counts new → old.whole.held ≡ None → old ≡ at_rest old.whole old.events → did ≡ is_untouched new

@@ -1,10 +1,11 @@
 -- The ranges that words in flight are current for: the device serves them between any two parts, and a step leaves the words current.
-use Rattle.std.proofs.Common.{◌≡◌, ℕ, zero, suc, ◌<◌, ◌≤◌, ◌⊎◌, inl, inr, Bool, true, false, Option, None, Some, List, [], ◌∷◌, length, take, set, length-set, get_or-set_other, refl, sym, ◌∙◌, ap, subst, arith}
+use Rattle.std.proofs.Common.{◌≡◌, ℕ, zero, suc, ◌+◌, ◌<◌, ◌≤◌, ◌⊎◌, inl, inr, Bool, true, false, Option, None, Some, List, [], ◌∷◌, length, take, set, length-set, get_or-set_other, refl, sym, ◌∙◌, ap, subst, arith}
 use Rattle.std.specs.Prelude.{IfSome}
 use Rattle.std.proofs.lemmas.Bool.{cases_eq, cases_lt}
 use Rattle.std.proofs.lemmas.List.{get_or_past}
 use Rattle.slot_order.specs.Order.{slot}
 use Rattle.slot_order.proofs.Writes.{slot_same}
+use Rattle.rule_model.specs.declared.Key.{Key}
 use Rattle.rule_model.specs.declared.words.Word.{Word}
 use Rattle.rule_model.specs.declared.words.Entry.{Entry}
 use Rattle.rule_model.specs.Entry.{same_match}
@@ -13,7 +14,8 @@ use Rattle.tcam_device.specs.declared.Write.{Write}
 use Rattle.tcam_device.specs.declared.Write.TheVariants as whole
 use Rattle.tcam_device.specs.State.{State, on_device}
 use Rattle.commit_writes.specs.Bits.{FieldBits}
-use Rattle.commit_writes.specs.InFlight.{ArePartOf, ServesLive}
+use Rattle.commit_writes.specs.InFlight.{AreCurrent, ArePartOf, ServesLive}
+use Rattle.commit_writes.proofs.Current.{are_current_part}
 use Rattle.commit_writes.proofs.Led.{same_part}
 use Rattle.batch_order.specs.declared.Step.{Step}
 use Rattle.batch_order.specs.declared.Step.TheVariants as step
@@ -22,9 +24,11 @@ use Rattle.batch_order.specs.Managed.{HeldCommit, Managed, live_now}
 use Rattle.batch_order.specs.Steps.{KeepsCurrent, ServesNow, Steps, next_of}
 use Rattle.batch_order.specs.Turning.{IsHeldRight}
 use Rattle.batch_order.proofs.back.Turned.{steps_keep_current}
-use Rattle.split_device.specs.declared.SplitAction.TheVariants.{Drained}
+use Rattle.split_device.specs.declared.SplitAction.{SplitAction}
+use Rattle.split_device.specs.declared.SplitAction.TheVariants.{Written, Drained}
 use Rattle.split_device.specs.declared.SplitWrite.TheVariants.{Slot, Result}
 use Rattle.split_device.specs.State.{SplitState, no_result, result_at, undivided, whole_entry, split_apply, split_after}
+use Rattle.split_device.specs.Flight.{Flight, flight_count}
 use Rattle.split_device.specs.Drains.{AreTimely}
 use Rattle.split_device.proofs.Whole.{whole_slot}
 use Rattle.split_writes.specs.declared.SplitDone.{SplitDone}
@@ -39,7 +43,7 @@ use Rattle.split_order.specs.Kept.{IsCommitOrRest, IsSplitKept, IsWayOn, parts_d
 use Rattle.split_order.specs.Left.{left_of, left_of_held, since_of, state_on}
 use Rattle.split_order.specs.Managed.{SplitManaged}
 use Rattle.split_order.specs.Prepared.{HoldsSplit}
-use Rattle.split_order.specs.Steps.{LeavesCurrent, SplitSteps}
+use Rattle.split_order.specs.Steps.{Ends, LeavesCurrent, SplitSteps}
 use Rattle.split_order.proofs.Dues.{parts_same}
 
 -- a result word of an empty slot is no entry's
@@ -165,3 +169,29 @@ drain_current slots old (suc n) made new did = leaves old made new (same_current
 pub plan_current : (old new : SplitManaged) (batch : List Command) (counts : SplitDone) → HoldsSplit old batch counts new → old.whole.held ≡ None → ArePartOf (live_now new.whole) (live_now old.whole)
 plan_current old new batch counts holds idle =
     live_current old new (ap live_now holds.whole.1.new_is ∙ sym (ap (λ (h : Option HeldCommit). live_now (record old.whole { held = h })) idle))
+
+-- it drains only where nothing is in flight
+no_drain : (old : SplitManaged) (held : Option HeldCommit) (new : SplitManaged) → Ends old held split_step.Drained new → ⊥
+no_drain old None new did = let wrong : split_step.Drained ≡ split_step.Idle = did.0 in cc
+no_drain old (Some held) new did = let wrong : split_step.Drained ≡ split_step.Finished old.counts = did.0 in cc
+
+drains_empty : (slots : ℕ) (old : SplitManaged) (flying : ℕ) (left : List SplitAction) (new : SplitManaged) → SplitSteps slots old flying left split_step.Drained new → flying ≡ 0
+drains_empty slots old flying [] new did = absurd (no_drain old old.whole.held new did)
+drains_empty slots old flying (Written part ∷ left) new did = absurd (let wrong : split_step.Drained ≡ split_step.Wrote part = did.0 in cc)
+drains_empty slots old zero (Drained ∷ left) new did = refl
+drains_empty slots old (suc n) (Drained ∷ left) new did = absurd (let wrong : split_step.Drained ≡ split_step.Waiting (suc n) = did.0 in cc)
+
+no_words : (bits : FieldBits) (words : List (Key × Word)) → length words ≡ 0 → AreCurrent bits words
+no_words bits [] none = tt
+no_words bits (oldest ∷ words) none = absurd (omega arith)
+
+-- a step leaves the words in flight current
+pub step_current : (slots : ℕ) (old : SplitManaged) (flight : Flight) (left : List SplitAction) (made : SplitStep) (new : SplitManaged) → LeavesCurrent old made new
+    → SplitSteps slots old (flight_count flight) left made new → AreCurrent (live_now old.whole) flight.words → AreCurrent (live_now new.whole) flight.words
+step_current slots old flight left (split_step.Wrote part) new leaves did current = are_current_part (live_now new.whole) (live_now old.whole) flight.words leaves current
+step_current slots old flight left split_step.Drained new leaves did current =
+    let none : length flight.words + length flight.found ≡ 0 = drains_empty slots old (flight_count flight) left new did in
+    no_words (live_now new.whole) flight.words (omega arith)
+step_current slots old flight left (split_step.Waiting n) new leaves did current = are_current_part (live_now new.whole) (live_now old.whole) flight.words leaves current
+step_current slots old flight left (split_step.Finished counts) new leaves did current = are_current_part (live_now new.whole) (live_now old.whole) flight.words leaves current
+step_current slots old flight left split_step.Idle new leaves did current = are_current_part (live_now new.whole) (live_now old.whole) flight.words leaves current

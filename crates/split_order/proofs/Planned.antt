@@ -1,5 +1,5 @@
 -- A batch that is taken: what is left of its commit is a segment by parts, and it is under way.
-use Rattle.std.proofs.Common.{◌≡◌, ℕ, suc, ◌+◌, ◌*◌, ◌^◌, ◌≤◌, inl, Bool, true, false, Option, None, Some, List, [], ◌∷◌, ◌++◌, length, map, take, drop, refl, sym, ◌∙◌, ap, ap₂, subst, arith, length-append}
+use Rattle.std.proofs.Common.{◌≡◌, ℕ, suc, ◌+◌, ◌-◌, ◌*◌, ◌^◌, ◌≤◌, max, inl, Bool, true, false, Option, None, Some, List, [], ◌∷◌, ◌++◌, fold, length, map, take, drop, refl, sym, ◌∙◌, ap, ap₂, subst, arith, length-append}
 use Rattle.std.specs.Prelude.{IfSome, if◌then◌else◌}
 use Rattle.std.specs.List.{AllByRecursion}
 use Rattle.rule_model.specs.declared.IpVersion.{IpVersion}
@@ -16,11 +16,12 @@ use Rattle.commit_writes.specs.Actions.{commit_actions, have_bits, with_drain}
 use Rattle.commit_writes.specs.Bits.{bits_with, new_bits}
 use Rattle.commit_writes.specs.Commit.{IsSegment}
 use Rattle.commit_writes.specs.Segments.{MayBegin}
-use Rattle.tcam_device.specs.Insertion.{insertions, table_writes, IsGreatestSpan}
+use Rattle.tcam_device.specs.Insertion.{Insertion, insertions, table_writes, IsGreatestSpan}
 use Rattle.tcam_device.proofs.Wider.{slot-padded}
+use Rattle.tcam_device.proofs.WiderInsertions.{insertions-padded, widened}
 use Rattle.batch_order.proofs.under_way.Carried.{on_device-apply}
 use Rattle.commit_writes.proofs.WritesIn.{writes_of_commit}
-use Rattle.batch_order.specs.ByParts.{part_number, parts_number, put_number, stands_at}
+use Rattle.batch_order.specs.ByParts.{insertion_parts, longest_parts, part_number, parts_number, put_number, stands_at, writes_put}
 use Rattle.batch_order.specs.Managed.{HeldCommit, Holds, Managed, commit_of}
 use Rattle.batch_order.specs.CarriedOut.{writes_left}
 use Rattle.rule_model.specs.declared.words.Entry.{Entry}
@@ -34,13 +35,13 @@ use Rattle.split_device.specs.Drains.{SinceDrain, is_drain_due, nothing_since, s
 use Rattle.split_device.specs.Flight.{written}
 use Rattle.split_writes.specs.Laws.{ArePlannedOn, IsBegun}
 use Rattle.split_writes.specs.Parts.{made_of, parts_over, parts_of_writes, write_parts}
-use Rattle.split_writes.specs.Insertion.{split_insertions, table_parts, IsGreatestSplitSpan}
+use Rattle.split_writes.specs.Insertion.{longest_split_insertion, put_writes, split_insertions, table_parts, IsGreatestSplitSpan}
 use Rattle.split_writes.specs.Segment.{IsOfRoutes, IsSplitSegment}
 use Rattle.split_writes.specs.UnderWay.{IsUnderWay}
 use Rattle.split_writes.proofs.Made.{made_writes, written_append}
 use Rattle.split_writes.proofs.Timely.{written_with_drains}
 use Rattle.split_writes.proofs.Seen.{commits_are_under_way}
-use Rattle.split_writes.proofs.Segment.{makes_segments, planned_span, planned_words}
+use Rattle.split_writes.proofs.Segment.{makes_segments, planned_longest, planned_span, planned_words}
 use Rattle.split_order.specs.declared.since.Since.{Since}
 use Rattle.split_order.specs.Kept.{IsCommitOrRest, IsRest, IsSplitKept, IsWayOn, parts_due}
 use Rattle.split_order.specs.Left.{left_of, left_of_held, since_of, state_on}
@@ -109,6 +110,25 @@ number_wide slots wide state (write ∷ writes) same inside =
     ap₂ (λ a b. a + b) (ap (λ held. part_number held write) (stands_wide slots wide state write same))
     (number_wide slots (apply wide write) (apply state write) writes (ap (λ (s : State). apply s write) same ∙ sym (on_device-apply slots state write inside.0))
     (subst (λ n. AllByRecursion (IsInUse n) writes) (sym (size_after state write)) inside.1))
+
+-- the planner counts what insertions put as the theory of parts does,
+same_puts : (writes : List Write) → writes_put writes ≡ put_writes writes
+same_puts [] = refl
+same_puts (whole.Slot at None ∷ writes) = same_puts writes
+same_puts (whole.Slot at (Some entry) ∷ writes) = ap suc (same_puts writes)
+same_puts (whole.Table field port word ∷ writes) = same_puts writes
+
+parts_each : (more : ℕ) (made : List Insertion) → map (λ (insertion : Insertion). insertion_parts (writes_put insertion.writes)) made
+    ≡ map (λ (insertion : Insertion). 3 * put_writes insertion.writes - 1) (map (widened more) made)
+parts_each more [] = refl
+parts_each more (insertion ∷ made) = ap₂ (λ (first : ℕ) (rest : List ℕ). first ∷ rest) (ap insertion_parts (same_puts insertion.writes)) (parts_each more made)
+
+longest_wide : (slots : ℕ) (wide state : State) (writes : List Write) → wide ≡ on_device slots state → AllByRecursion (IsInUse (length state.slots)) writes
+    → longest_parts state writes ≡ fold max 0 (map (λ (insertion : Insertion). 3 * put_writes insertion.writes - 1) (insertions wide writes))
+longest_wide slots wide state writes same inside =
+    let more = slots - length state.slots in
+    ap (fold max 0) (parts_each more (insertions state writes)
+    ∙ ap (map (λ (insertion : Insertion). 3 * put_writes insertion.writes - 1)) (sym (ap (λ (s : State). insertions s writes) same ∙ insertions-padded more state writes inside)))
 
 -- a drain before each part is at most as many again
 drains_few : (state : SplitState) (since : SinceDrain) (parts : List SplitWrite) → length (with_drains state since parts) ≤ 2 * length parts
@@ -252,6 +272,14 @@ module _ (since : Since) (left : ℕ) (m m' : SplitManaged) (batch : List Comman
       (planned_span m.whole.mode m.whole.bits m.whole.rules batch (state_on slots m) (since_of m) writes (begun slots wide) (planned slots wide) done.span
       (subst (λ (s : State). IsGreatestSpan (insertions s writes) done.span) (sym (stands slots wide)) (holds.numbers slots wide).span))
 
+  -- and as many parts in its longest insertion as the planner counts
+  most_of : (slots : ℕ) → m.whole.slots ≤ slots → (most : ℕ) → most ≡ longest_parts m.whole.state writes → most ≡ longest_split_insertion (state_on slots m) (written (left_of slots m'))
+  most_of slots wide most is =
+      let own : AllByRecursion (IsInUse (length m.whole.state.slots)) writes = subst (λ n. AllByRecursion (IsInUse n) writes) (sym kept.whole_size) holds.in_use in
+      is ∙ (longest_wide slots (undivided (state_on slots m)) m.whole.state writes (stands slots wide) own
+      ∙ (planned_longest m.whole.mode m.whole.bits m.whole.rules batch (state_on slots m) (since_of m) writes (begun slots wide) (planned slots wide)
+      ∙ ap (λ some. longest_split_insertion (state_on slots m) (written some)) (sym (left_planned slots wide))))
+
   way : (slots : ℕ) → m.whole.slots ≤ slots
       → IsUnderWay m.whole.rules (set_after m.whole.rules batch) m.whole.bits (bits_with m.whole.mode m.whole.rules batch m.whole.bits) (state_on slots m) (since_of m) (left_of slots m')
   way slots wide =
@@ -324,14 +352,15 @@ module _ (since : Since) (left : ℕ) (m m' : SplitManaged) (batch : List Comman
       back slots wide = subst (λ (p : Managed). p.slots ≤ slots) now wide
 
   -- and holds the batch
-  pub plan_holds : (counts : SplitDone) → counts.writes ≡ parts_number whole'.state (writes_left whole'.held) → counts.words ≡ done.words → counts.span ≡ done.span → m'.counts ≡ counts
-      → HoldsSplit m batch counts m'
-  plan_holds counts are words span same = record {
+  pub plan_holds : (counts : SplitDone) → counts.writes ≡ parts_number whole'.state (writes_left whole'.held) → counts.words ≡ done.words → counts.most ≡ longest_parts whole'.state (writes_left whole'.held)
+      → counts.span ≡ done.span → m'.counts ≡ counts → HoldsSplit m batch counts m'
+  plan_holds counts are words most span same = record {
     on = λ slots wide. record {
       segment = (segment_of slots wide).0;
       routes = (segment_of slots wide).1;
       writes = counted counts.writes are slots wide;
       words = words ∙ words_of slots wide;
+      most = most_of slots wide counts.most (most ∙ (ap (λ (w : Managed). longest_parts w.state (writes_left w.held)) holds.new_is ∙ ap (longest_parts m.whole.state) same_writes));
       span = subst (IsGreatestSplitSpan (split_insertions (state_on slots m) (written (left_of slots m')))) (sym span) (span_of slots wide);
       under_way = way slots wide;
     };

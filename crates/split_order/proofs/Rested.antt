@@ -14,6 +14,7 @@ use Rattle.rule_store.specs.declared.Mode.{Mode}
 use Rattle.batch_order.specs.declared.Placement.{Placement}
 use Rattle.batch_order.specs.declared.Step.{Step}
 use Rattle.batch_order.specs.declared.Step.TheVariants as step
+use Rattle.batch_order.specs.CarriedOut.{finished, finished_of}
 use Rattle.batch_order.specs.Managed.{HeldCommit, IsOn, Managed, fresh}
 use Rattle.batch_order.specs.Steps.{Steps, StepsEither, StepsOn, next_of}
 use Rattle.split_device.specs.declared.SplitAction.{SplitAction}
@@ -100,6 +101,12 @@ module _ (since : Since) (left : ℕ) (m : SplitManaged) (kept : IsSplitKept sin
       let on : StepsOn m.whole held 0 held.actions made new = subst (λ (t : Option ℕ). StepsEither m.whole held 0 t made new) here.forward.1 one in
       subst (λ (a : List Action). StepsOn m.whole held 0 a made new) no_action on
 
+  -- where its plan led
+  pub planner_led : record m.whole { rules = held.rules; bits = held.bits; held = None } ≡ finished m.whole
+  planner_led = sym (
+      ap (λ (h : Option HeldCommit). finished_of h m.whole) under_way
+      ∙ ap₂ (λ (t : Option ℕ) (a : List Action). finished_of (Some (record held { turned = t; actions = a })) m.whole) here.forward.1 no_action)
+
 -- With nothing left the planner's commit ends, and the manager is at rest; with none under way all stays as it is.
 module _ (since : Since) (left : ℕ) (m : SplitManaged) (kept : IsSplitKept since left m) (none : (slots : ℕ) → m.whole.slots ≤ slots → left_of slots m ≡ []) where
   pub finish_held : (made : Step) (whole : Managed) (counts : Done) → Steps m.whole 0 m.whole.held made whole → made ≡ step.Finished counts
@@ -113,7 +120,7 @@ module _ (since : Since) (left : ℕ) (m : SplitManaged) (kept : IsSplitKept sin
       go (Some held) under_way =
           let ends = planner_ends since left m kept none held under_way made whole steps in (
             rested since left m whole kept (no_part since left m kept none held under_way) (ap (λ (w : Managed). w.held) ends.1) (ap (λ (w : Managed). w.slots) ends.1) (ap (λ (w : Managed). w.state) ends.1),
-            subst (λ (h : Option HeldCommit). Ends m h (split_step.Finished m.counts) (at_rest whole m.events)) (sym under_way) (refl, ap (λ (w : Managed). at_rest w m.events) ends.1),
+            subst (λ (h : Option HeldCommit). Ends m h (split_step.Finished m.counts) (at_rest whole m.events)) (sym under_way) (refl, ap (λ (w : Managed). at_rest w m.events) ends.1, ends.1 ∙ planner_led since left m kept none held under_way),
           )
 
   pub finish_idle : (made : Step) (whole : Managed) → Steps m.whole 0 m.whole.held made whole → ((counts : Done) → made ≡ step.Finished counts → ⊥) → (whole ≡ m.whole) × (m.whole.held ≡ None)

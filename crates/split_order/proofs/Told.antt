@@ -52,13 +52,6 @@ module _ (since : Since) (left : ℕ) (m : SplitManaged) (kept : IsSplitKept sin
     pub part_in_use : IsSplitInUse (length since.erased.items) due.part
     part_in_use = subst (λ n. IsSplitInUse n due.part) (sym kept.size) (due_in_use m.whole.slots m.whole.state is_due.0 m.made due is_due.2 is_due.3)
 
-    pub part_on : (slots : ℕ) → m.whole.slots ≤ slots → IsSplitInUse slots due.part
-    part_on slots wide = due_in_use slots m.whole.state is_due.0 m.made due (wider is_due.0 is_due.2) is_due.3
-      where
-        wider : (write : Write) → IsInUse m.whole.slots write → IsInUse slots write
-        wider (whole.Slot at entry) below = omega arith
-        wider (whole.Table field port word) below = tt
-
     -- a drain comes before it exactly where one is due, on each device
     module _ (waits : Bool) (told : (kept_since : SinceDrain) → IsSince since kept_since → (state : SplitState) → StandsIn state due.part due.stands → waits ≡ is_drain_due state kept_since due.part) where
       waits_on : (slots : ℕ) → m.whole.slots ≤ slots → waits ≡ is_drain_due (state_on slots m) (since_of m) due.part

@@ -13,7 +13,7 @@ use Rattle.batch_order.specs.declared.Refusal.TheVariants as refusal
 use Rattle.batch_order.specs.Managed.{HeldCommit, Holds}
 use Rattle.split_device.specs.Flight.{written}
 use Rattle.split_writes.specs.declared.SplitDone.{SplitDone}
-use Rattle.split_writes.specs.Insertion.{split_insertions, table_parts, IsGreatestSplitSpan}
+use Rattle.split_writes.specs.Insertion.{longest_split_insertion, split_insertions, table_parts, IsGreatestSplitSpan}
 use Rattle.split_writes.specs.Segment.{IsOfRoutes, IsSplitSegment}
 use Rattle.split_writes.specs.UnderWay.{IsUnderWay}
 use Rattle.split_order.specs.Managed.{SplitManaged}
@@ -31,13 +31,14 @@ JudgesSplit slots manager None batch result =
     AnswersSplit (judgement (verdict manager.whole.slots manager.whole.mode manager.whole.rules batch)) result
 
 -- A batch is taken: on a device with the slots in use or more what is left is a segment by parts, of routes uncrossed, with so
--- many parts, so many words of the tables among them, and this greatest crossing span of its insertions. It is under way from
--- there on: each look-up, of one event or three, gets the old or the new answer.
+-- many parts, so many words of the tables among them, so many parts of its longest insertion, and this greatest crossing span of
+-- one. It is under way from there on: each look-up, of one event or three, gets the old or the new answer.
 pub record HoldsOn (slots : ℕ) (old : SplitManaged) (batch : List Command) (counts : SplitDone) (new : SplitManaged) : Type 0 where
   pub segment : IsSplitSegment old.whole.mode old.whole.bits old.whole.rules batch (state_on slots old) (since_of old) (left_of slots new)
   pub routes : (version : IpVersion) → IsOfRoutes version old.whole.rules batch (state_on slots old) (left_of slots new)
   pub writes : counts.writes ≡ length (written (left_of slots new))
   pub words : counts.words ≡ table_parts (written (left_of slots new))
+  pub most : counts.most ≡ longest_split_insertion (state_on slots old) (written (left_of slots new))
   pub span : IsGreatestSplitSpan (split_insertions (state_on slots old) (written (left_of slots new))) counts.span
   pub under_way : IsUnderWay old.whole.rules (set_after old.whole.rules batch) old.whole.bits
       (bits_with old.whole.mode old.whole.rules batch old.whole.bits) (state_on slots old) (since_of old) (left_of slots new)

@@ -1,8 +1,10 @@
 -- What the steps of a manager do.
 use Rattle.std.specs.Prelude.{◌≡◌, ℕ, zero, suc, Bool, true, false, ◌&&◌, not, Option, Some, None, is_some, option_map, List, [], ◌∷◌, ◌++◌}
 use Rattle.rule_model.specs.declared.Rule.{Rule}
+use Rattle.tcam_device.specs.State.{state_after}
 use Rattle.commit_writes.specs.Bits.{FieldBits}
 use Rattle.commit_writes.specs.InFlight.{ArePartOf}
+use Rattle.batch_order.specs.CarriedOut.{finished, writes_left}
 use Rattle.batch_order.specs.Managed.{HeldCommit, Managed, live_now}
 use Rattle.split_device.specs.declared.SplitAction.{SplitAction}
 use Rattle.split_device.specs.declared.SplitAction.TheVariants.{Written, Drained}
@@ -20,17 +22,19 @@ made_by (step.Finished counts) = []
 made_by step.Idle = []
 
 -- where a commit leads: the rules, their live ranges, and those that are live meanwhile
-abbrev pub aim_of : HeldCommit → List Rule × FieldBits × FieldBits
-aim_of held = (held.rules, held.bits, held.during)
+abbrev pub commit_aim : HeldCommit → List Rule × FieldBits × FieldBits
+commit_aim held = (held.rules, held.bits, held.during)
 
--- All of the planner that a part or a drain leaves as it was.
+-- All of the planner that a part or a drain leaves as it was: in the place of what its slots and tables hold, what they will hold
+-- once all is made; and where the commit leads.
 abbrev pub outline : Managed → Managed × Option (List Rule × FieldBits × FieldBits)
-outline whole = (record whole { state = record { slots = []; src = []; dst = [] }; held = None }, option_map aim_of whole.held)
+outline whole =
+    (record whole { state = state_after whole.state (writes_left whole.held); held = None }, option_map commit_aim whole.held)
 
 -- a part leaves the ranges that words in flight are current for as they are
-abbrev pub KeepsLive : SplitAction → FieldBits → FieldBits → Type 0
-KeepsLive (Written part) before now = now ≡ before
-KeepsLive Drained before now = Unit {0}
+abbrev pub KeepsRanges : SplitAction → FieldBits → FieldBits → Type 0
+KeepsRanges (Written part) before now = now ≡ before
+KeepsRanges Drained before now = Unit {0}
 
 -- This was made, the first of what is left on a device of so many slots: the rest is left.
 pub record Advances (slots : ℕ) (action : SplitAction) (old new : SplitManaged) : Type 0 where
@@ -39,16 +43,17 @@ pub record Advances (slots : ℕ) (action : SplitAction) (old new : SplitManaged
   pub outline_is : outline new.whole ≡ outline old.whole
   pub begun : new.begun ≡ true
   pub counts : new.counts ≡ old.counts
-  pub live : KeepsLive action (live_now old.whole) (live_now new.whole)
+  pub live : KeepsRanges action (live_now old.whole) (live_now new.whole)
 
 -- The commit has come to its end: its rules are the set's.
-abbrev pub ended_by : SplitManaged → HeldCommit → SplitManaged
-ended_by old held = at_rest (record old.whole { rules = held.rules; bits = held.bits; held = None }) old.events
+abbrev pub ended_split : SplitManaged → HeldCommit → SplitManaged
+ended_split old held = at_rest (record old.whole { rules = held.rules; bits = held.bits; held = None }) old.events
 
--- with nothing left
+-- With nothing left: the planner stands where its plan led then.
 abbrev pub Ends : SplitManaged → Option HeldCommit → SplitStep → SplitManaged → Type 0
 Ends old None made new = (made ≡ step.Idle) × (new ≡ old)
-Ends old (Some held) made new = (made ≡ step.Finished old.counts) × (new ≡ ended_by old held)
+Ends old (Some held) made new =
+    (made ≡ step.Finished old.counts) × (new ≡ ended_split old held) × (new.whole ≡ finished old.whole)
 
 -- What a step does on a device of so many slots with so many words and found slots in flight, where this is left: it makes
 -- the next part, or drains, or waits until nothing is in flight.

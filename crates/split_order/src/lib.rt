@@ -18,9 +18,8 @@
 //!   A plan that is dropped leaves it.
 //! - **No plan is turned round, and none is gone on with behind a restart**: nothing here leads there, so the planner's plan
 //!   goes forward always.
-//! - **`most` is the planner's count, and the one number without a clause**: `Manager::most_parts` promises nothing of it.
-//!   What it counts is three parts for each entry that an insertion puts, less one, which is what each insertion takes
-//!   (`exact`, in `split_writes/specs/Segment`).
+//! - **`most` is the planner's count** (`Manager::most_parts`): three parts for each entry that an insertion puts, less one, which
+//!   is what each insertion takes (`exact`, in `split_writes/specs/Segment`).
 //! - **What was made is a history** (`History`), which takes no memory: the result words of empty slots are known by it alone.
 #![tactic(auto)]
 
@@ -54,8 +53,8 @@ pub enum SplitStep {
 /// Why `carry_out` came to no end of the commit.
 #[derive(Clone, Copy, Debug, PartialEq, Eq, Error)]
 pub enum SplitUnfinished {
-    /// A device whose writes fail. The commit is still under way, with this many parts to make, and the one that failed is
-    /// the next.
+    /// One part failed as often as each may be tried. Those before it were made, and the commit is still under way, with this
+    /// many parts to make, of which it is the next.
     #[error("the device failed with {left} writes to make")]
     Stuck { left: u64 },
     /// A drain is next, and so many words and found slots are in flight. The commit is still under way, with this many parts

@@ -1,6 +1,6 @@
 //! The manager of one device with split results.
 
-ghost use Rattle.std.specs.Prelude.{◌≡◌, ◌+◌, ◌*◌, ◌^◌, ◌≤◌, ℕ, None, IfOk, IfSome, OnOk, OnErr, length, option_map};
+ghost use Rattle.std.specs.Prelude.{◌≡◌, ◌+◌, ◌*◌, ◌^◌, ◌≤◌, ℕ, None, IfOk, OnOk, OnErr, length, option_map};
 ghost use Rattle.rule_store.specs.Verdict.{entries_of};
 ghost use Rattle.commit_writes.specs.InFlight.{ArePartOf, ServesLive};
 ghost use Rattle.batch_order.specs.Managed.{live_now};
@@ -8,7 +8,7 @@ ghost use Rattle.split_device.specs.State.{undivided};
 ghost use Rattle.split_device.specs.Drains.{AreTimely};
 ghost use Rattle.split_device.specs.Flight.{written};
 ghost use Rattle.split_order.specs.Managed.{SplitManaged, at_rest, fresh_split};
-ghost use Rattle.split_order.specs.Next.{ServesAhead};
+ghost use Rattle.split_order.specs.Next.{ServesAhead, ShowsOnWay};
 ghost use Rattle.split_order.specs.Left.{ServesSplit, left_of, since_of, state_on};
 ghost use Rattle.split_order.specs.Prepared.{HoldsSplit, JudgesSplit};
 ghost use Rattle.split_order.specs.Steps.{dropped, is_untouched};
@@ -121,7 +121,8 @@ impl SplitManager {
 
     /// Judges a batch of changes to the rules as `batch_order::Manager::prepare` does, over a device with at least the slots
     /// in use. Where the batch is taken, what is to be made of it is planned, and the device is reserved for all parts and
-    /// drains. The answer has the numbers of the parts; of `most` no clause speaks.
+    /// drains. The answer has the numbers of the parts. With `m` a bound on overlap chains of the old rules and the additions, an
+    /// insertion takes at most `2 + 3(m - 1)(1 + c)` of them, `c` its crossing span.
     ///
     /// Refusals are tried in the same order; `Busy` tells the parts that are left. A refusal makes nothing, and leaves rules,
     /// manager and device as they were, but for their memory. Words in flight that were current are so still.
@@ -188,6 +189,7 @@ impl SplitManager {
 
     /// Drops a plan of which no part and no drain was made: no commit is under way then, and all else is as it was. False
     /// comes exactly where there is no such plan, and nothing changes then. Words in flight that were current are so still.
+    /// A first part that failed must surely not have been made: else the device has it, and nobody knows.
     pub fn cancel(&mut self) -> bool
         ensures cancels { result ≡ is_untouched self.old }
         ensures dropped { self.new ≡ dropped result self.old }
@@ -205,11 +207,12 @@ impl SplitManager {
     }
 
     /// A device of which the manager's parts and drains alone were made serves each key, and so it does where the part that is
-    /// next was made already. It serves the ranges that words in flight are current for, and each part that is left stands in
-    /// its time.
+    /// next was made already, and after each part that is left. It serves the ranges that words in flight are current for, and
+    /// each part that is left stands in its time.
     pub fn serving(&self)
         ensures serves { (slots : ℕ) → self.now.whole.slots ≤ slots → ServesSplit (state_on slots self.now) self.now }
         ensures ahead { (slots : ℕ) → self.now.whole.slots ≤ slots → ServesAhead (left_of slots self.now) (state_on slots self.now) self.now }
+        ensures way { (slots : ℕ) → self.now.whole.slots ≤ slots → ShowsOnWay slots self.now }
         ensures live { (slots : ℕ) → self.now.whole.slots ≤ slots → ServesLive (live_now self.now.whole) (undivided (state_on slots self.now)) }
         ensures timely { (slots : ℕ) → self.now.whole.slots ≤ slots → AreTimely (state_on slots self.now) (since_of self.now) (left_of slots self.now) }
         ensures rest { self.now.whole.held ≡ None → self.now ≡ at_rest self.now.whole self.now.events }

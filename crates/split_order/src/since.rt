@@ -11,6 +11,8 @@ use std::alloc::{AllocError, Global};
 /// Which slots in use were erased since the last drain, whether a slot was written, and whether a word of a table was.
 #[derive(Drop)]
 pub(crate) struct Since {
+    // A byte for each slot in use, 4,096 at most: the toolchain has no crate of bit sets, and a row of `slot_pool::Marks` has
+    // no call that takes marks away, which each drain does.
     erased: Vec<bool>,
     slots: bool,
     bits: bool,

@@ -1,16 +1,16 @@
 //! What a step makes of the commit under way: its next part, a drain, or its end.
 
-ghost use Rattle.std.specs.Prelude.{◌≡◌, ◌+◌, ◌-◌, ◌++◌, ◌∷◌, ◌<◌, ◌≤◌, [], ℕ, IfOk, IfErr, OnOk, OnErr, length};
+ghost use Rattle.std.specs.Prelude.{◌≡◌, ◌+◌, ◌-◌, ◌++◌, ◌∷◌, ◌<◌, ◌≤◌, [], ℕ, IfOk, IfErr, OnErr, length, slice_get};
 ghost use Rattle.call_history.specs.Cause.{HasCause};
-ghost use Rattle.commit_writes.specs.InFlight.{ArePartOf};
+ghost use Rattle.commit_writes.specs.InFlight.{AreCurrent, ArePartOf};
 ghost use Rattle.batch_order.specs.Managed.{live_now};
-ghost use Rattle.split_device.specs.Flight.{flight_count, state_of_events, written};
+ghost use Rattle.split_device.specs.Flight.{flight_count, written};
 ghost use Rattle.split_device.specs.declared.SplitAction.{SplitAction};
-ghost use Rattle.batch_order.specs.CarriedOut.{IsTried};
-ghost use Rattle.split_order.specs.Left.{ServesSplit, left_of};
-ghost use Rattle.split_order.specs.Next.{IsNext, IsPartDue, ServesAhead};
-ghost use Rattle.split_order.specs.CarriedOut.{IsFinished, IsStuckSplit, SplitStopsBy};
-ghost use Rattle.split_order.specs.Steps.{Advances, Ends, IsPartNext, LeavesCurrent, SplitSteps, made_by, outline};
+ghost use Rattle.batch_order.specs.CarriedOut.{IsTried, ahead};
+ghost use Rattle.split_order.specs.Left.{left_of};
+ghost use Rattle.split_order.specs.Next.{IsLed, IsNext, IsPartDue};
+ghost use Rattle.split_order.specs.CarriedOut.{AreServed, IsFinished, IsStoppedBy, IsStuckSplit};
+ghost use Rattle.split_order.specs.Steps.{Advances, Ends, IsPartNext, LeavesCurrent, SplitSteps, made_by};
 
 use crate::due::{DuePart, due_part, standing};
 use crate::manager::{NO_COMMIT, SplitManager};
@@ -35,10 +35,12 @@ impl SplitManager {
     /// Makes the next part of the commit under way, over the device that `prepare` reserved, with room for what is left.
     /// Where a drain is next it drains if nothing is in flight, and else the answer is `Waiting` with the number of words and
     /// found slots, and nothing changes. With nothing left the rules become the new set, and the answer is `Finished`. With no
-    /// commit under way the answer is `Idle`, and nothing changes. What is in flight stays as it is.
+    /// commit under way the answer is `Idle`, and nothing changes. What is in flight stays as it is, and of what is reserved a
+    /// part or a drain takes its own room alone.
     ///
     /// After it, also after a failure, each key is answered, by what was made of the device, as the rules do, and while a
-    /// commit is under way as the old ones or the new ones do. Words in flight that were current are so still.
+    /// commit is under way as the old ones or the new ones do; and so it is where the part that is next was made already.
+    /// Words in flight that were current are so still.
     ///
     /// A failure comes exactly where a part is next and the device's count of failures rose. It changes nothing, and the same
     /// part is next again. It does no harm where the hardware has made that part all the same.
@@ -48,6 +50,7 @@ impl SplitManager {
         ensures stepped { IfOk result (λ step. SplitSteps (D.slot_count device.old) self.old (flight_count (D.flight device.old)) (left_of (D.slot_count device.old) self.old) step self.new) }
         ensures current { IfOk result (λ step. LeavesCurrent self.old step self.new) }
         ensures events { IfOk result (λ step. D.events device.new ≡ D.events device.old ++ made_by step) }
+        ensures spare { D.spare device.new + length (D.events device.new) ≡ D.spare device.old + length (D.events device.old) }
         ensures room { length (left_of (D.slot_count device.new) self.new) ≤ D.spare device.new }
         ensures failed { OnErr result (self.new ≡ self.old) }
         ensures events_err { OnErr result (D.events device.new ≡ D.events device.old) }
@@ -55,8 +58,7 @@ impl SplitManager {
         ensures flight { D.flight device.new ≡ D.flight device.old }
         ensures slot_count { D.slot_count device.new ≡ D.slot_count device.old }
         ensures cause { HasCause (D.faults device.old) (D.faults device.new) result }
-        ensures serves { D.events device.old ≡ self.old.events → ServesSplit (state_of_events (D.slot_count device.new) (D.events device.new)) self.new }
-        ensures serves_err { OnErr result (D.events device.old ≡ self.old.events → ServesAhead (left_of (D.slot_count device.old) self.old) (state_of_events (D.slot_count device.new) (D.events device.new)) self.new) }
+        ensures led { D.events device.old ≡ self.old.events → IsLed (D.slot_count device.new) (D.events device.new) self.new }
     {
         self.serving();
         match self.next() {
@@ -78,6 +80,18 @@ impl SplitManager {
                 self.serving();
                 Ok(SplitStep::Wrote(part))
             }
+        }
+    }
+
+    /// The part or the drain that is next, or None where no commit is under way, or it has nothing left: what the next `step`
+    /// makes. Whoever makes the parts outside of this program, as a driver in C, is told here which one is due.
+    pub fn next_action(&self) -> Option<SplitAction>
+        ensures { (slots : ℕ) → self.now.whole.slots ≤ slots → result ≡ slice_get (left_of slots self.now) 0 }
+    {
+        match self.next() {
+            Next::Nothing => None,
+            Next::Drain => Some(SplitAction::Drained),
+            Next::Part(due) => Some(SplitAction::Written(due.part)),
         }
     }
 
@@ -187,11 +201,18 @@ impl SplitManager {
     }
 
     /// Makes all parts and drains that are left of the commit under way, in their order, over the device that `prepare`
-    /// reserved, each part tried up to `tries` times, at least once. With the last of them the rules become the new set, and
-    /// the answer has the numbers of the commit. With no commit under way they are all 0.
+    /// reserved, each part tried up to `tries` times, at least once: 1 tries none again. With the last of them the rules become
+    /// the new set, no commit is under way, and the answer has the numbers of the commit. With none under way before they are
+    /// all 0, and nothing changes. Of what is reserved each part and each drain takes its own room alone.
     ///
-    /// `Stuck` comes where one part has failed `tries` times, `Waiting` exactly where a drain is next and look-ups are in
-    /// flight: what came before was made, and the call may be made again.
+    /// `Stuck` comes where one part has failed `tries` times, and the device's count of failures rose by that, or stands at
+    /// its last value. `Waiting` comes exactly where a drain is next and look-ups are in flight, with their number. What came
+    /// before was made, that part or drain is next, and the call may be made again. With none made the plan may also be
+    /// dropped by `cancel`, where the part that failed surely wasn't made.
+    ///
+    /// Each key is answered, by what was made of the device, as the old rules or the new ones do before the first part and
+    /// after each, also where the part that failed was made all the same; and once the commit has finished as the new ones do.
+    /// What is in flight stays as it is, and words in flight that were current are so still: another batch may be prepared.
     pub fn carry_out<D: SplitDevice>(
         &mut self,
         device: &mut D,
@@ -200,18 +221,20 @@ impl SplitManager {
         requires slots { self.old.whole.slots ≤ D.slot_count device.old }
         requires room { length (left_of (D.slot_count device.old) self.old) ≤ D.spare device.old }
         requires tries { 1 ≤ tries }
-        ensures done { IfOk result (λ done. done ≡ self.old.counts) }
-        ensures finished { OnOk result (IsFinished self.old self.new) }
-        ensures stopped { IfErr result (SplitStopsBy (left_of (D.slot_count device.new) self.new) (flight_count (D.flight device.new))) }
-        ensures outline { OnErr result (outline self.new.whole ≡ outline self.old.whole) }
+        ensures finished { IfOk result (λ done. IsFinished (D.slot_count device.old) self.old done self.new) }
+        ensures stopped { IfErr result (IsStoppedBy (D.slot_count device.old) self.old self.new (flight_count (D.flight device.old))) }
         ensures events { D.events device.new ++ left_of (D.slot_count device.new) self.new ≡ D.events device.old ++ left_of (D.slot_count device.old) self.old }
+        ensures spare { D.spare device.new + length (D.events device.new) ≡ D.spare device.old + length (D.events device.old) }
         ensures room { length (left_of (D.slot_count device.new) self.new) ≤ D.spare device.new }
         ensures flight { D.flight device.new ≡ D.flight device.old }
+        ensures slots { self.new.whole.slots ≡ self.old.whole.slots }
         ensures slot_count { D.slot_count device.new ≡ D.slot_count device.old }
-        ensures tried { IsTried tries (length (D.events device.new) - length (D.events device.old)) (IsStuckSplit result) (D.faults device.old) (D.faults device.new) }
-        ensures on { D.events device.old ≡ self.old.events → D.events device.new ≡ self.new.events }
-        ensures serves { D.events device.old ≡ self.old.events → ServesSplit (state_of_events (D.slot_count device.new) (D.events device.new)) self.new }
+        ensures tried { IsTried tries (length (written (D.events device.new)) - length (written (D.events device.old))) (IsStuckSplit result) (D.faults device.old) (D.faults device.new) }
+        ensures current { AreCurrent (live_now self.old.whole) (D.flight device.old).words → AreCurrent (live_now self.new.whole) (D.flight device.new).words }
+        ensures led { D.events device.old ≡ self.old.events → IsLed (D.slot_count device.new) (D.events device.new) self.new }
+        ensures hitless { D.events device.old ≡ self.old.events → AreServed (D.slot_count device.new) (D.events device.old) (D.events device.new) self.old.whole.rules (ahead self.old.whole) }
     {
+        self.serving();
         let mut failures = 0;
         'carrying: loop {
             match self.step(device) {

@@ -6,41 +6,41 @@ use Rattle.split_device.specs.Flight.{Flight}
 use Rattle.split_order.specs.Managed.{SplitManaged}
 use Rattle.split_turns.specs.declared.SplitTurn.{SplitTurn}
 use Rattle.split_turns.specs.Seen.{AreSeen, TurnsOn}
-use Rattle.split_turns.specs.Turns.{Course, Drives, Outcome, IsDriven, TurnsOnce, course_of, numbered}
+use Rattle.split_turns.specs.Turns.{Course, Drives, Outcome, AreAllTaken, TakesSplitTurn, course_of, with_turn_number}
 
 drives_more : (slots : ℕ) (course : Course) (number : ℕ) (turns : List SplitTurn) (answers : List (ℕ × Answer)) (mid : Course) (turn : SplitTurn) (once : Outcome)
-    → Drives slots course number turns answers mid → TurnsOnce slots mid turn once
-    → Drives slots course number (turns ++ turn ∷ []) (answers ++ numbered (number + length turns) once.answered) once.course
+    → Drives slots course number turns answers mid → TakesSplitTurn slots mid turn once
+    → Drives slots course number (turns ++ turn ∷ []) (answers ++ with_turn_number (number + length turns) once.answered) once.course
 drives_more slots course number [] answers mid turn once did turned =
     let at : number + 0 ≡ number = omega arith in (
       once,
       [],
-      subst (λ c. TurnsOnce slots c turn once) did.1 turned,
+      subst (λ c. TakesSplitTurn slots c turn once) did.1 turned,
       (refl, refl),
-      ap₂ (λ (before : List (ℕ × Answer)) (k : ℕ). before ++ numbered k once.answered) did.0 at ∙ sym (append-nil (numbered number once.answered)),
+      ap₂ (λ (before : List (ℕ × Answer)) (k : ℕ). before ++ with_turn_number k once.answered) did.0 at ∙ sym (append-nil (with_turn_number number once.answered)),
     )
 drives_more slots course number (first ∷ turns) answers mid turn once did turned =
     let behind = drives_more slots did.0.course (number + 1) turns did.1 mid turn once did.3 turned in
     let at : number + 1 + length turns ≡ number + suc (length turns) = omega arith in (
       did.0,
-      did.1 ++ numbered (number + suc (length turns)) once.answered,
+      did.1 ++ with_turn_number (number + suc (length turns)) once.answered,
       did.2,
-      subst (λ k. Drives slots did.0.course (number + 1) (turns ++ turn ∷ []) (did.1 ++ numbered k once.answered) once.course) at behind,
-      ap (λ (xs : List (ℕ × Answer)). xs ++ numbered (number + suc (length turns)) once.answered) did.4
-          ∙ append_assoc (numbered number did.0.answered) did.1 (numbered (number + suc (length turns)) once.answered),
+      subst (λ k. Drives slots did.0.course (number + 1) (turns ++ turn ∷ []) (did.1 ++ with_turn_number k once.answered) once.course) at behind,
+      ap (λ (xs : List (ℕ × Answer)). xs ++ with_turn_number (number + suc (length turns)) once.answered) did.4
+          ∙ append_assoc (with_turn_number number did.0.answered) did.1 (with_turn_number (number + suc (length turns)) once.answered),
     )
 
 -- there are no more answers than turns
 pub few_more : (answers : List (ℕ × Answer)) (place : ℕ) (answered : Option Answer) → length answers ≤ place
-    → length (answers ++ numbered place answered) ≤ place + 1
+    → length (answers ++ with_turn_number place answered) ≤ place + 1
 few_more answers place None few =
-    let size = length-append answers (numbered place None) in omega arith
+    let size = length-append answers (with_turn_number place None) in omega arith
 few_more answers place (Some found) few =
     let size = length-append answers ((place, found) ∷ []) in omega arith
 
 -- so far the turns were made, and the look-ups that wait then are known
 pub record SoFar (slots : ℕ) (manager : SplitManaged) (flight : Flight) (turns : List SplitTurn) (answers : List (ℕ × Answer)) (last : SplitManaged) (left : Flight) : Type 0 where
-  pub driven : IsDriven slots manager flight turns answers last left
+  pub driven : AreAllTaken slots manager flight turns answers last left
   pub seen : AreSeen slots last driven.looks
 
 pub none_so_far : (slots : ℕ) (manager : SplitManaged) (flight : Flight) (answers : List (ℕ × Answer)) → flight.found ≡ [] → answers ≡ [] → SoFar slots manager flight [] answers manager flight
@@ -53,7 +53,7 @@ none_so_far slots manager flight answers none no_answers = record {
 pub driven_more : (slots : ℕ) (manager mid last : SplitManaged) (flight flying left : Flight) (turns : List SplitTurn) (place : ℕ) (turn : SplitTurn)
     (answers : List (ℕ × Answer)) (answered : Option Answer) → SoFar slots manager flight (take place turns) answers mid flying
     → TurnsOn slots mid flying turn answered last left → place < length turns → turn ≡ get_or turns place turn
-    → SoFar slots manager flight (take (place + 1) turns) (answers ++ numbered place answered) last left
+    → SoFar slots manager flight (take (place + 1) turns) (answers ++ with_turn_number place answered) last left
 driven_more slots manager mid last flight flying left turns place turn answers answered so_far turns_on inside is =
     let was = so_far.driven in
     let one = turns_on was.looks was.found so_far.seen in
@@ -67,8 +67,8 @@ driven_more slots manager mid last flight flying left turns place turn answers a
       driven = record {
         looks = one.later;
         found = one.found;
-        driven = subst (λ ts. Drives slots begin 0 ts (answers ++ numbered place answered) (course_of last left one.later)) longer
-            (subst (λ k. Drives slots begin 0 (take place turns ++ turn ∷ []) (answers ++ numbered k answered) (course_of last left one.later)) at more);
+        driven = subst (λ ts. Drives slots begin 0 ts (answers ++ with_turn_number place answered) (course_of last left one.later)) longer
+            (subst (λ k. Drives slots begin 0 (take place turns ++ turn ∷ []) (answers ++ with_turn_number k answered) (course_of last left one.later)) at more);
       };
       seen = one.seen;
     }

@@ -1,13 +1,12 @@
 -- What each turn does, from what the manager and the device say of it.
-use Rattle.std.proofs.Common.{◌≡◌, ℕ, zero, suc, ◌+◌, List, [], ◌∷◌, ◌++◌, Bool, true, false, Option, Some, None, length, map, drop, refl, sym, ◌∙◌, ap, subst, append-nil, arith}
+use Rattle.std.proofs.Common.{◌≡◌, ℕ, zero, suc, ◌+◌, List, [], ◌∷◌, ◌++◌, Bool, true, false, Option, Some, None, length, map, drop, refl, sym, ◌∙◌, ap, subst, arith}
 use Rattle.std.specs.Prelude.{nat_lt}
 use Rattle.rule_model.specs.declared.Key.{Key}
-use Rattle.rule_model.specs.declared.words.Word.{Word}
 use Rattle.rule_model.specs.Key.{IsKey}
 use Rattle.tcam_device.specs.Flight.{most_in_flight}
 use Rattle.commit_writes.specs.Bits.{FieldBits}
 use Rattle.commit_writes.specs.InFlight.{AreCurrent, ServesLive}
-use Rattle.commit_writes.proofs.Current.{are_current_more, are_current_part}
+use Rattle.commit_writes.proofs.Current.{are_current_more}
 use Rattle.batch_order.specs.Managed.{HeldCommit, live_now}
 use Rattle.split_device.specs.State.{SplitState, read_at, undivided}
 use Rattle.split_device.specs.declared.SplitAction.{SplitAction}
@@ -18,24 +17,13 @@ use Rattle.split_order.specs.declared.SplitStep.{SplitStep}
 use Rattle.split_order.specs.declared.SplitStep.TheVariants as step
 use Rattle.split_order.specs.Left.{ServesSplit, left_of, since_of, state_on}
 use Rattle.split_order.specs.Managed.{SplitManaged}
-use Rattle.split_order.specs.Steps.{Ends, LeavesCurrent, SplitSteps, made_by}
-use Rattle.split_order.proofs.Stepped.{advances_slots, ends_slots, ends_told}
+use Rattle.split_order.specs.Steps.{Ends, SplitSteps}
+use Rattle.split_order.proofs.Stepped.{advances_slots, ends_slots}
 use Rattle.split_turns.specs.declared.SplitTurn.TheVariants.{Step, Translate, Search, Read}
-use Rattle.split_turns.specs.LookUps.{LookUp, Moment, moment_of, searched, told}
+use Rattle.split_turns.specs.LookUps.{LookUp, Moment, moment_of, searched, told_in_flight}
 use Rattle.split_turns.specs.Seen.{AreSeen, IsTurned}
-use Rattle.split_turns.specs.Turns.{Outcome, TurnsOnce, course_of, seen_by, translated}
+use Rattle.split_turns.specs.Turns.{Outcome, TakesSplitTurn, course_of, seen_by, translated}
 use Rattle.split_turns.proofs.Waits.{drop_told, oldest_answered, part_seen, read_seen, same_seen, search_seen, search_told, told_seen}
-
--- what a step made is told by its manager
-unmade : (old : SplitManaged) (made : SplitStep) (new : SplitManaged) → made_by made ≡ [] → new ≡ old → new.events ≡ old.events ++ made_by made
-unmade old made new none same = ap (λ (m : SplitManaged). m.events) same ∙ (sym (append-nil old.events) ∙ ap (λ some. old.events ++ some) (sym none))
-
-pub steps_told : (slots : ℕ) (old : SplitManaged) (flying : ℕ) (left : List SplitAction) (made : SplitStep) (new : SplitManaged) → SplitSteps slots old flying left made new
-    → new.events ≡ old.events ++ made_by made
-steps_told slots old flying [] made new did = ends_told old old.whole.held made new did
-steps_told slots old flying (Written part ∷ left) made new did = did.1.events ∙ ap (λ some. old.events ++ some) (sym (ap made_by did.0))
-steps_told slots old zero (Drained ∷ left) made new did = did.1.events ∙ ap (λ some. old.events ++ some) (sym (ap made_by did.0))
-steps_told slots old (suc n) (Drained ∷ left) made new did = unmade old made new (ap made_by did.0) did.1
 
 -- the slots in use stay
 pub steps_slots : (slots : ℕ) (old : SplitManaged) (flying : ℕ) (left : List SplitAction) (made : SplitStep) (new : SplitManaged) → SplitSteps slots old flying left made new
@@ -45,41 +33,15 @@ steps_slots slots old flying (Written part ∷ left) made new did = advances_slo
 steps_slots slots old zero (Drained ∷ left) made new did = advances_slots slots Drained old new did.1
 steps_slots slots old (suc n) (Drained ∷ left) made new did = ap (λ (m : SplitManaged). m.whole.slots) did.1
 
--- it drains only where nothing is in flight
-no_drain : (old : SplitManaged) (held : Option HeldCommit) (new : SplitManaged) → Ends old held step.Drained new → ⊥
-no_drain old None new did = let wrong : step.Drained ≡ step.Idle = did.0 in cc
-no_drain old (Some held) new did = let wrong : step.Drained ≡ step.Finished old.counts = did.0 in cc
-
-drains_empty : (slots : ℕ) (old : SplitManaged) (flying : ℕ) (left : List SplitAction) (new : SplitManaged) → SplitSteps slots old flying left step.Drained new → flying ≡ 0
-drains_empty slots old flying [] new did = absurd (no_drain old old.whole.held new did)
-drains_empty slots old flying (Written part ∷ left) new did = absurd (let wrong : step.Drained ≡ step.Wrote part = did.0 in cc)
-drains_empty slots old zero (Drained ∷ left) new did = refl
-drains_empty slots old (suc n) (Drained ∷ left) new did = absurd (let wrong : step.Drained ≡ step.Waiting (suc n) = did.0 in cc)
-
-no_words : (bits : FieldBits) (words : List (Key × Word)) → length words ≡ 0 → AreCurrent bits words
-no_words bits [] none = tt
-no_words bits (oldest ∷ words) none = absurd (omega arith)
-
--- a step leaves the words in flight current
-pub step_current : (slots : ℕ) (old : SplitManaged) (flight : Flight) (left : List SplitAction) (made : SplitStep) (new : SplitManaged) → LeavesCurrent old made new
-    → SplitSteps slots old (flight_count flight) left made new → AreCurrent (live_now old.whole) flight.words → AreCurrent (live_now new.whole) flight.words
-step_current slots old flight left (step.Wrote part) new leaves did current = are_current_part (live_now new.whole) (live_now old.whole) flight.words leaves current
-step_current slots old flight left step.Drained new leaves did current =
-    let none : length flight.words + length flight.found ≡ 0 = drains_empty slots old (flight_count flight) left new did in
-    no_words (live_now new.whole) flight.words (omega arith)
-step_current slots old flight left (step.Waiting n) new leaves did current = are_current_part (live_now new.whole) (live_now old.whole) flight.words leaves current
-step_current slots old flight left (step.Finished counts) new leaves did current = are_current_part (live_now new.whole) (live_now old.whole) flight.words leaves current
-step_current slots old flight left step.Idle new leaves did current = are_current_part (live_now new.whole) (live_now old.whole) flight.words leaves current
-
 -- the look-ups that wait behind it
-told_by : (now : Moment) (made : SplitStep) (looks : List LookUp) → map told (seen_by now made looks) ≡ map told looks
+told_by : (now : Moment) (made : SplitStep) (looks : List LookUp) → map told_in_flight (seen_by now made looks) ≡ map told_in_flight looks
 told_by now (step.Wrote part) looks = told_seen now looks
 told_by now step.Drained looks = refl
 told_by now (step.Waiting n) looks = refl
 told_by now (step.Finished counts) looks = refl
 told_by now step.Idle looks = refl
 
-empty_seen : (slots : ℕ) (old new : SplitManaged) (looks : List LookUp) → length (map told looks) ≡ 0 → AreSeen slots old looks → AreSeen slots new looks
+empty_seen : (slots : ℕ) (old new : SplitManaged) (looks : List LookUp) → length (map told_in_flight looks) ≡ 0 → AreSeen slots old looks → AreSeen slots new looks
 empty_seen slots old new [] none seen = record { keys = tt; waiting = tt; shown = tt }
 empty_seen slots old new (look ∷ looks) none seen = absurd (omega arith)
 
@@ -91,7 +53,7 @@ ended_seen slots old (Some held) made new now looks did seen =
     subst (λ (s : SplitStep). AreSeen slots new (seen_by now s looks)) (sym did.0) (same_seen slots old new looks (ap (λ (m : SplitManaged). m.events) did.1) seen)
 
 stepped_seen : (slots : ℕ) (old : SplitManaged) (flying : ℕ) (left : List SplitAction) (made : SplitStep) (new : SplitManaged) (looks : List LookUp)
-    → SplitSteps slots old flying left made new → AreTimely (state_on slots old) (since_of old) left → ServesSplit (state_on slots new) new → (flying ≡ 0 → length (map told looks) ≡ 0)
+    → SplitSteps slots old flying left made new → AreTimely (state_on slots old) (since_of old) left → ServesSplit (state_on slots new) new → (flying ≡ 0 → length (map told_in_flight looks) ≡ 0)
     → AreSeen slots old looks → AreSeen slots new (seen_by (moment_of slots new) made looks)
 stepped_seen slots old flying [] made new looks did timely serves few seen = ended_seen slots old old.whole.held made new (moment_of slots new) looks did seen
 stepped_seen slots old flying (Written part ∷ left) made new looks did timely serves few seen =
@@ -104,7 +66,7 @@ stepped_seen slots old (suc n) (Drained ∷ left) made new looks did timely serv
 -- A step of the manager.
 pub step_turned : (slots : ℕ) (old new : SplitManaged) (flight : Flight) (made : SplitStep) → SplitSteps slots old (flight_count flight) (left_of slots old) made new
     → AreTimely (state_on slots old) (since_of old) (left_of slots old) → ServesSplit (state_on slots new) new
-    → (looks : List LookUp) → flight.found ≡ map told looks → AreSeen slots old looks → IsTurned slots old flight looks Step None new flight
+    → (looks : List LookUp) → flight.found ≡ map told_in_flight looks → AreSeen slots old looks → IsTurned slots old flight looks Step None new flight
 step_turned slots old new flight made did timely serves looks found seen = record {
   later = seen_by (moment_of slots new) made looks;
   found = found ∙ sym (told_by (moment_of slots new) made looks);
@@ -112,10 +74,10 @@ step_turned slots old new flight made did timely serves looks found seen = recor
   turned = (made, new, subst (λ (some : List (Key × Option ℕ)). SplitSteps slots old (length flight.words + length some) (left_of slots old) made new) found did, refl);
 }
   where
-    few : flight_count flight ≡ 0 → length (map told looks) ≡ 0
+    few : flight_count flight ≡ 0 → length (map told_in_flight looks) ≡ 0
     few none =
         let count : length flight.words + length flight.found ≡ 0 = none in
-        let same : length flight.found ≡ length (map told looks) = ap length found in
+        let same : length flight.found ≡ length (map told_in_flight looks) = ap length found in
         omega arith
 
 -- a translation, where there is room or none
@@ -124,7 +86,7 @@ where_room room state key flight = elim room [ true ↦ with_word state flight k
 
 -- A translation, or one that is passed over.
 pub translate_turned : (slots : ℕ) (manager : SplitManaged) (key : Key) (flight : Flight)
-    → (looks : List LookUp) → flight.found ≡ map told looks → AreSeen slots manager looks
+    → (looks : List LookUp) → flight.found ≡ map told_in_flight looks → AreSeen slots manager looks
     → IsTurned slots manager flight looks (Translate key) None manager (translated (state_on slots manager) key flight)
 translate_turned slots manager key flight looks found seen = record {
   later = looks;
@@ -151,7 +113,7 @@ translate_current bits state key flight serves valid current = go (nat_lt (fligh
 -- A search, with a word in flight or none.
 pub search_turned : (slots : ℕ) (manager : SplitManaged) (flight : Flight) → ServesSplit (state_on slots manager) manager
     → ServesLive (live_now manager.whole) (undivided (state_on slots manager)) → AreCurrent (live_now manager.whole) flight.words
-    → (looks : List LookUp) → flight.found ≡ map told looks → AreSeen slots manager looks
+    → (looks : List LookUp) → flight.found ≡ map told_in_flight looks → AreSeen slots manager looks
     → IsTurned slots manager flight looks Search None manager (with_search (state_on slots manager) flight)
 search_turned slots manager flight serves live current looks found seen = record {
   later = looks ++ searched (moment_of slots manager) flight.words;
@@ -161,7 +123,7 @@ search_turned slots manager flight serves live current looks found seen = record
 }
 
 -- A read, with a found slot or none.
-pub read_turned : (slots : ℕ) (manager : SplitManaged) (flight : Flight) (looks : List LookUp) → flight.found ≡ map told looks → AreSeen slots manager looks
+pub read_turned : (slots : ℕ) (manager : SplitManaged) (flight : Flight) (looks : List LookUp) → flight.found ≡ map told_in_flight looks → AreSeen slots manager looks
     → IsTurned slots manager flight looks Read (oldest_read (state_on slots manager) flight.found) manager (with_read flight)
 read_turned slots manager flight looks found seen = record {
   later = drop 1 looks;
@@ -170,8 +132,8 @@ read_turned slots manager flight looks found seen = record {
   turned = by looks found seen;
 }
   where
-    by : (some : List LookUp) → flight.found ≡ map told some → AreSeen slots manager some
-        → TurnsOnce slots (course_of manager flight some) Read (record { answered = oldest_read (state_on slots manager) flight.found; course = course_of manager (with_read flight) (drop 1 some) })
+    by : (some : List LookUp) → flight.found ≡ map told_in_flight some → AreSeen slots manager some
+        → TakesSplitTurn slots (course_of manager flight some) Read (record { answered = oldest_read (state_on slots manager) flight.found; course = course_of manager (with_read flight) (drop 1 some) })
     by [] is waits =
         ap (λ (slots_found : List (Key × Option ℕ)). let left : Outcome = record { answered = oldest_read (state_on slots manager) slots_found; course = record { manager = manager; words = flight.words; looks = [] } } in left) is
     by (oldest ∷ some) is waits = (

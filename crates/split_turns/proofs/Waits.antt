@@ -25,7 +25,7 @@ use Rattle.split_writes.proofs.Seen.{oldest_current}
 use Rattle.split_order.specs.Left.{ServesSplit, since_of, state_on}
 use Rattle.split_order.specs.Managed.{SplitManaged}
 use Rattle.split_order.proofs.Behind.{since_more, state_more}
-use Rattle.split_turns.specs.LookUps.{IsAnswered, LookUp, Moment, moment_of, searched, seen_at, told}
+use Rattle.split_turns.specs.LookUps.{IsAnswered, LookUp, Moment, moment_of, searched, seen_at, told_in_flight}
 use Rattle.split_turns.specs.Seen.{AreSeen, ShowsThen, plain}
 
 -- the state at a moment
@@ -33,9 +33,9 @@ abbrev state_then : Moment → SplitState
 state_then moment = moment.state
 
 -- a moment more, and what is told
-pub told_seen : (now : Moment) (looks : List LookUp) → map told (map (seen_at now) looks) ≡ map told looks
+pub told_seen : (now : Moment) (looks : List LookUp) → map told_in_flight (map (seen_at now) looks) ≡ map told_in_flight looks
 told_seen now [] = refl
-told_seen now (look ∷ looks) = ap (λ rest. told look ∷ rest) (told_seen now looks)
+told_seen now (look ∷ looks) = ap (λ rest. told_in_flight look ∷ rest) (told_seen now looks)
 
 plain_seen : (now : Moment) (looks : List LookUp) → map plain (map (seen_at now) looks) ≡ map (with_moment now.state) (map plain looks)
 plain_seen now [] = refl
@@ -53,7 +53,7 @@ shown_seen now [] shows shown = tt
 shown_seen now (look ∷ looks) shows shown = (all_append ShowsThen look.moments (now ∷ []) shown.0 (shows, tt), shown_seen now looks shows shown.1)
 
 -- a look-up that begins, and what is told of it
-told_searched : (now : Moment) (words : List (Key × Word)) → map told (searched now words) ≡ found_slots now.state words
+told_searched : (now : Moment) (words : List (Key × Word)) → map told_in_flight (searched now words) ≡ found_slots now.state words
 told_searched now [] = refl
 told_searched now (oldest ∷ words) = refl
 
@@ -121,17 +121,17 @@ search_seen slots manager words looks bits serves live current seen =
       shown = all_append (λ (look : LookUp). AllByRecursion ShowsThen look.moments) looks (searched now words) seen.shown (shown_searched now words (shows_now slots manager serves));
     }
 
-pub search_told : (now : Moment) (words : List (Key × Word)) (looks : List LookUp) (found : List (Key × Option ℕ)) → found ≡ map told looks
-    → found ++ found_slots now.state words ≡ map told (looks ++ searched now words)
+pub search_told : (now : Moment) (words : List (Key × Word)) (looks : List LookUp) (found : List (Key × Option ℕ)) → found ≡ map told_in_flight looks
+    → found ++ found_slots now.state words ≡ map told_in_flight (looks ++ searched now words)
 search_told now words looks found is =
-    ap₂ (λ (a b : List (Key × Option ℕ)). a ++ b) is (sym (told_searched now words)) ∙ sym (map-append told looks (searched now words))
+    ap₂ (λ (a b : List (Key × Option ℕ)). a ++ b) is (sym (told_searched now words)) ∙ sym (map-append told_in_flight looks (searched now words))
 
 -- a read leaves the others
 pub read_seen : (slots : ℕ) (manager : SplitManaged) (looks : List LookUp) → AreSeen slots manager looks → AreSeen slots manager (drop 1 looks)
 read_seen slots manager [] seen = seen
 read_seen slots manager (oldest ∷ looks) seen = record { keys = seen.keys.1; waiting = seen.waiting.1; shown = seen.shown.1 }
 
-pub drop_told : (looks : List LookUp) (found : List (Key × Option ℕ)) → found ≡ map told looks → drop 1 found ≡ map told (drop 1 looks)
+pub drop_told : (looks : List LookUp) (found : List (Key × Option ℕ)) → found ≡ map told_in_flight looks → drop 1 found ≡ map told_in_flight (drop 1 looks)
 drop_told [] found is = ap (drop 1) is
 drop_told (oldest ∷ looks) found is = ap (drop 1) is
 

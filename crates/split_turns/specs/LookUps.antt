@@ -26,8 +26,8 @@ pub record LookUp : Type 0 where
   pub moments : List Moment
 
 -- what is told of it in flight
-abbrev pub told : LookUp → Key × Option ℕ
-told look = (look.key, look.slot)
+abbrev pub told_in_flight : LookUp → Key × Option ℕ
+told_in_flight look = (look.key, look.slot)
 
 -- with one moment more
 abbrev pub seen_at : Moment → LookUp → LookUp

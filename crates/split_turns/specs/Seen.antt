@@ -10,8 +10,8 @@ use Rattle.split_device.specs.Waiting.{AreWaiting}
 use Rattle.split_order.specs.Managed.{SplitManaged}
 use Rattle.split_order.specs.Left.{since_of, state_on}
 use Rattle.split_turns.specs.declared.SplitTurn.{SplitTurn}
-use Rattle.split_turns.specs.LookUps.{LookUp, Moment, told}
-use Rattle.split_turns.specs.Turns.{TurnsOnce, course_of}
+use Rattle.split_turns.specs.LookUps.{LookUp, Moment, told_in_flight}
+use Rattle.split_turns.specs.Turns.{TakesSplitTurn, course_of}
 
 -- a look-up as one that waits at a device, which knows of no rules
 abbrev pub plain : LookUp → Look
@@ -31,11 +31,11 @@ pub record AreSeen (slots : ℕ) (manager : SplitManaged) (looks : List LookUp) 
 pub record IsTurned (slots : ℕ) (old : SplitManaged) (flying : Flight) (looks : List LookUp) (turn : SplitTurn) (answered : Option Answer)
     (new : SplitManaged) (left : Flight) : Type 0 where
   pub later : List LookUp
-  pub found : left.found ≡ map told later
+  pub found : left.found ≡ map told_in_flight later
   pub seen : AreSeen slots new later
-  pub turned : TurnsOnce slots (course_of old flying looks) turn (record { answered = answered; course = course_of new left later })
+  pub turned : TakesSplitTurn slots (course_of old flying looks) turn (record { answered = answered; course = course_of new left later })
 
 -- whichever look-ups wait
 abbrev pub TurnsOn : ℕ → SplitManaged → Flight → SplitTurn → Option Answer → SplitManaged → Flight → Type 0
 TurnsOn slots old flying turn answered new left =
-    (looks : List LookUp) → flying.found ≡ map told looks → AreSeen slots old looks → IsTurned slots old flying looks turn answered new left
+    (looks : List LookUp) → flying.found ≡ map told_in_flight looks → AreSeen slots old looks → IsTurned slots old flying looks turn answered new left

@@ -13,7 +13,7 @@ use Rattle.split_order.specs.Left.{left_of, state_on}
 use Rattle.split_order.specs.Steps.{IsPartNext, SplitSteps}
 use Rattle.split_turns.specs.declared.SplitTurn.{SplitTurn}
 use Rattle.split_turns.specs.declared.SplitTurn.TheVariants.{Step, Translate, Search, Read}
-use Rattle.split_turns.specs.LookUps.{IsAnswered, LookUp, Moment, moment_of, searched, seen_at, told}
+use Rattle.split_turns.specs.LookUps.{IsAnswered, LookUp, Moment, moment_of, searched, seen_at, told_in_flight}
 
 -- where turns stand: the manager, the words in flight with their keys, and the look-ups that wait for their read
 pub record Course : Type 0 where
@@ -23,7 +23,7 @@ pub record Course : Type 0 where
 
 -- what is in flight then
 abbrev pub flight_of : Course → Flight
-flight_of course = record { words = course.words; found = map told course.looks }
+flight_of course = record { words = course.words; found = map told_in_flight course.looks }
 
 -- with these look-ups among what is in flight
 abbrev pub course_of : SplitManaged → Flight → List LookUp → Course
@@ -54,19 +54,19 @@ ReadsOnce slots course (oldest ∷ looks) left =
     × (left ≡ record { answered = Some found; course = record course { looks = looks } })
 
 -- What one turn does on a device of so many slots. A search without a word changes nothing.
-abbrev pub TurnsOnce : ℕ → Course → SplitTurn → Outcome → Type 0
-TurnsOnce slots course Step left =
+abbrev pub TakesSplitTurn : ℕ → Course → SplitTurn → Outcome → Type 0
+TakesSplitTurn slots course Step left =
     (made : SplitStep) × (next : SplitManaged) × SplitSteps slots course.manager (flight_count (flight_of course)) (left_of slots course.manager) made next
     × (left ≡ record {
       answered = None;
       course = record { manager = next; words = course.words; looks = seen_by (moment_of slots next) made course.looks };
     })
-TurnsOnce slots course (Translate key) left =
+TakesSplitTurn slots course (Translate key) left =
     left ≡ record {
       answered = None;
       course = record course { words = (translated (state_on slots course.manager) key (flight_of course)).words };
     }
-TurnsOnce slots course Search left =
+TakesSplitTurn slots course Search left =
     left ≡ record {
       answered = None;
       course = record course {
@@ -74,25 +74,25 @@ TurnsOnce slots course Search left =
         looks = course.looks ++ searched (moment_of slots course.manager) course.words;
       };
     }
-TurnsOnce slots course Read left = ReadsOnce slots course course.looks left
+TakesSplitTurn slots course Read left = ReadsOnce slots course course.looks left
 
 -- the answer of a turn, with the turn's number
-abbrev pub numbered : ℕ → Option Answer → List (ℕ × Answer)
-numbered number None = []
-numbered number (Some found) = (number, found) ∷ []
+abbrev pub with_turn_number : ℕ → Option Answer → List (ℕ × Answer)
+with_turn_number number None = []
+with_turn_number number (Some found) = (number, found) ∷ []
 
 -- What turns do, from a turn of this number on: the answers of the reads with their turns' numbers, and where they lead.
 abbrev pub Drives : ℕ → Course → ℕ → List SplitTurn → List (ℕ × Answer) → Course → Type 0
 Drives slots course number [] answers last = (answers ≡ []) × (last ≡ course)
 Drives slots course number (turn ∷ turns) answers last =
-    (once : Outcome) × (rest : List (ℕ × Answer)) × TurnsOnce slots course turn once × Drives slots once.course (number + 1) turns rest last
-    × (answers ≡ numbered number once.answered ++ rest)
+    (once : Outcome) × (rest : List (ℕ × Answer)) × TakesSplitTurn slots course turn once × Drives slots once.course (number + 1) turns rest last
+    × (answers ≡ with_turn_number number once.answered ++ rest)
 
 -- All turns, where no found slot is unread before them: what is in flight behind them are words, and these look-ups.
-pub record IsDriven (slots : ℕ) (manager : SplitManaged) (flight : Flight) (turns : List SplitTurn) (answers : List (ℕ × Answer))
+pub record AreAllTaken (slots : ℕ) (manager : SplitManaged) (flight : Flight) (turns : List SplitTurn) (answers : List (ℕ × Answer))
     (last : SplitManaged) (left : Flight) : Type 0 where
   pub looks : List LookUp
-  pub found : left.found ≡ map told looks
+  pub found : left.found ≡ map told_in_flight looks
   pub driven : Drives slots (course_of manager flight []) 0 turns answers (course_of last left looks)
 
 -- The turns before one of them were made, whatever their reads answered. That one is a step, with a part due.
@@ -100,6 +100,6 @@ pub record StandsBefore (slots : ℕ) (manager : SplitManaged) (flight : Flight)
   pub place : ℕ
   pub inside : place < length turns
   pub answers : List (ℕ × Answer)
-  pub stands : IsDriven slots manager flight (take place turns) answers last left
+  pub stands : AreAllTaken slots manager flight (take place turns) answers last left
   pub step : slice_get turns place ≡ Some Step
   pub due : IsPartNext (left_of slots last)

@@ -7,7 +7,7 @@ ghost use Rattle.batch_order.specs.Managed.{live_now};
 ghost use Rattle.split_device.specs.Flight.{state_of_events};
 ghost use Rattle.split_order.specs.Left.{left_of};
 ghost use Rattle.split_order.specs.Steps.{IsPartNext};
-ghost use Rattle.split_turns.specs.Turns.{IsDriven, StandsBefore, numbered, translated};
+ghost use Rattle.split_turns.specs.Turns.{AreAllTaken, StandsBefore, with_turn_number, translated};
 ghost use Rattle.split_turns.specs.Seen.{TurnsOn};
 
 use crate::{SplitDriveFault, SplitTurn};
@@ -30,6 +30,7 @@ fn turn_once<D: SplitDevice>(
     ensures turned { IfOk result (λ answered. TurnsOn (D.slot_count device.old) manager.old (D.flight device.old) turn.now answered
         manager.new (D.flight device.new)) }
     ensures slots { manager.new.whole.slots ≤ D.slot_count device.new }
+    ensures spare { D.spare device.new + length (D.events device.new) ≡ D.spare device.old + length (D.events device.old) }
     ensures room { length (left_of (D.slot_count device.new) manager.new) ≤ D.spare device.new }
     ensures on { D.events device.new ≡ manager.new.events }
     ensures current { AreCurrent (live_now manager.new.whole) (D.flight device.new).words }
@@ -81,7 +82,7 @@ fn note(
 )
     requires number { place < 2 ^ 32 }
     requires room { vec_len answers.old < vec_capacity answers.old }
-    ensures items { answers.new.items ≡ answers.old.items ++ numbered place answered }
+    ensures items { answers.new.items ≡ answers.old.items ++ with_turn_number place answered }
     ensures capacity { vec_capacity answers.new ≡ vec_capacity answers.old }
 {
     match answered {
@@ -95,7 +96,7 @@ fn note(
 ///
 /// A translation with 256 words and found slots in flight, a search without a word and a read without a found slot are
 /// passed over. A step makes what [`SplitManager::step`] does, which may be to wait until nothing is in flight; with no
-/// commit under way, and so behind its end, it is idle.
+/// commit under way, and so behind its end, it is idle. Of what is reserved each part and each drain takes its own room alone.
 ///
 /// Each read answers what an undivided look-up of its key would at a moment between its search and its read, which is the
 /// answer of the rules then or of those that the commit under way led to then. The words that are in flight in the end are
@@ -117,13 +118,14 @@ pub fn drive_split<D: SplitDevice>(
     requires on { D.events device.old ≡ manager.old.events }
     requires current { AreCurrent (live_now manager.old.whole) (D.flight device.old).words }
     requires read { (D.flight device.old).found ≡ [] }
-    ensures driven { IfOk result (λ answers. IsDriven (D.slot_count device.old) manager.old (D.flight device.old) turns.now answers.items
+    ensures driven { IfOk result (λ answers. AreAllTaken (D.slot_count device.old) manager.old (D.flight device.old) turns.now answers.items
         manager.new (D.flight device.new)) }
     ensures stands { (result ≡ Err SplitDriveFault.Device) → StandsBefore (D.slot_count device.old) manager.old (D.flight device.old) turns.now
         manager.new (D.flight device.new) }
     ensures cause { IsCounted (result ≡ Err SplitDriveFault.Device) (D.faults device.old) (D.faults device.new) }
     ensures memory { (result ≡ Err SplitDriveFault.Memory) → (manager.new ≡ manager.old) × (device.new ≡ device.old) }
     ensures slots { manager.new.whole.slots ≤ D.slot_count device.new }
+    ensures spare { D.spare device.new + length (D.events device.new) ≡ D.spare device.old + length (D.events device.old) }
     ensures room { length (left_of (D.slot_count device.new) manager.new) ≤ D.spare device.new }
     ensures on { D.events device.new ≡ manager.new.events }
     ensures current { AreCurrent (live_now manager.new.whole) (D.flight device.new).words }

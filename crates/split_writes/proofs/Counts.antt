@@ -1,5 +1,5 @@
 -- The numbers of a commit by parts, by those of its undivided writes.
-use Rattle.std.proofs.Common.{◌≡◌, ℕ, ◌+◌, ◌*◌, ◌≤◌, Bool, true, false, Option, None, Some, List, [], ◌∷◌, length, Contains, inl, inr, refl, sym, ◌∙◌, subst, ap, ap₂}
+use Rattle.std.proofs.Common.{◌≡◌, ℕ, ◌+◌, ◌-◌, ◌*◌, ◌≤◌, Bool, true, false, Option, None, Some, List, [], ◌∷◌, length, map, Contains, arith, inl, inr, refl, sym, ◌∙◌, subst, ap, ap₂}
 use Rattle.std.specs.List.{AllByRecursion, AllZip}
 use Rattle.slot_order.specs.Order.{slot}
 use Rattle.slot_order.proofs.Lists.{contains_cases, contains_head, contains_none, contains_tail}
@@ -46,6 +46,17 @@ three_each [] (s ∷ split) exact parted = absurd parted
 three_each (n ∷ made) [] exact parted = absurd parted
 three_each (n ∷ made) (s ∷ split) exact parted =
     (subst (λ parts. length parts + 1 ≡ 3 * put_writes n.writes) (sym parted.0.writes) exact.0, three_each made split exact.1 parted.1)
+
+-- so their lengths are told by what the undivided ones put
+pub lengths_each : (made : List Insertion) (split : List SplitInsertion) → AllZip TakesThreeEach made split
+    → map (λ (insertion : Insertion). 3 * put_writes insertion.writes - 1) made ≡ map (λ (insertion : SplitInsertion). length insertion.writes) split
+lengths_each [] [] each = refl
+lengths_each [] (s ∷ split) each = absurd each
+lengths_each (n ∷ made) [] each = absurd each
+lengths_each (n ∷ made) (s ∷ split) each =
+    let one : length s.writes + 1 ≡ 3 * put_writes n.writes = each.0 in
+    let same : 3 * put_writes n.writes - 1 ≡ length s.writes = omega arith in
+    ap₂ (λ (first : ℕ) (rest : List ℕ). first ∷ rest) same (lengths_each made split each.1)
 
 -- an insertion crosses by parts what it crosses undivided
 span_same : (insertion : Insertion) (split : SplitInsertion) (span : ℕ) → IsParted insertion split → IsCrossingSpan insertion.before insertion.entry span

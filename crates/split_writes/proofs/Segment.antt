@@ -1,5 +1,5 @@
 -- What is made of a planned commit is a segment by parts.
-use Rattle.std.proofs.Common.{◌≡◌, ℕ, ◌-◌, ◌++◌, List, length, refl, sym, ◌∙◌, subst, ap}
+use Rattle.std.proofs.Common.{◌≡◌, ℕ, ◌-◌, ◌*◌, ◌++◌, List, fold, length, map, max, refl, sym, ◌∙◌, subst, ap}
 use Rattle.std.specs.List.{AllByRecursion, AllZip}
 use Rattle.rule_model.specs.declared.IpVersion.{IpVersion}
 use Rattle.rule_model.specs.declared.Rule.{Rule}
@@ -10,7 +10,7 @@ use Rattle.rule_store.specs.Batch.{additions, set_after}
 use Rattle.tcam_device.specs.declared.Write.{Write}
 use Rattle.tcam_device.specs.State.{IsInUse}
 use Rattle.tcam_device.specs.Flight.{writes_in}
-use Rattle.tcam_device.specs.Insertion.{insertions, table_writes, IsGreatestSpan}
+use Rattle.tcam_device.specs.Insertion.{Insertion, insertions, table_writes, IsGreatestSpan}
 use Rattle.commit_writes.specs.Actions.{have_bits, commit_actions}
 use Rattle.commit_writes.specs.Bits.{FieldBits, bits_with, new_bits}
 use Rattle.commit_writes.specs.PlannedBatch.{batch_writes}
@@ -22,11 +22,11 @@ use Rattle.split_device.specs.declared.SplitAction.{SplitAction}
 use Rattle.split_device.specs.Drains.{SinceDrain}
 use Rattle.split_device.specs.Flight.{written}
 use Rattle.split_writes.specs.Parts.{parts_of_writes, made_of}
-use Rattle.split_writes.specs.Insertion.{split_insertions, table_parts, IsGreatestSplitSpan, IsWithinSplitBound, IsSplitUncrossed}
+use Rattle.split_writes.specs.Insertion.{longest_split_insertion, put_writes, split_insertions, table_parts, IsGreatestSplitSpan, IsWithinSplitBound, IsSplitUncrossed}
 use Rattle.split_writes.specs.Segment.{IsSplitHitless, IsSplitSegment, IsOfRoutes, most_by_parts}
 use Rattle.split_writes.specs.Laws.{IsBegun, ArePlannedOn, MakesSegments}
 use Rattle.split_writes.proofs.Bound.{commit_parted, commit_split_bound, commit_split_exact, commit_split_routes}
-use Rattle.split_writes.proofs.Counts.{span_parted, three_each, words_parted}
+use Rattle.split_writes.proofs.Counts.{lengths_each, span_parted, three_each, words_parted}
 use Rattle.split_writes.proofs.Insertions.{IsParted}
 use Rattle.split_writes.proofs.Made.{made_timely, made_writes}
 use Rattle.split_writes.proofs.RowExact.{IsExactly}
@@ -99,6 +99,13 @@ module _ (mode : Mode) (bits : FieldBits) (rules : List Rule) (batch : List Comm
   pub planned_span : (span : ℕ) → IsGreatestSpan (insertions (undivided state) writes) span
       → IsGreatestSplitSpan (split_insertions state (written (made_of state since (commit_actions mode bits rules batch writes)))) span
   planned_span span greatest = span_parted (insertions (undivided state) writes) (split_insertions state (written made)) span parted greatest
+
+  -- and its longest insertion takes three parts of each entry that the undivided one puts, but one
+  pub planned_longest : fold max 0 (map (λ (insertion : Insertion). 3 * put_writes insertion.writes - 1) (insertions (undivided state) writes))
+      ≡ longest_split_insertion state (written (made_of state since (commit_actions mode bits rules batch writes)))
+  planned_longest =
+      ap (fold max 0) (lengths_each (insertions (undivided state) writes) (split_insertions state (written made))
+      (three_each (insertions (undivided state) writes) (split_insertions state (written made)) exact parted))
 
 pub makes_segments : MakesSegments
 makes_segments mode bits rules batch state since writes begun plan =

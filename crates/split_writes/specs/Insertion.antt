@@ -1,5 +1,5 @@
 -- Insertions by parts: the runs of writes that each put one new entry into the memory, and how many writes they take.
-use Rattle.std.specs.Prelude.{◌≡◌, ℕ, suc, ◌+◌, ◌-◌, ◌*◌, ◌≤◌, ◌⊎◌, Bool, true, false, Some, None, List, [], ◌∷◌, ◌++◌, Contains, length, count_by}
+use Rattle.std.specs.Prelude.{◌≡◌, ℕ, suc, ◌+◌, ◌-◌, ◌*◌, ◌≤◌, ◌⊎◌, max, Bool, true, false, Some, None, List, [], ◌∷◌, ◌++◌, Contains, length, map, fold, count_by}
 use Rattle.std.specs.List.{AllByRecursion}
 use Rattle.rule_model.specs.declared.words.Word.{Word}
 use Rattle.rule_model.specs.declared.words.Entry.{Entry}
@@ -53,6 +53,10 @@ split_insertions_from begun (first ∷ run) state (Table field port word ∷ wri
 -- the rest, as result changes and erases, belongs to none.
 abbrev pub split_insertions : SplitState → List SplitWrite → List SplitInsertion
 split_insertions state writes = split_insertions_from state [] state writes
+
+-- the number of writes of the longest insertion
+abbrev pub longest_split_insertion : SplitState → List SplitWrite → ℕ
+longest_split_insertion state writes = fold max 0 (map (λ insertion. length insertion.writes) (split_insertions state writes))
 
 -- how many undivided writes put an entry into a slot
 abbrev pub put_writes : List Write → ℕ

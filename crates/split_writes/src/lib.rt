@@ -31,7 +31,7 @@ pub use laws::{
 };
 
 /// The numbers of a commit by parts: its writes and those to the translation tables, the writes of its longest insertion,
-/// and the greatest crossing span of one. A drain is no write. Of `most` no clause speaks.
+/// and the greatest crossing span of one. A drain is no write.
 #[derive(Clone, Copy, Debug, PartialEq, Eq)]
 pub struct SplitDone {
     pub writes: u64,

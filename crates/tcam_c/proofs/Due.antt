@@ -2,7 +2,6 @@
 use Rattle.std.proofs.Common.{◌≡◌, ℕ, ◌≤◌, List, [], ◌∷◌, length, Option, Some, None, Ok, Err, refl, sym, subst, arith}
 use Rattle.std.specs.Prelude.{IfSome, IsOk}
 use Rattle.call_history.specs.Cause.{Rose}
-use Rattle.rule_store.specs.declared.Command.{Command}
 use Rattle.rule_store.specs.declared.Mode.{Mode}
 use Rattle.tcam_device.specs.declared.Write.{Write}
 use Rattle.tcam_device.specs.declared.Action.{Action}
@@ -15,8 +14,7 @@ use Rattle.batch_order.specs.declared.Placement.{Placement}
 use Rattle.batch_order.specs.Managed.{Managed, IsOn, Serves, fresh}
 use Rattle.batch_order.specs.Steps.{next_of}
 use Rattle.batch_order.proofs.served.Ahead.{ahead_by_journal, by_journal}
-use Rattle.tcam_c.specs.Calls.{IsServing, IsServingAhead, fresh_driven}
-use Rattle.tcam_c.specs.Driven.{due_of}
+use Rattle.tcam_c.specs.Driven.{IsServing, IsServingAhead, due_of, fresh_driven}
 use Rattle.tcam_c.proofs.Ways.{due_next}
 
 -- hardware of which no write fails has none that failed
@@ -34,14 +32,14 @@ never_rose before now was is rose =
     omega (arith, at)
 
 -- each key is answered too where the write that is due was made already
-pub due_ahead : (manager : Managed) (events : List Action) (batch : List Command) (due : Option Action) → due ≡ due_of manager.held
+pub due_ahead : (manager : Managed) (events : List Action) (due : Option Action) → due ≡ due_of manager.held
     → IfSome (next_of manager.held) (IsInUse manager.slots)
     → length manager.state.slots ≡ manager.slots → IsOn manager.slots (writes_in events) manager
     → ((write : Write) → next_of manager.held ≡ Some write → (n : ℕ) → manager.slots ≤ n → Serves (on_device n (apply manager.state write)) manager.rules manager.held)
-    → IsServingAhead (record { manager = manager; events = events; batch = batch }) due
-due_ahead manager events batch None is inside size on ahead = tt
-due_ahead manager events batch (Some Drained) is inside size on ahead = tt
-due_ahead manager events batch (Some (Written write)) is inside size on ahead =
+    → IsServingAhead (record { manager = manager; events = events }) due
+due_ahead manager events None is inside size on ahead = tt
+due_ahead manager events (Some Drained) is inside size on ahead = tt
+due_ahead manager events (Some (Written write)) is inside size on ahead =
     let due : next_of manager.held ≡ Some write = due_next manager.held write (sym is) in
     let used : IfSome (Some write) (IsInUse manager.slots) = subst (λ (one : Option Write). IfSome one (IsInUse manager.slots)) due inside in
     ahead_by_journal manager.slots (writes_in events) manager write (omega arith) on size used (ahead write due manager.slots (omega arith))

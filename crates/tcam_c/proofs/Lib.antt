@@ -1,3 +1,4 @@
 pub mod Handles
 pub mod Due
 pub mod Ways
+pub mod Parts

@@ -1,6 +1,6 @@
 -- What is due of a commit, there and back.
 use Rattle.std.proofs.Common.{◌≡◌, ◌≢◌, ℕ, ◌≤◌, false, List, [], ◌∷◌, length, map, Option, Some, None, refl, ap, arith}
-use Rattle.std.specs.Prelude.{slice_get, option_map}
+use Rattle.std.specs.Prelude.{slice_get, option_map, IsSome}
 use Rattle.tcam_device.specs.declared.Write.{Write}
 use Rattle.tcam_device.specs.declared.Action.{Action}
 use Rattle.tcam_device.specs.declared.Action.TheVariants.{Written, Drained}
@@ -12,7 +12,7 @@ use Rattle.batch_order.specs.Steps.{awaits_drain, due_write, is_drain_next, next
 use Rattle.batch_order.specs.Passed.{WayBackFrom}
 use Rattle.batch_order.proofs.back.Passed.{goes_back}
 use Rattle.tcam_c.specs.declared.steps.DueKind.TheVariants as kind
-use Rattle.tcam_c.specs.Driven.{HasDue, KeepsWayBack, due_of, first_action, kind_of_due, settled_by, settled_of}
+use Rattle.tcam_c.specs.Driven.{HasDue, IsDue, KeepsWayBack, due_of, first_action, kind_of_due, settled_by, settled_of}
 
 -- a drain is due of no commit that is turned round
 pub drain_forward : (held : Option HeldCommit) → due_of held ≡ Some Drained → GoesForward held
@@ -93,3 +93,9 @@ has_due (Some held) some = some_due (actions_due held) some
 -- what keeps the way back keeps what holds of it
 pub keeps_back : (old new : Managed) → ((begun : State) → WayBackFrom begun old → WayBackFrom begun new) → KeepsWayBack old new
 keeps_back old new keeps = record { way_back = keeps; goes_back = λ begun way. goes_back begun new (keeps begun way) }
+
+-- what isn't nothing is something
+pub some_kind : (due : Option Action) → IsDue (kind_of_due due) → IsSome due
+some_kind None some = absurd (some)
+some_kind (Some (Written write)) some = refl
+some_kind (Some Drained) some = refl

@@ -1,32 +1,52 @@
--- What stands behind a handle that C holds, and what its calls do.
-use Rattle.std.specs.Prelude.{◌≡◌, ℕ, ◌≤◌, ◌++◌, ◌∷◌, [], Result, Option, Some, None, List, length}
+-- What stands behind a handle of a memory of whole entries, and what its calls do.
+use Rattle.std.specs.Prelude.{◌≡◌, ℕ, ◌≤◌, ◌++◌, ◌∷◌, [], Bool, true, false, Result, Ok, Err, Option, Some, None, List, length}
 use Rattle.rule_store.specs.declared.Command.{Command}
+use Rattle.rule_store.specs.declared.Mode.{Mode}
 use Rattle.tcam_device.specs.declared.Write.{Write}
 use Rattle.tcam_device.specs.declared.Action.{Action}
 use Rattle.tcam_device.specs.declared.Action.TheVariants.{Written, Drained}
-use Rattle.tcam_device.specs.State.{State, apply}
+use Rattle.tcam_device.specs.State.{State, apply, replay}
 use Rattle.tcam_device.specs.Insertion.{is_table_write}
 use Rattle.tcam_device.specs.Flight.{Flight, writes_in}
 use Rattle.commit_writes.specs.InFlight.{ArePartOf}
 use Rattle.commit_writes.specs.Undo.{restoring}
 use Rattle.commit_writes.specs.declared.Done.{Done}
-use Rattle.batch_order.specs.Managed.{Managed, HeldCommit, Holds, IsOn, actions_due, live_now}
+use Rattle.batch_order.specs.Managed.{Managed, HeldCommit, Holds, IsOn, Serves, actions_due, fresh, live_now}
 use Rattle.batch_order.specs.declared.AbortFault.{AbortFault}
+use Rattle.batch_order.specs.declared.AbortFault.TheVariants as abort_fault
+use Rattle.batch_order.specs.declared.Placement.{Placement}
 use Rattle.batch_order.specs.Steps.{Aborts, current_back}
 use Rattle.batch_order.specs.Passed.{GoesBackFrom, WayBackFrom}
 use Rattle.batch_order.specs.CarriedOut.{HasRoomBothWays}
 use Rattle.tcam_c.specs.declared.steps.DueKind.{DueKind}
 use Rattle.tcam_c.specs.declared.steps.DueKind.TheVariants as kind
 
--- a manager, what was made of its memory since that was blank, and the batch that waits
+-- a manager, and what was made of its memory since that was blank
 pub record Driven : Type 0 where
   pub manager : Managed
   pub events : List Action
-  pub batch : List Command
 
 -- the writes that were made
 abbrev pub journal_of : Driven → List Write
 journal_of driven = writes_in driven.events
+
+-- a manager without rules, of a blank memory
+abbrev pub fresh_driven : ℕ → Mode → Placement → Driven
+fresh_driven slots mode placement = record { manager = fresh slots mode placement; events = [] }
+
+-- The writes that were made leave what the manager takes the memory to hold, and each key is answered as the rules do, and
+-- while a commit is under way as the old ones or the new ones do.
+abbrev pub IsServing : Driven → Type 0
+IsServing driven =
+    IsOn driven.manager.slots (journal_of driven) driven.manager
+    × Serves (replay driven.manager.slots (journal_of driven)) driven.manager.rules driven.manager.held
+
+-- and so it is where the write that is due was made already
+abbrev pub IsServingAhead : Driven → Option Action → Type 0
+IsServingAhead driven None = Unit {0}
+IsServingAhead driven (Some Drained) = Unit {0}
+IsServingAhead driven (Some (Written write)) =
+    Serves (apply (replay driven.manager.slots (journal_of driven)) write) driven.manager.rules driven.manager.held
 
 -- a commit under way has a write or a drain left, forward or back
 abbrev pub HasDue : Option HeldCommit → Type 0
@@ -58,6 +78,12 @@ abbrev pub kind_of_due : Option Action → DueKind
 kind_of_due None = kind.Nothing
 kind_of_due (Some (Written write)) = kind.Write
 kind_of_due (Some Drained) = kind.Drain
+
+-- something is due
+abbrev pub IsDue : DueKind → Type 0
+IsDue kind.Nothing = ⊥
+IsDue kind.Write = Unit {0}
+IsDue kind.Drain = Unit {0}
 
 -- what is due, if anything is
 abbrev pub due_actions : Option Action → List Action
@@ -95,11 +121,9 @@ pub record Plans (old : Managed) (batch : List Command) (counts : Done) (new : M
   pub settled_is : new ≡ settled planned
   pub way_back : WayBackFrom old.state new
 
--- and the batch is empty then
-pub record Prepares (old : Driven) (counts : Done) (new : Driven) : Type 0 where
-  pub plans : Plans old.manager old.batch counts new.manager
+pub record Prepares (old : Driven) (batch : List Command) (counts : Done) (new : Driven) : Type 0 where
+  pub plans : Plans old.manager batch counts new.manager
   pub events : new.events ≡ old.events
-  pub batch : new.batch ≡ []
 
 -- The manager after what is due was made, forward: a write is applied, and what undoes it kept; from a drain on the new ranges
 -- count; and where nothing is left it has finished.
@@ -159,7 +183,6 @@ pub record KeepsWayBack (old new : Managed) : Type 0 where
 pub record PassesOn (old new : Driven) : Type 0 where
   pub manager : new.manager ≡ made_of old.manager.held old.manager
   pub events : new.events ≡ old.events ++ due_actions (due_of old.manager.held)
-  pub batch : new.batch ≡ old.batch
   pub keeps : KeepsWords (due_of old.manager.held) old.manager new.manager
   pub back : KeepsWayBack old.manager new.manager
 
@@ -178,6 +201,19 @@ turned_round held manager = settled (record manager { held = Some (record held {
 pub record AbortsTo (held : HeldCommit) (old new : Driven) : Type 0 where
   pub manager : new.manager ≡ turned_round held old.manager
   pub events : new.events ≡ old.events
-  pub batch : new.batch ≡ old.batch
   pub keeps : KeepsLive old.manager new.manager
   pub back : KeepsWayBack old.manager new.manager
+
+-- A commit under way is turned round, with so many undo writes to make. One that is turned round already stays as it is, with
+-- those that are left; and so does one that a restart goes on with. With none under way there is nothing to turn.
+abbrev pub AbortsByWay : Option ℕ → HeldCommit → Driven → Result ℕ AbortFault → Driven → Type 0
+AbortsByWay None held before answer after = (answer ≡ Ok (length held.undo)) × AbortsTo held before after
+AbortsByWay (Some undone) held before answer after = (answer ≡ Err (abort_fault.Back (length held.undo))) × (after ≡ before)
+
+abbrev pub AbortsPrepared : Bool → HeldCommit → Driven → Result ℕ AbortFault → Driven → Type 0
+AbortsPrepared true held before answer after = AbortsByWay held.turned held before answer after
+AbortsPrepared false held before answer after = (answer ≡ Err abort_fault.Restarted) × (after ≡ before)
+
+abbrev pub AbortsHeld : Driven → Option HeldCommit → Result ℕ AbortFault → Driven → Type 0
+AbortsHeld before None answer after = (answer ≡ Err abort_fault.Idle) × (after ≡ before)
+AbortsHeld before (Some held) answer after = AbortsPrepared held.prepared held before answer after

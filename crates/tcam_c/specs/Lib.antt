@@ -1,5 +1,7 @@
 pub mod Driven
+pub mod Split
 pub mod Owned
 pub mod Plain
 pub mod Codes
+pub mod Tables
 pub mod Calls

@@ -8,6 +8,9 @@ use Rattle.rule_model.specs.declared.words.Entry.{Entry}
 use Rattle.tcam_device.specs.declared.Action.{Action}
 use Rattle.tcam_device.specs.declared.Action.TheVariants.{Written, Drained}
 use Rattle.tcam_device.specs.declared.Write.TheVariants.{Slot, Table}
+use Rattle.split_device.specs.declared.SplitAction.{SplitAction}
+use Rattle.split_device.specs.declared.SplitAction.TheVariants as split_action
+use Rattle.split_device.specs.declared.SplitWrite.TheVariants as split
 use Rattle.rule_store.specs.declared.BatchFault.TheVariants.{Twice, Taken, Absent}
 use Rattle.readback.specs.declared.Rejection.TheVariants.{Unsound, Bits, Slots}
 use Rattle.batch_order.specs.declared.Refusal.{Refusal}
@@ -71,6 +74,29 @@ IsDueWrite (Some (Written (Slot slot (Some entry)))) write = IsPutWrite slot ent
 IsDueWrite (Some (Written (Table field port word))) write =
     write ≡ record no_write { kind = 3; field = field_code field; port = port; word = word }
 IsDueWrite (Some Drained) write = write ≡ record no_write { kind = 4 }
+
+-- a result word that a slot gets
+pub record IsResultWrite (slot tag given : ℕ) (write : TcamWrite) : Type 0 where
+  pub kind : write.kind ≡ 5
+  pub slot_is : write.slot ≡ slot
+  pub no_value : write.value ≡ replicate 11 0
+  pub no_mask : write.mask ≡ replicate 11 0
+  pub tag_is : IsTag tag write.tag
+  pub result : write.result ≡ given
+  pub no_field : write.field ≡ 0
+  pub no_port : write.port ≡ 0
+  pub no_word : write.word ≡ 0
+
+-- what is due where results stand beside the slots, likewise: a slot is put its value and its mask
+abbrev pub IsDuePart : Option SplitAction → TcamWrite → Type 0
+IsDuePart None write = write ≡ no_write
+IsDuePart (Some (split_action.Written (split.Slot slot None))) write = write ≡ record no_write { kind = 2; slot = slot }
+IsDuePart (Some (split_action.Written (split.Slot slot (Some (value, mask))))) write =
+    write ≡ record no_write { kind = 1; slot = slot; value = value.lane; mask = mask.lane }
+IsDuePart (Some (split_action.Written (split.Result slot tag given))) write = IsResultWrite slot tag given write
+IsDuePart (Some (split_action.Written (split.Table field port word))) write =
+    write ≡ record no_write { kind = 3; field = field_code field; port = port; word = word }
+IsDuePart (Some split_action.Drained) write = write ≡ record no_write { kind = 4 }
 
 -- what a key is answered
 abbrev pub IsAnswer : Answer → TcamAnswer → Type 0

@@ -52,6 +52,8 @@ pub const WRITE_DUE: u32 = 21;
 pub const BACK: u32 = 22;
 /// A restart goes on with the commit that is under way, so it can't be taken back.
 pub const RESTARTED: u32 = 23;
+/// The commit under way is made by parts and has begun, so it can't be taken back.
+pub const BEGUN: u32 = 24;
 
 /// The code of a push.
 pub(crate) fn code_of_push(pushed: Result<(), PushFault>) -> u32

@@ -1,22 +1,23 @@
 //! The functions that C calls.
 
 ghost use Rattle.std.specs.Prelude.{◌≡◌, ◌≤◌, Some, None, IfSome, IsSome, IsNone};
-ghost use Rattle.tcam_c.specs.Calls.{AnswersPacket, Called, Clears, DelsRule, Enters, Entered, IsFreed, IsMade, IsServing, MakesOf, Nexts, Prepared, SetsRule, TellsWrite, TellsDrain, TellsAbort, fresh_driven};
+ghost use Rattle.tcam_c.specs.Calls.{AnswersPacket, Called, Clears, DelsRule, Enters, Entered, IsFreed, IsMade, MakesOf, Nexts, Prepared, SetsRule, TellsWrite, TellsDrain, TellsAbort, fresh_session};
 ghost use Rattle.tcam_c.specs.Codes.{AddsRoute, AddsRule, DelsRoute, SetsRoute};
+ghost use Rattle.tcam_c.specs.Tables.{IsServingTable, fresh_table};
 
 use crate::changes::{adds_route, adds_rule, dels_route, sets_route};
 use crate::codes::{
-    BACK, DRAIN_DUE, MADE_ALREADY, MEMORY, NO_MANAGER, NO_MODE, NO_PLACEMENT, NOTHING_DUE, OK,
-    RESTARTED, SLOTS_RANGE, WRITE_DUE, code_of_push, code_of_refusal, mode_of, placement_of,
+    DRAIN_DUE, MADE_ALREADY, MEMORY, NO_MANAGER, NO_MODE, NO_PLACEMENT, NOTHING_DUE, OK,
+    SLOTS_RANGE, WRITE_DUE, code_of_push, code_of_refusal, mode_of, placement_of,
 };
 use crate::handle::TcamManager;
 use crate::plain::{
-    TcamAnswer, TcamKey, TcamNumbers, TcamRefusal, TcamRule, TcamWrite, answer_of, due_of,
-    numbers_of, refusal_of,
+    TcamAnswer, TcamKey, TcamNumbers, TcamRefusal, TcamRule, TcamWrite, answer_of, refusal_of,
 };
 use crate::session::Session;
 use crate::steps::DueKind;
-use batch_order::{AbortFault, Mode, Placement};
+use crate::table::TableKind;
+use batch_order::{Mode, Placement};
 use rule_model::{Key, list_rank};
 use rule_store::Command;
 use slot_order::MOST_SLOTS;
@@ -33,7 +34,36 @@ pub extern "C" fn tcam_c_new(
     placement: u32,
     alloc: Global,
 ) -> u32
-    ensures { IsMade slots mode placement manager.old.held.session manager.new.held.session result }
+    ensures { IsMade TableKind.Whole slots mode placement manager.old.held.session manager.new.held.session result }
+{
+    make(manager, alloc, TableKind::Whole, slots, mode, placement)
+}
+
+/// Makes a manager of a blank memory whose results stand beside its slots, likewise: each slot empty, each result word of
+/// the least tag and 0.
+#[unsafe(no_mangle)]
+pub extern "C" fn tcam_c_new_split(
+    manager: &mut TcamManager,
+    slots: u32,
+    mode: u32,
+    placement: u32,
+    alloc: Global,
+) -> u32
+    ensures { IsMade TableKind.Split slots mode placement manager.old.held.session manager.new.held.session result }
+{
+    make(manager, alloc, TableKind::Split, slots, mode, placement)
+}
+
+/// Makes a manager of a blank memory of this kind.
+fn make(
+    manager: &mut TcamManager,
+    alloc: Global,
+    kind: TableKind,
+    slots: u32,
+    mode: u32,
+    placement: u32,
+) -> u32
+    ensures { IsMade kind slots mode placement manager.old.held.session manager.new.held.session result }
 {
     if manager.made {
         return MADE_ALREADY;
@@ -47,13 +77,14 @@ pub extern "C" fn tcam_c_new(
     let Some(placement) = placement_of(placement) else {
         return NO_PLACEMENT;
     };
-    make(manager, alloc, slots, mode, placement)
+    fill(manager, alloc, kind, slots, mode, placement)
 }
 
 /// Makes a manager of right numbers behind a handle that has none.
-fn make(
+fn fill(
     manager: &mut TcamManager,
     alloc: Global,
+    kind: TableKind,
     slots: u32,
     mode: Mode,
     placement: Placement,
@@ -61,9 +92,9 @@ fn make(
     requires none { manager.old.held.session ≡ None }
     requires least { 1 ≤ slots }
     requires most { slots ≤ MOST_SLOTS }
-    ensures { MakesOf slots (Some mode) (Some placement) manager.new.held.session result }
+    ensures { MakesOf kind slots (Some mode) (Some placement) manager.new.held.session result }
 {
-    match boxed(alloc, slots, mode, placement) {
+    match boxed(alloc, kind, slots, mode, placement) {
         None => MEMORY,
         Some(session) => {
             manager.put(session);
@@ -73,13 +104,19 @@ fn make(
 }
 
 /// What stands behind a new handle, or None for want of memory.
-fn boxed(alloc: Global, slots: u32, mode: Mode, placement: Placement) -> Option<Box<Session>>
+fn boxed(
+    alloc: Global,
+    kind: TableKind,
+    slots: u32,
+    mode: Mode,
+    placement: Placement,
+) -> Option<Box<Session>>
     requires least { 1 ≤ slots }
     requires most { slots ≤ MOST_SLOTS }
-    ensures fresh { IfSome result (λ session. session.value ≡ fresh_driven slots mode placement) }
-    ensures serves { IsSome result → IsServing (fresh_driven slots mode placement) }
+    ensures fresh { IfSome result (λ session. session.value ≡ fresh_session kind slots mode placement) }
+    ensures serves { IsSome result → IsServingTable (fresh_table kind slots mode placement) }
 {
-    let Ok(session) = Session::new(alloc, slots, mode, placement) else {
+    let Ok(session) = Session::new(alloc, kind, slots, mode, placement) else {
         return None;
     };
     match Box::new(alloc, session) {
@@ -218,7 +255,7 @@ pub extern "C" fn tcam_c_prepare(
     };
     let code = match session.prepare() {
         Ok(counts) => {
-            *numbers = numbers_of(&counts);
+            *numbers = counts;
             OK
         }
         Err(fault) => {
@@ -230,8 +267,8 @@ pub extern "C" fn tcam_c_prepare(
     code
 }
 
-/// Tells what is due: a write, a drain, or nothing where no commit is under way. Of a commit that is turned round it is
-/// an undo write. It changes nothing else, and takes no memory.
+/// Tells what is due: a write or a part of one, a drain, or nothing where no commit is under way. Of a commit that is turned
+/// round it is an undo write. It changes nothing else, and takes no memory.
 #[unsafe(no_mangle)]
 pub extern "C" fn tcam_c_next(
     manager: &mut TcamManager,
@@ -244,7 +281,7 @@ pub extern "C" fn tcam_c_next(
     let Some(session) = manager.take(alloc) else {
         return NO_MANAGER;
     };
-    *write = due_of(session.due());
+    *write = session.due();
     manager.put(session);
     OK
 }
@@ -270,8 +307,9 @@ pub extern "C" fn tcam_c_made(manager: &mut TcamManager, alloc: Global) -> u32
     code
 }
 
-/// The drain that is due was made: no look-up whose word was made before is still to be searched. Where a write is due,
-/// or nothing, the code says so, and nothing changes. It takes no memory.
+/// The drain that is due was made: no look-up whose word was made before is still to be searched, nor to read its result
+/// word where these stand beside the slots. Where a write is due, or nothing, the code says so, and nothing changes. It takes
+/// no memory.
 #[unsafe(no_mangle)]
 pub extern "C" fn tcam_c_drained(manager: &mut TcamManager, alloc: Global) -> u32
     ensures { Called TellsDrain manager.old.held.session manager.new.held.session result }
@@ -294,7 +332,7 @@ pub extern "C" fn tcam_c_drained(manager: &mut TcamManager, alloc: Global) -> u3
 /// Turns the commit under way round: from now on the writes that were told as made are undone, the last one first, and
 /// no drain is due; once they are the rules are the old ones. It tells how many there are, and with none no commit is
 /// under way. Where the commit is turned round already the code says so, with how many are left, and where none is
-/// under way; then nothing changes. It takes no memory.
+/// under way, and where one by parts has begun; then nothing changes. It takes no memory.
 #[unsafe(no_mangle)]
 pub extern "C" fn tcam_c_abort(manager: &mut TcamManager, left: &mut u64, alloc: Global) -> u32
     ensures turned { Called (TellsAbort left.old left.new) manager.old.held.session manager.new.held.session result }
@@ -303,18 +341,7 @@ pub extern "C" fn tcam_c_abort(manager: &mut TcamManager, left: &mut u64, alloc:
     let Some(mut session) = manager.take(alloc) else {
         return NO_MANAGER;
     };
-    let code = match session.abort() {
-        Ok(undone) => {
-            *left = undone;
-            OK
-        }
-        Err(AbortFault::Idle) => NOTHING_DUE,
-        Err(AbortFault::Restarted) => RESTARTED,
-        Err(AbortFault::Back { left: rest }) => {
-            *left = rest;
-            BACK
-        }
-    };
+    let code = session.abort(left);
     manager.put(session);
     code
 }

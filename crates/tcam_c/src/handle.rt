@@ -1,7 +1,7 @@
 //! What C holds.
 
 ghost use Rattle.std.specs.Prelude.{◌≡◌, Option, Some, None, IsSome, is_some, option_map};
-ghost use Rattle.tcam_c.specs.Driven.{Driven};
+ghost use Rattle.tcam_c.specs.declared.session.Session.{Session};
 ghost use Rattle.tcam_c.specs.Owned.{held_owns};
 
 use crate::loose::Loose;
@@ -15,7 +15,7 @@ use std::mem::replace;
 #[derive(Drop)]
 pub struct Held {
     at: *mut u8,
-    pub ghost session: { Option Driven },
+    pub ghost session: { Option Session },
 }
 
 impl Model for Held {

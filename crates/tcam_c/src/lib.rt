@@ -10,6 +10,11 @@
 //! that were told as made, the last one first, and `tcam_made` takes them. The way back passes no state that the commit
 //! didn't pass, so nobody waits for look-ups, and no drain is due.
 //!
+//! **Two kinds of memory.** Behind a handle that `tcam_new` made stands a memory whose slots hold whole entries, led by a
+//! `batch_order::Manager`; behind one of `tcam_new_split` a memory whose results stand beside its slots, led by a
+//! `split_order::SplitManager`. The calls are the same ones: `tcam_next` tells of the second the parts of a write, a result
+//! word being a kind of its own, and its drains, for which nothing may be under way.
+//!
 //! **What C holds.** A [`TcamManager`] is two words in the caller's own memory: whether there is a manager, and a
 //! pointer to what belongs to it. One that is all zeros is a manager that isn't made, and each call says so. So the
 //! handle's misuses that a program can see are answered by a code: no manager, a manager that is made twice, freed
@@ -28,6 +33,11 @@
 //!   nothing, and `tcam_made` is the manager's step over hardware that took the write already, of which it is proved
 //!   that no write failed. The price is the shadow of 4,096 slots beside the caller's memory, which `tcam_answer`
 //!   reads. A commit settles with its last write, so no call only ends it.
+//! - **One handle for both kinds of memory** (`Table`), so that a driver's loop is the same, and what a call does is said by
+//!   kind (`specs/Tables`). The batch is beside it, since it has no kind. The price is that a misuse across kinds, a driver
+//!   that has no result memory and calls `tcam_new_split`, shows only by a kind that it doesn't know.
+//! - **A commit by parts that has begun isn't taken back**: its manager has no way back. `tcam_abort` drops its plan where
+//!   nothing was made yet, and else answers a code of its own.
 //! - **A drain is a kind of what is due, with a call of its own**, `tcam_drained`: the caller waits, since the
 //!   library's own memory has no word in flight. Either call answers a code where the other one is due, so a driver
 //!   that knows no drain stops there and does no harm.
@@ -51,6 +61,10 @@ mod exports;
 mod handle;
 mod loose;
 mod outside;
+mod part_steps;
 mod plain;
 mod session;
+mod split;
 mod steps;
+mod table;
+mod whole;

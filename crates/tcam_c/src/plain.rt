@@ -1,10 +1,12 @@
 //! What crosses to C: plain structs of numbers, in the lanes of a memory's entries.
 
 ghost use Rattle.std.specs.Prelude.{◌≡◌, Some};
-ghost use Rattle.tcam_c.specs.Plain.{IsDueWrite, IsAnswer, IsTag, IsRefusalTold, field_code};
+ghost use Rattle.tcam_c.specs.Plain.{IsDuePart, IsDueWrite, IsResultWrite, IsAnswer, IsTag, IsRefusalTold, field_code};
 
 use batch_order::{BatchFault, Done, Refusal, Rejection};
-use rule_model::{Entry, Field, Rank};
+use rule_model::{Entry, Field, Rank, Word};
+use split_device::{SplitAction, SplitWrite};
+use split_writes::SplitDone;
 use tcam_device::{Action, Write};
 
 /// A tag, which is the priority of the rule whose entry it is: of 136 bits, the eight upper ones and twice 64.
@@ -17,7 +19,8 @@ pub struct TcamTag {
 }
 
 /// What is due, by its kind: nothing, an entry that a slot gets, an erase of a slot, a word that a table gets at a
-/// port, or a drain. Fields that the kind has no use for are 0.
+/// port, or a drain. Where results stand beside the slots it is a value and a mask that a slot gets, or its result word.
+/// Fields that the kind has no use for are 0.
 #[repr(C)]
 #[derive(Clone, Copy)]
 pub struct TcamWrite {
@@ -185,6 +188,74 @@ pub(crate) fn due_of(due: Option<Action>) -> TcamWrite
     }
 }
 
+/// A value and a mask that a slot gets, or its erase.
+fn slot_of(slot: u32, parts: &Option<(Word, Word)>) -> TcamWrite
+    ensures { IsDuePart (Some (SplitAction.Written (SplitWrite.Slot slot parts.now))) result }
+{
+    match parts {
+        None => TcamWrite {
+            kind: 2,
+            slot,
+            ..NO_WRITE
+        },
+        Some((first, second)) => {
+            let value = first.lane;
+            let mask = second.lane;
+            TcamWrite {
+                kind: 1,
+                slot,
+                value,
+                mask,
+                ..NO_WRITE
+            }
+        }
+    }
+}
+
+/// A result word that a slot gets.
+fn result_of(slot: u32, tag: Rank, given: u32) -> TcamWrite
+    ensures { IsResultWrite slot tag given result }
+{
+    TcamWrite {
+        kind: 5,
+        slot,
+        tag: tag_of(tag),
+        result: given,
+        ..NO_WRITE
+    }
+}
+
+/// A part that is due, for C.
+fn written_of(part: &SplitWrite) -> TcamWrite
+    ensures { IsDuePart (Some (SplitAction.Written part.now)) result }
+{
+    match part {
+        SplitWrite::Slot(slot, parts) => slot_of(*slot, parts),
+        SplitWrite::Result(slot, tag, given) => result_of(*slot, *tag, *given),
+        SplitWrite::Table(field, port, word) => TcamWrite {
+            kind: 3,
+            field: field_number(*field),
+            port: u32::from(*port),
+            word: u32::from(*word),
+            ..NO_WRITE
+        },
+    }
+}
+
+/// What is due where results stand beside the slots, for C.
+pub(crate) fn part_of(due: &Option<SplitAction>) -> TcamWrite
+    ensures { IsDuePart due.now result }
+{
+    match due {
+        None => NO_WRITE,
+        Some(SplitAction::Written(part)) => written_of(part),
+        Some(SplitAction::Drained) => TcamWrite {
+            kind: 4,
+            ..NO_WRITE
+        },
+    }
+}
+
 /// What a key is answered, for C.
 pub(crate) fn answer_of(answer: Option<(Rank, u32)>) -> TcamAnswer
     ensures { IsAnswer answer result }
@@ -205,6 +276,18 @@ pub(crate) fn answer_of(answer: Option<(Rank, u32)>) -> TcamAnswer
 
 /// The numbers of a commit, for C.
 pub(crate) fn numbers_of(counts: &Done) -> TcamNumbers
+    ensures { result ≡ record { writes = counts.now.writes; words = counts.now.words; most = counts.now.most; span = counts.now.span } }
+{
+    TcamNumbers {
+        writes: counts.writes,
+        words: counts.words,
+        most: counts.most,
+        span: counts.span,
+    }
+}
+
+/// Those of one by parts.
+pub(crate) fn split_numbers_of(counts: &SplitDone) -> TcamNumbers
     ensures { result ≡ record { writes = counts.now.writes; words = counts.now.words; most = counts.now.most; span = counts.now.span } }
 {
     TcamNumbers {

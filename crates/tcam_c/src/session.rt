@@ -1,67 +1,45 @@
-//! A manager, the batch that waits for it, and the shadow of the caller's memory.
+//! What stands behind a handle: a manager with its memory, and the batch that waits for it.
 
-ghost use Rattle.std.specs.Prelude.{◌≡◌, ◌≤◌, ◌++◌, ◌∷◌, [], ◌↔◌, Err, IfOk, OnOk, OnErr, IfSome, IsSome, Some, length};
+ghost use Rattle.std.specs.Prelude.{◌≡◌, ◌≤◌, ◌++◌, ◌∷◌, [], ◌↔◌, Err, IfOk, OnOk, OnErr, length};
 ghost use Rattle.rule_store.specs.Batch.{most_pending};
-ghost use Rattle.tcam_device.specs.State.{lookup, replay};
-ghost use Rattle.batch_order.specs.Managed.{Judges};
-ghost use Rattle.batch_order.specs.CarriedOut.{GoesForward};
-ghost use Rattle.batch_order.specs.Steps.{ServesNow};
-ghost use Rattle.tcam_c.specs.Calls.{IsServing, IsServingAhead, AbortsHeld, fresh_driven};
-ghost use Rattle.tcam_c.specs.Driven.{Prepares, PassesOn, IsEnded, KeepsLive, due_of, journal_of, kind_of_due};
+ghost use Rattle.tcam_c.specs.Calls.{fresh_session};
+ghost use Rattle.tcam_c.specs.Driven.{IsDue};
+ghost use Rattle.tcam_c.specs.Tables.{AbortsTable, IsServingTable, PassesTable, PreparesTable, TellsTable, answer_of_table, fresh_table, kind_of_table};
 
-use crate::outside::Outside;
-use crate::steps::{DueKind, abort, due, go_on, kind_due, prepare};
-use batch_order::{AbortFault, Done, Manager, Mode, Placement, Refusal};
-use memory_tcam::Shadowed;
+use crate::plain::{TcamNumbers, TcamWrite};
+use crate::steps::DueKind;
+use crate::table::{Table, TableKind};
+use batch_order::{Mode, Placement, Refusal};
 use rule_model::{Key, Rank};
 use rule_store::{Batch, Command, PushFault};
 use slot_order::MOST_SLOTS;
 use std::alloc::{AllocError, Global};
-use std::marker::Model;
-use tcam_device::{Action, Device};
 
-/// What stands behind a handle. Between two calls a commit is under way exactly where a write or
-/// a drain is due.
+/// What stands behind a handle.
 #[derive(Drop)]
 pub(crate) struct Session {
-    manager: Manager,
-    device: Shadowed<Outside>,
+    table: Table,
     batch: Batch,
 }
 
-impl Model for Session {
-    ghost use Rattle.tcam_c.specs.Driven.{Driven, IsHandled};
-
-    ghost Value = { Driven };
-
-    ghost view = { λ s. record { manager = s.manager; events = s.device.events; batch = s.batch } };
-
-    ghost invariant = { λ s. IsHandled s.manager s.device.slots s.device.events s.device.flight s.device.spare };
-}
-
 impl Session {
-    /// A manager of a blank memory with so many slots in use and no rules, and an empty batch. It fails only for want
-    /// of memory.
+    /// A manager of a blank memory of this kind with so many slots in use and no rules, and an empty batch. It fails only
+    /// for want of memory.
     pub(crate) fn new(
         alloc: Global,
+        kind: TableKind,
         slots: u32,
         mode: Mode,
         placement: Placement,
     ) -> Result<Session, AllocError>
         requires least { 1 ≤ slots }
         requires most { slots ≤ MOST_SLOTS }
-        ensures fresh { IfOk result (λ session. session ≡ fresh_driven slots mode placement) }
-        ensures serves { OnOk result (IsServing (fresh_driven slots mode placement)) }
+        ensures fresh { IfOk result (λ session. session ≡ fresh_session kind slots mode placement) }
+        ensures serves { OnOk result (IsServingTable (fresh_table kind slots mode placement)) }
     {
-        let manager = Manager::new(alloc, slots, mode, placement)?;
-        manager.serving();
-        let device = Shadowed::new(alloc, Outside { slots })?;
+        let table = Table::new(alloc, kind, slots, mode, placement)?;
         let batch = Batch::new(alloc);
-        Ok(Session {
-            manager,
-            device,
-            batch,
-        })
+        Ok(Session { table, batch })
     }
 
     /// Puts a change behind the others of the batch.
@@ -82,70 +60,56 @@ impl Session {
 
     /// Has the batch judged and planned. Where it is taken the batch is empty then, and a commit with nothing to make
     /// has finished. A refusal leaves all as it was.
-    pub(crate) fn prepare(&mut self) -> Result<Done, Refusal>
-        ensures judged { Judges self.old.manager self.old.manager.held self.old.batch result }
-        ensures ready { IfOk result (λ counts. Prepares self.old counts self.new) }
+    pub(crate) fn prepare(&mut self) -> Result<TcamNumbers, Refusal>
+        ensures prepared { PreparesTable self.old.batch result self.old.table self.new.table }
+        ensures taken { OnOk result (self.new.batch ≡ []) }
         ensures refused { OnErr result (self.new ≡ self.old) }
-        ensures keeps { KeepsLive self.old.manager self.new.manager }
-        ensures before { IsServing self.old }
-        ensures serves { IsServing self.new }
     {
-        let answer = prepare(&mut self.manager, &self.batch, &mut self.device);
+        let answer = self.table.prepare(&self.batch);
         if answer.is_ok() {
             self.batch.clear();
         }
         answer
     }
 
-    /// The write or the drain that is due, or None where no commit is under way.
-    pub(crate) fn due(&self) -> Option<Action>
-        ensures due { result ≡ due_of self.now.manager.held }
-        ensures ended { IsEnded self.now.manager.held result }
-        ensures drain { result ≡ Some Action.Drained → GoesForward self.now.manager.held }
-        ensures serves { IsServing self.now }
-        ensures now { ServesNow self.now.manager }
-        ensures ahead { IsServingAhead self.now result }
+    /// What is due, for C.
+    pub(crate) fn due(&self) -> TcamWrite
+        ensures { TellsTable result self.now.table }
     {
-        self.manager.serving();
-        due(&self.manager)
+        self.table.due()
     }
 
     /// What kind of thing is due.
     pub(crate) fn kind_due(&self) -> DueKind
-        ensures kind { result ≡ kind_of_due (due_of self.now.manager.held) }
-        ensures serves { IsServing self.now }
+        ensures kind { result ≡ kind_of_table self.now.table }
+        ensures serves { IsServingTable self.now.table }
     {
-        self.manager.serving();
-        kind_due(&self.manager)
+        self.table.kind_due()
     }
 
-    /// The write or the drain that is due was made: what comes behind it is due then, or the commit has come to its
-    /// end. It takes no memory.
+    /// What is due was made: what comes behind it is due then, or the commit has come to its end. It takes no memory.
     pub(crate) fn go_on(&mut self)
-        requires { IsSome (due_of self.old.manager.held) }
-        ensures on { PassesOn self.old self.new }
-        ensures serves { IsServing self.new }
+        requires { IsDue (kind_of_table self.old.table) }
+        ensures on { PassesTable self.old.table self.new.table }
+        ensures batch { self.new.batch ≡ self.old.batch }
+        ensures serves { IsServingTable self.new.table }
     {
-        go_on(&mut self.manager, &mut self.device);
+        self.table.go_on();
     }
 
-    /// Turns the commit under way round: from now on its undo writes are due, the last one first, and no drain. The
-    /// answer is how many they are, and with none the commit is over. It takes no memory.
-    pub(crate) fn abort(&mut self) -> Result<u64, AbortFault>
-        ensures turned { AbortsHeld self.old self.old.manager.held result self.new }
-        ensures before { IsServing self.old }
-        ensures serves { IsServing self.new }
+    /// Takes the commit under way back, as far as that can be, and answers the code.
+    pub(crate) fn abort(&mut self, left: &mut u64) -> u32
+        ensures turned { AbortsTable left.old left.new result self.old.table self.new.table }
+        ensures batch { self.new.batch ≡ self.old.batch }
     {
-        self.manager.serving();
-        abort(&mut self.manager, &mut self.device)
+        self.table.abort(left)
     }
 
-    /// What a key is answered by the writes that were made.
+    /// What a key is answered by what was made.
     pub(crate) fn look(&self, key: &Key) -> Option<(Rank, u32)>
-        ensures answer { result ≡ lookup (replay self.now.manager.slots (journal_of self.now)) key.now }
-        ensures serves { IsServing self.now }
+        ensures answer { result ≡ answer_of_table self.now.table key.now }
+        ensures serves { IsServingTable self.now.table }
     {
-        let _rules = self.manager.rules();
-        self.device.look(key)
+        self.table.look(key)
     }
 }

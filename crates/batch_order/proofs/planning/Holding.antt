@@ -25,6 +25,7 @@ use Rattle.commit_writes.specs.Changes.{during_of}
 use Rattle.batch_order.specs.declared.held.Held.{Held}
 use Rattle.batch_order.specs.declared.translation.Translation.{Translation}
 use Rattle.batch_order.specs.declared.Placement.{Placement}
+use Rattle.batch_order.specs.ByParts.{longest_parts, longest_planned_parts}
 use Rattle.batch_order.specs.Entries.{AddsIds, Entries}
 use Rattle.batch_order.specs.Planning.{as_writes}
 use Rattle.batch_order.proofs.planning.Refused.{adds_first, adds_last}
@@ -36,11 +37,13 @@ use Rattle.batch_order.proofs.planning.Judged.{idle_count}
 use Rattle.batch_order.proofs.arranged.Unchanged.{arranged_same}
 use Rattle.batch_order.proofs.under_way.Carried.{view_of}
 use Rattle.batch_order.proofs.planning.Taken.{IsCoded, IsPlanOf, during_by}
+use Rattle.batch_order.proofs.planning.Longest.{plan_longest}
 use Rattle.batch_order.proofs.planning.Leading.{parts_of, arranged_then, same_contents, same_state, plan_leads, plan_tables, plan_bits, plan_segment, few_planned, plain_writes}
 
 -- a commit whose plan is held
 pub record IsHeldPlan (placement : Placement) (translation : Option Translation) (rules rules' : StoredRules) (old new : Entries) (slots middle : Slots) (batch : List Command) (held : Held) : Type 0 where
   pub plan : IsPlanOf placement translation rules old new slots middle batch held.rewrites.items held.erased.items (held_writes new.entries held) held.counts
+  pub longest : held.most_parts ≡ longest_planned_parts plan.planned
   pub same : rules'.rules ≡ rules.rules
   pub prepared : held.prepared ≡ true
   pub made : held.made ≡ 0
@@ -139,6 +142,9 @@ module _ (placement : Placement) (translation : Option Translation) (rules rules
             undo_is = holds.undo;
           };
           back = λ some. holds.prepared;
+          longest = λ is. holds.longest
+              ∙ (plan_longest placement translation rules old new slots middle batch held.rewrites.items held.erased.items writes held.counts plan
+              ∙ ap (λ (s : State). longest_parts s writes) (sym same_begun));
           after = of_left (λ b set. IsArranged mode b set (changed_by new held.rewrites.items held.erased.items) held.arrangement)
               (subst (λ (s : Slots). IsArranged mode (bits_left (set_after rules.rules batch) (during_by translation rules batch)) (set_after rules.rules batch) (changed_by new held.rewrites.items held.erased.items) s) (sym arrangement)
               (arranged_then placement translation rules old new slots middle batch held.rewrites.items held.erased.items writes held.counts plan));

@@ -12,7 +12,7 @@ use Rattle.tcam_device.specs.State.{State, apply, state_after}
 use Rattle.tcam_device.specs.Flight.{writes_in}
 use Rattle.commit_writes.specs.Actions.{with_drain}
 use Rattle.commit_writes.specs.Undo.{restoring, restorings}
-use Rattle.batch_order.specs.ByParts.{paired_number, part_number, parts_number, put_back, stands_at}
+use Rattle.batch_order.specs.ByParts.{longest_parts, paired_number, part_number, parts_number, put_back, stands_at}
 use Rattle.batch_order.specs.CarriedOut.{writes_left}
 use Rattle.batch_order.specs.Entries.{Entries}
 use Rattle.batch_order.specs.Kept.{IsManaged, held_of, held_writes, settled_state, state_of}
@@ -77,3 +77,12 @@ parts_counted translation rules kept slots held managed is =
     let left : writes_left (Some (held_of translation slots rules.rules kept.entries held)) ≡ writes = left_whole translation rules kept slots held is in
     let state : state_of translation kept.entries slots (Some held) ≡ begun = ap (λ n. state_after begun (take n writes)) is.none in
     ap (paired_number writes) undo ∙ (paired_restorings begun writes ∙ ap₂ parts_number (sym state) (sym left))
+
+-- and so are those of its longest insertion
+pub longest_counted : (translation : Option Translation) (rules : StoredRules) (kept : Entries) (slots : Slots) (held : Held) → IsManaged translation rules kept slots (Some held) → IsUnwritten held
+    → held.most_parts ≡ longest_parts (state_of translation kept.entries slots (Some held)) (writes_left (Some (held_of translation slots rules.rules kept.entries held)))
+longest_counted translation rules kept slots held managed is =
+    let begun = settled_state translation kept.entries slots in
+    let left : writes_left (Some (held_of translation slots rules.rules kept.entries held)) ≡ held_writes kept.entries held = left_whole translation rules kept slots held is in
+    let state : state_of translation kept.entries slots (Some held) ≡ begun = ap (λ n. state_after begun (take n (held_writes kept.entries held))) is.none in
+    managed.carried.longest is.prepared ∙ ap₂ longest_parts (sym state) (sym left)

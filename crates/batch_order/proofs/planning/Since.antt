@@ -18,6 +18,7 @@ use Rattle.commit_writes.specs.Planned.{Planned, ArePlanned, ranked_of, live_aft
 use Rattle.batch_order.specs.declared.plan.Plan.{Plan}
 use Rattle.batch_order.specs.declared.planned_writes.PlannedWrite.{PlannedWrite}
 use Rattle.batch_order.specs.declared.planned_writes.PlannedWrite.TheVariants.{Moved}
+use Rattle.batch_order.specs.ByParts.{insertion_parts, moves_put}
 use Rattle.batch_order.specs.Entries.{Entries, KeepEntries}
 use Rattle.batch_order.specs.Planning.{IsInserted, ArePlannedSince, planned_moves, all_writes}
 use Rattle.batch_order.proofs.arranged.Settled.{live_new}
@@ -45,6 +46,7 @@ planned_one old new slots slots' one answer aim plan plan' absent live_is entry 
   words = inserted.words;
   most = inserted.most;
   span = subst (λ (l : List LivePiece). plan'.span ≡ max plan.span (span_of (is_above l) slots one.id)) live_is inserted.span;
+  most_parts = inserted.most_parts;
 }
 
 -- insertions after others
@@ -74,6 +76,10 @@ entries_same : (live : List LivePiece) (before now : List (Option Entry)) (plann
     → AllByRecursion (λ insertion. entry_at now insertion.one.id ≡ Some (entry_for (ranked_of insertion))) planned
 entries_same live before now [] kept lives have = tt
 entries_same live before now (planned ∷ rest) kept lives have = (kept planned.one.id lives.0 ∙ have.0, entries_same live before now rest kept lives.1 have.1)
+
+-- the parts of an insertion as it was planned
+abbrev parts : Planned → ℕ
+parts insertion = insertion_parts (moves_put insertion.moves)
 
 -- some insertions after others
 pub planned_then : (old mid new : Entries) (slots slots' slots'' : Slots) (plan plan' plan'' : Plan) (first second : List RankedPiece) (first_aims second_aims : List Aim)
@@ -106,4 +112,7 @@ planned_then old mid new slots slots' slots'' plan plan' plan'' first second fir
   span = two.span ∙ (ap (λ (m : ℕ). fold max m (map (λ (insertion : Planned). insertion.span) two.planned)) one.span
       ∙ (sym (fold-append max plan.span (map (λ (insertion : Planned). insertion.span) one.planned) (map (λ (insertion : Planned). insertion.span) two.planned))
       ∙ ap (fold max plan.span) (sym (map-append (λ (insertion : Planned). insertion.span) one.planned two.planned))));
+  most_parts = two.most_parts ∙ (ap (λ (m : ℕ). fold max m (map parts two.planned)) one.most_parts
+      ∙ (sym (fold-append max plan.most_parts (map parts one.planned) (map parts two.planned))
+      ∙ ap (fold max plan.most_parts) (sym (map-append parts one.planned two.planned))));
 }

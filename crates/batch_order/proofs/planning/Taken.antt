@@ -41,6 +41,7 @@ use Rattle.batch_order.specs.declared.planned_writes.PlannedWrite.{PlannedWrite}
 use Rattle.batch_order.specs.declared.planned_writes.PlannedWrites.{PlannedWrites}
 use Rattle.batch_order.specs.declared.planned_writes.PlannedWrite.TheVariants.{Tabled}
 use Rattle.batch_order.specs.declared.translation.Translation.{Translation}
+use Rattle.batch_order.specs.ByParts.{insertion_parts, longest_planned_parts, moves_put}
 use Rattle.batch_order.specs.Entries.{Entries, KeepEntries, HasId, HaveIds}
 use Rattle.batch_order.specs.Planning.{IsSettled, IsPlannable, IsWithin, ArePlannedSince, as_write, as_writes, planned_moves, all_writes}
 use Rattle.batch_order.specs.Kept.{IsManaged, bits_of, mode_of, settled_state, tables_of}
@@ -188,6 +189,7 @@ pub record AreWordsPlanned (words : List Write) (plan : Plan) : Type 0 where
   pub few : length words ≤ 2 * 2 ^ 16
   pub most : plan.most ≡ 0
   pub span : plan.span ≡ 0
+  pub most_parts : plan.most_parts ≡ 0
 
 -- what was planned behind the insertions
 pub record AreRestPlanned (middle : Slots) (rewrites : List Rewrite) (erased : List ℕ) (plan : Plan) (writes : List PlannedWrite) (counts : Done) : Type 0 where
@@ -199,49 +201,57 @@ pub record AreRestPlanned (middle : Slots) (rewrites : List Rewrite) (erased : L
   pub most : counts.most ≡ plan.most
   pub span : counts.span ≡ plan.span
 
+-- A plan of a batch, and the parts of its longest insertion.
+pub record IsCountedPlan (placement : Placement) (translation : Option Translation) (rules : StoredRules) (old new : Entries) (slots middle : Slots) (batch : List Command) (rewrites : List Rewrite) (erased : List ℕ) (writes : List Write) (counts : Done) (most_parts : ℕ) : Type 0 where
+  pub plan : IsPlanOf placement translation rules old new slots middle batch rewrites erased writes counts
+  pub longest : most_parts ≡ longest_planned_parts plan.planned
+
 pub plan_made : (placement : Placement) (translation : Option Translation) (rules : StoredRules) (old new : Entries) (slots middle : Slots) (batch : List Command) (rewrites : List Rewrite) (erased : List ℕ) (plan plan' : Plan) (planned : List PlannedWrite) (counts : Done)
     → IsTaken translation rules old slots batch → ArePartsOf (mode_of translation) (during_by translation rules batch) rules.rules batch old.live rewrites erased → new.slots ≡ old.slots → IsSettled new middle
     → ArePlannedSince old new slots middle plan plan' (inserted_pieces (mode_of translation) (during_by translation rules batch) rules.rules batch)
     (aims_of placement (mode_of translation) (length slots) rules.rules (inserted_pieces (mode_of translation) (during_by translation rules batch) rules.rules batch))
     → AreWordsPlanned (words_by translation rules old slots batch) plan → AreRestPlanned middle rewrites erased plan' planned counts
-    → IsPlanOf placement translation rules old new slots middle batch rewrites erased (as_writes new.entries rewrites planned) counts
+    → IsCountedPlan placement translation rules old new slots middle batch rewrites erased (as_writes new.entries rewrites planned) counts plan'.most_parts
 plan_made placement translation rules old new slots middle batch rewrites erased plan plan' planned counts taken parts size settled since words rest = record {
-  taken = taken;
-  parts = parts;
-  settled = settled;
-  size = size;
-  in_use = subst (λ (n : ℕ). AllByRecursion (IsInUse n) writes) (settled.size ∙ (size ∙ sym taken.managed.carried.settled.size))
-      (used_within (length middle) new.entries rewrites planned rest.within);
-  kept = since.kept;
-  planned = since.planned;
-  commit = record {
-    is_set = taken.change.is_set;
-    right = taken.change.right;
-    changes = taken.change.changes;
-    sound = taken.change.sound;
-    is_state = behind_is translation rules old slots batch taken;
-    mirrors = behind_slots translation rules old slots batch taken
-        ∙ sym (contents_kept old.live old.entries new.entries slots since.kept (settled_live old slots taken.managed.carried.settled));
-    serving = behind_serves translation rules old slots batch taken;
-    arranged = are_arranged old slots taken.managed.carried.settled;
-    entries_are = entries_of_kept (set_pieces mode during rules.rules) old.live old.entries new.entries since.kept (during_entries translation rules old slots batch taken);
-    inserted = since.pieces_are;
-    have_entries = since.have_entries;
-    are_planned = since.are_planned;
-    rewrites_are = parts.rewrites_are;
-    erased_are = parts.erased_are;
+  plan = record {
+    taken = taken;
+    parts = parts;
+    settled = settled;
+    size = size;
+    in_use = subst (λ (n : ℕ). AllByRecursion (IsInUse n) writes) (settled.size ∙ (size ∙ sym taken.managed.carried.settled.size))
+        (used_within (length middle) new.entries rewrites planned rest.within);
+    kept = since.kept;
+    planned = since.planned;
+    commit = record {
+      is_set = taken.change.is_set;
+      right = taken.change.right;
+      changes = taken.change.changes;
+      sound = taken.change.sound;
+      is_state = behind_is translation rules old slots batch taken;
+      mirrors = behind_slots translation rules old slots batch taken
+          ∙ sym (contents_kept old.live old.entries new.entries slots since.kept (settled_live old slots taken.managed.carried.settled));
+      serving = behind_serves translation rules old slots batch taken;
+      arranged = are_arranged old slots taken.managed.carried.settled;
+      entries_are = entries_of_kept (set_pieces mode during rules.rules) old.live old.entries new.entries since.kept (during_entries translation rules old slots batch taken);
+      inserted = since.pieces_are;
+      have_entries = since.have_entries;
+      are_planned = since.are_planned;
+      rewrites_are = parts.rewrites_are;
+      erased_are = parts.erased_are;
+    };
+    aims = since.aims_are;
+    live_is = since.live_is;
+    middle_is = since.slots_are;
+    writes_are = are;
+    words_few = words.few;
+    numbers = record {
+      writes_are = rest.number ∙ sym (length-map planned (as_write new.entries rewrites));
+      words = rest.words ∙ (since.words ∙ (words.number ∙ sym tables));
+      most = rest.most ∙ (since.most ∙ ap (λ (m : ℕ). fold max m (map (λ (insertion : Planned). length insertion.moves) since.planned)) words.most);
+      span = rest.span ∙ (since.span ∙ ap (λ (m : ℕ). fold max m (map (λ (insertion : Planned). insertion.span) since.planned)) words.span);
+    };
   };
-  aims = since.aims_are;
-  live_is = since.live_is;
-  middle_is = since.slots_are;
-  writes_are = are;
-  words_few = words.few;
-  numbers = record {
-    writes_are = rest.number ∙ sym (length-map planned (as_write new.entries rewrites));
-    words = rest.words ∙ (since.words ∙ (words.number ∙ sym tables));
-    most = rest.most ∙ (since.most ∙ ap (λ (m : ℕ). fold max m (map (λ (insertion : Planned). length insertion.moves) since.planned)) words.most);
-    span = rest.span ∙ (since.span ∙ ap (λ (m : ℕ). fold max m (map (λ (insertion : Planned). insertion.span) since.planned)) words.span);
-  };
+  longest = since.most_parts ∙ ap (λ (m : ℕ). fold max m (map (λ (insertion : Planned). insertion_parts (moves_put insertion.moves)) since.planned)) words.most_parts;
 }
   where
     mode : Mode

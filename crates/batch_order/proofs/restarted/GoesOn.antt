@@ -282,6 +282,7 @@ module _ (placement : Placement) (translation : Option Translation) (rules : Sto
     during = on.planned.during;
     way_back = λ is. absurd (let clash : false ≡ true = is in cc);
     back = λ is. absurd (let clash : false ≡ true = is in cc);
+    longest = λ is. absurd (let clash : false ≡ true = is in cc);
     after = arranged_then;
     leads = state_by (state_after (settled_state translation new.entries found) (held_writes new.entries held)) (tables_of turned)
         (contents (rewritten_entries new.entries rest.left.rewrites.items) slots') (ap (λ (s : State). s.slots) leads_on) tables_then;

@@ -43,6 +43,7 @@ managed_at translation rules kept slots held managed made turned awaits drained 
         during = carried.during;
         way_back = carried.way_back;
         back = may.back;
+        longest = carried.longest;
         after = carried.after;
         leads = carried.leads;
         tables = carried.tables;

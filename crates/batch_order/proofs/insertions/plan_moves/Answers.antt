@@ -1,6 +1,6 @@
-use Rattle.std.proofs.Common.{◌≡◌, ◌<◌, ◌∙◌, ◌++◌, List, ℕ, length, map, max, arith, subst, sym, ap}
+use Rattle.std.proofs.Common.{◌≡◌, ◌+◌, ◌<◌, ◌∙◌, ◌++◌, List, ℕ, drop, length, map, max, arith, subst, sym, ap}
 use Rattle.std.specs.List.{AllByRecursion}
-use Rattle.std.proofs.lemmas.List.{take_all}
+use Rattle.std.proofs.lemmas.List.{length-append, take_all}
 use Rattle.slot_order.proofs.Lists.{all_append}
 use Rattle.placement.specs.Live.{is_above}
 use Rattle.slot_pool.specs.Arrangement.{Slots}
@@ -9,6 +9,7 @@ use Rattle.placement.specs.declared.Move.{Move}
 use Rattle.placement.specs.Placement.{IsPlacement, IsInOrder, after_moves, span_of}
 use Rattle.placement.specs.Insertion.{IsLive, StandOnce, free_slots, moves_since}
 use Rattle.placement.specs.Ready.{IsReady}
+use Rattle.batch_order.specs.ByParts.{insertion_parts, moves_put}
 use Rattle.batch_order.specs.Entries.{Entries}
 use Rattle.batch_order.specs.declared.planned_writes.PlannedWrite.TheVariants.{Moved}
 use Rattle.batch_order.specs.declared.planned_writes.PlannedWrites.{PlannedWrites}
@@ -17,6 +18,7 @@ use Rattle.batch_order.proofs.arranged.Inside.{moves_inside}
 use Rattle.batch_order.proofs.Listed.{more_moved}
 use Rattle.batch_order.proofs.planning.Meant.{moves_within}
 use Rattle.batch_order.proofs.arranged.Settled.{settled_again, size_after}
+use Rattle.batch_order.proofs.planning.Few.{few_moves, puts_few}
 use Rattle.batch_order.proofs.insertions.plan_moves.Goals as goal
 
 free_one : (kept : Entries) (slots : Slots) (id : ℕ) → IsLastLive kept slots id → 0 < free_slots slots
@@ -40,6 +42,36 @@ plan_insert-requires-clause-free c = free_one c.args.live.now c.args.arrangement
 inside : (kept : Entries) (slots : Slots) (aim : Aim) (id : ℕ) (moves : List Move) → IsLastLive kept slots id → IsPlacement (is_above kept.live) aim id slots moves → AllByRecursion (IsInside kept.slots) moves
 inside kept slots aim id moves new placement =
     subst (λ n. AllByRecursion (IsInside n) moves) new.size (moves_inside (record { slots = kept.slots; live = kept.live }) id slots moves (ready kept slots id new) placement)
+
+-- its moves are few,
+pub puts_from-puts-requires : goal.puts_from-puts-requires
+puts_from-puts-requires c =
+    let kept = c.args.live.now in
+    let slots = c.args.arrangement.now in
+    let old = c.args.plan.now.writes in
+    let m = moves_since old.moves c.plan_insert.new.plan in
+    let new = c.requires.new in
+    let few = few_moves kept.live c.index.result.now.live slots c.plan_insert.new.slots c.args.id c.in_ok-insert.insert.writes c.in_ok-insert.insert.span (sym c.index.ensures.live) (let size = new.size in let most = new.few in omega arith)
+    (ap length c.plan_insert.ensures.slots ∙ size_after slots m) new.apart.once c.in_ok-insert.ensures.standing.placed c.in_ok-insert.ensures.span c.in_ok-insert.ensures.bound in
+    let writes = c.in_ok-insert.ensures.writes in
+    let first = c.len-first.ensures.count in
+    let all : length c.plan_insert.new.plan ≡ length old.moves + length m = ap length c.plan_insert.ensures.plan ∙ length-append old.moves m in
+    omega arith
+
+-- so what they put can be counted
+pub count-requires : goal.count-requires
+count-requires c =
+    let kept = c.args.live.now in
+    let slots = c.args.arrangement.now in
+    let old = c.args.plan.now.writes in
+    let m = moves_since old.moves c.plan_insert.new.plan in
+    let new = c.requires.new in
+    let few = few_moves kept.live c.index.result.now.live slots c.plan_insert.new.slots c.args.id c.in_ok-insert.insert.writes c.in_ok-insert.insert.span (sym c.index.ensures.live) (let size = new.size in let most = new.few in omega arith)
+    (ap length c.plan_insert.ensures.slots ∙ size_after slots m) new.apart.once c.in_ok-insert.ensures.standing.placed c.in_ok-insert.ensures.span c.in_ok-insert.ensures.bound in
+    let writes = c.in_ok-insert.ensures.writes in
+    let puts : c.puts_from-puts.result ≡ moves_put m = c.puts_from-puts.ensures ∙ ap (λ (n : ℕ). moves_put (drop n c.plan_insert.new.plan)) c.len-first.ensures.count in
+    let fewer = puts_few m in
+    omega arith
 
 pub returns : goal.returns
 returns c =
@@ -71,5 +103,8 @@ returns c =
         words = c.count.ensures.words;
         most = c.count.ensures.most ∙ ap (max c.args.plan.now.most) c.in_ok-insert.ensures.writes;
         span = c.count.ensures.span ∙ ap (max c.args.plan.now.span) (subst (λ l. c.in_ok-insert.insert.span ≡ span_of (is_above l) slots c.args.id) live c.in_ok-insert.ensures.span);
+        most_parts = c.count.ensures.most_parts
+            ∙ ap (λ (n : ℕ). max c.args.plan.now.most_parts (insertion_parts n))
+            (c.puts_from-puts.ensures ∙ ap (λ (n : ℕ). moves_put (drop n c.plan_insert.new.plan)) c.len-first.ensures.count);
       };
     }

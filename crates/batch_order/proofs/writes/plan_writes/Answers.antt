@@ -55,6 +55,7 @@ returns-in-Ok-plan_undo-clause-planned c =
       words = rest.words;
       most = rest.most;
       span = rest.span;
+      most_parts = rest.most_parts;
     }
 
 pub returns-in-Ok-plan_undo-clause-undo : goal.returns-in-Ok-plan_undo-clause-undo

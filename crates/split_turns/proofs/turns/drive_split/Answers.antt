@@ -16,6 +16,7 @@ loop-place-init g c =
       few = subst (λ (answers : List (ℕ × Answer)). length answers ≤ 0) (sym none) (omega arith);
       capacity = search rules;
       slots = c.requires.slots;
+      spare = refl;
       room = c.requires.room;
       on = c.requires.on;
       current = c.requires.current;
@@ -39,6 +40,7 @@ loop-place-preserved g c =
           (few_more c.loop-place.answers.items c.loop-place.place c.in-Ok-turn_once.answered before.few);
       capacity = subst (λ n. length c.args.turns.now ≤ n) (sym c.note.ensures.capacity) before.capacity;
       slots = once.slots;
+      spare = once.spare ∙ before.spare;
       room = once.room;
       on = once.on;
       current = once.current;

@@ -1,17 +1,19 @@
-use Rattle.std.proofs.Common.{◌≡◌, ◌++◌, Option, None, sym, ◌∙◌, ap, subst}
+use Rattle.std.proofs.Common.{◌≡◌, ◌+◌, ℕ, List, length, Option, None, sym, ◌∙◌, ap, ap₂, subst}
 use Rattle.rule_model.specs.RuleSet.{Answer}
 use Rattle.commit_writes.specs.InFlight.{AreCurrent}
 use Rattle.commit_writes.proofs.Current.{are_current_less}
 use Rattle.batch_order.specs.Managed.{live_now}
+use Rattle.split_device.specs.declared.SplitAction.{SplitAction}
 use Rattle.split_device.specs.Flight.{Flight, flight_count, oldest_read, state_of_events, with_read, with_search}
 use Rattle.split_order.specs.Left.{ServesSplit, left_of, state_on}
 use Rattle.split_order.specs.Managed.{SplitManaged}
-use Rattle.split_order.specs.Steps.{made_by}
+use Rattle.split_order.specs.Next.{IsLed}
+use Rattle.split_order.proofs.Live.{step_current}
 use Rattle.split_turns.specs.declared.SplitTurn.{SplitTurn}
 use Rattle.split_turns.specs.declared.SplitTurn.TheVariants.{Step, Translate, Search, Read}
 use Rattle.split_turns.specs.Seen.{TurnsOn}
 use Rattle.split_turns.specs.Turns.{translated}
-use Rattle.split_turns.proofs.Turned.{read_turned, search_turned, step_current, step_turned, steps_slots, steps_told, translate_current, translate_turned}
+use Rattle.split_turns.proofs.Turned.{read_turned, search_turned, step_turned, steps_slots, translate_current, translate_turned}
 use Rattle.split_turns.proofs.turns.turn_once.Goals as goal
 
 pub returns-in_ok-step-in-Step-clause-turned : goal.returns-in_ok-step-in-Step-clause-turned
@@ -21,11 +23,9 @@ returns-in_ok-step-in-Step-clause-turned g c =
     let slots = g.D.SplitDevice.slot_count c.args.device.now in
     let flight = g.D.SplitDevice.flight c.args.device.now in
     let did = c.in_ok-step-in-Step.ensures in
-    let told = steps_told slots old (flight_count flight) (left_of slots old) c.in_ok-step-in-Step.field-0 new did.stepped in
-    let events : g.D.SplitDevice.events c.step.new.device ≡ new.events = did.events ∙ (ap (λ some. some ++ made_by c.in_ok-step-in-Step.field-0) c.requires.on ∙ sym told) in
-    let there : ServesSplit (state_of_events (g.D.SplitDevice.slot_count c.step.new.device) (g.D.SplitDevice.events c.step.new.device)) new = c.step.ensures.serves c.requires.on in
-    let serves : ServesSplit (state_on slots new) new =
-    subst (λ some. ServesSplit (state_of_events slots some) new) events (subst (λ n. ServesSplit (state_of_events n (g.D.SplitDevice.events c.step.new.device)) new) c.step.ensures.slot_count there) in
+    let led : IsLed slots (g.D.SplitDevice.events c.step.new.device) new =
+    subst (λ n. IsLed n (g.D.SplitDevice.events c.step.new.device) new) c.step.ensures.slot_count (c.step.ensures.led c.requires.on) in
+    let serves : ServesSplit (state_on slots new) new = subst (λ some. ServesSplit (state_of_events slots some) new) led.on led.serves in
     subst (λ (t : SplitTurn). TurnsOn slots old flight t None new (g.D.SplitDevice.flight c.step.new.device)) (sym c.in-Step.is)
     (subst (λ (f : Flight). TurnsOn slots old flight Step None new f) (sym c.step.ensures.flight)
     (step_turned slots old new flight c.in_ok-step-in-Step.field-0 did.stepped (c.serving.ensures.timely slots c.requires.slots) serves))
@@ -39,12 +39,7 @@ returns-in_ok-step-in-Step-clause-slots g c =
     rw (same, c.step.ensures.slot_count) c.requires.slots
 
 pub returns-in_ok-step-in-Step-clause-on : goal.returns-in_ok-step-in-Step-clause-on
-returns-in_ok-step-in-Step-clause-on g c =
-    let old : SplitManaged = c.args.manager.now in
-    let slots = g.D.SplitDevice.slot_count c.args.device.now in
-    let flight = g.D.SplitDevice.flight c.args.device.now in
-    let told = steps_told slots old (flight_count flight) (left_of slots old) c.in_ok-step-in-Step.field-0 c.step.new.self c.in_ok-step-in-Step.ensures.stepped in
-    c.in_ok-step-in-Step.ensures.events ∙ (ap (λ some. some ++ made_by c.in_ok-step-in-Step.field-0) c.requires.on ∙ sym told)
+returns-in_ok-step-in-Step-clause-on g c = (c.step.ensures.led c.requires.on).on
 
 pub returns-in_ok-step-in-Step-clause-current : goal.returns-in_ok-step-in-Step-clause-current
 returns-in_ok-step-in-Step-clause-current g c =
@@ -108,3 +103,15 @@ pub returns-in-Read-clause-current : goal.returns-in-Read-clause-current
 returns-in-Read-clause-current g c =
     let manager : SplitManaged = c.args.manager.now in
     subst (λ (f : Flight). AreCurrent (live_now manager.whole) f.words) (sym c.read.ensures.flight) c.requires.current
+
+pub returns-in-Translate-clause-spare : goal.returns-in-Translate-clause-spare
+returns-in-Translate-clause-spare g c =
+    ap₂ (λ (spare : ℕ) (events : List SplitAction). spare + length events) c.translate.ensures.spare c.translate.ensures.events
+
+pub returns-in-Search-clause-spare : goal.returns-in-Search-clause-spare
+returns-in-Search-clause-spare g c =
+    ap₂ (λ (spare : ℕ) (events : List SplitAction). spare + length events) c.search-found.ensures.spare c.search-found.ensures.events
+
+pub returns-in-Read-clause-spare : goal.returns-in-Read-clause-spare
+returns-in-Read-clause-spare g c =
+    ap₂ (λ (spare : ℕ) (events : List SplitAction). spare + length events) c.read.ensures.spare c.read.ensures.events

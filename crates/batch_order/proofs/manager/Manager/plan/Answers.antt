@@ -223,26 +223,29 @@ plan_now c =
     let pieces = said_so i.translation i.rules batch bits coded (λ m b. parts.inserted.items ≡ inserted_pieces m b i.rules.rules batch) c.in_ok-parts.ensures.inserted in
     let since = planned_from i.live c.plan_writes.new.live i.arrangement c.in_ok-arrangement.arrangement c.plan_writes.new.arrangement c.plan_words.new.plan all.between i.placement (mode_of i.translation)
     i.rules.rules c.reserve.new.self.rules (inserted_pieces (mode_of i.translation) (during_by i.translation i.rules batch) i.rules.rules batch) parts.inserted.items c.in_ok-arrangement.ensures c.reserve.ensures.rules pieces all.inserted in
+    let counted = plan_made i.placement i.translation i.rules i.live c.plan_writes.new.live i.arrangement c.plan_writes.new.arrangement batch parts.rewrites.items parts.erased.items c.plan_words.new.plan all.between
+    (all_writes c.plan_writes.new.plan.writes) c.counts-counts.result t
+    (parts_as i.translation i.rules batch bits i.live.live parts.rewrites.items parts.erased.items coded c.in_ok-parts.ensures.rewrites c.in_ok-parts.ensures.erased)
+    c.plan_writes.ensures.slots c.in_ok-planned.ensures.planned.settled since
     record {
-      plan = plan_made i.placement i.translation i.rules i.live c.plan_writes.new.live i.arrangement c.plan_writes.new.arrangement batch parts.rewrites.items parts.erased.items c.plan_words.new.plan all.between
-          (all_writes c.plan_writes.new.plan.writes) c.counts-counts.result t
-          (parts_as i.translation i.rules batch bits i.live.live parts.rewrites.items parts.erased.items coded c.in_ok-parts.ensures.rewrites c.in_ok-parts.ensures.erased)
-          c.plan_writes.ensures.slots c.in_ok-planned.ensures.planned.settled since
-          record {
-            writes = words;
-            number = c.in_ok-bits.ensures.words ∙ (ap length words ∙ size);
-            few = subst (λ (n : ℕ). n ≤ 2 * 2 ^ 16) (ap length words ∙ size) c.in_ok-bits.ensures.few;
-            most = c.plan_words.ensures.most ∙ c.new-plan.ensures.most;
-            span = c.plan_words.ensures.span ∙ c.new-plan.ensures.span;
-          }
-          record {
-            within = c.in_ok-planned.ensures.planned.within;
-            made = c.in_ok-planned.ensures.planned.writes;
-            number = c.counts-counts.ensures.writes;
-            words = c.counts-counts.ensures.words ∙ c.in_ok-planned.ensures.planned.words;
-            most = c.counts-counts.ensures.most ∙ c.in_ok-planned.ensures.planned.most;
-            span = c.counts-counts.ensures.span ∙ c.in_ok-planned.ensures.planned.span;
-          };
+      writes = words;
+      number = c.in_ok-bits.ensures.words ∙ (ap length words ∙ size);
+      few = subst (λ (n : ℕ). n ≤ 2 * 2 ^ 16) (ap length words ∙ size) c.in_ok-bits.ensures.few;
+      most = c.plan_words.ensures.most ∙ c.new-plan.ensures.most;
+      span = c.plan_words.ensures.span ∙ c.new-plan.ensures.span;
+      most_parts = c.plan_words.ensures.most_parts ∙ c.new-plan.ensures.most_parts;
+    }
+    record {
+      within = c.in_ok-planned.ensures.planned.within;
+      made = c.in_ok-planned.ensures.planned.writes;
+      number = c.counts-counts.ensures.writes;
+      words = c.counts-counts.ensures.words ∙ c.in_ok-planned.ensures.planned.words;
+      most = c.counts-counts.ensures.most ∙ c.in_ok-planned.ensures.planned.most;
+      span = c.counts-counts.ensures.span ∙ c.in_ok-planned.ensures.planned.span;
+    } in
+    record {
+      plan = counted.plan;
+      longest = all.most_parts ∙ counted.longest;
       same = c.reserve.ensures.rules;
       prepared = refl;
       made = refl;

@@ -45,4 +45,5 @@ returns-clause-planned g c =
       words = rest.words;
       most = rest.most;
       span = rest.span;
+      most_parts = rest.most_parts;
     }

@@ -1,4 +1,5 @@
 use Rattle.std.proofs.Common.{◌≡◌, ◌+◌, ◌*◌, ◌≤◌, None, false, length, refl, subst, arith}
+use Rattle.batch_order.proofs.planning.Prepared.{unwritten}
 use Rattle.split_device.specs.Flight.{written}
 use Rattle.split_writes.specs.declared.SplitDone.{SplitDone}
 use Rattle.split_order.specs.Left.{left_of}
@@ -32,7 +33,7 @@ returns-in-Ok-clause-ready c =
     let counts : SplitDone = record { writes = c.parts.result; words = c.in-Ok.done.words; most = c.most_parts.result; span = c.in-Ok.done.span } in
     let m' : SplitManaged = record { whole = c.plan_commit.new.self; events = i.events.items; made = 0; begun = false; counts = counts } in
     let view : m ≡ c.args.self.now = c.self.view_is in
-    subst (λ (old : SplitManaged). HoldsSplit old c.args.batch.now counts m') view (plan_holds i.since i.progress.left m m' c.args.batch.now c.in-Ok.done c.plan_commit.new.self c.self.invariant idle c.in-Ok.ensures.ready (refl, refl, refl, refl) counts c.parts.ensures refl refl refl)
+    subst (λ (old : SplitManaged). HoldsSplit old c.args.batch.now counts m') view (plan_holds i.since i.progress.left m m' c.args.batch.now c.in-Ok.done c.plan_commit.new.self c.self.invariant idle c.in-Ok.ensures.ready (refl, refl, refl, refl) counts c.parts.ensures refl (c.most_parts.ensures.plan (unwritten m.whole c.plan_commit.new.self c.args.batch.now c.in-Ok.done c.in-Ok.ensures.ready)) refl refl)
 
 pub returns-in-Ok-clause-fits : goal.returns-in-Ok-clause-fits
 returns-in-Ok-clause-fits c slots within =

@@ -1,0 +1,121 @@
+//! A manager of a memory whose slots hold whole entries, and the shadow of the caller's memory.
+
+ghost use Rattle.std.specs.Prelude.{◌≡◌, ◌≤◌, IfOk, IsOk, OnOk, OnErr, Some};
+ghost use Rattle.tcam_device.specs.State.{lookup, replay};
+ghost use Rattle.batch_order.specs.Managed.{Judges};
+ghost use Rattle.batch_order.specs.CarriedOut.{GoesForward};
+ghost use Rattle.batch_order.specs.Steps.{ServesNow};
+ghost use Rattle.tcam_c.specs.Driven.{Prepares, PassesOn, IsDue, IsEnded, KeepsLive, AbortsHeld, IsServing, IsServingAhead, due_of, fresh_driven, journal_of, kind_of_due};
+
+use crate::outside::Outside;
+use crate::steps::{DueKind, abort, due, go_on, kind_due, prepare};
+use batch_order::{AbortFault, Done, Manager, Mode, Placement, Refusal};
+use memory_tcam::Shadowed;
+use rule_model::{Key, Rank};
+use rule_store::Batch;
+use slot_order::MOST_SLOTS;
+use std::alloc::{AllocError, Global};
+use std::marker::Model;
+use tcam_device::{Action, Device};
+
+/// Between two calls a commit is under way exactly where a write or a drain is due.
+#[derive(Drop)]
+pub(crate) struct WholeTable {
+    manager: Manager,
+    device: Shadowed<Outside>,
+}
+
+impl Model for WholeTable {
+    ghost use Rattle.tcam_c.specs.Driven.{Driven, IsHandled};
+
+    ghost Value = { Driven };
+
+    ghost view = { λ t. record { manager = t.manager; events = t.device.events } };
+
+    ghost invariant = { λ t. IsHandled t.manager t.device.slots t.device.events t.device.flight t.device.spare };
+}
+
+impl WholeTable {
+    /// A manager of a blank memory with so many slots in use and no rules. It fails only for want of memory.
+    pub(crate) fn new(
+        alloc: Global,
+        slots: u32,
+        mode: Mode,
+        placement: Placement,
+    ) -> Result<WholeTable, AllocError>
+        requires least { 1 ≤ slots }
+        requires most { slots ≤ MOST_SLOTS }
+        ensures fresh { IfOk result (λ table. table ≡ fresh_driven slots mode placement) }
+        ensures serves { OnOk result (IsServing (fresh_driven slots mode placement)) }
+    {
+        let manager = Manager::new(alloc, slots, mode, placement)?;
+        manager.serving();
+        let device = Shadowed::new(alloc, Outside { slots })?;
+        Ok(WholeTable { manager, device })
+    }
+
+    /// Has a batch judged and planned. Where it is taken a commit with nothing to make has finished. A refusal leaves all
+    /// as it was.
+    pub(crate) fn prepare(&mut self, batch: &Batch) -> Result<Done, Refusal>
+        ensures judged { Judges self.old.manager self.old.manager.held batch.now result }
+        ensures ready { IfOk result (λ counts. Prepares self.old batch.now counts self.new) }
+        ensures refused { OnErr result (self.new ≡ self.old) }
+        ensures keeps { KeepsLive self.old.manager self.new.manager }
+        ensures before { IsServing self.old }
+        ensures serves { IsServing self.new }
+    {
+        prepare(&mut self.manager, batch, &mut self.device)
+    }
+
+    /// The write or the drain that is due, or None where no commit is under way.
+    pub(crate) fn due(&self) -> Option<Action>
+        ensures due { result ≡ due_of self.now.manager.held }
+        ensures ended { IsEnded self.now.manager.held result }
+        ensures drain { result ≡ Some Action.Drained → GoesForward self.now.manager.held }
+        ensures serves { IsServing self.now }
+        ensures now { ServesNow self.now.manager }
+        ensures ahead { IsServingAhead self.now result }
+    {
+        self.manager.serving();
+        due(&self.manager)
+    }
+
+    /// What kind of thing is due.
+    pub(crate) fn kind_due(&self) -> DueKind
+        ensures kind { result ≡ kind_of_due (due_of self.now.manager.held) }
+        ensures serves { IsServing self.now }
+    {
+        self.manager.serving();
+        kind_due(&self.manager)
+    }
+
+    /// The write or the drain that is due was made: what comes behind it is due then, or the commit has come to its
+    /// end. It takes no memory.
+    pub(crate) fn go_on(&mut self)
+        requires { IsDue (kind_of_due (due_of self.old.manager.held)) }
+        ensures on { PassesOn self.old self.new }
+        ensures serves { IsServing self.new }
+    {
+        go_on(&mut self.manager, &mut self.device);
+    }
+
+    /// Turns the commit under way round: from now on its undo writes are due, the last one first, and no drain. The
+    /// answer is how many they are, and with none the commit is over. It takes no memory.
+    pub(crate) fn abort(&mut self) -> Result<u64, AbortFault>
+        ensures turned { AbortsHeld self.old self.old.manager.held result self.new }
+        ensures before { IsServing self.old }
+        ensures serves { IsServing self.new }
+    {
+        self.manager.serving();
+        abort(&mut self.manager, &mut self.device)
+    }
+
+    /// What a key is answered by the writes that were made.
+    pub(crate) fn look(&self, key: &Key) -> Option<(Rank, u32)>
+        ensures answer { result ≡ lookup (replay self.now.manager.slots (journal_of self.now)) key.now }
+        ensures serves { IsServing self.now }
+    {
+        let _rules = self.manager.rules();
+        self.device.look(key)
+    }
+}
