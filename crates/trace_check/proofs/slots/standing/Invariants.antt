@@ -1,0 +1,8 @@
+use Rattle.std.proofs.Common.{◌≡◌, ℕ, ◌<◌, Some}
+use Rattle.slot_order.specs.Order.{slot}
+use Rattle.rule_model.specs.Entry.{RankedPiece, entry_for}
+use Rattle.trace_check.proofs.slots.standing.Given as goal
+
+-- none of the first slots holds it
+abbrev pub invariant-loop-place : goal.invariant-loop-place
+invariant-loop-place l = (k : ℕ) (ranked : RankedPiece) → k < l.place-index → slot l.places k ≡ Some ranked → entry_for ranked ≡ l.entry → ⊥

@@ -1,0 +1,11 @@
+pub mod Places
+pub mod Orderly
+pub mod Hitless
+pub mod Answers
+pub mod Segments
+pub mod Local
+pub mod Checked
+pub mod Behind
+pub mod Kept
+pub mod Coming
+pub mod Traced

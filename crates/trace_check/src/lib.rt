@@ -1,0 +1,59 @@
+//! Checks of traces: whether every write of a trace is one after which each packet has the answer of the set before its
+//! commit or of the set after it, judged from the trace alone.
+//!
+//! A [`Checker`] takes a trace line by line. `specs/Places` says which lines a trace may have next, `specs/Orderly` what
+//! an orderly trace is, by the stages of `readback`, `specs/Hitless` what it says, `specs/Answers` what is told of one,
+//! and `specs/Segments` that each commit's lines are orderly.
+//!
+//! What a write of a slot can break of a stage shows at that slot (`specs/Local`), so a line is judged by some walks
+//! over the slots and over the tasks of its commit: which piece comes (`known`), whether it is in order with the others,
+//! and what stands twice (`slots`, `pairs`), which tasks are done (`tasks`). No walk compares slots with each other. Of a
+//! commit under way (`commit`) is kept, from line to line, how many of its tasks are done and which two slots hold one
+//! entry (`specs/Kept`); of the trace (`trace`) its set, what the device holds, and how many commits and writes there
+//! were (`specs/Traced`). Contracts see a checker as its place and what `specs/Orderly` has known of the trace there,
+//! and none of this.
+//!
+//! # Decided
+//! - **A commit is judged from the first line behind its commands on**: its batch by the rules alone, then each event.
+//! - **A checker that doesn't take a line is spent**, so `take` takes it by value: nothing is told of lines behind the
+//!   first that is wrong, and a line that wasn't judged for want of memory isn't judged again.
+//! - **The bits of ranges aren't in a trace**, and are reckoned: a new range gets the least free bit. So a driver that
+//!   gives others is refused at its first entry that tests one.
+//! - **A write takes up to five walks over the slots**, one after the other: for the piece that comes, where a move
+//!   brings it, before and behind its slot for the order, and for a copy of what comes and of what goes. A column of
+//!   priorities, compared eight at a time, would pass most slots over; no contract would change.
+//! - **More writes than a `u64` counts, or rules than a `u32`, are told as want of memory.**
+#![tactic(auto)]
+
+mod checker;
+mod commit;
+mod known;
+mod laws;
+mod pairs;
+mod places;
+mod slots;
+mod tasks;
+mod trace;
+mod words;
+
+pub use checker::{Checker, Counts};
+pub use laws::{
+    orderly_traces_are_hitless, orderly_traces_are_taken, orderly_traces_get_yes, places_are_exact,
+    segments_are_orderly, slot_writes_are_local, table_writes_are_local, taken_traces_are_hitless,
+    traces_are_commits, yes_is_hitless, yes_is_orderly,
+};
+pub use places::Place;
+use thiserror::Error;
+
+/// Why a line isn't taken.
+#[derive(Clone, Copy, Debug, PartialEq, Eq, Error)]
+pub enum CheckFault {
+    /// No trace has it there.
+    #[error("no trace has the line there")]
+    Misplaced,
+    /// It breaks the order of its commit, or tells another number of writes.
+    #[error("out of order")]
+    Unordered,
+    #[error("out of memory")]
+    Memory,
+}

@@ -1,0 +1,116 @@
+//! What a write of one slot does to the others: whether what comes is in order with them, whether it or what it replaces
+//! stands elsewhere, and which entry stands twice.
+
+ghost use Rattle.std.specs.Prelude.{◌≡◌, ◌≢◌, ◌↔◌, ◌<◌, ◌≤◌, ℕ, IfSome, IsNone, IsTrue, IsFalse, Some, length};
+ghost use Rattle.slot_order.specs.Order.{slot};
+ghost use Rattle.rule_model.specs.Piece.{PiecesOverlap};
+ghost use Rattle.rule_model.specs.Entry as entries;
+ghost use Rattle.rule_model.specs.Entry.{RankedPiece, entry_for};
+
+use crate::known::{Known, same_match};
+use commit_writes::Ranked;
+use rule_model::{Entry, piece_overlaps};
+
+/// Two slots that hold one entry, the lesser first.
+#[derive(Clone, Copy, Debug, PartialEq, Eq)]
+pub(crate) struct Pair {
+    pub(crate) lesser: u32,
+    pub(crate) greater: u32,
+}
+
+/// Whether some slot before one holds a piece that overlaps this one and is lower.
+pub(crate) fn is_behind_lower(places: &[Option<Known>], at: usize, ranked: &Ranked) -> bool
+    requires { at ≤ length places.now }
+    ensures some { IsTrue result → (i : ℕ) × (low : RankedPiece) × (i < at) × (slot places.now i ≡ Some low)
+        × PiecesOverlap low.piece ranked.now.piece × (low.rank < ranked.now.rank) }
+    ensures none { IsFalse result → (i : ℕ) (first : RankedPiece) → i < at → slot places.now i ≡ Some first
+        → PiecesOverlap first.piece ranked.now.piece → ranked.now.rank ≤ first.rank }
+{
+    for lesser in 0..at {
+        if is_under(&places[lesser], ranked) {
+            return true;
+        }
+    }
+    false
+}
+
+/// Whether some slot behind one holds a piece that overlaps this one and is higher.
+pub(crate) fn is_before_higher(places: &[Option<Known>], at: usize, ranked: &Ranked) -> bool
+    requires { at < length places.now }
+    ensures some { IsTrue result → (j : ℕ) × (high : RankedPiece) × (at < j) × (slot places.now j ≡ Some high)
+        × PiecesOverlap ranked.now.piece high.piece × (ranked.now.rank < high.rank) }
+    ensures none { IsFalse result → (j : ℕ) (second : RankedPiece) → at < j → slot places.now j ≡ Some second
+        → PiecesOverlap ranked.now.piece second.piece → second.rank ≤ ranked.now.rank }
+{
+    for greater in at + 1..places.len() {
+        if is_over(&places[greater], ranked) {
+            return true;
+        }
+    }
+    false
+}
+
+/// Whether a slot has a piece of lower priority than another that it overlaps.
+fn is_under(place: &Option<Known>, ranked: &Ranked) -> bool
+    ensures { IsTrue result ↔ ((low : RankedPiece) × (place.now ≡ Some low) × PiecesOverlap low.piece ranked.now.piece × (low.rank < ranked.now.rank)) }
+{
+    match place {
+        None => false,
+        Some(low) => {
+            low.ranked.rank < ranked.rank && piece_overlaps(&low.ranked.piece, &ranked.piece)
+        }
+    }
+}
+
+/// Whether a slot has a piece of higher priority than another that it overlaps.
+fn is_over(place: &Option<Known>, ranked: &Ranked) -> bool
+    ensures { IsTrue result ↔ ((high : RankedPiece) × (place.now ≡ Some high) × PiecesOverlap ranked.now.piece high.piece × (ranked.now.rank < high.rank)) }
+{
+    match place {
+        None => false,
+        Some(high) => {
+            ranked.rank < high.ranked.rank && piece_overlaps(&ranked.piece, &high.ranked.piece)
+        }
+    }
+}
+
+/// The least other slot than one that holds an entry of the same value, mask and tag as this.
+pub(crate) fn copy_of(places: &[Option<Known>], at: usize, entry: &Entry) -> Option<usize>
+    ensures some { IfSome result (λ other. (other ≢ at) × ((copy : RankedPiece) × (slot places.now other ≡ Some copy)
+        × IsTrue (entries.same_match entry.now (entry_for copy)))) }
+    ensures inside { IfSome result (λ other. other < length places.now) }
+    ensures none { IsNone result → (other : ℕ) (copy : RankedPiece) → other ≢ at → slot places.now other ≡ Some copy
+        → IsTrue (entries.same_match entry.now (entry_for copy)) → ⊥ }
+{
+    for other in 0..places.len() {
+        if other != at && holds_match(&places[other], entry) {
+            return Some(other);
+        }
+    }
+    None
+}
+
+/// Whether a slot holds an entry of the same value, mask and tag.
+fn holds_match(place: &Option<Known>, entry: &Entry) -> bool
+    ensures { IsTrue result ↔ ((copy : RankedPiece) × (place.now ≡ Some copy) × IsTrue (entries.same_match entry.now (entry_for copy))) }
+{
+    match place {
+        None => false,
+        Some(held) => same_match(entry, &held.entry),
+    }
+}
+
+/// The piece of a slot that holds just this entry.
+pub(crate) fn standing(places: &[Option<Known>], entry: &Entry) -> Option<Ranked>
+    ensures found { IfSome result (λ ranked. (entry_for ranked ≡ entry.now) × ((at : ℕ) × (slot places.now at ≡ Some ranked))) }
+    ensures none { IsNone result → (at : ℕ) (ranked : RankedPiece) → slot places.now at ≡ Some ranked → entry_for ranked ≡ entry.now → ⊥ }
+{
+    for place in places {
+        if let Some(held) = place {
+            if same_match(entry, &held.entry) && entry.result == held.entry.result {
+                return Some(held.ranked);
+            }
+        }
+    }
+    None
+}
