@@ -8,8 +8,10 @@ _tcam() {
     tcam | */tcam) words="route acl route6 acl6 gen --help --version" ;;
     *)
         case $command in
-        route | route6) words="--slots --placement --trace --depth --help" ;;
-        acl | acl6) words="--slots --ranges --placement --trace --depth --help" ;;
+        route) words="--slots --placement --trace --depth --json --help" ;;
+        route6) words="--slots --placement --trace --depth --help" ;;
+        acl) words="--slots --ranges --placement --trace --depth --json --help" ;;
+        acl6) words="--slots --ranges --placement --trace --depth --help" ;;
         gen) words="--slots --ranges --placement --help" ;;
         esac
         ;;

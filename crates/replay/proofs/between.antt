@@ -6,4 +6,5 @@ pub mod RouteSets
 pub mod Acts
 pub mod Refusals
 pub mod Leaving
+pub mod Beginning
 pub mod Exits

@@ -4,3 +4,4 @@ pub mod Telling
 pub mod Handing
 pub mod Written
 pub mod Effects
+pub mod Opened

@@ -8,11 +8,14 @@ use Rattle.tcam_device.specs.declared.Action.TheVariants.{Written, Drained}
 use Rattle.tcam_device.specs.State.{State, apply, lookup}
 use Rattle.tcam_device.specs.Flight.{writes_in}
 use Rattle.batch_order.specs.declared.Placement.{Placement}
+use Rattle.trace_file.specs.declared.TraceLine.TheVariants as line
+use Rattle.json_text.specs.JsonText.{json_line}
 use Rattle.replay.specs.declared.Family.{Family}
+use Rattle.replay.specs.JsonLines.{journal_line}
 use Rattle.replay.specs.Text.{probe_line, write_line, drain_line}
 
 -- what the words of a command line ask for: the slots in use, the encoding of ranges, where insertions aim, the family,
--- a trace, and after how many further writes a probe's word is searched
+-- a trace, after how many further writes a probe's word is searched, and a report in JSON
 pub record Setting : Type 0 where
   pub slots : ℕ
   pub mode : Mode
@@ -20,6 +23,7 @@ pub record Setting : Type 0 where
   pub family : Family
   pub trace : Bool
   pub depth : ℕ
+  pub json : Bool
 
 -- What a run does to the outside: it writes or drains the device, or it prints a line.
 pub data Effect : Type 0 where
@@ -45,6 +49,19 @@ printed (Prints line ∷ effects) = line ++ printed effects
 -- a trace line, where a trace is wanted
 abbrev pub traced : Bool → List ℕ → List Effect
 traced trace line = if trace then Prints line ∷ [] else []
+
+-- what is told of a write, by its number: its line of a report in JSON, and else its trace line, where a trace is wanted
+abbrev pub write_told : Bool → Bool → Family → ℕ → Write → List Effect
+write_told json trace family number write =
+    elim json [ true ↦ Prints (json_line [] (journal_line write)) ∷ [] | false ↦ traced trace (write_line family number write) ]
+
+-- likewise of a drain, after so many writes
+abbrev pub drain_told : Bool → Bool → ℕ → List Effect
+drain_told json trace number = elim json [ true ↦ Prints (json_line [] line.Drain) ∷ [] | false ↦ traced trace (drain_line number) ]
+
+-- the probes that a report tells of: in JSON none
+abbrev pub probes_told : Bool → List Key → List Key
+probes_told json probes = elim json [ true ↦ [] | false ↦ probes ]
 
 -- each probe's answer after so many writes, in the order of the probes: what the device answers its key when its word
 -- is searched
@@ -75,9 +92,9 @@ waiting_after depth waiting (Drained ∷ actions) = waiting_after depth 0 action
 abbrev pub effects_of : Setting → List Key → ℕ → ℕ → State → List Action → List Effect
 effects_of setting probes number waiting state [] = []
 effects_of setting probes number waiting state (Written write ∷ actions) =
-    Acts (Written write) ∷ (traced setting.trace (write_line setting.family (number + 1) write)
+    Acts (Written write) ∷ (write_told setting.json setting.trace setting.family (number + 1) write
     ++ (searched_after setting probes (number + 1) waiting (apply state write)
     ++ effects_of setting probes (number + 1) (min (waiting + 1) setting.depth) (apply state write) actions))
 effects_of setting probes number waiting state (Drained ∷ actions) =
     flushed setting.family probes number state waiting
-    ++ Acts Drained ∷ (traced setting.trace (drain_line number) ++ effects_of setting probes number 0 state actions)
+    ++ Acts Drained ∷ (drain_told setting.json setting.trace number ++ effects_of setting probes number 0 state actions)

@@ -1,6 +1,8 @@
 pub mod Text
 pub mod Told
+pub mod JsonLines
 pub mod Effects
+pub mod Reports
 pub mod Run
 pub mod Script
 pub mod Outside

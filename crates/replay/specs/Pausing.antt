@@ -9,7 +9,7 @@ use Rattle.replay.specs.declared.steps.Ended.{Ended}
 use Rattle.replay.specs.declared.RunFault.{RunFault}
 use Rattle.replay.specs.Fates.{IsBefore, IsUpTo, IsWithinCrash}
 use Rattle.replay.specs.Carried.{CutsEffects}
-use Rattle.replay.specs.Running.{Watching, HasCome, MakesAll, MakesSome, StopsAtLine, StopsAtWrite, StopsBy, TellsActions, effects_on}
+use Rattle.replay.specs.Running.{Watching, HasCome, MakesAll, MakesSome, StopsAtLine, StopsAtWrite, FailsBy, TellsActions, effects_on}
 
 -- All actions up to the crash are made and told, and more writes are left.
 pub record Pauses (Seen : Type 0) (after : ℕ) (begun now : Managed) (watch : Watching) (device_slots : ℕ) (count count_now : Count) (events_begun events_now : List Action) (taken_begun taken_now : Option (List ℕ)) : Type 0 where
@@ -30,7 +30,7 @@ CutsFirst Seen stop begun watch device_slots count made left events_begun events
 -- some are made up to a line that isn't told whole, or up to a write, and no more than come before the crash
 abbrev pub StopsEarlier : Type 0 → Option ℕ → Option ℕ → Managed → Managed → Watching → ℕ → Count → Count → RunFault → List Action → List Action → Option (List ℕ) → Option (List ℕ) → Type 0
 StopsEarlier Seen most stop begun now watch device_slots count count_now why events_begun events_now taken_begun taken_now =
-    StopsBy ((stops : StopsAtLine Seen most begun now watch device_slots count count_now events_begun events_now taken_begun taken_now)
+    FailsBy ((stops : StopsAtLine Seen most begun now watch device_slots count count_now events_begun events_now taken_begun taken_now)
     × IsBefore stop count.told stops.some.made stops.some.left × IsWithinCrash stop count_now.told
     × CutsFirst Seen stop begun watch device_slots count stops.some.made stops.some.left events_begun events_now taken_begun taken_now)
     ((stops : StopsAtWrite Seen most begun now watch device_slots count count_now events_begun events_now taken_begun taken_now)

@@ -24,8 +24,9 @@ use Rattle.replay.specs.declared.Family.{Family}
 use Rattle.replay.specs.declared.Family.TheVariants.{Route, Acl, Route6, Acl6}
 use Rattle.replay.specs.declared.Act.{Act}
 use Rattle.replay.specs.declared.Act.TheVariants.{Command, Probe, Packet, Commit, Trial, Crash}
-use Rattle.replay.specs.Effects.{Setting, Effect, Prints, effects_of, flushed, waiting_after}
-use Rattle.replay.specs.Text.{packet_line, aborted_line, accepted_line, restarted_line, refused_line, end_line}
+use Rattle.replay.specs.Effects.{Setting, Effect, Prints, effects_of, flushed, probes_told, waiting_after}
+use Rattle.replay.specs.Reports.{done_line, end_told, opened, packet_told, refusal_line}
+use Rattle.replay.specs.Text.{aborted_line, restarted_line}
 
 -- where a run stands: set, pending batch, probes, live ranges, device, commits, writes, and whether a commit was
 -- refused
@@ -57,12 +58,17 @@ start slots =
 abbrev pub actions_for : Setting → Progress → List Write → List Action
 actions_for setting old made = commit_actions setting.mode old.bits old.rules old.batch made
 
--- All that a commit does by its actions, before its line: behind the last one the words in flight are searched.
+-- what an accepted commit does by its first actions, behind what is told before them
+abbrev pub carried_so_far : Setting → Progress → List Action → List Effect
+carried_so_far setting old actions =
+    opened setting old.commits old.batch ++ effects_of setting (probes_told setting.json old.probes) 0 0 old.state actions
+
+-- All that it does by its actions, before its line: behind the last one the words in flight are searched.
 abbrev pub carried : Setting → Progress → List Action → List Effect
 carried setting old actions =
     let after = state_after old.state (writes_in actions) in
-    effects_of setting old.probes 0 0 old.state actions
-    ++ flushed setting.family old.probes (length (writes_in actions)) after (waiting_after setting.depth 0 actions)
+    carried_so_far setting old actions
+    ++ flushed setting.family (probes_told setting.json old.probes) (length (writes_in actions)) after (waiting_after setting.depth 0 actions)
 
 -- where a run stands after an accepted commit
 abbrev pub after_segment : Setting → Progress → List Write → Progress
@@ -107,7 +113,7 @@ pub record Commits (setting : Setting) (old : Progress) (effects : List Effect) 
   pub of_family : OfFamily setting.family old.state made
   pub in_use : AllByRecursion (IsInUse setting.slots) made
   pub numbers : AreCounts old.state made counts
-  pub effects_are : effects ≡ carried setting old (actions_for setting old made) ++ Prints (accepted_line (old.commits + 1) counts) ∷ []
+  pub effects_are : effects ≡ carried setting old (actions_for setting old made) ++ Prints (done_line setting.json (old.commits + 1) counts) ∷ []
   pub after : new ≡ after_segment setting old made
 
 -- the actions of a commit that is taken back right after so many writes: no drain that is due then is made
@@ -189,7 +195,7 @@ Crashes after setting old effects new =
 -- A refused one writes nothing, and says why.
 abbrev pub Refuses : Setting → Progress → Verdict → List Effect → Progress → Type 0
 Refuses setting old reason effects new =
-    (effects ≡ Prints (refused_line setting.family (old.commits + 1) reason) ∷ []) × (new ≡ after_refusal old)
+    (effects ≡ Prints (refusal_line setting old.commits reason) ∷ []) × (new ≡ after_refusal old)
 
 -- what a commit does by its verdict
 abbrev pub Judged : (Setting → Progress → List Effect → Progress → Type 0) → Setting → Progress → Verdict → List Effect → Progress → Type 0
@@ -203,7 +209,7 @@ abbrev pub HasEffects : Setting → Progress → Act → List Effect → Progres
 HasEffects setting old (Command change) effects new = (effects ≡ []) × (new ≡ record old { batch = old.batch ++ change ∷ [] })
 HasEffects setting old (Probe key) effects new = (effects ≡ []) × (new ≡ record old { probes = old.probes ++ key ∷ [] })
 HasEffects setting old (Packet key) effects new =
-    (effects ≡ Prints (packet_line setting.family (answer old.rules key)) ∷ []) × (new ≡ old)
+    (effects ≡ packet_told setting (answer old.rules key)) × (new ≡ old)
 HasEffects setting old Commit effects new =
     Judged Commits setting old (verdict setting.slots setting.mode old.rules old.batch) effects new
 HasEffects setting old (Trial most) effects new =
@@ -225,7 +231,7 @@ pub record IsCutBeforeCrash (setting : Setting) (before : Progress) (act : Act) 
   pub made : List Write
   pub crash : CrashesIn setting before after made
   pub back : List Effect
-  pub parts : effects_of setting before.probes 0 0 before.state (actions_before setting before after made) ≡ effects ++ due ∷ back
+  pub parts : carried_so_far setting before (actions_before setting before after made) ≡ effects ++ due ∷ back
 
 -- An act that is cut, either way.
 abbrev pub IsCutStep : Setting → Progress → Act → List Effect → Effect → Type 0
@@ -237,7 +243,7 @@ IsCutStep setting before act effects due =
 pub record StopsAtCrash (setting : Setting) (before : Progress) (after : ℕ) (effects : List Effect) : Type 0 where
   pub made : List Write
   pub crash : CrashesIn setting before after made
-  pub effects_are : effects ≡ effects_of setting before.probes 0 0 before.state (actions_before setting before after made)
+  pub effects_are : effects ≡ carried_so_far setting before (actions_before setting before after made)
 
 -- an accepted commit takes memory before it does anything
 abbrev pub TakesAtOnce : Setting → Progress → List Effect → Type 0
@@ -270,4 +276,4 @@ Runs setting device_slots acts effects last = Run setting (start device_slots) a
 -- the last line of a run that came to the end of its acts
 abbrev pub ending : Setting → Progress → List ℕ
 ending setting progress =
-    end_line (length progress.rules) (entries_of setting.mode progress.rules) progress.writes (length progress.batch)
+    end_told setting progress.commits (length progress.rules) (entries_of setting.mode progress.rules) progress.writes (length progress.batch)

@@ -32,9 +32,10 @@ use Rattle.replay.specs.declared.steps.Ended.{Ended}
 use Rattle.replay.specs.declared.steps.Ended.TheVariants as ended
 use Rattle.replay.specs.declared.Family.{Family}
 use Rattle.replay.specs.declared.Family.TheVariants.{Route, Acl, Route6, Acl6}
-use Rattle.replay.specs.Effects.{Setting, Effect, effects_of, printed, waiting_after}
+use Rattle.replay.specs.Effects.{Setting, Effect, effects_of, printed, probes_told, waiting_after}
+use Rattle.replay.specs.Reports.{done_line}
 use Rattle.replay.specs.InFlight.{AreOf}
-use Rattle.replay.specs.Text.{aborted_line, accepted_line, restarted_line}
+use Rattle.replay.specs.Text.{aborted_line, restarted_line}
 use Rattle.replay.specs.Run.{Progress}
 use Rattle.replay.specs.Fates.{IsBefore, IsFirst, IsWithinCrash, crash_of, most_of}
 use Rattle.replay.specs.declared.ActFault.{ActFault}
@@ -44,11 +45,12 @@ use Rattle.replay.specs.declared.RunFault.TheVariants.{Sink, Device, Memory}
 use Rattle.replay.specs.Carried.{IsAt, Carries, CutsAtLine, CutsAtWrite, CutsEffects, Wants}
 
 -- what is told of each write: how rules are named, whether a trace is wanted, after how many further writes a probe's
--- word is searched, and the keys that are probed
+-- word is searched, whether all is told in JSON, and the keys that are probed
 pub record Watching : Type 0 where
   pub family : Family
   pub trace : Bool
   pub depth : ℕ
+  pub json : Bool
   pub probes : List Key
 
 -- The manager, what is told of each write, the pending batch, and what the report counts; how many writes of an
@@ -59,6 +61,7 @@ pub record Running : Type 0 where
   pub family : Family
   pub trace : Bool
   pub depth : ℕ
+  pub json : Bool
   pub probes : List Key
   pub pending : List Change
   pub commits : ℕ
@@ -71,7 +74,7 @@ pub record Running : Type 0 where
 
 -- what a run tells of each write
 abbrev pub watching : Running → Watching
-watching run = record { family = run.family; trace = run.trace; depth = run.depth; probes = run.probes }
+watching run = record { family = run.family; trace = run.trace; depth = run.depth; json = run.json; probes = run.probes }
 
 -- what the words of a command line asked for
 abbrev pub setting_of : Running → Setting
@@ -83,6 +86,7 @@ setting_of run =
       family = run.family;
       trace = run.trace;
       depth = run.depth;
+      json = run.json;
     }
 
 -- where the run stands, over a device of so many slots
@@ -100,13 +104,14 @@ progress_of device_slots run =
     }
 
 -- a run before its first act
-abbrev pub begun : ℕ → Mode → Placement → Family → Bool → ℕ → Running
-begun slots mode placement family trace depth =
+abbrev pub begun : ℕ → Mode → Placement → Family → Bool → ℕ → Bool → Running
+begun slots mode placement family trace depth json =
     record {
       manager = fresh slots mode placement;
       family = family;
       trace = trace;
       depth = depth;
+      json = json;
       probes = [];
       pending = [];
       commits = 0;
@@ -275,6 +280,15 @@ IsActOf family Commit = Unit {0}
 IsActOf family (Trial most) = Unit {0}
 IsActOf family (Crash after) = Unit {0}
 
+-- an act that a report has words for: in JSON there are none for a trial and for a crash
+abbrev pub IsToldIn : Bool → Act → Type 0
+IsToldIn json (Command change) = Unit {0}
+IsToldIn json (Probe key) = Unit {0}
+IsToldIn json (Packet key) = Unit {0}
+IsToldIn json Commit = Unit {0}
+IsToldIn json (Trial most) = json ≡ false
+IsToldIn json (Crash after) = json ≡ false
+
 -- nothing is done, not of the run, of the device, or of the sink
 pub record IsUntouched (old new : Running) (events_old events_new : List Action) (taken_old taken_new : Option (List ℕ)) : Type 0 where
   pub run : new ≡ old
@@ -317,7 +331,7 @@ ComesTo device_slots old act new (Err (Held left)) events_old events_new taken_o
 
 -- the words in flight are those that a run left: none while no commit is unfinished
 abbrev pub AreLeft : Running → Flight → Type 0
-AreLeft run flight = elim run.manager.held [ None ↦ flight ≡ [] | Some held ↦ AreOf run.probes run.waiting flight ]
+AreLeft run flight = elim run.manager.held [ None ↦ flight ≡ [] | Some held ↦ AreOf (probes_told run.json run.probes) run.waiting flight ]
 
 -- What a call leaves in flight, by its answer. Where no call may follow nothing is said.
 abbrev pub LeavesWords : Running → Result (Unit {0}) ActFault → Flight → Flight → Type 0
@@ -362,6 +376,7 @@ telling manager watch =
       family = watch.family;
       trace = watch.trace;
       depth = watch.depth;
+      json = watch.json;
     }
 
 -- it has come further by some actions
@@ -372,7 +387,7 @@ pub record HasCome (watch : Watching) (old new : Count) (made : List Action) : T
 -- the effects of a commit's actions from a count on, over a device of so many slots where these were made before
 abbrev pub effects_on : Managed → Watching → ℕ → Count → List Action → List Action → List Effect
 effects_on manager watch device_slots count before made =
-    effects_of (telling manager watch) watch.probes count.told count.waiting (replay device_slots (writes_in before)) made
+    effects_of (telling manager watch) (probes_told watch.json watch.probes) count.told count.waiting (replay device_slots (writes_in before)) made
 
 -- these actions are told, behind those that were made before
 abbrev pub TellsActions : Managed → Watching → ℕ → Count → List Action → List Action → Option (List ℕ) → Option (List ℕ) → Type 0
@@ -388,16 +403,16 @@ EndsBy back begun held actions ended.Reverted now =
     (back ≡ true) × (now ≡ record begun { state = state_after begun.state (writes_in actions); held = None })
 
 -- the line of one that finished
-abbrev pub finished_line : ℕ → Fate → Done → ℕ → List ℕ
-finished_line commit ToTheEnd done writes = accepted_line commit done
-finished_line commit (BackAfter most) done writes = accepted_line commit done
-finished_line commit (CrashAfter after) done writes = accepted_line commit done
-finished_line commit (RestartedAfter after) done writes = restarted_line commit after writes
+abbrev pub finished_line : Bool → ℕ → Fate → Done → ℕ → List ℕ
+finished_line json commit ToTheEnd done writes = done_line json commit done
+finished_line json commit (BackAfter most) done writes = done_line json commit done
+finished_line json commit (CrashAfter after) done writes = done_line json commit done
+finished_line json commit (RestartedAfter after) done writes = restarted_line commit after writes
 
 -- its line, by its number, by what became of it, and by its writes
-abbrev pub ended_line : ℕ → Fate → Ended → ℕ → List ℕ
-ended_line commit fate (ended.Finished done) writes = finished_line commit fate done writes
-ended_line commit fate ended.Reverted writes = aborted_line commit writes
+abbrev pub ended_line : Bool → ℕ → Fate → Ended → ℕ → List ℕ
+ended_line json commit fate (ended.Finished done) writes = finished_line json commit fate done writes
+ended_line json commit fate ended.Reverted writes = aborted_line commit writes
 
 -- All of them are made, and told where the device and the words in flight were as they should be when they began
 -- (`Seen`).
@@ -430,13 +445,13 @@ pub record StopsAtLine (Seen : Type 0) (most : Option ℕ) (begun now : Managed)
   pub cuts : Seen → CutsEffects (effects_on begun watch device_slots count events_begun (some.made ++ some.left)) events_begun events_now taken_begun taken_now
 
 -- a fault is the sink's, and then this, or the device's, and then that
-abbrev pub StopsBy : Type 0 → Type 0 → RunFault → Type 0
-StopsBy AtLine AtWrite why = ((why ≡ Sink) × AtLine) ⊎ ((why ≡ Device) × AtWrite)
+abbrev pub FailsBy : Type 0 → Type 0 → RunFault → Type 0
+FailsBy AtLine AtWrite why = ((why ≡ Sink) × AtLine) ⊎ ((why ≡ Device) × AtWrite)
 
 -- what comes of the actions that are left of a commit under way, by the answer
 abbrev pub Makes : Type 0 → Option ℕ → Managed → Managed → Watching → ℕ → Count → Count → Result Ended RunFault → List Action → List Action → Option (List ℕ) → Option (List ℕ) → Type 0
 Makes Seen most begun now watch device_slots count count_now (Ok ended) events_begun events_now taken_begun taken_now =
     MakesAll Seen most begun watch device_slots count count_now ended now events_begun events_now taken_begun taken_now
 Makes Seen most begun now watch device_slots count count_now (Err why) events_begun events_now taken_begun taken_now =
-    StopsBy (StopsAtLine Seen most begun now watch device_slots count count_now events_begun events_now taken_begun taken_now)
+    FailsBy (StopsAtLine Seen most begun now watch device_slots count count_now events_begun events_now taken_begun taken_now)
     (StopsAtWrite Seen most begun now watch device_slots count count_now events_begun events_now taken_begun taken_now) why

@@ -12,8 +12,8 @@ use Rattle.replay.specs.declared.Act.{Act}
 use Rattle.replay.specs.declared.Act.TheVariants.{Command, Probe, Packet, Commit, Trial, Crash}
 use Rattle.replay.specs.declared.RunFault.{RunFault}
 use Rattle.replay.specs.declared.RunFault.TheVariants.{Sink, Device, Memory}
-use Rattle.replay.specs.Effects.{Setting, Effect, Acts, Prints, effects_of}
-use Rattle.replay.specs.Run.{Progress, HasEffects, IsCutStep, StopsAtCrash}
+use Rattle.replay.specs.Effects.{Setting, Effect, Acts, Prints}
+use Rattle.replay.specs.Run.{Progress, HasEffects, IsCutStep, StopsAtCrash, carried_so_far}
 use Rattle.replay.specs.Carried.{IsAt, Does}
 use Rattle.replay.specs.Fates.{commit_act}
 use Rattle.replay.specs.Running.{Running, IsHalfway, IsOnward, first_actions, progress_of, setting_of}
@@ -23,14 +23,14 @@ use Rattle.replay.specs.Running.{Running, IsHalfway, IsOnward, first_actions, pr
 pub record StandsHalfway (device_slots : ℕ) (before : Progress) (front : List Effect) (run : Running) : Type 0 where
   pub halfway : IsHalfway run
   pub before_is : before ≡ progress_of device_slots (record run { manager = halfway.begun })
-  pub front_is : front ≡ effects_of (setting_of run) run.probes 0 0 before.state halfway.some.made
+  pub front_is : front ≡ carried_so_far (setting_of run) before halfway.some.made
 
 -- or by the one that goes on.
 pub record StandsOnward (device_slots : ℕ) (before : Progress) (front : List Effect) (run : Running) : Type 0 where
   pub onward : IsOnward device_slots run
   pub before_is : before ≡ progress_of device_slots (record run { manager = onward.begun })
   pub front_is : front
-      ≡ effects_of (setting_of run) run.probes 0 0 before.state (first_actions run onward.begun onward.holds.1.made onward.after ++ onward.some.made)
+      ≡ carried_so_far (setting_of run) before (first_actions run onward.begun onward.holds.1.made onward.after ++ onward.some.made)
 
 abbrev pub IsUnfinished : ℕ → Progress → List Effect → Running → Type 0
 IsUnfinished device_slots before front run =

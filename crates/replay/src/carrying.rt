@@ -6,6 +6,7 @@ ghost use Rattle.commit_writes.specs.InFlight.{AreCurrent};
 ghost use Rattle.batch_order.specs.CarriedOut.{HasRoomBothWays};
 ghost use Rattle.batch_order.specs.Managed.{live_now};
 ghost use Rattle.replay.specs.Effects.{Effect};
+ghost use Rattle.replay.specs.Reports.{done_line, opened};
 ghost use Rattle.replay.specs.Run.{Progress};
 ghost use Rattle.replay.specs.Outside.{Leaves, WritesLine};
 ghost use Rattle.replay.specs.Carried.{IsAt};
@@ -16,18 +17,55 @@ ghost use Rattle.replay.specs.Crashing.{ComesToCrash, HasMoreThan, IsAtCrash, Is
 
 use crate::RunFault;
 use crate::fate::Fate;
+use crate::json_report::write_json;
 use crate::report::{write_aborted, write_accepted, write_restarted};
 use crate::run::Run;
 use crate::steps::{Ended, make_up_to, make_writes};
 use crate::watch::NOTHING;
-use batch_order::{Manager, RestartFault};
+use batch_order::{Done, Manager, RestartFault};
 use readback::StageFault;
 use script_lines::{Failed, Sink};
 use std::alloc::AllocError;
 use std::mem::replace;
 use tcam_device::{Device, ReadBack};
+use trace_file::TraceLine;
 
 impl Run {
+    /// Tells, in JSON, of a commit that was taken, and carries it out.
+    pub(crate) fn begin<K: Sink, D: ReadBack>(
+        &mut self,
+        sink: &mut K,
+        device: &mut D,
+    ) -> Result<(), RunFault>
+        requires slots { self.old.manager.slots ≤ D.slot_count device.old }
+        requires in_flight { AreLeft self.old (D.flight device.old) }
+        requires held { IsSome self.old.manager.held }
+        requires whole { self.old.broken ≡ false }
+        requires room { HasRoomBothWays self.old.manager.held (D.spare device.old) }
+        requires stands { IsToCrash self.old.fate → IsAt (D.slot_count device.old) (D.events device.old) (progress_of (D.slot_count device.old) self.old) }
+        requires commits { self.old.commits < 2 ^ 24 }
+        requires told { self.old.json ≡ true → self.old.fate ≡ Fate.ToTheEnd }
+        ensures resumes { (which : Bool) → (before : Progress) → IsUnfinished (D.slot_count device.old) before (opened (setting_of self.old) self.old.commits self.old.pending) self.old
+            → IsAt (D.slot_count device.old) (D.events device.old) (progress_of (D.slot_count device.old) self.old)
+            → AreCurrent (live_now self.old.manager) (D.flight device.old)
+            → ResumesTo (D.slot_count device.old) before (commit_act self.old.fate) [] self.new result
+            (D.events device.old) (D.events device.new) (D.flight device.new) (counted which (K.taken sink.old) (K.accepted sink.old)) (counted which (K.taken sink.new) (K.accepted sink.new)) }
+        ensures kind { IfErr result (λ fault. (fault ≡ RunFault.Sink) ⊎ ((fault ≡ RunFault.Device) ⊎ ((fault ≡ RunFault.Memory) × IsToCrash self.old.fate))) }
+        ensures idle { OnOk result (self.new.manager.held ≡ None) }
+        ensures broken { self.new.broken ≡ memory_wanted result }
+        ensures room { HasRoomBothWays self.new.manager.held (D.spare device.new) }
+        ensures setting { setting_of self.new ≡ setting_of self.old }
+        ensures commits { self.new.commits ≤ self.old.commits + 1 }
+        ensures in_flight { LeavesWords self.new (act_outcome_of result) (D.flight device.old) (D.flight device.new) }
+        ensures in_step { result ≢ Err RunFault.Sink → StaysInStep (D.slot_count device.old) self.old self.new (D.events device.old) (D.events device.new) (D.flight device.old) (D.flight device.new) }
+        ensures leaves { Leaves K.taken K.faults sink.old sink.new D.slot_count D.journal D.faults device.old device.new (result ≡ Err RunFault.Sink) (result ≡ Err RunFault.Device) }
+    {
+        match self.open(sink) {
+            Ok(()) => self.carry_out(sink, device),
+            Err(Failed) => Err(RunFault::Sink),
+        }
+    }
+
     /// Makes and tells the writes that are left of the commit under way, over its crash where that is still to come,
     /// counts it, drops its batch, and writes its line. `Memory` comes at the crash alone.
     pub(crate) fn carry_out<K: Sink, D: ReadBack>(
@@ -219,7 +257,14 @@ impl Run {
             Ok(()) => {}
             Err(Failed) => return Err(RunFault::Sink),
         }
-        match write_ended(sink, self.commits, fate, &ended, count.told) {
+        match write_ended(
+            sink,
+            self.watch.is_json(),
+            self.commits,
+            fate,
+            &ended,
+            count.told,
+        ) {
             Ok(()) => Ok(()),
             Err(Failed) => Err(RunFault::Sink),
         }
@@ -236,23 +281,36 @@ impl Run {
     }
 }
 
-// The line of a commit that has come to its end, by its number, from 1, by what became of it, and by its writes.
+// The line of a commit that has come to its end, in JSON or in words, by its number, from 1, by what became of it, and
+// by its writes.
 fn write_ended<K: Sink>(
     sink: &mut K,
+    json: bool,
     commit: u32,
     fate: Fate,
     ended: &Ended,
     writes: u64,
 ) -> Result<(), Failed>
-    ensures { WritesLine K.taken K.accepted K.faults sink.old sink.new (ended_line commit fate ended.now writes) result }
+    ensures { WritesLine K.taken K.accepted K.faults sink.old sink.new (ended_line json commit fate ended.now writes) result }
 {
     match ended {
         Ended::Finished(done) => match fate {
             Fate::RestartedAfter(after) => write_restarted(sink, commit, after, writes),
-            Fate::ToTheEnd | Fate::BackAfter(_) | Fate::CrashAfter(_) => write_accepted(
-                sink, commit, done,
+            Fate::ToTheEnd | Fate::BackAfter(_) | Fate::CrashAfter(_) => write_finished(
+                sink, json, commit, done,
             ),
         },
         Ended::Reverted => write_aborted(sink, commit, writes),
+    }
+}
+
+// The line of a commit that finished, in JSON or in words, by its number, from 1, and what it did.
+fn write_finished<K: Sink>(sink: &mut K, json: bool, commit: u32, done: &Done) -> Result<(), Failed>
+    ensures { WritesLine K.taken K.accepted K.faults sink.old sink.new (done_line json commit done.now) result }
+{
+    if json {
+        write_json(sink, &TraceLine::Done(commit))
+    } else {
+        write_accepted(sink, commit, done)
     }
 }

@@ -14,9 +14,9 @@
 //!
 //! # How it stands
 //! `run` has the acts, `carrying` a commit from its first write to its line, `fate` what becomes of it, `steps` its
-//! loop, `watch` what is told after a write, `report` the lines, and `report_line` how they are made of words, in fixed
-//! room. Each line goes to the sink, with its line feed, before the next effect. `laws` has what packets see over a
-//! crash.
+//! loop, `watch` what is told after a write, `telling` what is told before the first write and at the end, `report` the
+//! lines, `report_line` how they are made of words, in fixed room, and `json_report` those in JSON. Each line goes to
+//! the sink, with its line feed, before the next effect. `laws` has what packets see over a crash.
 //!
 //! # What it cost
 //! A line is written as soon as it is known, so a trace takes a call of the sink for each line. A failed line of a
@@ -89,6 +89,12 @@
 //!   results 1 and 0 alone; no clause needs it, as the report names any priority by `2^32` less its lower part, or 0
 //!   where that is more, and any result but 1 as `deny`. Rules of a script of routes must be routes of its version of
 //!   IP, on which their bounds rest.
+//! - **A report in JSON has the effects of one in words, with other lines** (`specs/Reports`): a setting says which, and
+//!   a statement without JSON is the same as before there was any. Its probes are counted, so that a script has the same
+//!   fault in either report, and none of them is told of (`probes_told`), so no word of them is made. Its head is due with
+//!   the first line, which is a commit's or the last one (`head_due`): so no act prints what isn't its own, a run that
+//!   wants memory before its first commit prints nothing, and a run keeps nothing more for it than how many commits there
+//!   were. Trials and crashes have no line in a trace file, so no such run takes them (`IsToldIn`).
 //! - **A trace line takes any write, of any tag.** The tag's number may have more bits than a `u128`, so its last digit
 //!   is reckoned apart. A trace of IPv6 names the rule instead, and prints all eleven lanes: the tag of a route has 136
 //!   bits, which no one looks up by hand. A line has room for 384 bytes, and the longest has 295.
@@ -99,16 +105,18 @@ ghost use Rattle.replay.specs.Text.{family_version};
 
 mod carrying;
 mod fate;
+mod json_report;
 mod laws;
 mod report;
 mod report_line;
 mod run;
 mod steps;
+mod telling;
 mod watch;
 
 pub use batch_order::{Mode, Placement};
 pub use laws::crashed_parts_are_old_or_new;
-pub use report::{write_fault, write_text};
+pub use report::write_text;
 use rule_model::{IpVersion, Key};
 use rule_store::Command;
 pub use run::Run;

@@ -6,20 +6,20 @@ ghost use Rattle.call_history.specs.Cause.{HasCause};
 ghost use Rattle.commit_writes.specs.InFlight.{AreCurrent};
 ghost use Rattle.batch_order.specs.CarriedOut.{HasRoomBothWays};
 ghost use Rattle.batch_order.specs.Managed.{live_now};
-ghost use Rattle.replay.specs.Text.{refused_line};
 ghost use Rattle.replay.specs.Told.{verdict_told};
 ghost use Rattle.replay.specs.Effects.{Effect};
+ghost use Rattle.replay.specs.Reports.{refusal_line};
 ghost use Rattle.replay.specs.Run.{Progress, ending};
 ghost use Rattle.replay.specs.Script.{limit_fault};
 ghost use Rattle.replay.specs.Outside.{Leaves, WritesLine};
 ghost use Rattle.replay.specs.Carried.{IsAt};
 ghost use Rattle.replay.specs.Crashing.{memory_wanted};
 ghost use Rattle.replay.specs.Fates.{AnswersBroken, AnswersLost, IsCrash, IsFirst, IsToCrash, commit_act};
-ghost use Rattle.replay.specs.Running.{act_outcome_of, AnswersHeld, AreLeft, ComesTo, IsUntouched, LeavesWords, sink_failed, begun, limit_text, progress_of, setting_of, IsActOf, IsChangeOf};
+ghost use Rattle.replay.specs.Running.{act_outcome_of, AnswersHeld, AreLeft, ComesTo, IsUntouched, LeavesWords, sink_failed, begun, limit_text, progress_of, setting_of, IsActOf, IsChangeOf, IsToldIn};
 ghost use Rattle.replay.specs.Unfinished.{IsUnfinished, ResumesTo, StaysInStep, StaysUnfinished};
 
 use crate::fate::Fate;
-use crate::report::{Totals, write_end, write_packet, write_refused};
+use crate::report::write_packet;
 use crate::watch::{Count, NOTHING, Watch};
 use crate::{Act, ActFault, Family, RunFault};
 use batch_order::{Manager, Mode, Placement, Refusal, Rejection};
@@ -54,16 +54,19 @@ impl Model for Run {
 
     ghost Value = { Running };
 
-    ghost view = { λ r. record { manager = r.manager; family = r.watch.family; trace = r.watch.trace; depth = r.watch.depth; probes = r.watch.probes; pending = r.pending; commits = r.commits; writes = r.writes; refused = r.refused; told = r.count.told; waiting = r.count.waiting; fate = r.fate; broken = r.broken } };
+    ghost view = { λ r. record { manager = r.manager; family = r.watch.family; trace = r.watch.trace; depth = r.watch.depth; json = r.watch.json; probes = r.watch.probes; pending = r.pending; commits = r.commits; writes = r.writes; refused = r.refused; told = r.count.told; waiting = r.count.waiting; fate = r.fate; broken = r.broken } };
 
-    ghost invariant = { λ r. IsRun (record { manager = r.manager; family = r.watch.family; trace = r.watch.trace; depth = r.watch.depth; probes = r.watch.probes; pending = r.pending; commits = r.commits; writes = r.writes; refused = r.refused; told = r.count.told; waiting = r.count.waiting; fate = r.fate; broken = r.broken }) };
+    ghost invariant = { λ r. IsRun (record { manager = r.manager; family = r.watch.family; trace = r.watch.trace; depth = r.watch.depth; json = r.watch.json; probes = r.watch.probes; pending = r.pending; commits = r.commits; writes = r.writes; refused = r.refused; told = r.count.told; waiting = r.count.waiting; fate = r.fate; broken = r.broken }) };
 }
 
 impl Run {
     /// A run before its first act, over a blank device with so many slots in use, 1 to 4,096: no rules, no probe, and
     /// no change pending. The mode says how port ranges are tested, and each insertion aims where the placement says.
     /// With a trace each write of a commit has its line. The words of the probes are searched a depth of writes after
-    /// the one that they were made behind, at most 15. It fails only for want of memory.
+    /// the one that they were made behind, at most 15. In JSON, which is for families of IPv4, the report has the lines
+    /// of a trace file: its head before its first line; of each accepted commit its number, its commands, its writes and
+    /// drains, and that it is done; the number of a refused one; and a last line. Neither a trace nor a probe or packet
+    /// adds to it. It fails only for want of memory.
     pub fn new(
         alloc: Global,
         slots: u32,
@@ -72,16 +75,18 @@ impl Run {
         family: Family,
         trace: bool,
         depth: u32,
+        json: bool,
     ) -> Result<Run, AllocError>
         requires least { 1 ≤ slots }
         requires most { slots ≤ MOST_SLOTS }
         requires depth { depth ≤ 15 }
-        ensures { IfOk result (λ run. run ≡ begun slots mode placement family trace depth) }
+        requires json { json ≡ true → (family ≡ Family.Route) ⊎ (family ≡ Family.Acl) }
+        ensures { IfOk result (λ run. run ≡ begun slots mode placement family trace depth json) }
     {
         Ok(Run {
             alloc,
             manager: Manager::new(alloc, slots, mode, placement)?,
-            watch: Watch::new(alloc, family, trace, depth)?,
+            watch: Watch::new(alloc, family, trace, depth, json)?,
             pending: Batch::new(alloc),
             commits: 0,
             writes: 0,
@@ -99,6 +104,13 @@ impl Run {
         self.watch.family()
     }
 
+    /// Whether the report is in JSON.
+    pub fn is_json(&self) -> bool
+        ensures { result ≡ self.now.json }
+    {
+        self.watch.is_json()
+    }
+
     /// Whether no call may follow: the sink failed, or there was no memory to go on with a commit that crashed. Behind
     /// `Memory` it tells whether the run is as before.
     pub fn is_broken(&self) -> bool
@@ -108,9 +120,9 @@ impl Run {
     }
 
     /// Carries out an act of a script of the run's family, over a device with at least as many slots as the run uses.
-    /// In a script of routes each rule that is added is one of an IPv4 prefix. The device is where the run stands: it
-    /// was blank before the first act, and nobody else has written it since. The run has made fewer than 16,777,216
-    /// commits.
+    /// In a script of routes each rule that is added is one of an IPv4 prefix. A run that reports in JSON takes neither
+    /// a trial nor a crash. The device is where the run stands: it was blank before the first act, and nobody else has
+    /// written it since. The run has made fewer than 16,777,216 commits.
     ///
     /// A change joins the pending batch. With 4,096 changes pending the answer is `BatchFull`, and nothing has
     /// changed. A probe is looked up after each later write. With 16 probes the answer is `ProbesFull`, and nothing has
@@ -155,6 +167,7 @@ impl Run {
         requires slots { self.old.manager.slots ≤ D.slot_count device.old }
         requires none_in_flight { self.old.manager.held ≡ None → D.flight device.old ≡ [] }
         requires act { IsActOf self.old.family act.now }
+        requires told { IsToldIn self.old.json act.now }
         requires whole { self.old.broken ≡ false }
         requires stands { IsCrash act.now → IsAt (D.slot_count device.old) (D.events device.old) (progress_of (D.slot_count device.old) self.old) }
         requires commits { self.old.commits < 2 ^ 24 }
@@ -245,6 +258,7 @@ impl Run {
         requires slots { self.old.manager.slots ≤ D.slot_count device.old }
         requires none_in_flight { D.flight device.old ≡ [] }
         requires act { IsActOf self.old.family act.now }
+        requires told { IsToldIn self.old.json act.now }
         requires idle { self.old.manager.held ≡ None }
         requires whole { self.old.broken ≡ false }
         requires stands { IsCrash act.now → IsAt (D.slot_count device.old) (D.events device.old) (progress_of (D.slot_count device.old) self.old) }
@@ -322,6 +336,9 @@ impl Run {
         ensures cause { HasCause (K.faults sink.old) (K.faults sink.new) result }
     {
         key_fields(key);
+        if self.watch.is_json() {
+            return Ok(());
+        }
         match write_packet(sink, self.watch.family(), device.look(key)) {
             Ok(()) => Ok(()),
             Err(Failed) => Err(ActFault::Stopped(RunFault::Sink)),
@@ -339,6 +356,7 @@ impl Run {
         requires none_in_flight { D.flight device.old ≡ [] }
         requires idle { self.old.manager.held ≡ None }
         requires first { IsFirst fate }
+        requires told { self.old.json ≡ true → fate ≡ Fate.ToTheEnd }
         requires whole { self.old.broken ≡ false }
         requires stands { IsToCrash fate → IsAt (D.slot_count device.old) (D.events device.old) (progress_of (D.slot_count device.old) self.old) }
         requires commits { self.old.commits < 2 ^ 24 }
@@ -361,7 +379,7 @@ impl Run {
         match self.manager.prepare(&self.pending, device) {
             Ok(_) => {
                 self.fate = fate;
-                act_outcome(&self.carry_out(sink, device))
+                act_outcome(&self.begin(sink, device))
             }
             Err(Refusal::Memory) => Err(ActFault::Stopped(RunFault::Memory)),
             Err(Refusal::Rejected(rejection)) => self.refuse(rejection, sink),
@@ -375,12 +393,13 @@ impl Run {
         requires idle { self.old.manager.held ≡ None }
         requires commits { self.old.commits < 2 ^ 24 }
         ensures refused { self.new ≡ record self.old { pending = []; commits = self.old.commits + 1; refused = true } }
-        ensures line { WritesLine K.taken K.accepted K.faults sink.old sink.new (refused_line self.old.family (self.old.commits + 1) (verdict_told rejection)) result }
+        ensures line { WritesLine K.taken K.accepted K.faults sink.old sink.new (refusal_line (setting_of self.old) self.old.commits (verdict_told rejection)) result }
         ensures kind { IfErr result (λ fault. fault ≡ ActFault.Stopped RunFault.Sink) }
     {
+        let told = self.tell_refused(&rejection, sink);
         self.count_commit();
         self.refused = true;
-        match write_refused(sink, self.commits, self.watch.family(), &rejection) {
+        match told {
             Ok(()) => Ok(()),
             Err(Failed) => Err(ActFault::Stopped(RunFault::Sink)),
         }
@@ -396,13 +415,7 @@ impl Run {
         ensures unchanged { self.new ≡ self.old }
         ensures line { (device_slots : ℕ) → WritesLine K.taken K.accepted K.faults sink.old sink.new (ending (setting_of self.old) (progress_of device_slots self.old)) result }
     {
-        let totals = Totals {
-            rules: self.manager.rules().len(),
-            entries: self.manager.entries(),
-            writes: self.writes,
-            pending: self.pending.len(),
-        };
-        match write_end(sink, &totals) {
+        match self.tell_end(sink) {
             Ok(()) => Ok(self.refused),
             Err(Failed) => Err(Failed),
         }

@@ -10,8 +10,7 @@ ghost use Rattle.tcam_device.specs.declared.Action.TheVariants as Action;
 ghost use Rattle.batch_order.specs.CarriedOut.{HasRoomBothWays, IsTried};
 ghost use Rattle.batch_order.specs.Managed.{IsOn, live_now};
 ghost use Rattle.batch_order.specs.Steps.{KeepsCurrent, ServesNow, Steps, actions_of, awaits_drain, next_of};
-ghost use Rattle.replay.specs.Text.{drain_line, write_line};
-ghost use Rattle.replay.specs.Effects.{traced};
+ghost use Rattle.replay.specs.Effects.{drain_told, probes_told, write_told};
 ghost use Rattle.replay.specs.InFlight.{AreOf, IsSeen, flight_left, found_after};
 ghost use Rattle.replay.specs.Outside.{Leaves, WritesLines};
 ghost use Rattle.replay.specs.Fates.{IsWithinCrash, crash_due, most_of};
@@ -47,7 +46,7 @@ pub(crate) fn make_writes<K: Sink, D: Device>(
     device: &mut D,
 ) -> Result<Ended, RunFault>
     requires slots { manager.old.slots ≤ D.slot_count device.old }
-    requires in_flight { AreOf watch.now.probes count.old.waiting (D.flight device.old) }
+    requires in_flight { AreOf (probes_told watch.now.json watch.now.probes) count.old.waiting (D.flight device.old) }
     requires waiting { count.old.waiting ≤ watch.now.depth }
     requires held { IsSome manager.old.held }
     requires may_turn { MayTurnBack (most_of fate) manager.old.held }
@@ -56,7 +55,7 @@ pub(crate) fn make_writes<K: Sink, D: Device>(
     ensures makes { (which : Bool) → Makes (IsSeen (D.slot_count device.old) (D.events device.old) (D.flight device.old) manager.old)
         (most_of fate) manager.old manager.new watch.now (D.slot_count device.old) count.old count.new result
         (D.events device.old) (D.events device.new) (counted which (K.taken sink.old) (K.accepted sink.old)) (counted which (K.taken sink.new) (K.accepted sink.new)) }
-    ensures in_flight { result ≢ Err RunFault.Sink → AreOf watch.now.probes count.new.waiting (D.flight device.new) }
+    ensures in_flight { result ≢ Err RunFault.Sink → AreOf (probes_told watch.now.json watch.now.probes) count.new.waiting (D.flight device.new) }
     ensures seen { result ≢ Err RunFault.Sink → IsSeen (D.slot_count device.old) (D.events device.old) (D.flight device.old) manager.old
         → IsSeen (D.slot_count device.new) (D.events device.new) (D.flight device.new) manager.new }
     ensures serves { OnOk result (ServesNow manager.new) }
@@ -82,7 +81,7 @@ pub(crate) fn make_up_to<K: Sink, D: Device>(
     device: &mut D,
 ) -> Result<(), RunFault>
     requires slots { manager.old.slots ≤ D.slot_count device.old }
-    requires in_flight { AreOf watch.now.probes count.old.waiting (D.flight device.old) }
+    requires in_flight { AreOf (probes_told watch.now.json watch.now.probes) count.old.waiting (D.flight device.old) }
     requires waiting { count.old.waiting ≤ watch.now.depth }
     requires forward { IfSome manager.old.held (λ held. held.turned ≡ None) }
     requires held { IsSome manager.old.held }
@@ -93,7 +92,7 @@ pub(crate) fn make_up_to<K: Sink, D: Device>(
     ensures makes { (which : Bool) → MakesUpTo (IsSeen (D.slot_count device.old) (D.events device.old) (D.flight device.old) manager.old)
         after manager.old manager.new watch.now (D.slot_count device.old) count.old count.new result
         (D.events device.old) (D.events device.new) (counted which (K.taken sink.old) (K.accepted sink.old)) (counted which (K.taken sink.new) (K.accepted sink.new)) }
-    ensures in_flight { result ≢ Err RunFault.Sink → AreOf watch.now.probes count.new.waiting (D.flight device.new) }
+    ensures in_flight { result ≢ Err RunFault.Sink → AreOf (probes_told watch.now.json watch.now.probes) count.new.waiting (D.flight device.new) }
     ensures seen { result ≢ Err RunFault.Sink → IsSeen (D.slot_count device.old) (D.events device.old) (D.flight device.old) manager.old
         → IsSeen (D.slot_count device.new) (D.events device.new) (D.flight device.new) manager.new }
     ensures room { HasRoomBothWays manager.new.held (D.spare device.new) }
@@ -119,7 +118,7 @@ fn make_until<K: Sink, D: Device>(
     device: &mut D,
 ) -> Result<Option<Ended>, RunFault>
     requires slots { manager.old.slots ≤ D.slot_count device.old }
-    requires in_flight { AreOf watch.now.probes count.old.waiting (D.flight device.old) }
+    requires in_flight { AreOf (probes_told watch.now.json watch.now.probes) count.old.waiting (D.flight device.old) }
     requires waiting { count.old.waiting ≤ watch.now.depth }
     requires held { IsSome manager.old.held }
     requires may_turn { MayTurnBack most manager.old.held }
@@ -130,7 +129,7 @@ fn make_until<K: Sink, D: Device>(
     ensures makes { (which : Bool) → MakesUntil (IsSeen (D.slot_count device.old) (D.events device.old) (D.flight device.old) manager.old)
         most stop manager.old manager.new watch.now (D.slot_count device.old) count.old count.new result
         (D.events device.old) (D.events device.new) (counted which (K.taken sink.old) (K.accepted sink.old)) (counted which (K.taken sink.new) (K.accepted sink.new)) }
-    ensures in_flight { result ≢ Err RunFault.Sink → AreOf watch.now.probes count.new.waiting (D.flight device.new) }
+    ensures in_flight { result ≢ Err RunFault.Sink → AreOf (probes_told watch.now.json watch.now.probes) count.new.waiting (D.flight device.new) }
     ensures seen { result ≢ Err RunFault.Sink → IsSeen (D.slot_count device.old) (D.events device.old) (D.flight device.old) manager.old
         → IsSeen (D.slot_count device.new) (D.events device.new) (D.flight device.new) manager.new }
     ensures serves { IfOk result (λ ended. IsSome ended → ServesNow manager.new) }
@@ -212,15 +211,15 @@ fn tell_write<K: Sink, D: Device>(
     sink: &mut K,
     device: &mut D,
 ) -> Result<(), Failed>
-    requires words { AreOf watch.now.probes count.old.waiting (D.flight device.old) }
+    requires words { AreOf (probes_told watch.now.json watch.now.probes) count.old.waiting (D.flight device.old) }
     requires few { count.old.waiting ≤ watch.now.depth }
     requires told { count.old.told < 2 ^ 40 }
     ensures told { count.new.told ≡ count.old.told + 1 }
     ensures waiting { count.new.waiting ≡ min (count.old.waiting + 1) watch.now.depth }
     ensures lines { WritesLines K.taken K.accepted K.faults sink.old sink.new
-        (traced watch.now.trace (write_line watch.now.family (count.old.told + 1) write.now) ++ found_after watch.now.family watch.now.probes watch.now.depth (count.old.told + 1) count.old.waiting (replay (D.slot_count device.old) (D.journal device.old)) (D.flight device.old)) result }
-    ensures flight { OnOk result (D.flight device.new ≡ flight_left watch.now.probes watch.now.depth count.old.waiting (replay (D.slot_count device.old) (D.journal device.old)) (D.flight device.old)) }
-    ensures keys { AllByRecursion IsKey watch.now.probes }
+        (write_told watch.now.json watch.now.trace watch.now.family (count.old.told + 1) write.now ++ found_after watch.now.family (probes_told watch.now.json watch.now.probes) watch.now.depth (count.old.told + 1) count.old.waiting (replay (D.slot_count device.old) (D.journal device.old)) (D.flight device.old)) result }
+    ensures flight { OnOk result (D.flight device.new ≡ flight_left (probes_told watch.now.json watch.now.probes) watch.now.depth count.old.waiting (replay (D.slot_count device.old) (D.journal device.old)) (D.flight device.old)) }
+    ensures keys { AllByRecursion IsKey (probes_told watch.now.json watch.now.probes) }
     ensures journal { D.journal device.new ≡ D.journal device.old }
     ensures events { D.events device.new ≡ D.events device.old }
     ensures spare { D.spare device.new ≡ D.spare device.old }
@@ -239,7 +238,7 @@ fn tell_write<K: Sink, D: Device>(
 fn tell_drain<K: Sink>(watch: &Watch, count: &mut Count, sink: &mut K) -> Result<(), Failed>
     ensures told { count.new.told ≡ count.old.told }
     ensures waiting { count.new.waiting ≡ 0 }
-    ensures lines { WritesLines K.taken K.accepted K.faults sink.old sink.new (traced watch.now.trace (drain_line count.old.told)) result }
+    ensures lines { WritesLines K.taken K.accepted K.faults sink.old sink.new (drain_told watch.now.json watch.now.trace count.old.told) result }
 {
     count.waiting = 0;
     watch.tell_drain(count.told, sink)

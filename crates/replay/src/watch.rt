@@ -7,19 +7,20 @@ ghost use Rattle.std.specs.Prelude.{◌≡◌, ◌≢◌, ◌↔◌, ◌==◌, �
 ghost use Rattle.std.specs.List.{AllByRecursion};
 ghost use Rattle.rule_model.specs.Key.{IsKey};
 ghost use Rattle.tcam_device.specs.State.{replay};
-ghost use Rattle.replay.specs.Effects.{traced};
+ghost use Rattle.replay.specs.Effects.{drain_told, probes_told, write_told};
 ghost use Rattle.replay.specs.InFlight.{AreOf, flight_left, found_after, found_all, found_lines, probe_words};
 ghost use Rattle.replay.specs.Outside.{WritesLines};
 ghost use Rattle.replay.specs.Script.{most_probes};
-ghost use Rattle.replay.specs.Text.{drain_line, write_line};
 
 use crate::Family;
+use crate::json_report::{journal_line, write_json};
 use crate::report::{write_drain, write_probe, write_trace};
 use rule_model::{Key, key_fields};
 use script_lines::{Failed, Sink};
 use std::alloc::{AllocError, Global};
 use std::marker::Model;
 use tcam_device::{Device, Write};
+use trace_file::TraceLine;
 
 /// The most keys that are probed.
 pub(crate) const MOST_PROBES: usize = 16;
@@ -39,12 +40,14 @@ pub(crate) const NOTHING: Count = Count {
 };
 
 /// What is told of each write: the write itself, where a trace is wanted, and what the device answers each probe, whose
-/// words are searched a depth of writes behind the one that they were made after.
+/// words are searched a depth of writes behind the one that they were made after. In JSON each write is told, and no
+/// probe.
 #[derive(Drop)]
 pub(crate) struct Watch {
     family: Family,
     trace: bool,
     depth: u32,
+    json: bool,
     // There is room for the most probes from the start, so that a probe takes no memory.
     probes: Vec<Key>,
 }
@@ -55,7 +58,7 @@ impl Model for Watch {
 
     ghost Value = { Watching };
 
-    ghost view = { λ w. record { family = w.family; trace = w.trace; depth = w.depth; probes = w.probes.items } };
+    ghost view = { λ w. record { family = w.family; trace = w.trace; depth = w.depth; json = w.json; probes = w.probes.items } };
 
     ghost invariant = { λ w. (length w.probes.items ≤ 16) × (16 ≤ vec_capacity w.probes) × (w.depth ≤ 15) };
 }
@@ -67,14 +70,16 @@ impl Watch {
         family: Family,
         trace: bool,
         depth: u32,
+        json: bool,
     ) -> Result<Watch, AllocError>
         requires depth { depth ≤ 15 }
-        ensures { IfOk result (λ watch. watch ≡ record { family = family; trace = trace; depth = depth; probes = [] }) }
+        ensures { IfOk result (λ watch. watch ≡ record { family = family; trace = trace; depth = depth; json = json; probes = [] }) }
     {
         Ok(Watch {
             family,
             trace,
             depth,
+            json,
             probes: Vec::with_capacity(alloc, MOST_PROBES)?,
         })
     }
@@ -91,6 +96,21 @@ impl Watch {
         ensures { result ≡ self.now.depth }
     {
         self.depth
+    }
+
+    /// Whether all is told in JSON.
+    pub(crate) fn is_json(&self) -> bool
+        ensures { result ≡ self.now.json }
+    {
+        self.json
+    }
+
+    // How many probes are told of.
+    fn told(&self) -> usize
+        ensures number { result ≡ length (probes_told self.now.json self.now.probes) }
+        ensures most { result ≤ length self.now.probes }
+    {
+        if self.json { 0 } else { self.probes.len() }
     }
 
     /// Whether as many keys are probed as may be.
@@ -119,12 +139,12 @@ impl Watch {
         sink: &mut K,
         device: &mut D,
     ) -> Result<(), Failed>
-        requires words { AreOf self.now.probes waiting (D.flight device.old) }
+        requires words { AreOf (probes_told self.now.json self.now.probes) waiting (D.flight device.old) }
         requires few { waiting ≤ self.now.depth }
         ensures lines { WritesLines K.taken K.accepted K.faults sink.old sink.new
-            (traced self.now.trace (write_line self.now.family number write.now) ++ found_after self.now.family self.now.probes self.now.depth number waiting (replay (D.slot_count device.old) (D.journal device.old)) (D.flight device.old)) result }
-        ensures flight { OnOk result (D.flight device.new ≡ flight_left self.now.probes self.now.depth waiting (replay (D.slot_count device.old) (D.journal device.old)) (D.flight device.old)) }
-        ensures keys { AllByRecursion IsKey self.now.probes }
+            (write_told self.now.json self.now.trace self.now.family number write.now ++ found_after self.now.family (probes_told self.now.json self.now.probes) self.now.depth number waiting (replay (D.slot_count device.old) (D.journal device.old)) (D.flight device.old)) result }
+        ensures flight { OnOk result (D.flight device.new ≡ flight_left (probes_told self.now.json self.now.probes) self.now.depth waiting (replay (D.slot_count device.old) (D.journal device.old)) (D.flight device.old)) }
+        ensures keys { AllByRecursion IsKey (probes_told self.now.json self.now.probes) }
         ensures journal { D.journal device.new ≡ D.journal device.old }
         ensures events { D.events device.new ≡ D.events device.old }
         ensures spare { D.spare device.new ≡ D.spare device.old }
@@ -140,20 +160,26 @@ impl Watch {
         Ok(())
     }
 
-    // Writes the line of a write, where a trace is wanted.
+    // Writes the line of a write, in JSON or where a trace is wanted.
     fn tell_write<K: Sink>(&self, number: u64, write: &Write, sink: &mut K) -> Result<(), Failed>
-        ensures { WritesLines K.taken K.accepted K.faults sink.old sink.new (traced self.now.trace (write_line self.now.family number write.now)) result }
+        ensures { WritesLines K.taken K.accepted K.faults sink.old sink.new (write_told self.now.json self.now.trace self.now.family number write.now) result }
     {
+        if self.json {
+            return write_json(sink, &journal_line(write));
+        }
         if self.trace {
             write_trace(sink, self.family, number, write)?;
         }
         Ok(())
     }
 
-    /// Tells of a drain, behind so many writes, where a trace is wanted.
+    /// Tells of a drain, behind so many writes, in JSON or where a trace is wanted.
     pub(crate) fn tell_drain<K: Sink>(&self, number: u64, sink: &mut K) -> Result<(), Failed>
-        ensures { WritesLines K.taken K.accepted K.faults sink.old sink.new (traced self.now.trace (drain_line number)) result }
+        ensures { WritesLines K.taken K.accepted K.faults sink.old sink.new (drain_told self.now.json self.now.trace number) result }
     {
+        if self.json {
+            return write_json(sink, &TraceLine::Drain);
+        }
         if self.trace {
             write_drain(sink, number)?;
         }
@@ -167,9 +193,9 @@ impl Watch {
         sink: &mut K,
         device: &mut D,
     ) -> Result<(), Failed>
-        requires words { AreOf self.now.probes count.now.waiting (D.flight device.old) }
+        requires words { AreOf (probes_told self.now.json self.now.probes) count.now.waiting (D.flight device.old) }
         ensures lines { WritesLines K.taken K.accepted K.faults sink.old sink.new
-            (found_all self.now.family count.now.told (replay (D.slot_count device.old) (D.journal device.old)) (length self.now.probes) count.now.waiting (D.flight device.old)) result }
+            (found_all self.now.family count.now.told (replay (D.slot_count device.old) (D.journal device.old)) (length (probes_told self.now.json self.now.probes)) count.now.waiting (D.flight device.old)) result }
         ensures flight { OnOk result (D.flight device.new ≡ []) }
         ensures journal { D.journal device.new ≡ D.journal device.old }
         ensures events { D.events device.new ≡ D.events device.old }
@@ -183,43 +209,43 @@ impl Watch {
         Ok(())
     }
 
-    // Puts the word of each probe into flight, in their order.
+    // Puts the word of each probe that is told of into flight, in their order.
     fn translate<D: Device>(&self, device: &mut D)
-        requires room { length (D.flight device.old) + length self.now.probes ≤ 256 }
+        requires room { length (D.flight device.old) + length (probes_told self.now.json self.now.probes) ≤ 256 }
         ensures flight { D.flight device.new
-            ≡ D.flight device.old ++ probe_words (replay (D.slot_count device.old) (D.journal device.old)) self.now.probes }
-        ensures keys { AllByRecursion IsKey self.now.probes }
+            ≡ D.flight device.old ++ probe_words (replay (D.slot_count device.old) (D.journal device.old)) (probes_told self.now.json self.now.probes) }
+        ensures keys { AllByRecursion IsKey (probes_told self.now.json self.now.probes) }
         ensures journal { D.journal device.new ≡ D.journal device.old }
         ensures events { D.events device.new ≡ D.events device.old }
         ensures spare { D.spare device.new ≡ D.spare device.old }
         ensures slots { D.slot_count device.new ≡ D.slot_count device.old }
         ensures faults { D.faults device.new ≡ D.faults device.old }
     {
-        for place in 0..self.probes.len() {
+        for place in 0..self.told() {
             let key = &self.probes[place];
             key_fields(key);
             device.translate(key);
         }
     }
 
-    // Searches the oldest word of each probe, in their order.
+    // Searches the oldest word of each probe that is told of, in their order.
     fn search<K: Sink, D: Device>(
         &self,
         number: u64,
         sink: &mut K,
         device: &mut D,
     ) -> Result<(), Failed>
-        requires words { length self.now.probes ≤ length (D.flight device.old) }
+        requires words { length (probes_told self.now.json self.now.probes) ≤ length (D.flight device.old) }
         ensures lines { WritesLines K.taken K.accepted K.faults sink.old sink.new
-            (found_lines self.now.family number (replay (D.slot_count device.old) (D.journal device.old)) 1 (take (length self.now.probes) (D.flight device.old))) result }
-        ensures flight { OnOk result (D.flight device.new ≡ drop (length self.now.probes) (D.flight device.old)) }
+            (found_lines self.now.family number (replay (D.slot_count device.old) (D.journal device.old)) 1 (take (length (probes_told self.now.json self.now.probes)) (D.flight device.old))) result }
+        ensures flight { OnOk result (D.flight device.new ≡ drop (length (probes_told self.now.json self.now.probes)) (D.flight device.old)) }
         ensures journal { D.journal device.new ≡ D.journal device.old }
         ensures events { D.events device.new ≡ D.events device.old }
         ensures spare { D.spare device.new ≡ D.spare device.old }
         ensures slots { D.slot_count device.new ≡ D.slot_count device.old }
         ensures faults { D.faults device.new ≡ D.faults device.old }
     {
-        for place in 0..self.probes.len() {
+        for place in 0..self.told() {
             match device.search() {
                 Some(found) => write_probe(sink, self.family, number, place as u32 + 1, found)?,
                 // There is a word in flight for each probe.

@@ -4,11 +4,12 @@ use Rattle.tcam_device.specs.declared.Action.{Action}
 use Rattle.tcam_device.specs.Flight.{Flight}
 use Rattle.batch_order.specs.Managed.{HeldCommit}
 use Rattle.replay.specs.declared.Act.{Act}
+use Rattle.replay.specs.declared.Act.TheVariants.{Command, Probe, Packet, Commit, Trial, Crash}
 use Rattle.replay.specs.declared.ActFault.{ActFault}
 use Rattle.replay.specs.declared.ActFault.TheVariants.{BatchFull, ProbesFull, Held, Stopped}
 use Rattle.replay.specs.declared.RunFault.TheVariants.{Sink, Device, Memory}
 use Rattle.replay.specs.Fates.{AnswersBroken}
-use Rattle.replay.specs.Running.{Running, AreLeft, ComesTo, IsUntouched, LeavesWords}
+use Rattle.replay.specs.Running.{Running, AreLeft, ComesTo, IsToldIn, IsUntouched, LeavesWords}
 
 -- none, where no commit is unfinished
 none-left : (new : Running) (flight : Flight) (held : Option HeldCommit) → new.manager.held ≡ held → held ≡ None → flight ≡ [] → AreLeft new flight
@@ -57,3 +58,12 @@ pub lost_behind : (slots : ℕ) (old new : Running) (act : Act) (result : Result
     → result ≡ Err (Stopped Memory) → ComesTo slots old act new result events_old events_new taken_old taken_new → events_new ≢ events_old → new.broken ≡ true
 lost_behind slots old new act result events_old events_new taken_old taken_new wants comes done =
     lost-where _ _ _ new.broken (rw wants at comes) (λ (same : IsUntouched old new events_old events_new taken_old taken_new). done same.events)
+
+-- a run whose report is in words takes any act
+pub told_words : (json : Bool) (act : Act) → json ≡ false → IsToldIn json act
+told_words json (Command change) words = tt
+told_words json (Probe key) words = tt
+told_words json (Packet key) words = tt
+told_words json Commit words = tt
+told_words json (Trial most) words = words
+told_words json (Crash after) words = words

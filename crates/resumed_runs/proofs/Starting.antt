@@ -1,5 +1,5 @@
 -- A run over a blank device.
-use Rattle.std.proofs.Common.{Bool, ◌≡◌, ℕ, ◌+◌, ◌-◌, ◌≤◌, ◌++◌, None, Option, List, [], length, replicate, refl, ap, ◌∙◌, arith}
+use Rattle.std.proofs.Common.{false, Bool, ◌≡◌, ℕ, ◌+◌, ◌-◌, ◌≤◌, ◌++◌, None, Option, List, [], length, replicate, refl, ap, ◌∙◌, arith}
 use Rattle.std.proofs.lemmas.List.{length-replicate, replicate-append-replicate}
 use Rattle.rule_model.specs.declared.words.Entry.{Entry}
 use Rattle.rule_store.specs.declared.Mode.{Mode}
@@ -21,10 +21,11 @@ blank-more slots device_slots within =
 
 -- it may be called
 pub begun_going : (slots : ℕ) (mode : Mode) (placement : Placement) (family : Family) (trace : Bool) (depth : ℕ) (device_slots spare : ℕ) (events : List Action) (flight : Flight)
-    → slots ≤ device_slots → events ≡ [] → flight ≡ [] → CanGoOn (begun slots mode placement family trace depth) device_slots spare events flight
+    → slots ≤ device_slots → events ≡ [] → flight ≡ [] → CanGoOn (begun slots mode placement family trace depth false) device_slots spare events flight
 begun_going slots mode placement family trace depth device_slots spare events flight within nothing none = record {
   slots = within;
   whole = refl;
+  words = refl;
   room = tt;
   in_flight = none;
   stands =

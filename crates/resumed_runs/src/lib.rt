@@ -32,7 +32,7 @@ pub fn begin(
     ensures going { IfOk result (λ run. (device_slots spare : ℕ) → (events : List Action) → (flight : Flight) → slots ≤ device_slots → events ≡ [] → flight ≡ [] → CanGoOn run device_slots spare events flight) }
     ensures begins { IfOk result (λ run. run.commits ≡ 0) }
 {
-    Ok(Run::new(alloc, slots, mode, placement, family, trace, depth)?)
+    Ok(Run::new(alloc, slots, mode, placement, family, trace, depth, false)?)
 }
 
 /// Carries out an act, as [`Run::apply`] does. Where memory is wanted behind a write, as it may be at a crash, no call may

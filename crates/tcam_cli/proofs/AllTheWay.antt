@@ -6,6 +6,7 @@ use Rattle.std.specs.Prelude.{option_map}
 use Rattle.std.proofs.Math.Nat.{min-le_left, min-le_right, le-min}
 use Rattle.std.proofs.lemmas.List.{length-take-le, take_min, take-append-le, take-take}
 use Rattle.rule_model.specs.declared.Rule.{Rule}
+use Rattle.rule_model.specs.RuleSet.{answer}
 use Rattle.rule_store.specs.declared.Command.{Command as Change}
 use Rattle.rule_store.specs.Batch.{set_after}
 use Rattle.rule_store.specs.Verdict.{Verdict, Accepted, Unsound, OutOfBits, OutOfSlots, verdict}
@@ -25,6 +26,7 @@ use Rattle.replay.proofs.lines.Written.{written-return, written-segment}
 use Rattle.commit_writes.specs.Undo.{undo_writes}
 use Rattle.commit_writes.proofs.Undone.{length-undo_writes, undo_ends, undo_passes}
 use Rattle.tcam_cli.specs.Headline.{is_back}
+use Rattle.tcam_cli.proofs.OneMore.{packet-still}
 
 -- ---- lists of sets
 
@@ -470,7 +472,8 @@ goes-step : (setting : Setting) (old : Progress) (act : Act) (front : List Effec
     → IsShown old → HasEffects setting old act front mid → Later setting mid acts back → GoesOn setting old (act ∷ acts) (journal_of front ++ back)
 goes-step setting old (Command change) front mid acts back shown step more = goes-still setting old (Command change) front mid _ acts back (ap journal_of step.0) step.1 shown (λ goes. goes) more
 goes-step setting old (Probe key) front mid acts back shown step more = goes-still setting old (Probe key) front mid _ acts back (ap journal_of step.0) step.1 shown (λ goes. goes) more
-goes-step setting old (Packet key) front mid acts back shown step more = goes-still setting old (Packet key) front mid _ acts back (ap journal_of step.0) step.1 shown (λ goes. goes) more
+goes-step setting old (Packet key) front mid acts back shown step more =
+    goes-still setting old (Packet key) front mid _ acts back (ap journal_of step.0 ∙ packet-still setting (answer old.rules key)) step.1 shown (λ goes. goes) more
 goes-step setting old Commit front mid acts back shown step more =
     goes-judged setting old (verdict setting.slots setting.mode old.rules old.batch) front mid acts back shown step more
 goes-step setting old (Trial most) front mid acts back shown step more =

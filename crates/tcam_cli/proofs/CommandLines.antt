@@ -6,13 +6,13 @@ use Rattle.clap.proofs.OnLiterals.{clap_on_literals}
 use Rattle.rule_store.specs.declared.Mode.TheVariants.{Cover, Bits}
 use Rattle.batch_order.specs.declared.Placement.TheVariants.{Middle, Rank}
 use Rattle.replay.specs.declared.Family.TheVariants.{Route, Acl, Route6, Acl6}
-use Rattle.tcam_cli.specs.CommandLine.{acl_app, depth_option, gen_app, job_of, number_position, placement_option, ranges_option, route_app, script_setting, slots_option, tcam_app, tcam_top, trace_flag}
+use Rattle.tcam_cli.specs.CommandLine.{acl_app, depth_option, gen_app, job_of, number_position, placement_option, ranges_option, route_app, script_setting, slots_option, tcam_app, tcam_top, trace_flag, json_flag}
 use Rattle.tcam_cli.specs.Headline.{NoJob, Tells, Reads, Makes}
 use Rattle.tcam_cli.specs.OwnTexts.{acl_help, acl6_help, gen_help, help_text, route_help, version_text}
 
 -- what a proof unfolds to compute what words ask for
 unfoldable the_declaration : ⊤
-unfolding clap_on_literals tcam_app tcam_top route_app acl_app gen_app slots_option ranges_option placement_option trace_flag depth_option number_position
+unfolding clap_on_literals tcam_app tcam_top route_app acl_app gen_app slots_option ranges_option placement_option trace_flag json_flag depth_option number_position
 the_declaration = tt
 
 unknown : job_of (codes "tcam" ∷ codes "frob" ∷ []) ≡ NoJob
@@ -31,19 +31,19 @@ too-many-slots : job_of (codes "tcam" ∷ codes "route" ∷ codes "--slots" ∷ 
 unfolding the_declaration
 too-many-slots = refl
 
-routes : job_of (codes "tcam" ∷ codes "route" ∷ []) ≡ Reads (script_setting Route most_slots Cover Middle false 0)
+routes : job_of (codes "tcam" ∷ codes "route" ∷ []) ≡ Reads (script_setting Route most_slots Cover Middle false 0 false)
 unfolding the_declaration
 routes = refl
 
-some-slots : job_of (codes "tcam" ∷ codes "route" ∷ codes "--slots" ∷ codes "8" ∷ []) ≡ Reads (script_setting Route 8 Cover Middle false 0)
+some-slots : job_of (codes "tcam" ∷ codes "route" ∷ codes "--slots" ∷ codes "8" ∷ []) ≡ Reads (script_setting Route 8 Cover Middle false 0 false)
 unfolding the_declaration
 some-slots = refl
 
-routes-of-six : job_of (codes "tcam" ∷ codes "route6" ∷ codes "--trace" ∷ codes "--slots" ∷ codes "8" ∷ []) ≡ Reads (script_setting Route6 8 Cover Middle true 0)
+routes-of-six : job_of (codes "tcam" ∷ codes "route6" ∷ codes "--trace" ∷ codes "--slots" ∷ codes "8" ∷ []) ≡ Reads (script_setting Route6 8 Cover Middle true 0 false)
 unfolding the_declaration
 routes-of-six = refl
 
-lists-of-six : job_of (codes "tcam" ∷ codes "acl6" ∷ codes "--ranges" ∷ codes "bits" ∷ codes "--placement" ∷ codes "rank" ∷ []) ≡ Reads (script_setting Acl6 most_slots Bits Rank false 0)
+lists-of-six : job_of (codes "tcam" ∷ codes "acl6" ∷ codes "--ranges" ∷ codes "bits" ∷ codes "--placement" ∷ codes "rank" ∷ []) ≡ Reads (script_setting Acl6 most_slots Bits Rank false 0 false)
 unfolding the_declaration
 lists-of-six = refl
 
@@ -87,15 +87,15 @@ version-of-routes : job_of (codes "tcam" ∷ codes "route" ∷ codes "--version"
 unfolding the_declaration
 version-of-routes = refl
 
-plus : job_of (codes "tcam" ∷ codes "route" ∷ codes "--slots" ∷ codes "+008" ∷ []) ≡ Reads (script_setting Route 8 Cover Middle false 0)
+plus : job_of (codes "tcam" ∷ codes "route" ∷ codes "--slots" ∷ codes "+008" ∷ []) ≡ Reads (script_setting Route 8 Cover Middle false 0 false)
 unfolding the_declaration
 plus = refl
 
-lists : job_of (codes "tcam" ∷ codes "acl" ∷ []) ≡ Reads (script_setting Acl most_slots Cover Middle false 0)
+lists : job_of (codes "tcam" ∷ codes "acl" ∷ []) ≡ Reads (script_setting Acl most_slots Cover Middle false 0 false)
 unfolding the_declaration
 lists = refl
 
-slots-of-lists : job_of (codes "tcam" ∷ codes "acl" ∷ codes "--slots=8" ∷ []) ≡ Reads (script_setting Acl 8 Cover Middle false 0)
+slots-of-lists : job_of (codes "tcam" ∷ codes "acl" ∷ codes "--slots=8" ∷ []) ≡ Reads (script_setting Acl 8 Cover Middle false 0 false)
 unfolding the_declaration
 slots-of-lists = refl
 
@@ -111,7 +111,7 @@ help-of-lists : job_of (codes "tcam" ∷ codes "acl" ∷ codes "--help" ∷ []) 
 unfolding the_declaration
 help-of-lists = refl
 
-traced : job_of (codes "tcam" ∷ codes "route" ∷ codes "--trace" ∷ codes "--slots" ∷ codes "8" ∷ []) ≡ Reads (script_setting Route 8 Cover Middle true 0)
+traced : job_of (codes "tcam" ∷ codes "route" ∷ codes "--trace" ∷ codes "--slots" ∷ codes "8" ∷ []) ≡ Reads (script_setting Route 8 Cover Middle true 0 false)
 unfolding the_declaration
 traced = refl
 
@@ -119,23 +119,35 @@ traced-twice : job_of (codes "tcam" ∷ codes "route" ∷ codes "--trace" ∷ co
 unfolding the_declaration
 traced-twice = refl
 
+in-json : job_of (codes "tcam" ∷ codes "route" ∷ codes "--slots" ∷ codes "8" ∷ codes "--json" ∷ []) ≡ Reads (script_setting Route 8 Cover Middle false 0 true)
+unfolding the_declaration
+in-json = refl
+
+lists-in-json : job_of (codes "tcam" ∷ codes "acl" ∷ codes "--json" ∷ codes "--ranges" ∷ codes "bits" ∷ []) ≡ Reads (script_setting Acl most_slots Bits Middle false 0 true)
+unfolding the_declaration
+lists-in-json = refl
+
+no-json-of-six : job_of (codes "tcam" ∷ codes "route6" ∷ codes "--json" ∷ []) ≡ NoJob
+unfolding the_declaration
+no-json-of-six = refl
+
 traced-by-a-value : job_of (codes "tcam" ∷ codes "route" ∷ codes "--trace=true" ∷ []) ≡ NoJob
 unfolding the_declaration
 traced-by-a-value = refl
 
-traced-lists : job_of (codes "tcam" ∷ codes "acl" ∷ codes "--trace" ∷ []) ≡ Reads (script_setting Acl most_slots Cover Middle true 0)
+traced-lists : job_of (codes "tcam" ∷ codes "acl" ∷ codes "--trace" ∷ []) ≡ Reads (script_setting Acl most_slots Cover Middle true 0 false)
 unfolding the_declaration
 traced-lists = refl
 
-by-rank : job_of (codes "tcam" ∷ codes "route" ∷ codes "--placement" ∷ codes "rank" ∷ []) ≡ Reads (script_setting Route most_slots Cover Rank false 0)
+by-rank : job_of (codes "tcam" ∷ codes "route" ∷ codes "--placement" ∷ codes "rank" ∷ []) ≡ Reads (script_setting Route most_slots Cover Rank false 0 false)
 unfolding the_declaration
 by-rank = refl
 
-by-the-middle : job_of (codes "tcam" ∷ codes "route" ∷ codes "--placement" ∷ codes "middle" ∷ []) ≡ Reads (script_setting Route most_slots Cover Middle false 0)
+by-the-middle : job_of (codes "tcam" ∷ codes "route" ∷ codes "--placement" ∷ codes "middle" ∷ []) ≡ Reads (script_setting Route most_slots Cover Middle false 0 false)
 unfolding the_declaration
 by-the-middle = refl
 
-lists-by-rank : job_of (codes "tcam" ∷ codes "acl" ∷ codes "--trace" ∷ codes "--placement=rank" ∷ codes "--slots" ∷ codes "8" ∷ []) ≡ Reads (script_setting Acl 8 Cover Rank true 0)
+lists-by-rank : job_of (codes "tcam" ∷ codes "acl" ∷ codes "--trace" ∷ codes "--placement=rank" ∷ codes "--slots" ∷ codes "8" ∷ []) ≡ Reads (script_setting Acl 8 Cover Rank true 0 false)
 unfolding the_declaration
 lists-by-rank = refl
 
@@ -167,15 +179,15 @@ by-two-words-at-once : job_of (codes "tcam" ∷ codes "acl" ∷ codes "--placeme
 unfolding the_declaration
 by-two-words-at-once = refl
 
-made : job_of (codes "tcam" ∷ codes "gen" ∷ codes "1" ∷ codes "1" ∷ codes "2" ∷ []) ≡ Makes (script_setting Acl most_slots Cover Middle false 0) 1 1 2
+made : job_of (codes "tcam" ∷ codes "gen" ∷ codes "1" ∷ codes "1" ∷ codes "2" ∷ []) ≡ Makes (script_setting Acl most_slots Cover Middle false 0 false) 1 1 2
 unfolding the_declaration
 made = refl
 
-made-in-few-slots : job_of (codes "tcam" ∷ codes "gen" ∷ codes "1" ∷ codes "--slots" ∷ codes "8" ∷ codes "--placement=rank" ∷ codes "256" ∷ codes "64" ∷ []) ≡ Makes (script_setting Acl 8 Cover Rank false 0) 1 256 64
+made-in-few-slots : job_of (codes "tcam" ∷ codes "gen" ∷ codes "1" ∷ codes "--slots" ∷ codes "8" ∷ codes "--placement=rank" ∷ codes "256" ∷ codes "64" ∷ []) ≡ Makes (script_setting Acl 8 Cover Rank false 0 false) 1 256 64
 unfolding the_declaration
 made-in-few-slots = refl
 
-made-of-the-greatest-seed : job_of (codes "tcam" ∷ codes "gen" ∷ codes "2147483647" ∷ codes "1" ∷ codes "1" ∷ []) ≡ Makes (script_setting Acl most_slots Cover Middle false 0) 2147483647 1 1
+made-of-the-greatest-seed : job_of (codes "tcam" ∷ codes "gen" ∷ codes "2147483647" ∷ codes "1" ∷ codes "1" ∷ []) ≡ Makes (script_setting Acl most_slots Cover Middle false 0 false) 2147483647 1 1
 unfolding the_declaration
 made-of-the-greatest-seed = refl
 
@@ -227,19 +239,19 @@ made-with-a-trace : job_of (codes "tcam" ∷ codes "gen" ∷ codes "1" ∷ codes
 unfolding the_declaration
 made-with-a-trace = refl
 
-made-in-bits : job_of (codes "tcam" ∷ codes "gen" ∷ codes "1" ∷ codes "1" ∷ codes "1" ∷ codes "--ranges" ∷ codes "bits" ∷ []) ≡ Makes (script_setting Acl most_slots Bits Middle false 0) 1 1 1
+made-in-bits : job_of (codes "tcam" ∷ codes "gen" ∷ codes "1" ∷ codes "1" ∷ codes "1" ∷ codes "--ranges" ∷ codes "bits" ∷ []) ≡ Makes (script_setting Acl most_slots Bits Middle false 0 false) 1 1 1
 unfolding the_declaration
 made-in-bits = refl
 
-lists-in-bits : job_of (codes "tcam" ∷ codes "acl" ∷ codes "--ranges" ∷ codes "bits" ∷ []) ≡ Reads (script_setting Acl most_slots Bits Middle false 0)
+lists-in-bits : job_of (codes "tcam" ∷ codes "acl" ∷ codes "--ranges" ∷ codes "bits" ∷ []) ≡ Reads (script_setting Acl most_slots Bits Middle false 0 false)
 unfolding the_declaration
 lists-in-bits = refl
 
-lists-in-bits-by-rank : job_of (codes "tcam" ∷ codes "acl" ∷ codes "--placement" ∷ codes "rank" ∷ codes "--ranges=bits" ∷ codes "--trace" ∷ codes "--slots" ∷ codes "8" ∷ []) ≡ Reads (script_setting Acl 8 Bits Rank true 0)
+lists-in-bits-by-rank : job_of (codes "tcam" ∷ codes "acl" ∷ codes "--placement" ∷ codes "rank" ∷ codes "--ranges=bits" ∷ codes "--trace" ∷ codes "--slots" ∷ codes "8" ∷ []) ≡ Reads (script_setting Acl 8 Bits Rank true 0 false)
 unfolding the_declaration
 lists-in-bits-by-rank = refl
 
-deep : job_of (codes "tcam" ∷ codes "route6" ∷ codes "--depth" ∷ codes "15" ∷ []) ≡ Reads (script_setting Route6 most_slots Cover Middle false 15)
+deep : job_of (codes "tcam" ∷ codes "route6" ∷ codes "--depth" ∷ codes "15" ∷ []) ≡ Reads (script_setting Route6 most_slots Cover Middle false 15 false)
 unfolding the_declaration
 deep = refl
 
@@ -251,7 +263,7 @@ made-in-depth : job_of (codes "tcam" ∷ codes "gen" ∷ codes "1" ∷ codes "1"
 unfolding the_declaration
 made-in-depth = refl
 
-lists-in-covers : job_of (codes "tcam" ∷ codes "acl" ∷ codes "--ranges" ∷ codes "cover" ∷ []) ≡ Reads (script_setting Acl most_slots Cover Middle false 0)
+lists-in-covers : job_of (codes "tcam" ∷ codes "acl" ∷ codes "--ranges" ∷ codes "cover" ∷ []) ≡ Reads (script_setting Acl most_slots Cover Middle false 0 false)
 unfolding the_declaration
 lists-in-covers = refl
 

@@ -9,10 +9,10 @@ use Rattle.tcam_device.specs.State.{state_after}
 use Rattle.commit_writes.specs.Actions.{up_to_writes}
 use Rattle.replay.specs.declared.Act.{Act}
 use Rattle.replay.specs.declared.Act.TheVariants.{Commit}
-use Rattle.replay.specs.Effects.{Setting, Effect, Prints, effects_of, flushed, waiting_after}
-use Rattle.replay.specs.Run.{Progress, Commits, CrashesIn, HasEffects, IsCutBeforeCrash, Judged, StopsAtCrash, actions_before, actions_for, after_segment}
-use Rattle.replay.specs.Text.{accepted_line}
-use Rattle.replay.proofs.lines.Effects.{effects-append}
+use Rattle.replay.specs.Effects.{Setting, Effect, Prints, effects_of, flushed, probes_told, waiting_after}
+use Rattle.replay.specs.Run.{Progress, Commits, CrashesIn, HasEffects, IsCutBeforeCrash, Judged, StopsAtCrash, actions_before, actions_for, after_segment, carried_so_far}
+use Rattle.replay.specs.Reports.{done_line}
+use Rattle.replay.proofs.lines.Opened.{carried-append}
 
 -- the actions behind so many writes
 rest-after : ℕ → List Action → List Action
@@ -35,7 +35,7 @@ pub record AsCommit (setting : Setting) (before : Progress) (front : List Effect
   pub step : HasEffects setting before Commit (front ++ back) after
 
 pub as-commit : (setting : Setting) (before : Progress) (after : ℕ) (made : List Write) → verdict setting.slots setting.mode before.rules before.batch ≡ Accepted → CrashesIn setting before after made
-    → AsCommit setting before (effects_of setting before.probes 0 0 before.state (actions_before setting before after made))
+    → AsCommit setting before (carried_so_far setting before (actions_before setting before after made))
 as-commit setting before after made accepted crash = record {
   back = behind ++ (end ++ line);
   after = after_segment setting before made;
@@ -47,7 +47,7 @@ as-commit setting before after made accepted crash = record {
     of_family = crash.of_family;
     in_use = crash.in_use;
     numbers = crash.numbers;
-    effects_are = sym (append_assoc front behind (end ++ line)) ∙ ap (λ effects. effects ++ (end ++ line)) (sym parts) ∙ sym (append_assoc (effects_of setting before.probes 0 0 before.state actions) end line);
+    effects_are = sym (append_assoc front behind (end ++ line)) ∙ ap (λ effects. effects ++ (end ++ line)) (sym parts) ∙ sym (append_assoc (carried_so_far setting before actions) end line);
     after = refl;
   });
 }
@@ -62,19 +62,19 @@ as-commit setting before after made accepted crash = record {
     rest = rest-after after actions
 
     front : List Effect
-    front = effects_of setting before.probes 0 0 before.state first
+    front = carried_so_far setting before first
 
     behind : List Effect
-    behind = effects_of setting before.probes (0 + length (writes_in first)) (waiting_after setting.depth 0 first) (state_after before.state (writes_in first)) rest
+    behind = effects_of setting (probes_told setting.json before.probes) (0 + length (writes_in first)) (waiting_after setting.depth 0 first) (state_after before.state (writes_in first)) rest
 
     end : List Effect
-    end = flushed setting.family before.probes (length (writes_in actions)) (state_after before.state (writes_in actions)) (waiting_after setting.depth 0 actions)
+    end = flushed setting.family (probes_told setting.json before.probes) (length (writes_in actions)) (state_after before.state (writes_in actions)) (waiting_after setting.depth 0 actions)
 
     line : List Effect
-    line = Prints (accepted_line (before.commits + 1) crash.counts) ∷ []
+    line = Prints (done_line setting.json (before.commits + 1) crash.counts) ∷ []
 
-    parts : effects_of setting before.probes 0 0 before.state actions ≡ front ++ behind
-    parts = ap (effects_of setting before.probes 0 0 before.state) (sym (front-and-rest after actions)) ∙ effects-append setting before.probes 0 0 before.state first rest
+    parts : carried_so_far setting before actions ≡ front ++ behind
+    parts = ap (carried_so_far setting before) (sym (front-and-rest after actions)) ∙ carried-append setting before first rest
 
 -- so one that is cut before its crash is a commit that is cut
 pub cut-as_commit : (setting : Setting) (before : Progress) (act : Act) (front : List Effect) (due : Effect) → IsCutBeforeCrash setting before act front due → AsCommit setting before (front ++ due ∷ [])

@@ -10,17 +10,18 @@ use Rattle.replay.specs.declared.Act.{Act}
 use Rattle.replay.specs.declared.RunFault.{RunFault}
 use Rattle.replay.specs.declared.RunFault.TheVariants as run_fault
 use Rattle.replay.specs.Script.{ScriptEnd, Whole, FaultAt, Reading, NumberedAct, byte_end, script_of, pending_after, probes_after, limit_fault}
-use Rattle.replay.specs.Text.{fault_line}
+use Rattle.replay.specs.Reports.{fault_told}
 use Rattle.replay.specs.Effects.{Setting, printed}
 use Rattle.replay.specs.Run.{Progress, Runs, ending}
 use Rattle.tcam_cli.specs.declared.Status.{Status}
 use Rattle.tcam_cli.specs.declared.Status.TheVariants.{Done, Refused, Script as ScriptFault, ReadFault, WriteFault}
 use Rattle.tcam_cli.specs.Headline.{MatchesOutcome, acts_of, closing_line, script_so_far, status_of}
-use Rattle.tcam_cli.specs.Readings.{reading}
+use Rattle.tcam_cli.specs.Readings.{reading_by}
 use Rattle.script_lines.specs.declared.Over.{Over}
 use Rattle.script_lines.specs.declared.Over.TheVariants as over
 use Rattle.script_lines.specs.Reader.{HeldBytes, lines_held, Hands, Again}
 use Rattle.replay.specs.Carried.{IsAt, Carries, Wants}
+use Rattle.replay.specs.Running.{Running, setting_of}
 use Rattle.tcam_cli.specs.Rounds.{onto_all, acts_next, IsGoing, IsAllRead, IsReadSoFar, acts_only, SoFar, EndsRun, Closes, RunsOn, WantsNext, status_of_fault}
 use Rattle.tcam_cli.proofs.Outcomes.{Stops, closed-outcome, stopped-outcome}
 use Rattle.tcam_cli.proofs.OneMore.{run-at, run-more, does-events, does-report, step-pending, step-probes}
@@ -51,34 +52,40 @@ not-whole run_fault.Device (inr e) = absurd (cc)
 not-whole run_fault.Memory (inl e) = absurd (cc)
 not-whole run_fault.Memory (inr e) = absurd (cc)
 
+-- the fault of a line that is told by a run as it was
+pub closes-by : (run new : Running) (number : ℕ) (text : List ℕ) (result : Status) (before after : Option (List ℕ)) → new ≡ run
+    → Closes (fault_told (setting_of new) new.commits number text) ScriptFault result before after → Closes (fault_told (setting_of run) run.commits number text) ScriptFault result before after
+closes-by run new number text result before after same closes =
+    subst (λ (one : Running). Closes (fault_told (setting_of one) one.commits number text) ScriptFault result before after) same closes
+
 module _ (setting : Setting) (slots : ℕ) (bytes : List ℕ) (old : HeldBytes) (left : List ℕ) (last : Progress) (events : List Action) (start before : Option (List ℕ)) (s : SoFar setting slots bytes old left last events start before) where
   ends-by : (taken now : List ℕ) (result : Status) (events_new : List Action) (after : Option (List ℕ))
-      → MatchesOutcome setting slots (script_of (reading setting.family) bytes) (script_so_far (reading setting.family) taken) result events_new start after
+      → MatchesOutcome setting slots (script_of (reading_by setting) bytes) (script_so_far (reading_by setting) taken) result events_new start after
       → ((result ≡ Done) ⊎ (result ≡ Refused) → now ≡ []) → EndsRun setting slots bytes taken now result events_new start after
   ends-by taken now result events_new after is all =
       record { effects = is.effects; partial = is.partial; outcome = is.outcome; events_is = is.events_is; report = is.report_is; all = all }
 
   -- the last line is written, or a part of it
-  closed : (taken now : List ℕ) (end : ScriptEnd) (after : Option (List ℕ)) (result : Status) → script_of (reading setting.family) bytes ≡ record { acts = s.acts; last = end }
+  closed : (taken now : List ℕ) (end : ScriptEnd) (after : Option (List ℕ)) (result : Status) → script_of (reading_by setting) bytes ≡ record { acts = s.acts; last = end }
       → Closes (closing_line setting last end) (status_of last end) result before after → ((result ≡ Done) ⊎ (result ≡ Refused) → now ≡ [])
       → EndsRun setting slots bytes taken now result events start after
   closed taken now end after result is closes all =
-      let script = script_of (reading setting.family) bytes in
+      let script = script_of (reading_by setting) bytes in
       ends-by taken now result events after
-      (closed-outcome setting slots script (script_so_far (reading setting.family) taken) (acts_only s.acts) s.effects last events start before s.run s.events_is s.report after result (ap acts_of is)
+      (closed-outcome setting slots script (script_so_far (reading_by setting) taken) (acts_only s.acts) s.effects last events start before s.run s.events_is s.report after result (ap acts_of is)
       (subst (λ end. Closes (closing_line setting last end) (status_of last end) result before after) (sym (ap (λ script. script.last) is)) closes)) all
 
   -- a fault of a byte
   pub exit-bytes : (taken now : List ℕ) (after : Option (List ℕ)) (result : Status) (found : LineFault) (number : ℕ) (text : List ℕ) → byte_end (Faulty found) ≡ FaultAt number text
-      → Again old.over (Err found) → (old.over ≡ over.Going → lines_held old left ≡ ends_at (Faulty found)) → Closes (fault_line number text) ScriptFault result before after
+      → Again old.over (Err found) → (old.over ≡ over.Going → lines_held old left ≡ ends_at (Faulty found)) → Closes (fault_told setting last.commits number text) ScriptFault result before after
       → EndsRun setting slots bytes taken now result events start after
   exit-bytes taken now after result found number text end again hands closes =
       let p = length last.batch in
       let q = length last.probes in
       let other : not-end (Err found) = λ e. cc in
-      let (going, is) = still-going old.over (reading setting.family) bytes old left s.acts p q (Err found) other again s.read in
-      let whole = bytes-fault (reading setting.family) bytes old left s.acts p q found is (hands going) in
-      closed taken now (FaultAt number text) after result (whole ∙ ap (λ e. record { acts = s.acts; last = e }) end) closes (closes-script (fault_line number text) result before after now closes)
+      let (going, is) = still-going old.over (reading_by setting) bytes old left s.acts p q (Err found) other again s.read in
+      let whole = bytes-fault (reading_by setting) bytes old left s.acts p q found is (hands going) in
+      closed taken now (FaultAt number text) after result (whole ∙ ap (λ e. record { acts = s.acts; last = e }) end) closes (closes-script (fault_told setting last.commits number text) result before after now closes)
 
   -- the end of the input
   pub exit-end : (new : HeldBytes) (taken now : List ℕ) (after : Option (List ℕ)) (result : Status)
@@ -87,7 +94,7 @@ module _ (setting : Setting) (slots : ℕ) (bytes : List ℕ) (old : HeldBytes) 
   exit-end new taken now after result hands rests closes =
       let p = length last.batch in
       let q = length last.probes in
-      let whole = all-read old.over (reading setting.family) s.acts p q s.read hands rests in
+      let whole = all-read old.over (reading_by setting) s.acts p q s.read hands rests in
       closed taken now Whole after result whole.0 closes (λ _. whole.1)
     where
       all-read : (o : Over) (reading : Reading) (acts : List NumberedAct) (p q : ℕ) → IsReadSoFar o reading bytes old left acts p q
@@ -105,8 +112,8 @@ module _ (setting : Setting) (slots : ℕ) (bytes : List ℕ) (old : HeldBytes) 
       let p = length last.batch in
       let q = length last.probes in
       let other : not-end (Err fault.Read) = λ e. cc in
-      let (going, is) = still-going old.over (reading setting.family) bytes old left s.acts p q (Err fault.Read) other again s.read in
-      let same = so-far (reading setting.family) bytes taken old left new now s.acts p q is (hands going).0 parts in
+      let (going, is) = still-going old.over (reading_by setting) bytes old left s.acts p q (Err fault.Read) other again s.read in
+      let same = so-far (reading_by setting) bytes taken old left new now s.acts p q is (hands going).0 parts in
       record {
         effects = s.effects;
         partial = [];
@@ -118,13 +125,13 @@ module _ (setting : Setting) (slots : ℕ) (bytes : List ℕ) (old : HeldBytes) 
 
   -- a line came
   module _ (line : Line) (new : HeldBytes) (now : List ℕ) (again : Again old.over (Ok (Some line))) (hands : old.over ≡ over.Going → HandsOne old left (numbered line) new now) where
-    going : (old.over ≡ over.Going) × IsGoing (reading setting.family) bytes old left s.acts (length last.batch) (length last.probes)
+    going : (old.over ≡ over.Going) × IsGoing (reading_by setting) bytes old left s.acts (length last.batch) (length last.probes)
     going =
         let other : not-end (Ok (Some line)) = λ e. cc in
-        still-going old.over (reading setting.family) bytes old left s.acts (length last.batch) (length last.probes) (Ok (Some line)) other again s.read
+        still-going old.over (reading_by setting) bytes old left s.acts (length last.batch) (length last.probes) (Ok (Some line)) other again s.read
 
     -- it is skipped
-    pub goes-none : reading setting.family (numbered line).text ≡ Ok None → RunsOn setting slots s.acts bytes new now last events start before
+    pub goes-none : reading_by setting (numbered line).text ≡ Ok None → RunsOn setting slots s.acts bytes new now last events start before
     goes-none is =
         let p = length last.batch in
         let q = length last.probes in
@@ -135,35 +142,35 @@ module _ (setting : Setting) (slots : ℕ) (bytes : List ℕ) (old : HeldBytes) 
             run = s.run;
             events_is = s.events_is;
             report = s.report;
-            read = next-line (reading setting.family) bytes old left (numbered line) new now s.acts s.acts p q p q going.1 (hands going.0) (λ rest. ap (onto_all s.acts) (line-none (reading setting.family) p q (numbered line) rest is));
+            read = next-line (reading_by setting) bytes old left (numbered line) new now s.acts s.acts p q p q going.1 (hands going.0) (λ rest. ap (onto_all s.acts) (line-none (reading_by setting) p q (numbered line) rest is));
           };
           more = [];
           acts_are = sym (append-nil (acts_only s.acts));
         }
 
     -- it has no sense
-    pub exit-word : (taken : List ℕ) (after : Option (List ℕ)) (result : Status) (text : List ℕ) → reading setting.family (numbered line).text ≡ Err text → Closes (fault_line line.number text) ScriptFault result before after
+    pub exit-word : (taken : List ℕ) (after : Option (List ℕ)) (result : Status) (text : List ℕ) → reading_by setting (numbered line).text ≡ Err text → Closes (fault_told setting last.commits line.number text) ScriptFault result before after
         → EndsRun setting slots bytes taken now result events start after
     exit-word taken after result text is closes =
         let p = length last.batch in
         let q = length last.probes in
-        let (rest, e) = line-here (reading setting.family) bytes old left (numbered line) new now s.acts p q going.1 (hands going.0) in
-        closed taken now (FaultAt line.number text) after result (e ∙ ap (onto_all s.acts) (line-fault (reading setting.family) p q (numbered line) rest text is) ∙ onto-nil s.acts (FaultAt line.number text)) closes
-        (closes-script (fault_line line.number text) result before after now closes)
+        let (rest, e) = line-here (reading_by setting) bytes old left (numbered line) new now s.acts p q going.1 (hands going.0) in
+        closed taken now (FaultAt line.number text) after result (e ∙ ap (onto_all s.acts) (line-fault (reading_by setting) p q (numbered line) rest text is) ∙ onto-nil s.acts (FaultAt line.number text)) closes
+        (closes-script (fault_told setting last.commits line.number text) result before after now closes)
 
     -- there is no room for its act
-    pub exit-full : (taken : List ℕ) (after : Option (List ℕ)) (result : Status) (act : Act) (text : List ℕ) → reading setting.family (numbered line).text ≡ Ok (Some act)
-        → limit_fault act (length last.batch) (length last.probes) ≡ Some text → Closes (fault_line line.number text) ScriptFault result before after
+    pub exit-full : (taken : List ℕ) (after : Option (List ℕ)) (result : Status) (act : Act) (text : List ℕ) → reading_by setting (numbered line).text ≡ Ok (Some act)
+        → limit_fault act (length last.batch) (length last.probes) ≡ Some text → Closes (fault_told setting last.commits line.number text) ScriptFault result before after
         → EndsRun setting slots bytes taken now result events start after
     exit-full taken after result act text is full closes =
         let p = length last.batch in
         let q = length last.probes in
-        let (rest, e) = line-here (reading setting.family) bytes old left (numbered line) new now s.acts p q going.1 (hands going.0) in
-        closed taken now (FaultAt line.number text) after result (e ∙ ap (onto_all s.acts) (line-full (reading setting.family) p q (numbered line) rest act text is full) ∙ onto-nil s.acts (FaultAt line.number text)) closes
-        (closes-script (fault_line line.number text) result before after now closes)
+        let (rest, e) = line-here (reading_by setting) bytes old left (numbered line) new now s.acts p q going.1 (hands going.0) in
+        closed taken now (FaultAt line.number text) after result (e ∙ ap (onto_all s.acts) (line-full (reading_by setting) p q (numbered line) rest act text is full) ∙ onto-nil s.acts (FaultAt line.number text)) closes
+        (closes-script (fault_told setting last.commits line.number text) result before after now closes)
 
     -- its act is carried out, or cut
-    module _ (act : Act) (is : reading setting.family (numbered line).text ≡ Ok (Some act)) (room : limit_fault act (length last.batch) (length last.probes) ≡ None) (events_new : List Action) (after : Option (List ℕ)) where
+    module _ (act : Act) (is : reading_by setting (numbered line).text ≡ Ok (Some act)) (room : limit_fault act (length last.batch) (length last.probes) ≡ None) (events_new : List Action) (after : Option (List ℕ)) where
       at : IsAt slots events last
       at = run-at setting slots _ s.effects last events s.run s.events_is
 
@@ -180,25 +187,25 @@ module _ (setting : Setting) (slots : ℕ) (bytes : List ℕ) (old : HeldBytes) 
               run = subst (λ a. Runs setting slots a (s.effects ++ made.effects) next) (only-more s.acts line.number act) (run-more setting slots (acts_only s.acts) s.effects last act made.effects next s.run made.step);
               events_is = does-events s.effects made.effects [] events events_new before after made.does s.events_is;
               report = subst (Appends start after) (append-nil (printed (s.effects ++ made.effects))) (does-report s.effects made.effects [] events events_new start before after made.does s.report);
-              read = next-line (reading setting.family) bytes old left (numbered line) new now s.acts acts p q (length next.batch) (length next.probes) going.1 (hands going.0) (λ rest.
-                  ap (onto_all s.acts) (line-act (reading setting.family) p q (numbered line) rest act is room)
-                  ∙ onto-more s.acts line.number act (acts_next (reading setting.family) (pending_after act p) (probes_after act q) rest)
-                  ∙ ap (λ n. onto_all acts (acts_next (reading setting.family) n (probes_after act q) rest)) (sym (step-pending setting last act made.effects next made.step))
-                  ∙ ap (λ n. onto_all acts (acts_next (reading setting.family) (length next.batch) n rest)) (sym (step-probes setting last act made.effects next made.step)));
+              read = next-line (reading_by setting) bytes old left (numbered line) new now s.acts acts p q (length next.batch) (length next.probes) going.1 (hands going.0) (λ rest.
+                  ap (onto_all s.acts) (line-act (reading_by setting) p q (numbered line) rest act is room)
+                  ∙ onto-more s.acts line.number act (acts_next (reading_by setting) (pending_after act p) (probes_after act q) rest)
+                  ∙ ap (λ n. onto_all acts (acts_next (reading_by setting) n (probes_after act q) rest)) (sym (step-pending setting last act made.effects next made.step))
+                  ∙ ap (λ n. onto_all acts (acts_next (reading_by setting) (length next.batch) n rest)) (sym (step-probes setting last act made.effects next made.step)));
             };
             more = act ∷ [];
             acts_are = sym (only-more s.acts line.number act);
           }
 
-      here : (later : List Act) × (acts_of (script_of (reading setting.family) bytes) ≡ acts_only s.acts ++ act ∷ later)
-      here = act-here (reading setting.family) bytes old left (numbered line) new now act s.acts _ _ going.1 (hands going.0) is room
+      here : (later : List Act) × (acts_of (script_of (reading_by setting) bytes) ≡ acts_only s.acts ++ act ∷ later)
+      here = act-here (reading_by setting) bytes old left (numbered line) new now act s.acts _ _ going.1 (hands going.0) is room
 
       -- by its fault
       pub exit-stopped : (taken : List ℕ) (why : RunFault) → Stops slots setting last act why events events_new before after
           → EndsRun setting slots bytes taken now (status_of_fault why) events_new start after
       exit-stopped taken why is =
           ends-by taken now (status_of_fault why) events_new after
-          (stopped-outcome setting slots (script_of (reading setting.family) bytes) (script_so_far (reading setting.family) taken) (acts_only s.acts) s.effects last events start before s.run s.events_is s.report
+          (stopped-outcome setting slots (script_of (reading_by setting) bytes) (script_so_far (reading_by setting) taken) (acts_only s.acts) s.effects last events start before s.run s.events_is s.report
           act here.0 here.1 events_new after why is)
           (not-whole why)
 

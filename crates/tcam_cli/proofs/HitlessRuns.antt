@@ -7,20 +7,23 @@ use Rattle.tcam_device.specs.declared.Action.{Action}
 use Rattle.tcam_device.specs.declared.Action.TheVariants.{Written, Drained}
 use Rattle.tcam_device.specs.Flight.{writes_in}
 use Rattle.tcam_device.specs.State.{State, apply, blank, state_after}
+use Rattle.rule_model.specs.RuleSet.{answer}
 use Rattle.replay.specs.declared.Act.{Act}
 use Rattle.replay.specs.declared.Act.TheVariants.{Command, Probe, Packet, Commit, Trial, Crash}
 use Rattle.replay.specs.Script.{Script, Whole, script_of}
-use Rattle.replay.specs.Effects.{Setting, Effect, Acts, Prints, journal_of, traced, searches_of, flushed, searched_after, waiting_after, effects_of}
+use Rattle.replay.specs.Effects.{Setting, Effect, Acts, Prints, journal_of, traced, drain_told, write_told, searches_of, flushed, searched_after, waiting_after, effects_of}
 use Rattle.replay.specs.Fates.{IsCrash}
 use Rattle.replay.specs.Run.{Progress, start, Commits, Tries, Crashes, actions_back, actions_before, actions_for, actions_over, carried, IsCutBeforeCrash, IsCutInStep, IsCutStep, Judged, HasEffects, Runs, TakesMemory}
-use Rattle.replay.specs.Text.{aborted_line, accepted_line, drain_line, restarted_line, write_line}
+use Rattle.replay.specs.Text.{aborted_line, drain_line, restarted_line, write_line}
+use Rattle.replay.specs.Reports.{done_line, packet_told}
 use Rattle.tcam_cli.specs.declared.Status.{Status}
 use Rattle.tcam_cli.specs.declared.Status.TheVariants.{Done, Refused, Script as ScriptFault, ReadFault, WriteFault, DeviceFault, Memory, Usage}
 use Rattle.tcam_cli.specs.Headline.{Job, NoJob, Tells, Reads, Makes, acts_of, script_so_far, IsAtAct, IsComplete, IsEffectDue, IsOutcome, IsOutOfMemory, IsOutOfMemoryAtAct, IsCarriedOut}
 use Rattle.tcam_cli.specs.MadeScript.{made_script}
-use Rattle.tcam_cli.specs.Readings.{reading}
+use Rattle.tcam_cli.specs.Readings.{reading_by}
 use Rattle.tcam_cli.specs.AllTheWay.{sets_through, sets_of, AnswersAllTheWay, EndsAtLast, EndsAfter, CrashesNowhere, EndsAfterSome, IsNoProbe, TellsNoWrite, IsHitlessRun, IsHitlessJob}
 use Rattle.replay.proofs.lines.Effects.{written-append}
+use Rattle.replay.proofs.lines.Opened.{carried-words, so_far-words}
 use Rattle.tcam_cli.proofs.OneMore.{run-more, none-probed}
 use Rattle.tcam_cli.proofs.AllTheWay.{RunGoes, cut-answers, more-sets, run-goes, same-sets, wider}
 use Rattle.tcam_cli.proofs.CutCrash.{AsCommit, cut-as_commit, stops-as_commit}
@@ -169,28 +172,31 @@ quiet-searches setting number waiting state = go (waiting == setting.depth)
     go true = refl
     go false = refl
 
-quiet-actions : (setting : Setting) (number waiting : ℕ) (state : State) (actions : List Action) → setting.trace ≡ false → effects_of setting [] number waiting state actions ≡ map Acts actions
-quiet-actions setting number waiting state [] quiet = refl
-quiet-actions setting number waiting state (Written write ∷ actions) quiet =
+quiet-actions : (setting : Setting) (number waiting : ℕ) (state : State) (actions : List Action) → setting.trace ≡ false → setting.json ≡ false → effects_of setting [] number waiting state actions ≡ map Acts actions
+quiet-actions setting number waiting state [] quiet words = refl
+quiet-actions setting number waiting state (Written write ∷ actions) quiet words =
     let next = apply state write in
     let later = effects_of setting [] (number + 1) (min (waiting + 1) setting.depth) next actions in
-    ap (λ trace. Acts (Written write) ∷ (traced trace (write_line setting.family (number + 1) write) ++ (searched_after setting [] (number + 1) waiting next ++ later))) quiet
+    ap (λ json. Acts (Written write) ∷ (write_told json setting.trace setting.family (number + 1) write ++ (searched_after setting [] (number + 1) waiting next ++ later))) words
+    ∙ ap (λ trace. Acts (Written write) ∷ (traced trace (write_line setting.family (number + 1) write) ++ (searched_after setting [] (number + 1) waiting next ++ later))) quiet
     ∙ ap (λ found. Acts (Written write) ∷ (found ++ later)) (quiet-searches setting (number + 1) waiting next)
-    ∙ ap (λ effects. Acts (Written write) ∷ effects) (quiet-actions setting (number + 1) (min (waiting + 1) setting.depth) next actions quiet)
-quiet-actions setting number waiting state (Drained ∷ actions) quiet =
+    ∙ ap (λ effects. Acts (Written write) ∷ effects) (quiet-actions setting (number + 1) (min (waiting + 1) setting.depth) next actions quiet words)
+quiet-actions setting number waiting state (Drained ∷ actions) quiet words =
     let later = effects_of setting [] number 0 state actions in
-    ap (λ lines. lines ++ Acts Drained ∷ (traced setting.trace (drain_line number) ++ later)) (quiet-flush setting number state waiting)
+    ap (λ lines. lines ++ Acts Drained ∷ (drain_told setting.json setting.trace number ++ later)) (quiet-flush setting number state waiting)
+    ∙ ap (λ json. Acts Drained ∷ (drain_told json setting.trace number ++ later)) words
     ∙ ap (λ trace. Acts Drained ∷ (traced trace (drain_line number) ++ later)) quiet
-    ∙ ap (λ effects. Acts Drained ∷ effects) (quiet-actions setting number 0 state actions quiet)
+    ∙ ap (λ effects. Acts Drained ∷ effects) (quiet-actions setting number 0 state actions quiet words)
 
-quiet-carried : (setting : Setting) (before : Progress) (actions : List Action) → setting.trace ≡ false → before.probes ≡ [] → carried setting before actions ≡ map Acts actions
-quiet-carried setting before actions quiet none =
+quiet-carried : (setting : Setting) (before : Progress) (actions : List Action) → setting.trace ≡ false → setting.json ≡ false → before.probes ≡ [] → carried setting before actions ≡ map Acts actions
+quiet-carried setting before actions quiet words none =
     let number = length (writes_in actions) in
     let state = state_after before.state (writes_in actions) in
     let waiting = waiting_after setting.depth 0 actions in
-    ap (λ probes. effects_of setting probes 0 0 before.state actions ++ flushed setting.family probes number state waiting) none
+    carried-words setting before actions words
+    ∙ ap (λ probes. effects_of setting probes 0 0 before.state actions ++ flushed setting.family probes number state waiting) none
     ∙ ap (λ lines. effects_of setting [] 0 0 before.state actions ++ lines) (quiet-flush setting number state waiting)
-    ∙ append-nil (effects_of setting [] 0 0 before.state actions) ∙ quiet-actions setting 0 0 before.state actions quiet
+    ∙ append-nil (effects_of setting [] 0 0 before.state actions) ∙ quiet-actions setting 0 0 before.state actions quiet words
 
 not-none : (front : List Effect) (effect : Effect) (back : List Effect) → front ++ effect ∷ back ≡ [] → ⊥
 not-none [] effect back is = cc
@@ -210,48 +216,50 @@ last-line (action ∷ made) (effect ∷ front) back line text is =
     let more : front ++ Prints line ∷ back ≡ map Acts made ++ Prints text ∷ [] = cc in last-line made front back line text more
 
 last-judged : (setting : Setting) (before : Progress) (is : Verdict) (front back : List Effect) (line : List ℕ) (after : Progress)
-    → setting.trace ≡ false → before.probes ≡ [] → Judged Commits setting before is (front ++ Prints line ∷ back) after → back ≡ []
-last-judged setting before Accepted front back line after quiet none step =
-    last-line (actions_for setting before step.made) front back line (accepted_line (before.commits + 1) step.counts)
-    (step.effects_are ∙ ap (λ effects. effects ++ Prints (accepted_line (before.commits + 1) step.counts) ∷ []) (quiet-carried setting before (actions_for setting before step.made) quiet none))
-last-judged setting before (Unsound fault) front back line after quiet none step = last-line [] front back line _ step.0
-last-judged setting before (OutOfBits field needed free) front back line after quiet none step = last-line [] front back line _ step.0
-last-judged setting before (OutOfSlots needed free) front back line after quiet none step = last-line [] front back line _ step.0
+    → setting.trace ≡ false → setting.json ≡ false → before.probes ≡ [] → Judged Commits setting before is (front ++ Prints line ∷ back) after → back ≡ []
+last-judged setting before Accepted front back line after quiet words none step =
+    last-line (actions_for setting before step.made) front back line (done_line setting.json (before.commits + 1) step.counts)
+    (step.effects_are ∙ ap (λ effects. effects ++ Prints (done_line setting.json (before.commits + 1) step.counts) ∷ []) (quiet-carried setting before (actions_for setting before step.made) quiet words none))
+last-judged setting before (Unsound fault) front back line after quiet words none step = last-line [] front back line _ step.0
+last-judged setting before (OutOfBits field needed free) front back line after quiet words none step = last-line [] front back line _ step.0
+last-judged setting before (OutOfSlots needed free) front back line after quiet words none step = last-line [] front back line _ step.0
 
 last-tried : (most : ℕ) (setting : Setting) (before : Progress) (is : Verdict) (front back : List Effect) (line : List ℕ) (after : Progress)
-    → setting.trace ≡ false → before.probes ≡ [] → Judged (Tries most) setting before is (front ++ Prints line ∷ back) after → back ≡ []
-last-tried most setting before Accepted front back line after quiet none (inl commits) = last-judged setting before Accepted front back line after quiet none commits.0
-last-tried most setting before Accepted front back line after quiet none (inr returns) =
+    → setting.trace ≡ false → setting.json ≡ false → before.probes ≡ [] → Judged (Tries most) setting before is (front ++ Prints line ∷ back) after → back ≡ []
+last-tried most setting before Accepted front back line after quiet words none (inl commits) = last-judged setting before Accepted front back line after quiet words none commits.0
+last-tried most setting before Accepted front back line after quiet words none (inr returns) =
     let actions = actions_back setting before most returns.made in
     last-line actions front back line (aborted_line (before.commits + 1) (2 * most))
-    (returns.effects_are ∙ ap (λ effects. effects ++ Prints (aborted_line (before.commits + 1) (2 * most)) ∷ []) (quiet-carried setting before actions quiet none))
-last-tried most setting before (Unsound fault) front back line after quiet none step = last-line [] front back line _ step.0
-last-tried most setting before (OutOfBits field needed free) front back line after quiet none step = last-line [] front back line _ step.0
-last-tried most setting before (OutOfSlots needed free) front back line after quiet none step = last-line [] front back line _ step.0
+    (returns.effects_are ∙ ap (λ effects. effects ++ Prints (aborted_line (before.commits + 1) (2 * most)) ∷ []) (quiet-carried setting before actions quiet words none))
+last-tried most setting before (Unsound fault) front back line after quiet words none step = last-line [] front back line _ step.0
+last-tried most setting before (OutOfBits field needed free) front back line after quiet words none step = last-line [] front back line _ step.0
+last-tried most setting before (OutOfSlots needed free) front back line after quiet words none step = last-line [] front back line _ step.0
 
 last-crashed : (limit : ℕ) (setting : Setting) (before : Progress) (is : Verdict) (front back : List Effect) (line : List ℕ) (after : Progress)
-    → setting.trace ≡ false → before.probes ≡ [] → Judged (Crashes limit) setting before is (front ++ Prints line ∷ back) after → back ≡ []
-last-crashed limit setting before Accepted front back line after quiet none (inl commits) = last-judged setting before Accepted front back line after quiet none commits.0
-last-crashed limit setting before Accepted front back line after quiet none (inr restarts) =
+    → setting.trace ≡ false → setting.json ≡ false → before.probes ≡ [] → Judged (Crashes limit) setting before is (front ++ Prints line ∷ back) after → back ≡ []
+last-crashed limit setting before Accepted front back line after quiet words none (inl commits) = last-judged setting before Accepted front back line after quiet words none commits.0
+last-crashed limit setting before Accepted front back line after quiet words none (inr restarts) =
     let actions = actions_over setting before limit restarts.made restarts.rest in
     let text = restarted_line (before.commits + 1) limit (limit + length restarts.rest) in
     last-line actions front back line text
-    (restarts.effects_are ∙ ap (λ effects. effects ++ Prints text ∷ []) (quiet-carried setting before actions quiet none))
-last-crashed limit setting before (Unsound fault) front back line after quiet none step = last-line [] front back line _ step.0
-last-crashed limit setting before (OutOfBits field needed free) front back line after quiet none step = last-line [] front back line _ step.0
-last-crashed limit setting before (OutOfSlots needed free) front back line after quiet none step = last-line [] front back line _ step.0
+    (restarts.effects_are ∙ ap (λ effects. effects ++ Prints text ∷ []) (quiet-carried setting before actions quiet words none))
+last-crashed limit setting before (Unsound fault) front back line after quiet words none step = last-line [] front back line _ step.0
+last-crashed limit setting before (OutOfBits field needed free) front back line after quiet words none step = last-line [] front back line _ step.0
+last-crashed limit setting before (OutOfSlots needed free) front back line after quiet words none step = last-line [] front back line _ step.0
 
 last-step : (setting : Setting) (before : Progress) (act : Act) (front back : List Effect) (line : List ℕ) (after : Progress)
-    → setting.trace ≡ false → before.probes ≡ [] → HasEffects setting before act (front ++ Prints line ∷ back) after → back ≡ []
-last-step setting before (Command change) front back line after quiet none step = absurd (not-none front (Prints line) back step.0)
-last-step setting before (Probe key) front back line after quiet none step = absurd (not-none front (Prints line) back step.0)
-last-step setting before (Packet key) front back line after quiet none step = last-line [] front back line _ step.0
-last-step setting before Commit front back line after quiet none step =
-    last-judged setting before (verdict setting.slots setting.mode before.rules before.batch) front back line after quiet none step
-last-step setting before (Trial most) front back line after quiet none step =
-    last-tried most setting before (verdict setting.slots setting.mode before.rules before.batch) front back line after quiet none step
-last-step setting before (Crash limit) front back line after quiet none step =
-    last-crashed limit setting before (verdict setting.slots setting.mode before.rules before.batch) front back line after quiet none step
+    → setting.trace ≡ false → setting.json ≡ false → before.probes ≡ [] → HasEffects setting before act (front ++ Prints line ∷ back) after → back ≡ []
+last-step setting before (Command change) front back line after quiet words none step = absurd (not-none front (Prints line) back step.0)
+last-step setting before (Probe key) front back line after quiet words none step = absurd (not-none front (Prints line) back step.0)
+last-step setting before (Packet key) front back line after quiet words none step =
+    last-line [] front back line _
+    (step.0 ∙ ap (λ json. packet_told (record setting { json = json }) (answer before.rules key)) words)
+last-step setting before Commit front back line after quiet words none step =
+    last-judged setting before (verdict setting.slots setting.mode before.rules before.batch) front back line after quiet words none step
+last-step setting before (Trial most) front back line after quiet words none step =
+    last-tried most setting before (verdict setting.slots setting.mode before.rules before.batch) front back line after quiet words none step
+last-step setting before (Crash limit) front back line after quiet words none step =
+    last-crashed limit setting before (verdict setting.slots setting.mode before.rules before.batch) front back line after quiet words none step
 
 -- the first of some acts are no probes either
 none-first : (done later : List Act) → AllByRecursion IsNoProbe (done ++ later) → AllByRecursion IsNoProbe done
@@ -267,7 +275,7 @@ at-line : (setting : Setting) (slots : ℕ) (script : Script) (effects : List Ef
 at-line setting slots script effects line (inl at) = go at.cut
   where
     probes-none : TellsNoWrite setting script → at.before.probes ≡ []
-    probes-none quiet = none-probed setting (start slots) at.done at.body at.before (none-first at.done (at.act ∷ at.later) (subst (AllByRecursion IsNoProbe) at.acts quiet.1)) at.run
+    probes-none quiet = none-probed setting (start slots) at.done at.body at.before (none-first at.done (at.act ∷ at.later) (subst (AllByRecursion IsNoProbe) at.acts quiet.2)) at.run
 
     go : IsCutStep setting at.before at.act at.front (Prints line) → LineFails setting slots script (journal_of effects)
     go (inl cut) =
@@ -276,7 +284,7 @@ at-line setting slots script effects line (inl at) = go at.cut
           whole.0,
           in-step setting slots script effects (Prints line) at cut whole,
           λ quiet.
-              let none = last-step setting at.before at.act at.front cut.back line cut.after quiet.0 (probes-none quiet) cut.step in
+              let none = last-step setting at.before at.act at.front cut.back line cut.after quiet.0 quiet.1 (probes-none quiet) cut.step in
               let all : List Effect = at.body ++ (at.front ++ Prints line ∷ cut.back) in
               let same : journal_of all ≡ journal_of effects =
               ap (λ back. journal_of (at.body ++ (at.front ++ Prints line ∷ back))) none
@@ -294,7 +302,8 @@ at-line setting slots script effects line (inl at) = go at.cut
           λ quiet.
               let actions = actions_before setting at.before cut.after cut.made in
               let all : map Acts actions ≡ at.front ++ Prints line ∷ cut.back =
-              sym (quiet-actions setting 0 0 at.before.state actions quiet.0) ∙ ap (λ probes. effects_of setting probes 0 0 at.before.state actions) (sym (probes-none quiet)) ∙ cut.parts in
+              sym (quiet-actions setting 0 0 at.before.state actions quiet.0 quiet.1) ∙ ap (λ probes. effects_of setting probes 0 0 at.before.state actions) (sym (probes-none quiet))
+              ∙ sym (so_far-words setting at.before actions quiet.1) ∙ cut.parts in
               absurd (no-line actions at.front line cut.back all),
         )
 at-line setting slots script effects line (inr end) =
@@ -337,11 +346,11 @@ hitless-job (Reads setting) slots status None left_new taken_old taken_new event
 hitless-job (Reads setting) slots status (Some old) None taken_old taken_new events is = tt
 hitless-job (Reads setting) slots status (Some old) (Some new) taken_old taken_new events is =
     let n = length old - length new in
-    let came : Script = script_so_far (reading setting.family) (take n old) in
-    let first : came.last ≡ Whole → AreFirstActs (acts_of came) (acts_of (script_of (reading setting.family) old)) =
-    λ sound. subst (λ bytes. AreFirstActs (acts_of came) (acts_of (script_of (reading setting.family) bytes))) (take-append-drop n old) (first-acts (reading setting.family) (take n old) (drop n old) sound) in
-    subst (λ writes. IsHitlessRun setting slots (script_of (reading setting.family) old) came status writes) (sym (ap writes_in is.1.events_is))
-    (outcome_answers setting slots (script_of (reading setting.family) old) came status is.1.effects is.1.partial first is.1.outcome)
+    let came : Script = script_so_far (reading_by setting) (take n old) in
+    let first : came.last ≡ Whole → AreFirstActs (acts_of came) (acts_of (script_of (reading_by setting) old)) =
+    λ sound. subst (λ bytes. AreFirstActs (acts_of came) (acts_of (script_of (reading_by setting) bytes))) (take-append-drop n old) (first-acts (reading_by setting) (take n old) (drop n old) sound) in
+    subst (λ writes. IsHitlessRun setting slots (script_of (reading_by setting) old) came status writes) (sym (ap writes_in is.1.events_is))
+    (outcome_answers setting slots (script_of (reading_by setting) old) came status is.1.effects is.1.partial first is.1.outcome)
 hitless-job (Makes setting seed rules batches) slots status left_old left_new taken_old taken_new events is =
     let script = made_script seed rules batches in
     let made = is.1.1 in

@@ -18,7 +18,7 @@ use Rattle.replay.specs.Carried.{IsAt, Does}
 use Rattle.tcam_cli.specs.declared.Status.{Status}
 use Rattle.tcam_cli.specs.declared.Status.TheVariants.{Memory}
 use Rattle.tcam_cli.specs.Headline.{Job, NoJob, Tells, Reads, Makes, acts_of}
-use Rattle.tcam_cli.specs.Readings.{reading}
+use Rattle.tcam_cli.specs.Readings.{reading_by}
 use Rattle.tcam_cli.specs.Rounds.{IsGoing, IsReadSoFar, acts_only, SoFar, Closes, Grows, RoundsBy}
 use Rattle.tcam_cli.specs.Given.{given_so_far, IsInTime, WantsInTime, ReadsInTime}
 use Rattle.tcam_cli.proofs.OneMore.{does-events, does-report, run-at}
@@ -93,10 +93,10 @@ known-before setting slots p front bytes left rest old before writes start taken
       bytes = ap (λ l. old.pending ++ l) come ∙ sym (append_assoc old.pending (concat front) rest);
       one_line = plain;
     } in
-    let read = still-going old.over (reading setting.family) bytes old left s.acts _ _ going s.read in
+    let read = still-going old.over (reading_by setting) bytes old left s.acts _ _ going s.read in
     let parts : bytes ≡ concat (p ++ front) ++ rest =
     given ∙ ap (λ l. concat p ++ l) come ∙ sym (append_assoc (concat p) (concat front) rest) ∙ ap (λ l. l ++ rest) (sym (concat-append p front)) in
-    so-far (reading setting.family) bytes (concat (p ++ front)) old left (record old { pending = old.pending ++ concat front }) rest s.acts _ _ read kept parts
+    so-far (reading_by setting) bytes (concat (p ++ front)) old left (record old { pending = old.pending ++ concat front }) rest s.acts _ _ read kept parts
 
 -- so all lines before it are carried out and told
 module _ (setting : Setting) (slots : ℕ) (p front : List (List ℕ)) (last : List ℕ) (old : HeldBytes) (before : Progress) (writes : List Action) (accepted_old accepted_new : List ℕ)

@@ -12,7 +12,7 @@ use Rattle.clap.specs.Simple.{Shape, argument_words, built, filled, help_rule, s
 use Rattle.clap.specs.Faults.{fault_of, level_fault}
 use Rattle.replay.specs.declared.Family.{Family}
 use Rattle.replay.specs.declared.Family.TheVariants.{Route, Acl, Route6, Acl6}
-use Rattle.tcam_cli.specs.CommandLine.{acl_app, depth_option, gen_app, is_traced, job_at, job_of_rows, job_of_subcommand, made_at, mode_wanted, number_of, number_position, placed_by, placement_option, ranges_option, route_app, script_by, slots_option, tcam_app, tcam_top, text_of, trace_flag}
+use Rattle.tcam_cli.specs.CommandLine.{acl_app, depth_option, gen_app, is_traced, json_by, job_at, job_of_rows, job_of_subcommand, made_at, mode_wanted, number_of, number_position, placed_by, placement_option, ranges_option, route_app, script_by, slots_option, tcam_app, tcam_top, text_of, trace_flag, json_flag}
 use Rattle.tcam_cli.specs.Asked.{job_by, tested_job, tested_job_of_rows, tested_made, tested_script}
 use Rattle.tcam_cli.specs.Headline.{Job}
 use Rattle.tcam_cli.proofs.ArgumentRows.{AllKeep, Good, HasNumber, apart-keeps, depth-default, depth-keep, depth_id, has-apart, number-given, or_no, position, position-keeps, slots-default, slots-keep, slots_id}
@@ -24,7 +24,7 @@ use Rattle.tcam_cli.proofs.TakenRows.{IsTaken, built-gives, level-taken}
 abbrev read_by : Family → List Row → Bool → Bool → Job
 read_by family rows slots depth =
     job_by (cond slots (Some (number_of slots_id rows)) None) (λ s.
-    job_by (cond depth (Some (number_of depth_id rows)) None) (λ d. job_at family s (mode_wanted family rows) (placed_by rows) (is_traced rows) d))
+    job_by (cond depth (Some (number_of depth_id rows)) None) (λ d. job_at family s (mode_wanted family rows) (placed_by rows) (is_traced rows) d (json_by family rows)))
 
 script-tested : (family : Family) (rows : List Row) → HasNumber slots_id 1 most_slots rows → HasNumber depth_id 0 15 rows → script_by family rows ≡ tested_script family rows
 script-tested family rows slots depth =
@@ -83,6 +83,20 @@ route_rest = filled placement_option ∷ filled trace_flag ∷ filled depth_opti
 abbrev list_rest : List Rule
 list_rest = filled ranges_option ∷ filled placement_option ∷ filled trace_flag ∷ filled depth_option ∷ filled help_rule ∷ []
 
+-- where a report may be in JSON
+abbrev route_rest_json : List Rule
+route_rest_json = filled placement_option ∷ filled trace_flag ∷ filled depth_option ∷ filled json_flag ∷ filled help_rule ∷ []
+
+abbrev list_rest_json : List Rule
+list_rest_json = filled ranges_option ∷ filled placement_option ∷ filled trace_flag ∷ filled depth_option ∷ filled json_flag ∷ filled help_rule ∷ []
+
+-- what stands behind --depth
+abbrev back_plain : List Rule
+back_plain = filled help_rule ∷ []
+
+abbrev back_json : List Rule
+back_json = filled json_flag ∷ filled help_rule ∷ []
+
 -- what stands before --depth
 abbrev route_front : List Rule
 route_front = filled slots_option ∷ filled placement_option ∷ filled trace_flag ∷ []
@@ -108,7 +122,7 @@ keep-defaults : (P : List Row → Type 0) (rules : List Rule) → AllKeep P rule
 keep-defaults P [] all rows good = good
 keep-defaults P (a ∷ rest) all rows good = keep-defaults P rest all.1 (with_default rows a) (all.0.by_default rows good)
 
-module _ (s : Shape) (front : List Rule) (others : AreOthers depth_id front) (are : s.rules ≡ front ++ filled depth_option ∷ filled help_rule ∷ []) (once : s.args_override_self ≡ false) (words : List Text)
+module _ (s : Shape) (front back : List Rule) (others : AreOthers depth_id front) (others_back : AreOthers depth_id back) (are : s.rules ≡ front ++ filled depth_option ∷ back) (once : s.args_override_self ≡ false) (words : List Text)
     (none : level_fault s [] nothing_held words false [] ≡ []) where
   script-depth : HasNumber depth_id 0 15 (rows_after s.rules [] words)
   unfolding depth_option
@@ -116,13 +130,13 @@ module _ (s : Shape) (front : List Rule) (others : AreOthers depth_id front) (ar
       let ahead : AllKeep (Good depth_id 0 15) front = others-keep depth_id 0 15 front others in
       let keep : AllKeep (Good depth_id 0 15) s.rules =
       subst (AllKeep (Good depth_id 0 15)) (sym are)
-      (all-behind (Good depth_id 0 15) front (filled depth_option ∷ filled help_rule ∷ []) ahead (depth-keep, others-keep depth_id 0 15 (filled help_rule ∷ []) refl)) in
+      (all-behind (Good depth_id 0 15) front (filled depth_option ∷ back) ahead (depth-keep, others-keep depth_id 0 15 back others_back)) in
       let taken = level-taken (Good depth_id 0 15) s keep once tt words none in
       let before = fold with_default taken.rows front in
       let good = keep-defaults (Good depth_id 0 15) front ahead taken.rows taken.good in
       subst (HasNumber depth_id 0 15)
-      (sym (taken.after ∙ ap (fold with_default taken.rows) are ∙ fold-append with_default taken.rows front (filled depth_option ∷ filled help_rule ∷ [])))
-      (has-still depth_id 0 15 (filled help_rule ∷ []) refl (with_default before (filled depth_option)) (depth-default before good).0)
+      (sym (taken.after ∙ ap (fold with_default taken.rows) are ∙ fold-append with_default taken.rows front (filled depth_option ∷ back)))
+      (has-still depth_id 0 15 back others_back (with_default before (filled depth_option)) (depth-default before good).0)
 
 -- ---- the subcommand for made commands
 
@@ -205,17 +219,17 @@ module _ (s : Shape) (are : s.rules ≡ gen_rules) (once : s.args_override_self 
 
 -- where clap finds no fault, the tests of the numbers pass
 pub tested : (words : List Text) → fault_of tcam_app words ≡ [] → (o : Option (Text × List Row)) → subcommand_of tcam_app words ≡ o → job_of_subcommand o ≡ tested_job o
-unfolding tcam_app tcam_top route_app acl_app gen_app slots_option ranges_option placement_option trace_flag depth_option number_position
+unfolding tcam_app tcam_top route_app acl_app gen_app slots_option ranges_option placement_option trace_flag json_flag depth_option number_position
 tested words none None are = refl
 tested words none (Some (name, rows)) are =
     built-gives (λ name rows. job_of_rows name rows ≡ tested_job_of_rows name rows) (built tcam_app) (
-      λ words none. script-tested Route (rows_after (filled slots_option ∷ route_rest) [] words) (script-slots _ route_rest refl refl refl words none) (script-depth _ route_front refl refl refl words none),
+      λ words none. script-tested Route (rows_after (filled slots_option ∷ route_rest_json) [] words) (script-slots _ route_rest_json refl refl refl words none) (script-depth _ route_front back_json refl refl refl refl words none),
       (
-        λ words none. script-tested Acl (rows_after (filled slots_option ∷ list_rest) [] words) (script-slots _ list_rest refl refl refl words none) (script-depth _ list_front refl refl refl words none),
+        λ words none. script-tested Acl (rows_after (filled slots_option ∷ list_rest_json) [] words) (script-slots _ list_rest_json refl refl refl words none) (script-depth _ list_front back_json refl refl refl refl words none),
         (
-          λ words none. script-tested Route6 (rows_after (filled slots_option ∷ route_rest) [] words) (script-slots _ route_rest refl refl refl words none) (script-depth _ route_front refl refl refl words none),
+          λ words none. script-tested Route6 (rows_after (filled slots_option ∷ route_rest) [] words) (script-slots _ route_rest refl refl refl words none) (script-depth _ route_front back_plain refl refl refl refl words none),
           (
-            λ words none. script-tested Acl6 (rows_after (filled slots_option ∷ list_rest) [] words) (script-slots _ list_rest refl refl refl words none) (script-depth _ list_front refl refl refl words none),
+            λ words none. script-tested Acl6 (rows_after (filled slots_option ∷ list_rest) [] words) (script-slots _ list_rest refl refl refl words none) (script-depth _ list_front back_plain refl refl refl refl words none),
             (λ words none. gen-made _ refl refl words none, tt),
           ),
         ),

@@ -1,7 +1,8 @@
 -- One act more.
-use Rattle.std.proofs.Common.{◌≡◌, ℕ, inl, inr, Option, List, [], ◌∷◌, ◌++◌, length, take, refl, ap, sym, ◌∙◌, subst, append_assoc, append-nil, length-append}
+use Rattle.std.proofs.Common.{Bool, true, false, ◌≡◌, ℕ, inl, inr, Option, List, [], ◌∷◌, ◌++◌, length, take, refl, ap, sym, ◌∙◌, subst, append_assoc, append-nil, length-append}
 use Rattle.std.specs.Io.KnownBytes.{Appends}
 use Rattle.std.proofs.KnownBytes.{Appends-trans}
+use Rattle.rule_model.specs.RuleSet.{Answer, answer}
 use Rattle.rule_store.specs.Verdict.{Verdict, Accepted, Unsound, OutOfBits, OutOfSlots, verdict}
 use Rattle.tcam_device.specs.declared.Action.{Action}
 use Rattle.tcam_device.specs.Flight.{writes_in}
@@ -10,6 +11,7 @@ use Rattle.replay.specs.declared.Act.{Act}
 use Rattle.replay.specs.declared.Act.TheVariants.{Command, Probe, Packet, Commit, Trial, Crash}
 use Rattle.replay.specs.Script.{pending_after, probes_after}
 use Rattle.replay.specs.Effects.{Setting, Effect, events_in, journal_of, printed}
+use Rattle.replay.specs.Reports.{packet_told}
 use Rattle.replay.specs.Run.{Progress, start, Commits, Tries, Crashes, Judged, HasEffects, Run, Runs}
 use Rattle.replay.specs.Carried.{IsAt, Does}
 use Rattle.tcam_device.proofs.Spans.{state_after-append}
@@ -44,10 +46,18 @@ crashed-state after setting old (Unsound fault) effects new step = ap (λ p. p.s
 crashed-state after setting old (OutOfBits field needed free) effects new step = ap (λ p. p.state) step.1 ∙ ap (state_after old.state) (sym (ap journal_of step.0))
 crashed-state after setting old (OutOfSlots needed free) effects new step = ap (λ p. p.state) step.1 ∙ ap (state_after old.state) (sym (ap journal_of step.0))
 
+-- what is told of a packet does nothing to the device
+pub packet-still : (setting : Setting) (found : Answer) → journal_of (packet_told setting found) ≡ []
+packet-still setting found = go setting.json
+  where
+    go : (json : Bool) → journal_of (packet_told (record setting { json = json }) found) ≡ []
+    go true = refl
+    go false = refl
+
 pub step-state : (setting : Setting) (old : Progress) (act : Act) (effects : List Effect) (new : Progress) → HasEffects setting old act effects new → new.state ≡ state_after old.state (journal_of effects)
 step-state setting old (Command change) effects new step = ap (λ p. p.state) step.1 ∙ ap (state_after old.state) (sym (ap journal_of step.0))
 step-state setting old (Probe key) effects new step = ap (λ p. p.state) step.1 ∙ ap (state_after old.state) (sym (ap journal_of step.0))
-step-state setting old (Packet key) effects new step = ap (λ p. p.state) step.1 ∙ ap (state_after old.state) (sym (ap journal_of step.0))
+step-state setting old (Packet key) effects new step = ap (λ p. p.state) step.1 ∙ ap (state_after old.state) (sym (ap journal_of step.0 ∙ packet-still setting (answer old.rules key)))
 step-state setting old Commit effects new step = judged-state setting old (verdict setting.slots setting.mode old.rules old.batch) effects new step
 step-state setting old (Trial most) effects new step = tried-state most setting old (verdict setting.slots setting.mode old.rules old.batch) effects new step
 step-state setting old (Crash after) effects new step = crashed-state after setting old (verdict setting.slots setting.mode old.rules old.batch) effects new step

@@ -12,7 +12,7 @@ use Rattle.replay.specs.Run.{Progress, start}
 use Rattle.tcam_cli.specs.declared.Status.{Status}
 use Rattle.tcam_cli.specs.declared.Status.TheVariants.{Done, Refused, Script as ScriptFault, ReadFault, WriteFault, DeviceFault, Memory, Usage}
 use Rattle.tcam_cli.specs.Headline.{IsOutcome, IsCarriedOut, IsDecided, MayEnd, Reads, MatchesOutcome, script_so_far, decided}
-use Rattle.tcam_cli.specs.Readings.{reading}
+use Rattle.tcam_cli.specs.Readings.{reading_by}
 use Rattle.tcam_cli.proofs.Decided.{complete-decided}
 use Rattle.script_lines.specs.declared.Over.TheVariants as over
 use Rattle.script_lines.specs.Reader.{HeldBytes}
@@ -29,7 +29,7 @@ pub starts : (setting : Setting) (slots : ℕ) (bytes : List ℕ) (held : HeldBy
     → held ≡ fresh → Some bytes ≡ Some left → progress ≡ start slots → events ≡ [] → SoFar setting slots bytes held left progress events taken taken
 starts setting slots bytes held left progress events taken new all begun blank =
     let same : bytes ≡ left = cc in
-    let read : IsGoing (reading setting.family) bytes fresh left [] 0 0 = record {
+    let read : IsGoing (reading_by setting) bytes fresh left [] 0 0 = record {
       done = [];
       parts = same;
       script = λ rest. refl;
@@ -74,9 +74,9 @@ EndsTold setting slots status left_old left_new events taken_old taken_new =
 
 matches : (setting : Setting) (slots : ℕ) (status : Status) (old taken new : List ℕ) (events : List Action) (taken_old taken_new : Option (List ℕ)) → old ≡ taken ++ new
     → EndsRun setting slots old taken new status events taken_old taken_new
-    → MatchesOutcome setting slots (script_of (reading setting.family) old) (script_so_far (reading setting.family) (take (length old - length new) old)) status events taken_old taken_new
+    → MatchesOutcome setting slots (script_of (reading_by setting) old) (script_so_far (reading_by setting) (take (length old - length new) old)) status events taken_old taken_new
 matches setting slots status old taken new events taken_old taken_new parts ends =
-    let P : List ℕ → Type 0 = λ t. IsOutcome setting slots (script_of (reading setting.family) old) (script_so_far (reading setting.family) t) status ends.effects ends.partial in
+    let P : List ℕ → Type 0 = λ t. IsOutcome setting slots (script_of (reading_by setting) old) (script_so_far (reading_by setting) t) status ends.effects ends.partial in
     record {
       effects = ends.effects;
       partial = ends.partial;
@@ -96,7 +96,7 @@ carried setting slots status (Some old) (Some new) events taken_old taken_new ta
 
 decided-by : (setting : Setting) (slots : ℕ) (status : Status) (left_old left_new : Option (List ℕ)) (events : List Action) (taken_old taken_new : Option (List ℕ)) → TakesSome left_old left_new
     → EndsTold setting slots status left_old left_new events taken_old taken_new
-    → ((left taken now : List ℕ) → (e : EndsRun setting slots left taken now status events taken_old taken_new) → (backs : List Bool) × (decided setting backs (script_of (reading setting.family) left) ≡ status))
+    → ((left taken now : List ℕ) → (e : EndsRun setting slots left taken now status events taken_old taken_new) → (backs : List Bool) × (decided setting backs (script_of (reading_by setting) left) ≡ status))
     → IsDecided status (Reads setting) left_old
 decided-by setting slots status None left_new events taken_old taken_new takes ends so = ([], tt)
 decided-by setting slots status (Some old) None events taken_old taken_new takes ends so = absurd takes.1

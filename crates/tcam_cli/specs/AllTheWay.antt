@@ -18,7 +18,7 @@ use Rattle.tcam_cli.specs.declared.Status.{Status}
 use Rattle.tcam_cli.specs.declared.Status.TheVariants.{Done, Refused, Script as ScriptFault, ReadFault, WriteFault, DeviceFault, Memory, Usage}
 use Rattle.tcam_cli.specs.Headline.{Job, NoJob, Tells, Reads, Makes, acts_of, is_back, script_so_far}
 use Rattle.tcam_cli.specs.MadeScript.{made_script}
-use Rattle.tcam_cli.specs.Readings.{reading}
+use Rattle.tcam_cli.specs.Readings.{reading_by}
 
 -- A set that acts lead through: one that stands when its commit is made, or the new one of a trial that is taken back.
 pub data Led : Type 0 where
@@ -125,9 +125,9 @@ IsNoProbe Commit = Unit {0}
 IsNoProbe (Trial most) = Unit {0}
 IsNoProbe (Crash after) = Unit {0}
 
--- no write has a line of its own: no trace is wanted, and the script has no probe
+-- no write has a line of its own: neither a trace nor a report in JSON is wanted, and the script has no probe
 abbrev pub TellsNoWrite : Setting → Script → Type 0
-TellsNoWrite setting script = (setting.trace ≡ false) × AllByRecursion IsNoProbe (acts_of script)
+TellsNoWrite setting script = (setting.trace ≡ false) × (setting.json ≡ false) × AllByRecursion IsNoProbe (acts_of script)
 
 -- no commit of the script crashes
 abbrev pub CrashesNowhere : Script → Type 0
@@ -163,7 +163,7 @@ IsHitlessJob NoJob device_slots status left_old left_new journal = journal ≡ [
 IsHitlessJob (Tells text) device_slots status left_old left_new journal = journal ≡ []
 IsHitlessJob (Reads setting) device_slots status left_old left_new journal =
     IfSome left_old (λ old. IfSome left_new (λ new.
-    IsHitlessRun setting device_slots (script_of (reading setting.family) old)
-    (script_so_far (reading setting.family) (take (length old - length new) old)) status journal))
+    IsHitlessRun setting device_slots (script_of (reading_by setting) old)
+    (script_so_far (reading_by setting) (take (length old - length new) old)) status journal))
 IsHitlessJob (Makes setting seed rules batches) device_slots status left_old left_new journal =
     IsHitlessRun setting device_slots (made_script seed rules batches) (made_script seed rules batches) status journal

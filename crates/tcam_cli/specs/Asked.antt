@@ -1,5 +1,5 @@
 -- What the calls that read a command line answer: words that only their contracts need.
-use Rattle.std.specs.Prelude.{ℕ, ◌≤◌, Option, Some, None, List, false, codes, if◌then◌else◌}
+use Rattle.std.specs.Prelude.{ℕ, ◌≡◌, ◌⊎◌, ◌≤◌, Option, Some, None, List, true, false, codes, if◌then◌else◌}
 use Rattle.std.specs.Str.{bytes_eq}
 use Rattle.slot_order.specs.Order.{most_slots}
 use Rattle.clap.specs.Walk.{Row, Text}
@@ -8,7 +8,7 @@ use Rattle.replay.specs.declared.Family.{Family}
 use Rattle.replay.specs.declared.Family.TheVariants.{Route, Acl, Route6, Acl6}
 use Rattle.tcam_cli.specs.declared.command_line.Asked.{Asked}
 use Rattle.tcam_cli.specs.declared.command_line.Asked.TheVariants as asked
-use Rattle.tcam_cli.specs.CommandLine.{is_traced, job_at, made_at, mode_wanted, number_in, placed_by, script_setting, text_of}
+use Rattle.tcam_cli.specs.CommandLine.{is_traced, job_at, json_by, made_at, mode_wanted, number_in, placed_by, script_setting, text_of}
 use Rattle.tcam_cli.specs.OwnTexts.{help_on, version_text}
 use Rattle.tcam_cli.specs.Headline.{Job, NoJob, Tells, Reads, Makes}
 
@@ -30,7 +30,7 @@ number_given least greatest id rows = number_within least greatest (text_of id r
 abbrev pub tested_script : Family → List Row → Job
 tested_script family rows =
     job_by (number_given 1 most_slots (codes "slots") rows) (λ slots.
-    job_by (number_given 0 15 (codes "depth") rows) (λ depth. job_at family slots (mode_wanted family rows) (placed_by rows) (is_traced rows) depth))
+    job_by (number_given 0 15 (codes "depth") rows) (λ depth. job_at family slots (mode_wanted family rows) (placed_by rows) (is_traced rows) depth (json_by family rows)))
 
 abbrev pub tested_made : List Row → Job
 tested_made rows =
@@ -55,8 +55,8 @@ tested_job (Some (name, rows)) = tested_job_of_rows name rows
 
 -- what an answer says that words ask for
 abbrev pub asked_by : Asked → Job
-asked_by (asked.Script family slots mode placement trace depth) = Reads (script_setting family slots mode placement trace depth)
-asked_by (asked.Made slots mode placement seed rules batches) = Makes (script_setting Acl slots mode placement false 0) seed rules batches
+asked_by (asked.Script family slots mode placement trace depth json) = Reads (script_setting family slots mode placement trace depth json)
+asked_by (asked.Made slots mode placement seed rules batches) = Makes (script_setting Acl slots mode placement false 0 false) seed rules batches
 asked_by (asked.Help topic) = Tells (help_on topic)
 asked_by asked.Version = Tells version_text
 
@@ -72,7 +72,8 @@ pub record AreMadeNumbers (slots seed rules batches : ℕ) : Type 0 where
 
 -- the numbers of an answer are in their ranges
 abbrev pub IsInRange : Asked → Type 0
-IsInRange (asked.Script family slots mode placement trace depth) = (1 ≤ slots) × (slots ≤ most_slots) × (depth ≤ 15)
+IsInRange (asked.Script family slots mode placement trace depth json) =
+    (1 ≤ slots) × (slots ≤ most_slots) × (depth ≤ 15) × (json ≡ true → (family ≡ Route) ⊎ (family ≡ Acl))
 IsInRange (asked.Made slots mode placement seed rules batches) = AreMadeNumbers slots seed rules batches
 IsInRange (asked.Help topic) = Unit {0}
 IsInRange asked.Version = Unit {0}

@@ -24,10 +24,11 @@ use Rattle.tcam_cli.specs.Headline.{Job, NoJob, Tells, Reads, Makes}
 use Rattle.tcam_cli.specs.OwnTexts.{help_on, version_text}
 
 -- a script of a family over so many slots in use, port ranges tested as the mode says, each insertion aiming as the
--- placement says, with a trace or without, and with the words of probes searched after so many further writes
-abbrev pub script_setting : Family → ℕ → Mode → Placement → Bool → ℕ → Setting
-script_setting family slots mode placement trace depth =
-    record { slots = slots; mode = mode; placement = placement; family = family; trace = trace; depth = depth }
+-- placement says, with a trace or without, with the words of probes searched after so many further writes, and with a
+-- report in JSON or without
+abbrev pub script_setting : Family → ℕ → Mode → Placement → Bool → ℕ → Bool → Setting
+script_setting family slots mode placement trace depth json =
+    record { slots = slots; mode = mode; placement = placement; family = family; trace = trace; depth = depth; json = json }
 
 -- --slots, a number from 1 to 4096, by default 4096
 unfoldable pub slots_option : Rule
@@ -67,6 +68,10 @@ depth_option = record (new_rule (codes "depth")) {
   defaults = codes "0" ∷ [];
 }
 
+-- --json, a flag
+unfoldable pub json_flag : Rule
+json_flag = record (new_rule (codes "json")) { long = Some (codes "json"); action = Some SetTrue }
+
 -- a subcommand for route scripts, by its name
 unfoldable pub route_app : Text → App
 route_app name =
@@ -103,8 +108,8 @@ tcam_top = on_top (λ top. record top {
 -- and with its subcommands
 unfoldable pub tcam_app : App
 tcam_app =
-    with_subcommand (with_subcommand (with_subcommand (with_subcommand (with_subcommand tcam_top (route_app (codes "route")).top)
-    (acl_app (codes "acl")).top) (route_app (codes "route6")).top) (acl_app (codes "acl6")).top) gen_app.top
+    with_subcommand (with_subcommand (with_subcommand (with_subcommand (with_subcommand tcam_top (with_rule (route_app (codes "route")) json_flag).top)
+    (with_rule (acl_app (codes "acl")) json_flag).top) (route_app (codes "route6")).top) (acl_app (codes "acl6")).top) gen_app.top
 
 -- the text that an argument was given, or has by default
 abbrev pub text_of : Text → List Row → Text
@@ -125,6 +130,13 @@ has_text id text rows = bytes_eq (text_of id rows) text
 -- whether a trace is wanted
 abbrev pub is_traced : List Row → Bool
 is_traced rows = has_text (codes "trace") (codes "true") rows
+
+-- whether a report in JSON is wanted, which scripts of IPv4 have
+abbrev pub json_by : Family → List Row → Bool
+json_by Route rows = has_text (codes "json") (codes "true") rows
+json_by Acl rows = has_text (codes "json") (codes "true") rows
+json_by Route6 rows = false
+json_by Acl6 rows = false
 
 -- the mode that a word names
 abbrev pub mode_in : Text → Option Mode
@@ -148,21 +160,22 @@ abbrev pub placed_by : List Row → Option Placement
 placed_by rows = placement_in (text_of (codes "placement") rows)
 
 -- a script of a family over so many slots, where the words of --ranges and --placement name a mode and a placement
-abbrev pub job_at : Family → ℕ → Option Mode → Option Placement → Bool → ℕ → Job
-job_at family slots None placement trace depth = NoJob
-job_at family slots (Some mode) None trace depth = NoJob
-job_at family slots (Some mode) (Some placement) trace depth = Reads (script_setting family slots mode placement trace depth)
+abbrev pub job_at : Family → ℕ → Option Mode → Option Placement → Bool → ℕ → Bool → Job
+job_at family slots None placement trace depth json = NoJob
+job_at family slots (Some mode) None trace depth json = NoJob
+job_at family slots (Some mode) (Some placement) trace depth json = Reads (script_setting family slots mode placement trace depth json)
 
 -- the commands of a seed, over so many slots, where these words name them: so many batches of so many rules
 abbrev pub made_at : ℕ → Option Mode → Option Placement → ℕ → ℕ → ℕ → Job
 made_at slots None placement seed rules batches = NoJob
 made_at slots (Some mode) None seed rules batches = NoJob
-made_at slots (Some mode) (Some placement) seed rules batches = Makes (script_setting Acl slots mode placement false 0) seed rules batches
+made_at slots (Some mode) (Some placement) seed rules batches = Makes (script_setting Acl slots mode placement false 0 false) seed rules batches
 
 -- a script of a family, by its arguments
 abbrev pub script_by : Family → List Row → Job
 script_by family rows =
     job_at family (number_of (codes "slots") rows) (mode_wanted family rows) (placed_by rows) (is_traced rows) (number_of (codes "depth") rows)
+    (json_by family rows)
 
 -- what a subcommand and its arguments ask for: a script of its family over so many slots, or made commands
 abbrev pub job_of_rows : Text → List Row → Job

@@ -14,7 +14,7 @@ use Rattle.tcam_cli.specs.declared.Status.{Status}
 use Rattle.tcam_cli.specs.declared.Status.TheVariants.{Memory}
 use Rattle.tcam_cli.specs.Headline.{Job, NoJob, Tells, Reads, Makes, IsCarriedOut, IsOutOfMemoryAtAct, MayEnd, acts_of, script_so_far}
 use Rattle.tcam_cli.specs.AllTheWay.{IsHitlessJob}
-use Rattle.tcam_cli.specs.Readings.{reading}
+use Rattle.tcam_cli.specs.Readings.{reading_by}
 
 -- the promise over a source that had these bytes before and has those now
 pub record IsPromised (job : Job) (device_slots : ℕ) (status : Status) (left_old left_new taken_old taken_new : Option (List ℕ)) (events : List Action) : Type 0 where
@@ -29,7 +29,7 @@ IsPromisedByGiven job device_slots status given_old given_new taken_old taken_ne
 
 -- what these first pieces of a script are so far
 abbrev pub given_so_far : Setting → List (List ℕ) → Script
-given_so_far setting pieces = script_so_far (reading setting.family) (concat pieces)
+given_so_far setting pieces = script_so_far (reading_by setting) (concat pieces)
 
 -- before the last read, by the pieces that came before it, the source had not said that the input is at its end; all
 -- lines that were whole by then were carried out, and their report was accepted; none was at fault
@@ -48,7 +48,7 @@ pub record IsInTime (setting : Setting) (device_slots : ℕ) (before : List (Lis
 -- its crash: the acts before it begin with those of the pieces that came before that read.
 pub record WantsInTime (setting : Setting) (device_slots : ℕ) (before : List (List ℕ)) (bytes : List ℕ) (events : List Action) (accepted_old accepted_new : List ℕ) : Type 0 where
   pub effects : List Effect
-  pub wants : IsOutOfMemoryAtAct setting device_slots (script_of (reading setting.family) bytes) effects
+  pub wants : IsOutOfMemoryAtAct setting device_slots (script_of (reading_by setting) bytes) effects
   pub more : List Act
   pub done_is : wants.done ≡ acts_of (given_so_far setting before) ++ more
   pub events_is : events ≡ events_in effects

@@ -18,12 +18,13 @@ use Rattle.batch_order.specs.CarriedOut.{IsTried}
 use Rattle.replay.specs.declared.Act.{Act}
 use Rattle.replay.specs.declared.Act.TheVariants.{Command, Probe, Packet, Commit, Trial, Crash}
 use Rattle.replay.specs.Script.{Script, ScriptEnd, Whole, FaultAt, Reading, acts_from, script_of}
-use Rattle.replay.specs.Text.{fault_line, usage_line}
+use Rattle.replay.specs.Text.{usage_line}
 use Rattle.replay.specs.Effects.{Setting, Effect, Acts, Prints, events_in, printed}
+use Rattle.replay.specs.Reports.{fault_told}
 use Rattle.replay.specs.Run.{Progress, IsCutStep, TakesMemory, Runs, ending}
 use Rattle.tcam_cli.specs.declared.Status.{Status}
 use Rattle.tcam_cli.specs.declared.Status.TheVariants.{Done, Refused, Script as ScriptFault, ReadFault, WriteFault, DeviceFault, Memory, Usage}
-use Rattle.tcam_cli.specs.Readings.{reading}
+use Rattle.tcam_cli.specs.Readings.{reading_by}
 use Rattle.tcam_cli.specs.MadeScript.{made_script}
 
 -- what words ask for: nothing, a text of the product about itself, a script from the source, or made commands
@@ -40,7 +41,7 @@ acts_of script = map (λ numbered. numbered.act) script.acts
 -- The last line that a script's end gives: the end line, or the line that names the fault.
 abbrev pub closing_line : Setting → Progress → ScriptEnd → List ℕ
 closing_line setting progress Whole = ending setting progress
-closing_line setting progress (FaultAt line text) = fault_line line text
+closing_line setting progress (FaultAt line text) = fault_told setting progress.commits line text
 
 -- the status of a script that was carried out to its end
 abbrev pub status_of : Progress → ScriptEnd → Status
@@ -184,8 +185,8 @@ IsCarriedOut (Tells text) device_slots status left_old left_new taken_old taken_
 IsCarriedOut (Reads setting) device_slots status left_old left_new taken_old taken_new events =
     IfSome left_old (λ old. IfSome left_new (λ new.
     TakesFrom status old new
-    × MatchesOutcome setting device_slots (script_of (reading setting.family) old)
-    (script_so_far (reading setting.family) (take (length old - length new) old)) status events taken_old taken_new))
+    × MatchesOutcome setting device_slots (script_of (reading_by setting) old)
+    (script_so_far (reading_by setting) (take (length old - length new) old)) status events taken_old taken_new))
 IsCarriedOut (Makes setting seed rules batches) device_slots status left_old left_new taken_old taken_new events =
     (left_new ≡ left_old) × MatchesMade setting device_slots (made_script seed rules batches) status events taken_old taken_new
 
@@ -234,7 +235,7 @@ decided setting backs script =
 abbrev pub decision : Job → List Bool → Option (List ℕ) → Option Status
 decision NoJob backs left = Some Usage
 decision (Tells text) backs left = Some Done
-decision (Reads setting) backs left = option_map (λ bytes. decided setting backs (script_of (reading setting.family) bytes)) left
+decision (Reads setting) backs left = option_map (λ bytes. decided setting backs (script_of (reading_by setting) bytes)) left
 decision (Makes setting seed rules batches) backs left = Some (decided setting backs (made_script seed rules batches))
 
 -- words and script alone decide this status, where the script is told or made

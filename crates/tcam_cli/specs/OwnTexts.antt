@@ -34,6 +34,8 @@ help_text = codes "tcam: the table manager of a ternary content-addressable memo
     ++ 10 ∷ codes "                     or rank, its place among all entries, for a table that is"
     ++ 10 ∷ codes "                     loaded in one commit, or a list in its order"
     ++ 10 ∷ codes "    --trace          a line for each device write and drain; not for gen"
+    ++ 10 ∷ codes "    --json           of route and acl, a report in JSON: a value a line for each"
+    ++ 10 ∷ codes "                     command, device write and drain of a commit"
     ++ 10 ∷ codes "    --depth K        of scripts, after how many further writes the words of the"
     ++ 10 ∷ codes "                     probes are searched: 0 to 15, by default 0, at once"
     ++ 10 ∷ 10 ∷ codes "Exit status:"
@@ -49,7 +51,8 @@ help_text = codes "tcam: the table manager of a ternary content-addressable memo
     ++ 10 ∷ 10 ∷ codes "The manual is docs/SCRIPT.md."
     ++ 10 ∷ []
 
--- what the helps of a version of IP name: itself, prefixes, an address, and the addresses of two packets
+-- what the helps of a version of IP name: itself, prefixes, an address, and the addresses of two packets; and the option
+-- that only scripts of IPv4 have, as a word and as a line
 pub record Named : Type 0 where
   pub version : List ℕ
   pub prefix : List ℕ
@@ -57,6 +60,8 @@ pub record Named : Type 0 where
   pub address : List ℕ
   pub to_route : List ℕ
   pub to_list : List ℕ
+  pub json_word : List ℕ
+  pub json_option : List ℕ
 
 unfoldable pub ipv4_named : Named
 ipv4_named = record {
@@ -66,6 +71,8 @@ ipv4_named = record {
   address = codes "10.1.2.3";
   to_route = codes "0.0.0.0 10.1.2.3";
   to_list = codes "192.0.2.1 10.1.2.3";
+  json_word = codes " [--json]";
+  json_option = 10 ∷ codes "    --json           a report in JSON, a value a line; no trial, no crash";
 }
 
 unfoldable pub ipv6_named : Named
@@ -76,6 +83,8 @@ ipv6_named = record {
   address = codes "2001:db8::1";
   to_route = codes ":: 2001:db8::1";
   to_list = codes "2001:db8:1::1 2001:db8::1";
+  json_word = [];
+  json_option = [];
 }
 
 -- the commands that all scripts have, as their helps list them
@@ -110,7 +119,7 @@ list_options = slots_line
 -- the help of a script of routes, by its subcommand: its commands, their words, options and an example
 unfoldable pub route_help_of : List ℕ → List ℕ → Named → List ℕ
 route_help_of command rules named = codes "tcam " ++ command ++ codes ": carries out a script of " ++ rules ++ codes ", and writes a report."
-    ++ 10 ∷ 10 ∷ codes "    tcam " ++ command ++ codes " [--slots N] [--placement P] [--trace] [--depth K] < FILE"
+    ++ 10 ∷ 10 ∷ codes "    tcam " ++ command ++ codes " [--slots N] [--placement P] [--trace] [--depth K]" ++ named.json_word ++ codes " < FILE"
     ++ 10 ∷ 10 ∷ codes "Commands of a script, one a line:"
     ++ 10 ∷ codes "    route add PREFIX RESULT    a new route: packets to the prefix get RESULT,"
     ++ 10 ∷ codes "                               unless a route of a longer prefix holds"
@@ -126,7 +135,7 @@ route_help_of command rules named = codes "tcam " ++ command ++ codes ": carries
     ++ 10 ∷ slots_line
     ++ 10 ∷ placement_line
     ++ 10 ∷ trace_option
-    ++ 10 ∷ depth_line
+    ++ 10 ∷ depth_line ++ named.json_option
     ++ 10 ∷ 10 ∷ codes "Example of a script, whose packet gets the answer " ++ named.prefix ++ codes " 7:"
     ++ 10 ∷ codes "    route add " ++ named.prefix ++ codes " 7"
     ++ 10 ∷ codes "    commit"
@@ -143,7 +152,7 @@ route6_help = route_help_of (codes "route6") (codes "IPv6 routes") ipv6_named
 -- the help of a script of an access list, likewise
 unfoldable pub acl_help_of : List ℕ → List ℕ → Named → List ℕ
 acl_help_of command rules named = codes "tcam " ++ command ++ codes ": carries out a script of " ++ rules ++ codes ", and writes a report."
-    ++ 10 ∷ 10 ∷ codes "    tcam " ++ command ++ codes " [--slots N] [--ranges R] [--placement P] [--trace] [--depth K] < FILE"
+    ++ 10 ∷ 10 ∷ codes "    tcam " ++ command ++ codes " [--slots N] [--ranges R] [--placement P] [--trace] [--depth K]" ++ named.json_word ++ codes " < FILE"
     ++ 10 ∷ 10 ∷ codes "Commands of a script, one a line, with the source's side and ports first:"
     ++ 10 ∷ codes "    acl add SEQ ACTION SIDE SIDE PROTOSPEC PORTSPEC PORTSPEC"
     ++ 10 ∷ codes "                               a new rule: packets that meet its conditions"
@@ -161,7 +170,7 @@ acl_help_of command rules named = codes "tcam " ++ command ++ codes ": carries o
     ++ 10 ∷ 10 ∷ codes "Options, of which tcam --help says more:"
     ++ 10 ∷ list_options
     ++ 10 ∷ trace_option
-    ++ 10 ∷ depth_line
+    ++ 10 ∷ depth_line ++ named.json_option
     ++ 10 ∷ 10 ∷ codes "Example of a script, whose packet gets the answer 10 permit:"
     ++ 10 ∷ codes "    acl add 10 permit any " ++ named.prefix ++ codes " tcp any 443"
     ++ 10 ∷ codes "    commit"

@@ -1,5 +1,5 @@
 -- How the lines of a script are read, by the kind of script.
-use Rattle.std.specs.Prelude.{ℕ, Result, Ok, Err, Option, List, option_map}
+use Rattle.std.specs.Prelude.{ℕ, Bool, true, false, Result, Ok, Err, Option, Some, None, List, codes, option_map}
 use Rattle.rule_model.specs.declared.IpVersion.{IpVersion}
 use Rattle.rule_model.specs.declared.IpVersion.TheVariants.{V4, V6}
 use Rattle.rule_model.specs.AddressBlock.{AddressBlock}
@@ -21,6 +21,7 @@ use Rattle.replay.specs.declared.Act.{Act}
 use Rattle.replay.specs.declared.Act.TheVariants.{Command, Probe, Packet, Commit, Trial, Crash}
 use Rattle.replay.specs.declared.Family.{Family}
 use Rattle.replay.specs.declared.Family.TheVariants.{Route, Acl, Route6, Acl6}
+use Rattle.replay.specs.Effects.{Setting}
 use Rattle.replay.specs.Script.{Reading}
 
 -- a command that both kinds of script have
@@ -69,3 +70,22 @@ reading Route line = route_reading V4 line
 reading Acl line = acl_reading V4 line
 reading Route6 line = route_reading V6 line
 reading Acl6 line = acl_reading V6 line
+
+-- what an act that was read is: where the report is in JSON a trial and a crash are faults
+abbrev pub told_by : Bool → Act → Result (Option Act) (List ℕ)
+told_by json (Command change) = Ok (Some (Command change))
+told_by json (Probe key) = Ok (Some (Probe key))
+told_by json (Packet key) = Ok (Some (Packet key))
+told_by json Commit = Ok (Some Commit)
+told_by json (Trial most) = elim json [ true ↦ Err (codes "not with json") | false ↦ Ok (Some (Trial most)) ]
+told_by json (Crash after) = elim json [ true ↦ Err (codes "not with json") | false ↦ Ok (Some (Crash after)) ]
+
+-- and a line
+abbrev pub line_told_by : Bool → Result (Option Act) (List ℕ) → Result (Option Act) (List ℕ)
+line_told_by json (Err text) = Err text
+line_told_by json (Ok None) = Ok None
+line_told_by json (Ok (Some act)) = told_by json act
+
+-- How the lines of a script are read whose report is as a setting says.
+abbrev pub reading_by : Setting → Reading
+reading_by setting line = line_told_by setting.json (reading setting.family line)

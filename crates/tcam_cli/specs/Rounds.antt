@@ -23,7 +23,7 @@ use Rattle.replay.specs.Running.{Running}
 use Rattle.tcam_cli.specs.declared.Status.{Status}
 use Rattle.tcam_cli.specs.declared.Status.TheVariants.{Done, Refused, WriteFault, DeviceFault, Memory}
 use Rattle.tcam_cli.specs.Headline.{acts_of, whole_lines, script_so_far, IsOutcome}
-use Rattle.tcam_cli.specs.Readings.{reading}
+use Rattle.tcam_cli.specs.Readings.{reading_by}
 use Rattle.script_lines.specs.declared.Over.{Over}
 use Rattle.script_lines.specs.declared.Over.TheVariants as over
 use Rattle.script_lines.specs.Reader.{HeldBytes, LastAtOpenLine}
@@ -83,13 +83,13 @@ pub record SoFar (setting : Setting) (slots : ℕ) (bytes : List ℕ) (held : He
   pub run : Runs setting slots (acts_only acts) effects progress
   pub events_is : events ≡ events_in effects
   pub report : Appends taken_old taken_new (printed effects)
-  pub read : IsReadSoFar held.over (reading setting.family) bytes held left acts (length progress.batch) (length progress.probes)
+  pub read : IsReadSoFar held.over (reading_by setting) bytes held left acts (length progress.batch) (length progress.probes)
 
 -- a run over a script ends, with these bytes taken of it
 pub record EndsRun (setting : Setting) (slots : ℕ) (bytes taken left : List ℕ) (status : Status) (events : List Action) (taken_old taken_new : Option (List ℕ)) : Type 0 where
   pub effects : List Effect
   pub partial : List ℕ
-  pub outcome : IsOutcome setting slots (script_of (reading setting.family) bytes) (script_so_far (reading setting.family) taken) status effects partial
+  pub outcome : IsOutcome setting slots (script_of (reading_by setting) bytes) (script_so_far (reading_by setting) taken) status effects partial
   pub events_is : events ≡ events_in effects
   pub report : Appends taken_old taken_new (printed effects ++ partial)
   pub all : (status ≡ Done) ⊎ (status ≡ Refused) → left ≡ []
@@ -131,7 +131,7 @@ pub record RunsOn (setting : Setting) (slots : ℕ) (acts : List NumberedAct) (b
 pub record WantsNext (setting : Setting) (acts : List NumberedAct) (bytes : List ℕ) (before : Progress) (events_old events_new : List Action) (taken_old taken_new : Option (List ℕ)) : Type 0 where
   pub act : Act
   pub later : List Act
-  pub acts_are : acts_of (script_of (reading setting.family) bytes) ≡ acts_only acts ++ act ∷ later
+  pub acts_are : acts_of (script_of (reading_by setting) bytes) ≡ acts_only acts ++ act ∷ later
   pub wants : Wants setting before act events_old events_new taken_old taken_new
 
 -- what a round of a run comes to, whatever bytes come after those that were given in it

@@ -1,9 +1,9 @@
 //! The words of the command line, as `clap` takes them.
 
-ghost use Rattle.std.specs.Prelude.{◌≡◌, ◌≤◌, codes, Err, IfOk, IsErrOf, IfSome, IsNone, None, false, map, string_bytes};
-ghost use Rattle.clap.specs.Words.{app_of, rule_of, rows_of, found_of, subcommand_rows_of, kind_of};
+ghost use Rattle.std.specs.Prelude.{◌≡◌, ◌⊎◌, ◌≤◌, codes, Err, IfOk, IsErrOf, IfSome, IsNone, None, false, true, map, string_bytes};
+ghost use Rattle.clap.specs.Words.{app_of, with_rule, rule_of, rows_of, found_of, subcommand_rows_of, kind_of};
 ghost use Rattle.clap.specs.declared.builder.command.Command.TheViews.{out-Command};
-ghost use Rattle.tcam_cli.specs.CommandLine.{job_of, job_of_fault, mode_wanted, mode_in, placement_in, topic_in, topic_named, acl_app, depth_option, gen_app, number_position, placement_option, ranges_option, route_app, slots_option, tcam_app, text_of as text_in, trace_flag};
+ghost use Rattle.tcam_cli.specs.CommandLine.{job_of, job_of_fault, mode_wanted, mode_in, placement_in, topic_in, topic_named, acl_app, depth_option, gen_app, json_by, json_flag, number_position, placement_option, ranges_option, route_app, slots_option, tcam_app, text_of as text_in, trace_flag};
 ghost use Rattle.tcam_cli.specs.Asked.{IsInRange, asked_by, number_within, tested_job, tested_made, tested_script};
 ghost use Rattle.tcam_cli.specs.Headline.{NoJob};
 
@@ -19,8 +19,9 @@ use std::alloc::{AllocError, Global};
 #[derive(Clone, Copy, Debug, PartialEq, Eq)]
 pub enum Asked {
     /// A script of this family from the source, with so many slots in use, 1 to 4,096, where port ranges are tested as
-    /// the mode says and each insertion aims as the placement says, with a trace or without, and with the words of
-    /// probes searched after so many further writes, at most 15.
+    /// the mode says and each insertion aims as the placement says, with a trace or without, with the words of probes
+    /// searched after so many further writes, at most 15, and with a report in JSON or without, which families of IPv4
+    /// have.
     Script {
         family: Family,
         slots: u32,
@@ -28,6 +29,7 @@ pub enum Asked {
         placement: Placement,
         trace: bool,
         depth: u32,
+        json: bool,
     },
     /// Commands of an access list that are made from a seed up to 2,147,483,647, 1 to 64 batches of 1 to 256 rules
     /// each, over so many slots, in this mode and by this placement, and without a trace. No source is read.
@@ -110,6 +112,16 @@ fn depth_arg<'a>(alloc: Global) -> Arg<'a>
         .default_value("0")
 }
 
+/// Whether the report is in JSON.
+fn json_arg<'a>(alloc: Global) -> Arg<'a>
+    ensures rule { rule_of result ≡ json_flag }
+    ensures global { result.global ≡ false }
+{
+    Arg::new(alloc, "json")
+        .long("json")
+        .action(ArgAction::SetTrue)
+}
+
 /// A subcommand for route scripts, by its name.
 fn route_command<'a>(alloc: Global, name: &'a str) -> Result<Command<'a>, AllocError>
     ensures app { IfOk result (λ c. app_of c ≡ route_app name.entry.now) }
@@ -137,6 +149,15 @@ fn acl_command<'a>(alloc: Global, name: &'a str) -> Result<Command<'a>, AllocErr
             .arg(trace_arg(alloc))?
             .arg(depth_arg(alloc))?,
     )
+}
+
+/// A subcommand whose report may be in JSON.
+fn with_json<'a>(alloc: Global, command: Command<'a>) -> Result<Command<'a>, AllocError>
+    requires local { (out-Command command).has_globals ≡ false }
+    ensures app { IfOk result (λ c. app_of c ≡ with_rule (app_of command.entry) json_flag) }
+    ensures local { IfOk result (λ c. (out-Command c).has_globals ≡ false) }
+{
+    Ok(command.arg(json_arg(alloc))?)
 }
 
 /// A required number in a range, which stands behind the subcommand in its order.
@@ -175,8 +196,8 @@ fn tcam_command<'a>(alloc: Global) -> Result<Command<'a>, AllocError>
             .version("0.1.0")
             .subcommand_required(true)
             .disable_help_subcommand(true)
-            .subcommand(route_command(alloc, "route")?)?
-            .subcommand(acl_command(alloc, "acl")?)?
+            .subcommand(with_json(alloc, route_command(alloc, "route")?)?)?
+            .subcommand(with_json(alloc, acl_command(alloc, "acl")?)?)?
             .subcommand(route_command(alloc, "route6")?)?
             .subcommand(acl_command(alloc, "acl6")?)?
             .subcommand(gen_command(alloc)?)?,
@@ -233,6 +254,7 @@ fn job_of_script(family: Family, found: &ArgMatches) -> Option<Asked>
         placement: placement_of(text_of(found, "placement"))?,
         trace: text_of(found, "trace") == "true",
         depth: number_of(text_of(found, "depth"), 0, 15)?,
+        json: json_of(family, found),
     })
 }
 
@@ -266,6 +288,17 @@ fn mode_of(family: Family, found: &ArgMatches) -> Option<Mode>
     match family {
         Family::Route | Family::Route6 => Some(Mode::Cover),
         Family::Acl | Family::Acl6 => mode_named(text_of(found, "ranges")),
+    }
+}
+
+/// Whether a report in JSON is wanted, which scripts of IPv4 have.
+fn json_of(family: Family, found: &ArgMatches) -> bool
+    ensures asked { result ≡ json_by family (rows_of (found_of found.now)) }
+    ensures ipv4 { result ≡ true → (family ≡ Family.Route) ⊎ (family ≡ Family.Acl) }
+{
+    match family {
+        Family::Route | Family::Acl => text_of(found, "json") == "true",
+        Family::Route6 | Family::Acl6 => false,
     }
 }
 

@@ -62,6 +62,9 @@
 //!   are names: a list of names in `clap`'s declaration is a reference, and no definition can name the place in memory
 //!   that it refers to. The price is one corner: behind a wrong word of these, `--help` still prints the help, where
 //!   behind a wrong number of `--slots` the words are no command line.
+//! - **`--json` is an option of `route` and `acl` alone**, since no line of a trace file has an IPv6 address. With it a
+//!   line of a trial or a crash is at fault (`reading_by`), behind any fault of its words: the reader of the family reads
+//!   it first.
 //! - **`clap` takes a plus and leading zeros before a number of the command line** (`--slots +8`), and so do we;
 //!   numbers of scripts have neither. **Each number is read again, in its range** (`number_of`), where `clap` has
 //!   tested it. That the second test never fails where the first passed is proved (`tested`), over any argument that

@@ -51,6 +51,8 @@ Options:
                      or rank, its place among all entries, for a table that is
                      loaded in one commit, or a list in its order
     --trace          a line for each device write and drain; not for gen
+    --json           of route and acl, a report in JSON: a value a line for each
+                     command, device write and drain of a commit
     --depth K        of scripts, after how many further writes the words of the
                      probes are searched: 0 to 15, by default 0, at once
 
@@ -72,7 +74,7 @@ The manual is docs/SCRIPT.md.
 const ROUTE_HELP: &str = "\
 tcam route: carries out a script of routes, and writes a report.
 
-    tcam route [--slots N] [--placement P] [--trace] [--depth K] < FILE
+    tcam route [--slots N] [--placement P] [--trace] [--depth K] [--json] < FILE
 
 Commands of a script, one a line:
     route add PREFIX RESULT    a new route: packets to the prefix get RESULT,
@@ -98,6 +100,7 @@ Options, of which tcam --help says more:
     --placement P    where a new entry aims: middle, the default, or rank
     --trace          a line for each device write and drain
     --depth K        probes are searched K writes later, 0 to 15, by default 0
+    --json           a report in JSON, a value a line; no trial, no crash
 
 Example of a script, whose packet gets the answer 10.0.0.0/8 7:
     route add 10.0.0.0/8 7
@@ -111,7 +114,7 @@ The manual is docs/SCRIPT.md.
 const ACL_HELP: &str = "\
 tcam acl: carries out a script of an access list, and writes a report.
 
-    tcam acl [--slots N] [--ranges R] [--placement P] [--trace] [--depth K] < FILE
+    tcam acl [--slots N] [--ranges R] [--placement P] [--trace] [--depth K] [--json] < FILE
 
 Commands of a script, one a line, with the source's side and ports first:
     acl add SEQ ACTION SIDE SIDE PROTOSPEC PORTSPEC PORTSPEC
@@ -141,6 +144,7 @@ Options, of which tcam --help says more:
     --placement P    where a new entry aims: middle, the default, or rank
     --trace          a line for each device write and drain
     --depth K        probes are searched K writes later, 0 to 15, by default 0
+    --json           a report in JSON, a value a line; no trial, no crash
 
 Example of a script, whose packet gets the answer 10 permit:
     acl add 10 permit any 10.0.0.0/8 tcp any 443

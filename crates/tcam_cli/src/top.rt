@@ -12,14 +12,14 @@ ghost use Rattle.rule_model.specs.Rule.{route_rule};
 ghost use Rattle.replay.specs.Run.{start, ending};
 ghost use Rattle.replay.specs.Carried.{IsAt};
 ghost use Rattle.replay.specs.Outside.{Leaves};
-ghost use Rattle.replay.specs.Running.{progress_of, setting_of, routes_of, IsActOf};
+ghost use Rattle.replay.specs.Running.{progress_of, setting_of, routes_of, IsActOf, IsToldIn};
 ghost use Rattle.replay.specs.Script.{Whole};
-ghost use Rattle.replay.specs.Text.{fault_line};
+ghost use Rattle.replay.specs.Reports.{fault_told};
 ghost use Rattle.tcam_cli.specs.AllTheWay.{IsHitlessJob};
 ghost use Rattle.tcam_cli.specs.CommandLine.{job_of};
 ghost use Rattle.tcam_cli.specs.Headline.{IsCarriedOut, HasCauses, Makes, Reads, status_of};
 ghost use Rattle.tcam_cli.specs.MadeScript.{made_act};
-ghost use Rattle.tcam_cli.specs.Readings.{acl_act, acl_reading, common_act, reading, route_act, route_rank, route_reading};
+ghost use Rattle.tcam_cli.specs.Readings.{acl_act, acl_reading, common_act, reading, reading_by, route_act, route_rank, route_reading, told_by};
 ghost use Rattle.tcam_cli.specs.Rounds.{ClosesReport, IsBetweenLines, IsBlockOf, IsCommandOf, RoundsBy, status_of_fault};
 
 use crate::Status;
@@ -27,7 +27,7 @@ use crate::command_line::{Asked, WordsFault, read_words};
 use crate::own_texts::{VERSION, help_of};
 use acl_reader::{AclCommand, read_acl};
 use line_words::{CommonCommand, WordFault};
-use replay::{Act, ActFault, Family, Run, RunFault, write_fault, write_text};
+use replay::{Act, ActFault, Family, Run, RunFault, write_text};
 use route_reader::{RouteCommand, read_route};
 use rule_gen::{Made, Maker};
 use rule_model::{
@@ -101,8 +101,9 @@ pub fn run<S: Source, K: Sink, D: ReadBack>(
                 placement,
                 trace,
                 depth,
+                json,
             },
-        ) => match Run::new(alloc, slots, mode, placement, family, trace, depth) {
+        ) => match Run::new(alloc, slots, mode, placement, family, trace, depth, json) {
             Ok(mut run) => run_script(&mut run, source, sink, device),
             Err(_) => Status::Memory,
         },
@@ -115,7 +116,7 @@ pub fn run<S: Source, K: Sink, D: ReadBack>(
                 rules,
                 batches,
             },
-        ) => match Run::new(alloc, slots, mode, placement, Family::Acl, false, 0) {
+        ) => match Run::new(alloc, slots, mode, placement, Family::Acl, false, 0, false) {
             Ok(mut run) => run_made(&mut run, seed, rules, batches, sink, device),
             Err(_) => Status::Memory,
         },
@@ -187,21 +188,26 @@ fn round<S: Source, K: Sink, D: ReadBack>(
 {
     let line = match lines.next(source) {
         Err(LineFault::Read) => return Some(Status::ReadFault),
-        Err(LineFault::ScriptTooLong { line }) => return Some(fault(line, "script too long", sink)),
-        Err(LineFault::TooLong { line }) => return Some(fault(line, "line too long", sink)),
-        Err(LineFault::BadByte { line }) => return Some(fault(line, "bad byte", sink)),
+        Err(LineFault::ScriptTooLong { line }) => return Some(fault(
+            run,
+            line,
+            "script too long",
+            sink,
+        )),
+        Err(LineFault::TooLong { line }) => return Some(fault(run, line, "line too long", sink)),
+        Err(LineFault::BadByte { line }) => return Some(fault(run, line, "bad byte", sink)),
         Ok(None) => return Some(finish(run, sink)),
         Ok(Some(line)) => line,
     };
     let act = match read_act(run, &line) {
-        Err(text) => return Some(fault(line.number, text, sink)),
+        Err(text) => return Some(fault(run, line.number, text, sink)),
         Ok(None) => return None,
         Ok(Some(act)) => act,
     };
     match run.apply(&act, sink, device) {
         Ok(()) => None,
-        Err(ActFault::BatchFull) => Some(fault(line.number, "batch full", sink)),
-        Err(ActFault::ProbesFull) => Some(fault(line.number, "too many probes", sink)),
+        Err(ActFault::BatchFull) => Some(fault(run, line.number, "batch full", sink)),
+        Err(ActFault::ProbesFull) => Some(fault(run, line.number, "too many probes", sink)),
         // The run ends at the device's failure, so no commit is unfinished.
         Err(ActFault::Held { .. }) => unreachable!(),
         Err(ActFault::Stopped(why)) => Some(status_of_fault(&why)),
@@ -252,6 +258,7 @@ fn run_made<K: Sink, D: ReadBack>(
 fn act_of_made(made: &Made) -> Act
     ensures act { result ≡ made_act made.now }
     ensures list { IsActOf Family.Acl result }
+    ensures told { (json : Bool) → IsToldIn json result }
 {
     match made {
         Made::Change(command) => Act::Command(*command),
@@ -271,15 +278,52 @@ fn status_of_fault(fault: &RunFault) -> Status
     }
 }
 
-/// What a line does in a script of the run's family, or the text of its fault.
+/// What a line does in a script of the run's family, or the text of its fault. With a report in JSON a trial and a crash
+/// are faults.
 fn read_act(run: &Run, line: &Line) -> Result<Option<Act>, &'static str>
     requires { line.now.len ≤ 512 }
-    ensures ok { IfOk result (λ found. reading run.now.family (numbered line.now).text ≡ Ok found) }
-    ensures err { IfErr result (λ text. reading run.now.family (numbered line.now).text ≡ Err text.now) }
+    ensures ok { IfOk result (λ found. reading_by (setting_of run.now) (numbered line.now).text ≡ Ok found) }
+    ensures err { IfErr result (λ text. reading_by (setting_of run.now) (numbered line.now).text ≡ Err text.now) }
     ensures act { IfOk result (λ found. IfSome found (IsActOf run.now.family)) }
+    ensures told { IfOk result (λ found. IfSome found (IsToldIn run.now.json)) }
     ensures short { IfErr result (λ text. length text.now ≤ 32) }
 {
-    match run.family() {
+    match read_family_act(run.family(), line) {
+        Ok(Some(act)) => told_act(run.is_json(), act),
+        Ok(None) => Ok(None),
+        Err(text) => Err(text),
+    }
+}
+
+/// What an act that was read is where the report is in JSON, or in words: in JSON a trial and a crash are faults.
+fn told_act(json: bool, act: Act) -> Result<Option<Act>, &'static str>
+    ensures ok { IfOk result (λ found. told_by json act ≡ Ok found) }
+    ensures err { IfErr result (λ text. told_by json act ≡ Err text.now) }
+    ensures same { IfOk result (λ found. found ≡ Some act) }
+    ensures told { IfOk result (λ found. IfSome found (IsToldIn json)) }
+    ensures short { IfErr result (λ text. length text.now ≤ 32) }
+{
+    match act {
+        Act::Command(_) | Act::Probe(_) | Act::Packet(_) | Act::Commit => Ok(Some(act)),
+        Act::Trial(_) | Act::Crash(_) => {
+            if json {
+                Err("not with json")
+            } else {
+                Ok(Some(act))
+            }
+        }
+    }
+}
+
+/// What a line does in a script of a family, or the text of its fault.
+fn read_family_act(family: Family, line: &Line) -> Result<Option<Act>, &'static str>
+    requires { line.now.len ≤ 512 }
+    ensures ok { IfOk result (λ found. reading family (numbered line.now).text ≡ Ok found) }
+    ensures err { IfErr result (λ text. reading family (numbered line.now).text ≡ Err text.now) }
+    ensures act { IfOk result (λ found. IfSome found (IsActOf family)) }
+    ensures short { IfErr result (λ text. length text.now ≤ 32) }
+{
+    match family {
         Family::Route => read_route_act(line, IpVersion::V4),
         Family::Acl => read_acl_act(line, IpVersion::V4),
         Family::Route6 => read_route_act(line, IpVersion::V6),
@@ -414,12 +458,12 @@ fn finish<K: Sink>(run: &mut Run, sink: &mut K) -> Status
 }
 
 /// Writes the line that names the fault of a script's line.
-fn fault<K: Sink>(line: u32, text: &str, sink: &mut K) -> Status
+fn fault<K: Sink>(run: &Run, line: u32, text: &str, sink: &mut K) -> Status
     requires { length text.now ≤ 32 }
-    ensures closes { ClosesReport K.taken K.accepted K.faults sink.old sink.new (fault_line line text.now) Status.Script result }
+    ensures closes { ClosesReport K.taken K.accepted K.faults sink.old sink.new (fault_told (setting_of run.now) run.now.commits line text.now) Status.Script result }
     ensures kind { (result ≢ Status.Usage) × (result ≢ Status.ReadFault) × (result ≢ Status.DeviceFault) × (result ≢ Status.Memory) }
 {
-    match write_fault(sink, line, text) {
+    match run.finish_at_fault(line, text, sink) {
         Ok(()) => Status::Script,
         Err(Failed) => Status::WriteFault,
     }

@@ -20,7 +20,8 @@ use Rattle.replay.specs.declared.fate.Fate.{Fate}
 use Rattle.replay.specs.declared.fate.Fate.TheVariants as fates
 use Rattle.replay.specs.Fates.{commit_act}
 use Rattle.replay.specs.Run.{Progress, Commits, Tries, Crashes, Refuses, Judged, HasEffects, TakesMemory}
-use Rattle.replay.specs.Text.{packet_line, refused_line}
+use Rattle.replay.specs.Reports.{packet_told, refusal_line}
+use Rattle.replay.specs.Text.{packet_line}
 use Rattle.replay.specs.Outside.{AppendsPart}
 use Rattle.replay.specs.Running.{Running, IsUntouched, ShowsRules, ComesTo, setting_of, progress_of, verdict_of}
 use Rattle.replay.proofs.lines.Effects.{does-line, does-part, does-nothing}
@@ -73,23 +74,31 @@ answered : (slots : ℕ) (run : Running) (key : Key) (events : List Action) (fou
 answered slots run key events found shows idle within valid told at =
     sym (told ∙ ap (λ state. lookup state key) (sym at) ∙ shows idle slots within key valid)
 
+-- in words a packet has a line
+in-words : (run : Running) (found : Answer) → run.json ≡ false → packet_told (setting_of run) found ≡ Prints (packet_line run.family found) ∷ []
+in-words run found words = ap (λ json. packet_told (record (setting_of run) { json = json }) found) words
+
 -- a packet whose line is written
 pub packet-carries : (slots : ℕ) (run : Running) (family : Family) (key : Key) (events : List Action) (found : Answer) (old new : Option (List ℕ))
     → ShowsRules run.manager → run.manager.held ≡ None → run.manager.slots ≤ slots → IsKey key
-    → found ≡ lookup (replay slots (writes_in events)) key → family ≡ run.family → Appends old new (packet_line family found)
+    → found ≡ lookup (replay slots (writes_in events)) key → family ≡ run.family → run.json ≡ false → Appends old new (packet_line family found)
     → ComesTo slots run (Packet key) run (Ok tt) events events old new
-packet-carries slots run family key events found old new shows idle within valid told same grown at = record {
+packet-carries slots run family key events found old new shows idle within valid told same words grown at = record {
   effects = Prints (packet_line run.family found) ∷ [];
-  step = (ap (λ one. Prints (packet_line run.family one) ∷ []) (sym (answered slots run key events found shows idle within valid told at)), refl);
+  step = (
+    ap (λ one. Prints (packet_line run.family one) ∷ []) (sym (answered slots run key events found shows idle within valid told at))
+        ∙ sym (in-words run (answer run.manager.rules key) words),
+    refl,
+  );
   does = does-line (packet_line run.family found) events old new (subst (λ one. Appends old new (packet_line one found)) same grown);
 }
 
 -- or cut
 pub packet-cuts : (slots : ℕ) (run : Running) (family : Family) (key : Key) (events : List Action) (found : Answer) (old new : Option (List ℕ))
     → ShowsRules run.manager → run.manager.held ≡ None → run.manager.slots ≤ slots → IsKey key
-    → found ≡ lookup (replay slots (writes_in events)) key → family ≡ run.family → AppendsPart old new (packet_line family found)
+    → found ≡ lookup (replay slots (writes_in events)) key → family ≡ run.family → run.json ≡ false → AppendsPart old new (packet_line family found)
     → ComesTo slots run (Packet key) run (Err (Stopped fault.Sink)) events events old new
-packet-cuts slots run family key events found old new shows idle within valid told same part at = record {
+packet-cuts slots run family key events found old new shows idle within valid told same words part at = record {
   front = [];
   partial = part.0;
   rest = part.1;
@@ -98,7 +107,8 @@ packet-cuts slots run family key events found old new shows idle within valid to
     after = progress_of slots run;
     step = (
       ap (λ text. Prints text ∷ [])
-          (sym part.2 ∙ ap (λ one. packet_line one found) same ∙ ap (packet_line run.family) (sym (answered slots run key events found shows idle within valid told at))),
+          (sym part.2 ∙ ap (λ one. packet_line one found) same ∙ ap (packet_line run.family) (sym (answered slots run key events found shows idle within valid told at)))
+          ∙ sym (in-words run (answer run.manager.rules key) words),
       refl,
     );
   });
@@ -117,7 +127,7 @@ judged-refused Does setting old (OutOfSlots needed free) effects new other refus
 abbrev pub run_refused : Running → Running
 run_refused run = record run { pending = []; commits = run.commits + 1; refused = true }
 
-refuse-step : (fate : Fate) (slots : ℕ) (run : Running) (reason : Verdict) (line : List ℕ) → verdict_of run ≡ reason → reason ≢ Accepted → line ≡ refused_line run.family (run.commits + 1) reason
+refuse-step : (fate : Fate) (slots : ℕ) (run : Running) (reason : Verdict) (line : List ℕ) → verdict_of run ≡ reason → reason ≢ Accepted → line ≡ refusal_line (setting_of run) run.commits reason
     → HasEffects (setting_of run) (progress_of slots run) (commit_act fate) (Prints line ∷ []) (progress_of slots (run_refused run))
 refuse-step fate slots run reason line judged other same = go fate
   where
@@ -134,19 +144,19 @@ refuse-step fate slots run reason line judged other same = go fate
 
 -- a commit that is refused, with its line
 pub refuse-carries : (fate : Fate) (slots : ℕ) (run new : Running) (reason : Verdict) (events_old events_new : List Action) (old taken : Option (List ℕ))
-    → verdict_of run ≡ reason → reason ≢ Accepted → new ≡ run_refused run → events_new ≡ events_old → Appends old taken (refused_line run.family (run.commits + 1) reason)
+    → verdict_of run ≡ reason → reason ≢ Accepted → new ≡ run_refused run → events_new ≡ events_old → Appends old taken (refusal_line (setting_of run) run.commits reason)
     → ComesTo slots run (commit_act fate) new (Ok tt) events_old events_new old taken
 refuse-carries fate slots run new reason events_old events_new old taken judged other is same grown =
     subst (λ after. ComesTo slots run (commit_act fate) after (Ok tt) events_old events_new old taken) (sym is)
     (subst (λ events. ComesTo slots run (commit_act fate) (run_refused run) (Ok tt) events_old events old taken) (sym same) (λ at. record {
-      effects = Prints (refused_line run.family (run.commits + 1) reason) ∷ [];
-      step = refuse-step fate slots run reason (refused_line run.family (run.commits + 1) reason) judged other refl;
-      does = does-line (refused_line run.family (run.commits + 1) reason) events_old old taken grown;
+      effects = Prints (refusal_line (setting_of run) run.commits reason) ∷ [];
+      step = refuse-step fate slots run reason (refusal_line (setting_of run) run.commits reason) judged other refl;
+      does = does-line (refusal_line (setting_of run) run.commits reason) events_old old taken grown;
     }))
 
 -- and with a part of it
 pub refuse-cuts : (fate : Fate) (slots : ℕ) (run new : Running) (reason : Verdict) (events_old events_new : List Action) (old taken : Option (List ℕ))
-    → verdict_of run ≡ reason → reason ≢ Accepted → events_new ≡ events_old → AppendsPart old taken (refused_line run.family (run.commits + 1) reason)
+    → verdict_of run ≡ reason → reason ≢ Accepted → events_new ≡ events_old → AppendsPart old taken (refusal_line (setting_of run) run.commits reason)
     → ComesTo slots run (commit_act fate) new (Err (Stopped fault.Sink)) events_old events_new old taken
 refuse-cuts fate slots run new reason events_old events_new old taken judged other same part =
     subst (λ events. ComesTo slots run (commit_act fate) new (Err (Stopped fault.Sink)) events_old events old taken) (sym same) (λ at. record {

@@ -5,13 +5,14 @@ use Rattle.std.specs.Io.KnownBytes.{Appends}
 use Rattle.std.specs.List.{AllByRecursion}
 use Rattle.slot_order.specs.Order.{most_slots}
 use Rattle.rule_model.specs.declared.IpVersion.{IpVersion}
-use Rattle.rule_store.specs.Verdict.{Verdict, Accepted, Unsound, OutOfBits, OutOfSlots, entries_of}
+use Rattle.rule_store.specs.Verdict.{Verdict, Accepted, Unsound, OutOfBits, OutOfSlots}
 use Rattle.tcam_device.specs.declared.Write.{Write}
 use Rattle.tcam_device.specs.declared.Action.{Action}
 use Rattle.tcam_device.specs.declared.Action.TheVariants.{Written}
 use Rattle.tcam_device.specs.Flight.{Flight, writes_in}
 use Rattle.tcam_device.specs.State.{blank, on_device, replay, state_after}
 use Rattle.tcam_device.proofs.Spans.{state_after-append}
+use Rattle.replay.specs.Reports.{opened, refusal_line}
 use Rattle.replay.specs.declared.steps.Ended.{Ended}
 use Rattle.commit_writes.specs.Routes.{IsRoute}
 use Rattle.commit_writes.specs.InFlight.{AreCurrent}
@@ -28,12 +29,11 @@ use Rattle.replay.specs.declared.ActFault.{ActFault}
 use Rattle.replay.specs.declared.ActFault.TheVariants.{Stopped}
 use Rattle.replay.specs.declared.RunFault.{RunFault}
 use Rattle.replay.specs.declared.RunFault.TheVariants as fault
-use Rattle.replay.specs.Effects.{Setting, Effect, Acts, Prints, flushed, printed, waiting_after}
+use Rattle.replay.specs.Effects.{Setting, Effect, Acts, Prints, flushed, printed, waiting_after, probes_told}
 use Rattle.batch_order.specs.Steps.{ServesNow}
 use Rattle.replay.specs.InFlight.{AreOf, IsSeen, found_all}
-use Rattle.replay.specs.Run.{Progress, HasEffects, IsCutStep, TakesMemory, ending}
+use Rattle.replay.specs.Run.{Progress, HasEffects, IsCutStep, TakesMemory}
 use Rattle.replay.specs.Crashing.{memory_wanted}
-use Rattle.replay.specs.Text.{refused_line, end_line}
 use Rattle.replay.specs.Told.{verdict_told}
 use Rattle.replay.specs.Outside.{AppendsPart, CutsLines}
 use Rattle.replay.specs.Carried.{IsAt}
@@ -139,12 +139,12 @@ module _ (slots : ℕ) (before : Progress) (front : List Effect) (inside run : R
     new-is = (ends.counted counted closed).0
 
     -- the line of its end
-    own-same : ended_line counted.commits inside.fate end count.told ≡ rest.line
+    own-same : ended_line counted.json counted.commits inside.fate end count.told ≡ rest.line
     own-same = (ends.counted counted closed).1
 
     -- the lines of the words that are searched behind the last action
     abbrev pub last_told : List Effect
-    last_told = flushed inside.family inside.probes count.told (replay slots (writes_in events_new)) count.waiting
+    last_told = flushed inside.family (probes_told inside.json inside.probes) count.told (replay slots (writes_in events_new)) count.waiting
 
     last-same : last_told ≡ last_lines slots before front inside rest.course rest.line rest.ended rest.ending
     last-same =
@@ -154,20 +154,20 @@ module _ (slots : ℕ) (before : Progress) (front : List Effect) (inside run : R
         let state : replay slots (writes_in events_new) ≡ state_after (on_device slots inside.manager.state) (writes_in left) =
         ap (λ actions. replay slots (writes_in actions)) grown-left ∙ ap (replay slots) (writes_in-append events_old left)
         ∙ state_after-append (blank slots) (writes_in events_old) (writes_in left) ∙ ap (λ one. state_after one (writes_in left)) (sym at-inside) in
-        ap (λ n. flushed inside.family inside.probes n (replay slots (writes_in events_new)) count.waiting) told
-        ∙ ap (λ one. flushed inside.family inside.probes (inside.told + length (writes_in left)) one count.waiting) state
-        ∙ ap (flushed inside.family inside.probes (inside.told + length (writes_in left)) (state_after (on_device slots inside.manager.state) (writes_in left))) waiting
+        ap (λ n. flushed inside.family (probes_told inside.json inside.probes) n (replay slots (writes_in events_new)) count.waiting) told
+        ∙ ap (λ one. flushed inside.family (probes_told inside.json inside.probes) (inside.told + length (writes_in left)) one count.waiting) state
+        ∙ ap (flushed inside.family (probes_told inside.json inside.probes) (inside.told + length (writes_in left)) (state_after (on_device slots inside.manager.state) (writes_in left))) waiting
 
     within-now : now.slots ≤ slots
     within-now = subst (λ n. n ≤ slots) (sym ends.same_slots) within-inside
 
     -- what the searches of the words that are left tell is what look-ups would
-    pub as-last : (P : List Effect → Type 0) (journal : List Write) (flight_now : Flight) → journal ≡ writes_in events_new → ServesNow now → IsSeen slots events_new flight_now now → AreOf inside.probes count.waiting flight_now
-        → P (found_all counted.family count.told (replay slots journal) (length counted.probes) count.waiting flight_now) → P last_told
+    pub as-last : (P : List Effect → Type 0) (journal : List Write) (flight_now : Flight) → journal ≡ writes_in events_new → ServesNow now → IsSeen slots events_new flight_now now → AreOf (probes_told inside.json inside.probes) count.waiting flight_now
+        → P (found_all counted.family count.told (replay slots journal) (length (probes_told counted.json counted.probes)) count.waiting flight_now) → P last_told
     as-last P journal flight_now agrees serves seen are holds =
         subst P
-        (ap (λ (r : Running). found_all r.family count.told (replay slots journal) (length r.probes) count.waiting flight_now) closed
-        ∙ ap (λ writes. found_all inside.family count.told (replay slots writes) (length inside.probes) count.waiting flight_now) agrees
+        (ap (λ (r : Running). found_all r.family count.told (replay slots journal) (length (probes_told r.json r.probes)) count.waiting flight_now) closed
+        ∙ ap (λ writes. found_all inside.family count.told (replay slots writes) (length (probes_told inside.json inside.probes)) count.waiting flight_now) agrees
         ∙ lines-all (watching inside) slots now events_new flight_now count.waiting within-now serves seen are count.told) holds
 
     -- as the run that it ended with does it, so does this one
@@ -188,14 +188,14 @@ module _ (slots : ℕ) (before : Progress) (front : List Effect) (inside run : R
       last-told = subst (λ lines. Appends mid searched (printed lines)) last-same last
 
       -- where it is finished, and its line is written
-      pub resumes-all : (taken : Option (List ℕ)) (flight_new : Flight) → Appends searched taken (ended_line counted.commits inside.fate end count.told) → ResumesTo slots before (commit_act run.fate) front run_now (Ok tt) events_old events_new flight_new old taken
+      pub resumes-all : (taken : Option (List ℕ)) (flight_new : Flight) → Appends searched taken (ended_line counted.json counted.commits inside.fate end count.told) → ResumesTo slots before (commit_act run.fate) front run_now (Ok tt) events_old events_new flight_new old taken
       resumes-all taken flight_new more =
           subst (λ (r : Running). Finishes slots before (commit_act r.fate) front run_now events_old events_new old taken) same
           (subst (λ (r : Running). Finishes slots before (commit_act inside.fate) front r events_old events_new old taken) (sym new-is)
           (finishes slots before front inside rest.course rest.line rest.ended rest.ending events_old events_new at-inside old mid grown-left told-left searched taken last-told (subst (Appends searched taken) own-same more)))
 
       -- or a part of it
-      pub resumes-last : (taken : Option (List ℕ)) (flight_new : Flight) → AppendsPart searched taken (ended_line counted.commits inside.fate end count.told) → ResumesTo slots before (commit_act run.fate) front run_now (Err fault.Sink) events_old events_new flight_new old taken
+      pub resumes-last : (taken : Option (List ℕ)) (flight_new : Flight) → AppendsPart searched taken (ended_line counted.json counted.commits inside.fate end count.told) → ResumesTo slots before (commit_act run.fate) front run_now (Err fault.Sink) events_old events_new flight_new old taken
       resumes-last taken flight_new part =
           as-now taken
           (breaks-last slots before front inside rest.course rest.line rest.ended rest.ending events_old events_new at-inside old mid grown-left told-left searched taken last-told (subst (AppendsPart searched taken) own-same part))
@@ -257,25 +257,29 @@ module _ (inside : Running) (counts : Done) (manager : Managed) (is : IsRun insi
     idle = λ none. absurd (let bad : Some (commit_of inside.manager inside.pending holds.made counts) ≡ None = sym (ap (λ (m : Managed). m.held) holds.new_is) ∙ none in cc);
   }
 
-  taken-unfinished : (slots : ℕ) → IsUnfinished slots (progress_of slots inside) [] (record inside { manager = manager; fate = fate })
+  -- what is told of it before its first write
+  abbrev told_first : List Effect
+  told_first = opened (setting_of run_taken) inside.commits inside.pending
+
+  taken-unfinished : (slots : ℕ) → IsUnfinished slots (progress_of slots inside) told_first (record inside { manager = manager; fate = fate })
   taken-unfinished slots = inl (record {
     halfway = half-taken;
     before_is = ap (λ (m : Managed). progress_of slots (record inside { manager = m; fate = fate })) (sym holds.new_is);
-    front_is = refl;
+    front_is = sym (append-nil told_first);
   })
 
   module _ (slots : ℕ) (run new : Running) (same : inside ≡ run) (events_old events_new : List Action) (flight flight_new : Flight) (none : flight ≡ []) (old taken : Option (List ℕ)) where
     -- it is gone on with from its begin
     abbrev Goes : Result (Unit {0}) RunFault → Type 0
     Goes result =
-        (before : Progress) → (front : List Effect) → IsUnfinished slots before front (record inside { manager = manager; fate = fate })
-        → IsAt slots events_old (progress_of slots (record inside { manager = manager; fate = fate })) → AreCurrent (live_now manager) flight → ResumesTo slots before (commit_act fate) front new result events_old events_new flight_new old taken
+        (before : Progress) → IsUnfinished slots before told_first (record inside { manager = manager; fate = fate })
+        → IsAt slots events_old (progress_of slots (record inside { manager = manager; fate = fate })) → AreCurrent (live_now manager) flight → ResumesTo slots before (commit_act fate) [] new result events_old events_new flight_new old taken
 
     begins : (result : Result (Unit {0}) RunFault) → Goes result → IsAt slots events_old (progress_of slots run) → ResumesTo slots (progress_of slots run) (commit_act fate) [] new result events_old events_new flight_new old taken
     begins result goes at =
         let at_inside = subst (λ (r : Running). IsAt slots events_old (progress_of slots r)) (sym same) at in
         subst (λ (r : Running). ResumesTo slots (progress_of slots r) (commit_act fate) [] new result events_old events_new flight_new old taken) same
-        (goes (progress_of slots inside) [] (taken-unfinished slots)
+        (goes (progress_of slots inside) (taken-unfinished slots)
         (subst (λ (m : Managed). IsAt slots events_old (progress_of slots (record inside { manager = m; fate = fate }))) (sym holds.new_is) at_inside)
         (subst (AreCurrent (live_now manager)) (sym none) tt))
 
@@ -353,30 +357,23 @@ judged inside run reason same idle judges =
     (sym (told-verdict (verdict_of run) reason answers), told-refused reason)
 
 -- a refused commit, with its line or a part of it
-pub refused-acts : (fate : Fate) (result : Result (Unit {0}) ActFault) (slots : ℕ) (inside run new : Running) (reason : Rejection) (manager : Managed)
+pub refused-acts : (fate : Fate) (result : Result (Unit {0}) ActFault) (slots : ℕ) (inside run new : Running) (reason : Rejection) (told : Verdict) (manager : Managed)
     (events_old events_new : List Action) (old taken : Option (List ℕ)) → inside ≡ run → run.manager.held ≡ None
     → Judges inside.manager inside.manager.held inside.pending (Err (refusal.Rejected reason)) → manager ≡ inside.manager → events_new ≡ events_old
     → new ≡ run_refused (record inside { manager = manager }) → IfErr result (λ why. why ≡ Stopped fault.Sink)
-    → OnOk result (Appends old taken (refused_line inside.family (inside.commits + 1) (verdict_told reason)))
-    → OnErr result (AppendsPart old taken (refused_line inside.family (inside.commits + 1) (verdict_told reason)))
+    → OnOk result (Appends old taken (refusal_line (setting_of (record inside { manager = manager })) inside.commits told))
+    → OnErr result (AppendsPart old taken (refusal_line (setting_of (record inside { manager = manager })) inside.commits told)) → told ≡ verdict_told reason
     → ComesTo slots run (commit_act fate) new result events_old events_new old taken
-refused-acts fate (Ok done) slots inside run new reason manager events_old events_new old taken same idle judges kept journal is kind grown part =
+refused-acts fate (Ok done) slots inside run new reason told manager events_old events_new old taken same idle judges kept journal is kind grown part told-is =
     let verdict = judged inside run reason same idle judges in
     let whole : record inside { manager = manager } ≡ run = ap (λ (m : Managed). record inside { manager = m }) kept ∙ same in
+    let line = subst (λ one. Appends old taken (refusal_line (setting_of (record inside { manager = manager })) inside.commits one)) told-is grown in
     refuse-carries fate slots run new (verdict_told reason) events_old events_new old taken verdict.0 verdict.1 (is ∙ ap run_refused whole) journal
-    (subst (λ (r : Running). Appends old taken (refused_line r.family (r.commits + 1) (verdict_told reason))) same grown)
-refused-acts fate (Err why) slots inside run new reason manager events_old events_new old taken same idle judges kept journal is kind grown part =
+    (subst (λ (r : Running). Appends old taken (refusal_line (setting_of r) r.commits (verdict_told reason))) whole line)
+refused-acts fate (Err why) slots inside run new reason told manager events_old events_new old taken same idle judges kept journal is kind grown part told-is =
     let verdict = judged inside run reason same idle judges in
+    let whole : record inside { manager = manager } ≡ run = ap (λ (m : Managed). record inside { manager = m }) kept ∙ same in
+    let line = subst (λ one. AppendsPart old taken (refusal_line (setting_of (record inside { manager = manager })) inside.commits one)) told-is part in
     subst (λ one. ComesTo slots run (commit_act fate) new (Err one) events_old events_new old taken) (sym kind)
     (refuse-cuts fate slots run new (verdict_told reason) events_old events_new old taken verdict.0 verdict.1 journal
-    (subst (λ (r : Running). AppendsPart old taken (refused_line r.family (r.commits + 1) (verdict_told reason))) same part))
-
--- the numbers of a run's last line
-pub ending-same : (slots : ℕ) (inside run : Running) (rules entries pending : ℕ) → inside ≡ run → rules ≡ length inside.manager.rules
-    → entries ≡ entries_of inside.manager.mode inside.manager.rules → pending ≡ length inside.pending
-    → end_line rules entries inside.writes pending ≡ ending (setting_of run) (progress_of slots run)
-ending-same slots inside run rules entries pending same first second third =
-    ap (λ n. end_line n entries inside.writes pending) first
-    ∙ ap (λ n. end_line (length inside.manager.rules) n inside.writes pending) second
-    ∙ ap (λ n. end_line (length inside.manager.rules) (entries_of inside.manager.mode inside.manager.rules) inside.writes n) third
-    ∙ ap (λ (r : Running). ending (setting_of r) (progress_of slots r)) same
+    (subst (λ (r : Running). AppendsPart old taken (refusal_line (setting_of r) r.commits (verdict_told reason))) whole line))

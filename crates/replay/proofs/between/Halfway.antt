@@ -24,7 +24,8 @@ use Rattle.replay.specs.declared.fate.Fate.{Fate}
 use Rattle.replay.specs.declared.fate.Fate.TheVariants.{ToTheEnd, BackAfter, CrashAfter, RestartedAfter}
 use Rattle.replay.specs.Fates.{IsBefore, IsFirst, IsWithinCrash, crash_of, most_of}
 use Rattle.replay.specs.Running.{Running, Watching, EndsBy, HasCome, IsRun, IsHalfway, IsMidCommit, MakesAll, MakesSome, MayTurnBack, ShowsRules, ended_line, finished_line, goes_back, actions_left, trial_rest, setting_of, routes_of, trial_left, verdict_of, watching}
-use Rattle.replay.specs.Text.{aborted_line, accepted_line}
+use Rattle.replay.specs.Reports.{done_line}
+use Rattle.replay.specs.Text.{aborted_line}
 use Rattle.replay.proofs.making.Acting.{some-held}
 use Rattle.replay.proofs.course.Course.{count_of}
 use Rattle.replay.proofs.making.Upto.{before-none}
@@ -214,7 +215,7 @@ module _ (run : Running) (half : IsHalfway run) where
   -- the line that it ends with
   abbrev pub line_by : Bool → List ℕ
   line_by true = aborted_line (run.commits + 1) (length (writes_in whole_actions))
-  line_by false = accepted_line (run.commits + 1) half.holds.0
+  line_by false = done_line run.json (run.commits + 1) half.holds.0
 
   abbrev pub line : List ℕ
   line = line_by is_back
@@ -387,10 +388,10 @@ module _ (Seen : Type 0) (run : Running) (half : IsHalfway run) (watch : Watchin
     setting-counted = ap (λ (r : Running). setting_of (record r { writes = r.writes + count_now.told })) closed ∙ setting-now
 
     -- the line is that of its end
-    pub line-same : ended_line counted.commits run.fate end count_now.told ≡ line run half
+    pub line-same : ended_line counted.json counted.commits run.fate end count_now.told ≡ line run half
     line-same = go end ends-so
       where
-        first-line : (fate : Fate) → IsFirst fate → (done : Done) → finished_line counted.commits fate done count_now.told ≡ accepted_line counted.commits done
+        first-line : (fate : Fate) → IsFirst fate → (done : Done) → finished_line counted.json counted.commits fate done count_now.told ≡ done_line counted.json counted.commits done
         first-line ToTheEnd first done = refl
         first-line (BackAfter most) first done = refl
         first-line (CrashAfter after) first done = refl
@@ -399,9 +400,9 @@ module _ (Seen : Type 0) (run : Running) (half : IsHalfway run) (watch : Watchin
         counts-same : half.some.one.counts ≡ half.holds.0
         counts-same = half.some.same.counts ∙ ap (λ (one : HeldCommit). one.counts) (held-same run half)
 
-        go : (end : Ended) → EndsBy (is_back run half) run.manager half.some.one half.some.left end now → ended_line counted.commits run.fate end count_now.told ≡ line run half
+        go : (end : Ended) → EndsBy (is_back run half) run.manager half.some.one half.some.left end now → ended_line counted.json counted.commits run.fate end count_now.told ≡ line run half
         go (ended.Finished done) ends =
             first-line run.fate half.first done
-            ∙ ap (λ (r : Running). accepted_line r.commits done) closed ∙ ap (accepted_line (run.commits + 1)) (ends.1 ∙ counts-same) ∙ ap (line_by run half) (sym ends.0)
+            ∙ ap (λ (r : Running). done_line r.json r.commits done) closed ∙ ap (done_line run.json (run.commits + 1)) (ends.1 ∙ counts-same) ∙ ap (line_by run half) (sym ends.0)
         go ended.Reverted ends =
             ap (λ (r : Running). aborted_line r.commits count_now.told) closed ∙ ap (aborted_line (run.commits + 1)) number-whole ∙ ap (line_by run half) (sym ends.0)

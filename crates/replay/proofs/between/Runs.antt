@@ -20,7 +20,8 @@ use Rattle.replay.specs.declared.Family.{Family}
 use Rattle.replay.specs.declared.Family.TheVariants.{Route, Acl, Route6, Acl6}
 use Rattle.replay.specs.Effects.{Setting, Effect, Prints}
 use Rattle.replay.specs.Run.{Progress, Commits, Returns, OfFamily, actions_back, actions_for, carried, used_slots, after_segment}
-use Rattle.replay.specs.Text.{aborted_line, accepted_line}
+use Rattle.replay.specs.Reports.{done_line}
+use Rattle.replay.specs.Text.{aborted_line}
 use Rattle.replay.specs.Crashing.{after_loss}
 use Rattle.replay.specs.declared.fate.Fate.TheVariants.{ToTheEnd}
 use Rattle.replay.specs.Running.{Running, IsHalfway, IsOnward, IsRun, IsMidCommit, setting_of, progress_of, begun, routes_of, IsChangeOf, ShowsRules}
@@ -30,8 +31,8 @@ use Rattle.std.proofs.lemmas.List.{length-replicate}
 use Rattle.slot_order.specs.Order.{most_slots}
 
 -- a run before its first act
-pub begun-run : (slots : ℕ) (mode : Mode) (placement : Placement) (family : Family) (trace : Bool) (depth : ℕ) → 1 ≤ slots → slots ≤ most_slots → IsRun (begun slots mode placement family trace depth)
-begun-run slots mode placement family trace depth least most = record {
+pub begun-run : (slots : ℕ) (mode : Mode) (placement : Placement) (family : Family) (trace : Bool) (depth : ℕ) (json : Bool) → 1 ≤ slots → slots ≤ most_slots → IsRun (begun slots mode placement family trace depth json)
+begun-run slots mode placement family trace depth json least most = record {
   changes = λ version route. tt;
   routes = λ version route. tt;
   some_slots = least;
@@ -230,7 +231,7 @@ module _ (run : Running) (counts : Done) (is : IsRun run) (holds : Holds (record
 
   -- the commit, as what it writes and prints
   abbrev pub commits-with : (slots : ℕ) → run.manager.slots ≤ slots → (effects : List Effect)
-      → effects ≡ carried (setting_of run) (progress_of slots run) (actions_for (setting_of run) (progress_of slots run) holds.made) ++ Prints (accepted_line (run.commits + 1) counts) ∷ []
+      → effects ≡ carried (setting_of run) (progress_of slots run) (actions_for (setting_of run) (progress_of slots run) holds.made) ++ Prints (done_line run.json (run.commits + 1) counts) ∷ []
       → Commits (setting_of run) (progress_of slots run) effects (progress_of slots (run_after run holds.made counts))
   commits-with slots within effects same = record {
     made = holds.made;

@@ -16,14 +16,14 @@ use Rattle.batch_order.specs.Managed.{live_now}
 use Rattle.batch_order.specs.Steps.{next_of}
 use Rattle.replay.specs.declared.Act.{Act}
 use Rattle.replay.specs.declared.watch.Count.{Count}
-use Rattle.replay.specs.Effects.{Setting, Effect, Acts, Prints, events_in, printed, traced, searched_after, flushed, waiting_after, effects_of}
-use Rattle.replay.specs.Run.{Progress, HasEffects, IsCutStep, carried}
-use Rattle.replay.specs.Text.{write_line}
+use Rattle.replay.specs.Effects.{Setting, Effect, Acts, Prints, events_in, printed, probes_told, write_told, searched_after, flushed, waiting_after, effects_of}
+use Rattle.replay.specs.Run.{Progress, HasEffects, IsCutStep, carried, carried_so_far}
 use Rattle.replay.specs.Outside.{AppendsPart, CutsLines}
 use Rattle.replay.specs.Carried.{CutsEffects, Does, IsAt}
 use Rattle.replay.specs.Fates.{commit_act}
 use Rattle.replay.specs.Running.{Running, TellsActions, effects_on, watching, setting_of, progress_of}
 use Rattle.replay.specs.Unfinished.{IsUnfinished, Finishes, StaysUnfinished, BreaksOff}
+use Rattle.replay.proofs.lines.Opened.{carried-append}
 use Rattle.replay.proofs.lines.Effects.{does-lines, effects-append, events-actions, events-append, events-flushed, events-front, printed-append, waiting-append}
 
 in-front : {A : Type 0} (P : A → Type 0) (a b : List A) → AllByRecursion P (a ++ b) → AllByRecursion P a
@@ -40,31 +40,32 @@ pub record Course (slots : ℕ) (before : Progress) (front : List Effect) (run :
   pub made : List Action
   pub left : List Action
   pub probes : before.probes ≡ run.probes
-  pub front_is : front ≡ effects_of (setting_of run) run.probes 0 0 before.state made
+  pub front_is : front ≡ carried_so_far (setting_of run) before made
   pub state : on_device slots run.manager.state ≡ state_after before.state (writes_in made)
   pub told : run.told ≡ length (writes_in made)
   pub waiting : run.waiting ≡ waiting_after run.depth 0 made
   pub size : length run.manager.state.slots ≡ run.manager.slots
   pub in_use : AllByRecursion (IsInUse run.manager.slots) (writes_in left)
-  pub cuts : (some back : List Effect) (due : Effect) → effects_of (setting_of run) run.probes 0 0 before.state (made ++ left) ≡ some ++ due ∷ back
+  pub cuts : (some back : List Effect) (due : Effect) → carried_so_far (setting_of run) before (made ++ left) ≡ some ++ due ∷ back
       → IsCutStep (setting_of run) before (commit_act run.fate) some due
 
 module _ (slots : ℕ) (before : Progress) (front : List Effect) (run : Running) (course : Course slots before front run) where
   -- the effects of actions that are left
   abbrev pub later : List Action → List Effect
-  later actions = effects_of (setting_of run) run.probes run.told run.waiting (on_device slots run.manager.state) actions
+  later actions = effects_of (setting_of run) (probes_told run.json run.probes) run.told run.waiting (on_device slots run.manager.state) actions
 
   -- with those before they are those of all actions
-  pub told-then : (more : List Action) → effects_of (setting_of run) run.probes 0 0 before.state (course.made ++ more) ≡ front ++ later more
+  pub told-then : (more : List Action) → carried_so_far (setting_of run) before (course.made ++ more) ≡ front ++ later more
   told-then more =
       let state = state_after before.state (writes_in course.made) in
       let told = course.told in
       let number : 0 + length (writes_in course.made) ≡ run.told = omega arith in
-      effects-append (setting_of run) run.probes 0 0 before.state course.made more
-      ∙ ap (λ effects. effects ++ effects_of (setting_of run) run.probes (0 + length (writes_in course.made)) (waiting_after run.depth 0 course.made) state more) (sym course.front_is)
-      ∙ ap (λ n. front ++ effects_of (setting_of run) run.probes n (waiting_after run.depth 0 course.made) state more) number
-      ∙ ap (λ n. front ++ effects_of (setting_of run) run.probes run.told n state more) (sym course.waiting)
-      ∙ ap (λ one. front ++ effects_of (setting_of run) run.probes run.told run.waiting one more) (sym course.state)
+      carried-append (setting_of run) before course.made more
+      ∙ ap (λ effects. effects ++ effects_of (setting_of run) (probes_told run.json before.probes) (0 + length (writes_in course.made)) (waiting_after run.depth 0 course.made) state more) (sym course.front_is)
+      ∙ ap (λ keys. front ++ effects_of (setting_of run) (probes_told run.json keys) (0 + length (writes_in course.made)) (waiting_after run.depth 0 course.made) state more) course.probes
+      ∙ ap (λ n. front ++ effects_of (setting_of run) (probes_told run.json run.probes) n (waiting_after run.depth 0 course.made) state more) number
+      ∙ ap (λ n. front ++ effects_of (setting_of run) (probes_told run.json run.probes) run.told n state more) (sym course.waiting)
+      ∙ ap (λ one. front ++ effects_of (setting_of run) (probes_told run.json run.probes) run.told run.waiting one more) (sym course.state)
 
   -- some of the writes that are left do to a wider device what they do to the slots in use
   pub state-more : (made left : List Action) → course.left ≡ made ++ left → on_device slots (state_after run.manager.state (writes_in made)) ≡ state_after (on_device slots run.manager.state) (writes_in made)
@@ -89,7 +90,7 @@ module _ (slots : ℕ) (before : Progress) (front : List Effect) (run : Running)
 
     -- what is told where the device stands is told where the run stands
     pub told-at : (made : List Action) (old new : Option (List ℕ)) → TellsActions run.manager (watching run) slots (count_of run) events made old new → Appends old new (printed (later made))
-    told-at made old new told = subst (λ state. Appends old new (printed (effects_of (setting_of run) run.probes run.told run.waiting state made))) (sym at) told
+    told-at made old new told = subst (λ state. Appends old new (printed (effects_of (setting_of run) (probes_told run.json run.probes) run.told run.waiting state made))) (sym at) told
 
     -- and so is what is done
     pub does-made : (made : List Action) (old new : Option (List ℕ)) → events_new ≡ events ++ made → TellsActions run.manager (watching run) slots (count_of run) events made old new
@@ -97,7 +98,7 @@ module _ (slots : ℕ) (before : Progress) (front : List Effect) (run : Running)
     does-made made old new grown told =
         subst (λ effects. Does effects [] events events_new old new) (append-nil (later made))
         (does-lines (later made) [] [] events events_new old new new
-        (grown ∙ ap (λ actions. events ++ actions) (sym (events-actions (setting_of run) run.probes run.told run.waiting (on_device slots run.manager.state) made)))
+        (grown ∙ ap (λ actions. events ++ actions) (sym (events-actions (setting_of run) (probes_told run.json run.probes) run.told run.waiting (on_device slots run.manager.state) made)))
         refl (told-at made old new told) (Appends-nil new))
 
     -- it is cut at a write
@@ -109,11 +110,11 @@ module _ (slots : ℕ) (before : Progress) (front : List Effect) (run : Running)
         let ahead = state_after (on_device slots run.manager.state) (writes_in made) in
         let number = run.told + length (writes_in made) in
         let waiting = waiting_after run.depth run.waiting made in
-        let behind = traced run.trace (write_line run.family (number + 1) due)
-        ++ (searched_after (setting_of run) run.probes (number + 1) waiting (apply ahead due)
-        ++ effects_of (setting_of run) run.probes (number + 1) (min (waiting + 1) run.depth) (apply ahead due) rest) in
+        let behind = write_told run.json run.trace run.family (number + 1) due
+        ++ (searched_after (setting_of run) (probes_told run.json run.probes) (number + 1) waiting (apply ahead due)
+        ++ effects_of (setting_of run) (probes_told run.json run.probes) (number + 1) (min (waiting + 1) run.depth) (apply ahead due) rest) in
         let part : later course.left ≡ later made ++ Acts (Written due) ∷ behind =
-        ap later left ∙ effects-append (setting_of run) run.probes run.told run.waiting (on_device slots run.manager.state) made (Written due ∷ rest) in record {
+        ap later left ∙ effects-append (setting_of run) (probes_told run.json run.probes) run.told run.waiting (on_device slots run.manager.state) made (Written due ∷ rest) in record {
           more = later made;
           due = due;
           unfinished = unfinished;
@@ -130,10 +131,10 @@ module _ (slots : ℕ) (before : Progress) (front : List Effect) (run : Running)
         → CutsEffects (effects_on run.manager (watching run) slots (count_of run) events actions) events events_new old taken → BreaksOff slots before (commit_act run.fate) front new events events_new old taken
     breaks new actions more old taken left setting cuts =
         let state = on_device slots run.manager.state in
-        let behind = effects_of (setting_of run) run.probes (run.told + length (writes_in actions)) (waiting_after run.depth run.waiting actions) (state_after state (writes_in actions)) more in
+        let behind = effects_of (setting_of run) (probes_told run.json run.probes) (run.told + length (writes_in actions)) (waiting_after run.depth run.waiting actions) (state_after state (writes_in actions)) more in
         let part : later course.left ≡ cuts.front ++ Prints (cuts.partial ++ cuts.rest) ∷ (cuts.back ++ behind) =
-        ap later left ∙ effects-append (setting_of run) run.probes run.told run.waiting state actions more
-        ∙ ap (λ effects. effects ++ behind) (ap (λ one. effects_of (setting_of run) run.probes run.told run.waiting one actions) at ∙ cuts.cut)
+        ap later left ∙ effects-append (setting_of run) (probes_told run.json run.probes) run.told run.waiting state actions more
+        ∙ ap (λ effects. effects ++ behind) (ap (λ one. effects_of (setting_of run) (probes_told run.json run.probes) run.told run.waiting one actions) at ∙ cuts.cut)
         ∙ append_assoc cuts.front (Prints (cuts.partial ++ cuts.rest) ∷ cuts.back) behind in record {
           more = cuts.front;
           partial = cuts.partial;
@@ -145,9 +146,9 @@ module _ (slots : ℕ) (before : Progress) (front : List Effect) (run : Running)
 
 -- a commit that has all effects of its actions, and its lines, is cut in them
 pub cuts-by_step : (setting : Setting) (before : Progress) (act : Act) (actions : List Action) (line : List ℕ) (new : Progress) → HasEffects setting before act (carried setting before actions ++ Prints line ∷ []) new
-    → (some back : List Effect) (due : Effect) → effects_of setting before.probes 0 0 before.state actions ≡ some ++ due ∷ back → IsCutStep setting before act some due
+    → (some back : List Effect) (due : Effect) → carried_so_far setting before actions ≡ some ++ due ∷ back → IsCutStep setting before act some due
 cuts-by_step setting before act actions line new step some back due parts =
-    let end = flushed setting.family before.probes (length (writes_in actions)) (state_after before.state (writes_in actions)) (waiting_after setting.depth 0 actions) in
+    let end = flushed setting.family (probes_told setting.json before.probes) (length (writes_in actions)) (state_after before.state (writes_in actions)) (waiting_after setting.depth 0 actions) in
     inl (record {
       back = back ++ (end ++ Prints line ∷ []);
       after = new;
@@ -169,13 +170,13 @@ module _ (slots : ℕ) (before : Progress) (front : List Effect) (run : Running)
   last_lines =
       let told = run.told + length (writes_in course.left) in
       let state = state_after (on_device slots run.manager.state) (writes_in course.left) in
-      flushed run.family run.probes told state (waiting_after run.depth run.waiting course.left)
+      flushed run.family (probes_told run.json run.probes) told state (waiting_after run.depth run.waiting course.left)
 
   abbrev all_actions : List Action
   all_actions = course.made ++ course.left
 
   -- are those of the whole commit
-  last-whole : flushed run.family before.probes (length (writes_in all_actions)) (state_after before.state (writes_in all_actions)) (waiting_after run.depth 0 all_actions) ≡ last_lines
+  last-whole : flushed run.family (probes_told run.json before.probes) (length (writes_in all_actions)) (state_after before.state (writes_in all_actions)) (waiting_after run.depth 0 all_actions) ≡ last_lines
   last-whole =
       let told = course.told in
       let writes : writes_in all_actions ≡ writes_in course.made ++ writes_in course.left = writes_in-append course.made course.left in
@@ -186,18 +187,17 @@ module _ (slots : ℕ) (before : Progress) (front : List Effect) (run : Running)
       ∙ ap (λ one. state_after one (writes_in course.left)) (sym course.state) in
       let waiting : waiting_after run.depth 0 all_actions ≡ waiting_after run.depth run.waiting course.left =
       waiting-append run.depth 0 course.made course.left ∙ ap (λ n. waiting_after run.depth n course.left) (sym course.waiting) in
-      ap (λ keys. flushed run.family keys (length (writes_in all_actions)) (state_after before.state (writes_in all_actions)) (waiting_after run.depth 0 all_actions)) course.probes
-      ∙ ap (λ n. flushed run.family run.probes n (state_after before.state (writes_in all_actions)) (waiting_after run.depth 0 all_actions)) number
-      ∙ ap (λ one. flushed run.family run.probes (run.told + length (writes_in course.left)) one (waiting_after run.depth 0 all_actions)) state
-      ∙ ap (flushed run.family run.probes (run.told + length (writes_in course.left)) (state_after (on_device slots run.manager.state) (writes_in course.left))) waiting
+      ap (λ keys. flushed run.family (probes_told run.json keys) (length (writes_in all_actions)) (state_after before.state (writes_in all_actions)) (waiting_after run.depth 0 all_actions)) course.probes
+      ∙ ap (λ n. flushed run.family (probes_told run.json run.probes) n (state_after before.state (writes_in all_actions)) (waiting_after run.depth 0 all_actions)) number
+      ∙ ap (λ one. flushed run.family (probes_told run.json run.probes) (run.told + length (writes_in course.left)) one (waiting_after run.depth 0 all_actions)) state
+      ∙ ap (flushed run.family (probes_told run.json run.probes) (run.told + length (writes_in course.left)) (state_after (on_device slots run.manager.state) (writes_in course.left))) waiting
 
   -- all effects of the commit, one part after the other
   whole-effects : carried (setting_of run) before all_actions ++ Prints line ∷ [] ≡ front ++ (later slots before front run course course.left ++ (last_lines ++ Prints line ∷ []))
   whole-effects =
       let all = later slots before front run course course.left in
-      let end = flushed run.family before.probes (length (writes_in all_actions)) (state_after before.state (writes_in all_actions)) (waiting_after run.depth 0 all_actions) in
-      ap (λ keys. (effects_of (setting_of run) keys 0 0 before.state all_actions ++ end) ++ Prints line ∷ []) course.probes
-      ∙ ap (λ effects. (effects ++ end) ++ Prints line ∷ []) (told-then slots before front run course course.left)
+      let end = flushed run.family (probes_told run.json before.probes) (length (writes_in all_actions)) (state_after before.state (writes_in all_actions)) (waiting_after run.depth 0 all_actions) in
+      ap (λ effects. (effects ++ end) ++ Prints line ∷ []) (told-then slots before front run course course.left)
       ∙ ap (λ lines. ((front ++ all) ++ lines) ++ Prints line ∷ []) last-whole
       ∙ append_assoc (front ++ all) last_lines (Prints line ∷ [])
       ∙ append_assoc front all (last_lines ++ Prints line ∷ [])
@@ -210,11 +210,11 @@ module _ (slots : ℕ) (before : Progress) (front : List Effect) (run : Running)
   module _ (events events_new : List Action) (at : IsAt slots events (progress_of slots run)) (old mid : Option (List ℕ)) (grown : events_new ≡ events ++ course.left)
       (told : TellsActions run.manager (watching run) slots (count_of run) events course.left old mid) where
     grown-effects : events_new ≡ events ++ events_in (later slots before front run course course.left)
-    grown-effects = grown ∙ ap (λ actions. events ++ actions) (sym (events-actions (setting_of run) run.probes run.told run.waiting (on_device slots run.manager.state) course.left))
+    grown-effects = grown ∙ ap (λ actions. events ++ actions) (sym (events-actions (setting_of run) (probes_told run.json run.probes) run.told run.waiting (on_device slots run.manager.state) course.left))
 
     last-none : events_in last_lines ≡ []
     last-none =
-        events-flushed run.family run.probes (run.told + length (writes_in course.left)) (state_after (on_device slots run.manager.state) (writes_in course.left))
+        events-flushed run.family (probes_told run.json run.probes) (run.told + length (writes_in course.left)) (state_after (on_device slots run.manager.state) (writes_in course.left))
         (waiting_after run.depth run.waiting course.left)
 
     stands-new : IsAt slots events_new (progress_of slots ended)

@@ -8,8 +8,8 @@ use Rattle.replay.specs.declared.fate.Fate.{Fate}
 use Rattle.replay.specs.declared.fate.Fate.TheVariants as fates
 use Rattle.replay.specs.declared.watch.Count.{Count}
 use Rattle.replay.specs.declared.steps.Ended.{Ended}
-use Rattle.replay.specs.Effects.{Effect, effects_of}
-use Rattle.replay.specs.Run.{Progress}
+use Rattle.replay.specs.Effects.{Effect}
+use Rattle.replay.specs.Run.{Progress, carried_so_far}
 use Rattle.replay.specs.Crashing.{HasMoreThan}
 use Rattle.replay.specs.Fates.{IsBefore, IsWithinCrash, crash_of, most_of}
 use Rattle.replay.specs.Running.{Running, Watching, HasCome, IsHalfway, IsRun, MakesAll, MakesSome, MayTurnBack, ended_line, goes_back, actions_left, trial_rest, setting_of, watching}
@@ -32,7 +32,7 @@ pub record EndsWith (run : Running) (now : Managed) (count : Count) (end : Ended
   pub closing : IsRun (record run { manager = now; told = 0; waiting = 0; fate = fates.ToTheEnd })
   pub ended_is : IsRun ended
   pub counted : (counted : Running) → counted ≡ record run { manager = now; told = 0; waiting = 0; fate = fates.ToTheEnd; pending = []; commits = run.commits + 1 }
-      → (◌≡◌ {A = Running} (record counted { writes = counted.writes + count.told }) ended) × (ended_line counted.commits run.fate end count.told ≡ line)
+      → (◌≡◌ {A = Running} (record counted { writes = counted.writes + count.told }) ended) × (ended_line counted.json counted.commits run.fate end count.told ≡ line)
 
 -- its course to its end, and what making its actions comes to
 pub record Rest (slots : ℕ) (before : Progress) (front : List Effect) (run : Running) : Type 1 where
@@ -50,7 +50,7 @@ pub record Rest (slots : ℕ) (before : Progress) (front : List Effect) (run : R
       (all : MakesAll Seen (most_of run.fate) run.manager watch width (count_of run) count end now events events_now taken taken_now) → all.actions ≡ course.left
   -- with some of them made it is unfinished
   pub more : (now : Managed) (count : Count) (some : MakesSome (most_of run.fate) run.told run.manager now) → HasCome (watching run) (count_of run) count some.made
-      → IsUnfinished slots before (effects_of (setting_of run) run.probes 0 0 before.state (course.made ++ some.made)) (record run { manager = now; told = count.told; waiting = count.waiting })
+      → IsUnfinished slots before (carried_so_far (setting_of run) before (course.made ++ some.made)) (record run { manager = now; told = count.told; waiting = count.waiting })
   -- and with all of them it ends
   pub ends : (Seen : Type 0) (watch : Watching) (width : ℕ) (count : Count) (end : Ended) (now : Managed) (events events_now : List Action) (taken taken_now : Option (List ℕ))
       → MakesAll Seen (most_of run.fate) run.manager watch width (count_of run) count end now events events_now taken taken_now → EndsWith run now count end line ended
@@ -137,7 +137,7 @@ module _ (slots : ℕ) (run : Running) (half : IsHalfway run) (is : IsRun run) (
     more = λ now count some come. inl (record {
       halfway = halfway-more run now count half some come (still-before now some) (still-within now count some come);
       before_is = refl;
-      front_is = ap (λ setting. effects_of setting run.probes 0 0 (began slots run half is inside).state (half.some.made ++ some.made)) (setting-more now count some);
+      front_is = ap (λ setting. carried_so_far setting (began slots run half is inside) (half.some.made ++ some.made)) (setting-more now count some);
     });
     few_left = few-left run half;
     may_turn = may-half run half;
@@ -163,5 +163,5 @@ pub as-halfway : (slots : ℕ) (before : Progress) (front : List Effect) (run : 
 as-halfway slots before front run stands is inside none =
     let half = stands.halfway in
     subst (λ (at : Progress). Rest slots at front run) (sym stands.before_is)
-    (subst (λ effects. Rest slots (began slots run half is inside) effects run) (sym (stands.front_is ∙ ap (λ (at : Progress). effects_of (setting_of run) run.probes 0 0 at.state half.some.made) stands.before_is))
+    (subst (λ effects. Rest slots (began slots run half is inside) effects run) (sym (stands.front_is ∙ ap (λ (at : Progress). carried_so_far (setting_of run) at half.some.made) stands.before_is))
     (rest-half slots run half is inside none))

@@ -10,8 +10,8 @@ use Rattle.commit_writes.proofs.WritesIn.{writes_in-append}
 use Rattle.batch_order.specs.Managed.{Managed}
 use Rattle.replay.specs.declared.fate.Fate.{Fate}
 use Rattle.replay.specs.declared.fate.Fate.TheVariants as fates
-use Rattle.replay.specs.Effects.{Setting, Effect, Prints, effects_of}
-use Rattle.replay.specs.Run.{Progress, Commits, Returns, Tries, Crashes, Judged, HasEffects, actions_back, carried}
+use Rattle.replay.specs.Effects.{Setting, Effect, Prints}
+use Rattle.replay.specs.Run.{Progress, Commits, Returns, Tries, Crashes, Judged, HasEffects, actions_back, carried, carried_so_far}
 use Rattle.replay.specs.Text.{aborted_line}
 use Rattle.replay.specs.Fates.{IsFirst, commit_act, crash_of, most_of}
 use Rattle.replay.specs.Running.{Running, IsRun, IsHalfway, setting_of, progress_of}
@@ -42,7 +42,7 @@ module _ (slots : ℕ) (run : Running) (half : IsHalfway run) (is : IsRun run) (
 
   -- its effects so far
   abbrev pub so_far : List Effect
-  so_far = effects_of (setting_of run) run.probes 0 0 began.state half.some.made
+  so_far = carried_so_far (setting_of run) began half.some.made
 
   all-writes : writes_in (whole_actions run half) ≡ writes_in half.some.made ++ writes_in half.some.left
   all-writes = writes_in-append half.some.made half.some.left

@@ -36,8 +36,8 @@ use Rattle.batch_order.specs.Restart.{AnswersRestart, ArePartsOf, Resumes, bits_
 use Rattle.batch_order.specs.Turning.{IsCurrentRight, IsHeldRight, has_drain}
 use Rattle.replay.specs.declared.Act.TheVariants.{Crash}
 use Rattle.replay.specs.declared.fate.Fate.TheVariants as fates
-use Rattle.replay.specs.Effects.{Effect, effects_of, waiting_after}
-use Rattle.replay.specs.Run.{Progress}
+use Rattle.replay.specs.Effects.{Effect, waiting_after}
+use Rattle.replay.specs.Run.{Progress, carried_so_far}
 use Rattle.replay.specs.Fates.{commit_act}
 use Rattle.replay.specs.Running.{Running, IsHalfway, IsOnward, IsRun, MakesSome, first_actions, left_in, actions_left, progress_of, routes_of, setting_of}
 use Rattle.replay.specs.Unfinished.{IsUnfinished, StandsHalfway, StandsOnward, TakesAtCrash}
@@ -302,12 +302,12 @@ module _ (slots after : ℕ) (base : Running) (half : IsHalfway (crashing after 
     }
 
     pub stands-over : (before : Progress) (front : List Effect) → before ≡ progress_of slots (record run { manager = half.begun })
-        → front ≡ effects_of (setting_of run) run.probes 0 0 before.state half.some.made → StandsOnward slots before front over
+        → front ≡ carried_so_far (setting_of run) before half.some.made → StandsOnward slots before front over
     stands-over before front before_is front_is = record {
       onward = onward-over;
       before_is = before_is;
-      front_is = front_is ∙ ap (λ setting. effects_of setting run.probes 0 0 before.state half.some.made) (sym setting-over)
-          ∙ ap (effects_of (setting_of over) run.probes 0 0 before.state) (made-first ∙ sym (append-nil (first_actions run half.begun made after)));
+      front_is = front_is ∙ ap (λ setting. carried_so_far setting before half.some.made) (sym setting-over)
+          ∙ ap (carried_so_far (setting_of over) before) (made-first ∙ sym (append-nil (first_actions run half.begun made after)));
     }
 
 -- ---- by what a run is
@@ -333,7 +333,7 @@ wants-over slots after base is at inside before front (inl stands) =
     let more = more-made after base half at.more in
     let start : Progress = began slots (crashing after base) half stop.is inside in
     let so : front ≡ so_far slots (crashing after base) half stop.is inside =
-    first.front_is ∙ ap (λ (progress : Progress). effects_of (setting_of base) base.probes 0 0 progress.state half.some.made) first.before_is in
+    first.front_is ∙ ap (λ (progress : Progress). carried_so_far (setting_of base) progress half.some.made) first.before_is in
     subst (λ progress. TakesAtCrash (setting_of base) progress (Crash after) front) (sym first.before_is)
     (subst (TakesAtCrash (setting_of base) start (Crash after)) (sym so)
     (accepted-run slots after base half stop.is inside more, stops-now slots after base half stop.is inside more (none-first slots after base half stop.is inside more at.told_is)))

@@ -10,7 +10,7 @@ use Rattle.replay.specs.declared.RunFault.{RunFault}
 use Rattle.replay.specs.declared.RunFault.TheVariants as fault
 use Rattle.replay.specs.declared.fate.Fate.TheVariants as fates
 use Rattle.replay.specs.declared.watch.Count.{Count}
-use Rattle.replay.specs.Effects.{Effect}
+use Rattle.replay.specs.Effects.{Effect, probes_told}
 use Rattle.replay.specs.Run.{Progress}
 use Rattle.replay.specs.Carried.{IsAt}
 use Rattle.replay.specs.Fates.{IsUpTo, commit_act}
@@ -96,7 +96,7 @@ module _ (slots after : ℕ) (base began : Running) (view_is : base ≡ began) (
     pub setting-first : setting_of new ≡ setting_of began
     setting-first = ap (λ (manager : Managed). setting_of (record base { manager = manager })) made.some.now_is ∙ ap setting_of view_is
 
-    pub left-first : (flight : Flight) → (result ≢ Err fault.Sink → AreOf base.probes count.waiting flight) → result ≢ Err fault.Sink → AreLeft new flight
+    pub left-first : (flight : Flight) → (result ≢ Err fault.Sink → AreOf (probes_told base.json base.probes) count.waiting flight) → result ≢ Err fault.Sink → AreLeft new flight
     left-first flight are not_sink = left-of new flight (subst (λ (one : Option HeldCommit). IsSome one) (sym held-now) refl) (are not_sink)
 
     -- the device is where the run stands

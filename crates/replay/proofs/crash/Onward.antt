@@ -32,8 +32,8 @@ use Rattle.batch_order.specs.Restart.{ArePartsOf, Resumes, in_use, rest_of}
 use Rattle.replay.specs.declared.Family.{Family}
 use Rattle.replay.specs.declared.Family.TheVariants.{Route, Acl, Route6, Acl6}
 use Rattle.replay.specs.declared.fate.Fate.TheVariants as fates
-use Rattle.replay.specs.Effects.{Setting, Effect, Prints, effects_of}
-use Rattle.replay.specs.Run.{Progress, Crashes, Judged, HasEffects, OfFamily, RestOfFamily, Restarts, actions_over, after_segment, carried}
+use Rattle.replay.specs.Effects.{Setting, Effect, Prints}
+use Rattle.replay.specs.Run.{Progress, Crashes, Judged, HasEffects, OfFamily, RestOfFamily, Restarts, actions_over, after_segment, carried, carried_so_far}
 use Rattle.replay.specs.Text.{restarted_line}
 use Rattle.replay.specs.Fates.{commit_act}
 use Rattle.replay.specs.Running.{Running, IsOnward, IsRun, first_actions, actions_left, progress_of, routes_of, setting_of}
@@ -291,7 +291,7 @@ module _ (slots : ℕ) (run : Running) (onward : IsOnward slots run) (is : IsRun
       first_setting : Setting
       first_setting = setting_of (record run { manager = begun })
 
-  abbrev pub course-over : Course slots began_first (effects_of (setting_of run) run.probes 0 0 began_first.state (firsts ++ onward.some.made)) run
+  abbrev pub course-over : Course slots began_first (carried_so_far (setting_of run) began_first (firsts ++ onward.some.made)) run
   course-over = record {
     made = firsts ++ onward.some.made;
     left = onward.some.left;
@@ -305,7 +305,7 @@ module _ (slots : ℕ) (run : Running) (onward : IsOnward slots run) (is : IsRun
     cuts = cuts-by_step (setting_of run) began_first (commit_act run.fate) ((firsts ++ onward.some.made) ++ onward.some.left) line_over (progress_of slots ended_over) all-step;
   }
 
-  pub ending-over : Ending slots began_first (effects_of (setting_of run) run.probes 0 0 began_first.state (firsts ++ onward.some.made)) run course-over line_over ended_over
+  pub ending-over : Ending slots began_first (carried_so_far (setting_of run) began_first (firsts ++ onward.some.made)) run course-over line_over ended_over
   ending-over = record {
     step = all-step;
     state = ap (state_after onward.restarted.state) (sym rest-writes)

@@ -18,8 +18,8 @@ use Rattle.replay.specs.declared.fate.Fate.TheVariants as fates
 use Rattle.replay.specs.declared.watch.Count.{Count}
 use Rattle.replay.specs.declared.steps.Ended.{Ended}
 use Rattle.replay.specs.declared.steps.Ended.TheVariants as ended
-use Rattle.replay.specs.Effects.{Effect, effects_of, waiting_after}
-use Rattle.replay.specs.Run.{Progress}
+use Rattle.replay.specs.Effects.{Effect, waiting_after}
+use Rattle.replay.specs.Run.{Progress, carried_so_far}
 use Rattle.replay.specs.Text.{restarted_line}
 use Rattle.replay.specs.Fates.{most_of}
 use Rattle.replay.specs.Running.{Running, Watching, EndsBy, HasCome, IsOnward, IsRun, MakesAll, MakesSome, MayTurnBack, ShowsRules, ended_line, finished_line, first_actions, goes_back, actions_left, trial_rest, routes_of, setting_of, watching}
@@ -183,14 +183,14 @@ module _ (slots : ℕ) (run : Running) (onward : IsOnward slots run) (is : IsRun
         }
 
         line-over : (counted : Running) → counted ≡ record run { manager = now; told = 0; waiting = 0; fate = fates.ToTheEnd; pending = []; commits = run.commits + 1 }
-            → (end : Ended) → EndsBy (goes_back None all.held) run.manager all.held all.actions end now → ended_line counted.commits run.fate end count.told ≡ line_over slots run onward is inside
+            → (end : Ended) → EndsBy (goes_back None all.held) run.manager all.held all.actions end now → ended_line counted.json counted.commits run.fate end count.told ≡ line_over slots run onward is inside
         line-over counted closed (ended.Finished done) ends =
-            ap (λ fate. finished_line counted.commits fate done count.told) onward.fate_is
+            ap (λ fate. finished_line counted.json counted.commits fate done count.told) onward.fate_is
             ∙ ap (λ (r : Running). restarted_line r.commits onward.after count.told) closed
             ∙ ap (restarted_line (run.commits + 1) onward.after) number-whole
         line-over counted closed ended.Reverted ends = absurd (let bad : true ≡ false = sym ends.0 ∙ forward in cc)
 
-  pub rest-onward : Rest slots (began_first slots run onward is inside) (effects_of (setting_of run) run.probes 0 0 (began_first slots run onward is inside).state (made_before ++ onward.some.made)) run
+  pub rest-onward : Rest slots (began_first slots run onward is inside) (carried_so_far (setting_of run) (began_first slots run onward is inside) (made_before ++ onward.some.made)) run
   rest-onward = record {
     course = course-over slots run onward is inside;
     line = line_over slots run onward is inside;
@@ -205,12 +205,12 @@ module _ (slots : ℕ) (run : Running) (onward : IsOnward slots run) (is : IsRun
         (actions-left Seen watch width count end now events events_now taken taken_now) all;
     more = λ now count some come.
         with-most (λ most. (some : MakesSome most run.told run.manager now) → HasCome (watching run) (count_of run) count some.made
-        → IsUnfinished slots (began_first slots run onward is inside) (effects_of (setting_of run) run.probes 0 0 (began_first slots run onward is inside).state ((made_before ++ onward.some.made) ++ some.made)) (record run { manager = now; told = count.told; waiting = count.waiting }))
+        → IsUnfinished slots (began_first slots run onward is inside) (carried_so_far (setting_of run) (began_first slots run onward is inside) ((made_before ++ onward.some.made) ++ some.made)) (record run { manager = now; told = count.told; waiting = count.waiting }))
         (λ some come. inr (record {
           onward = onward-more now count some come;
           before_is = refl;
-          front_is = ap (λ setting. effects_of setting run.probes 0 0 (began_first slots run onward is inside).state ((made_before ++ onward.some.made) ++ some.made)) (sym (ap (λ (manager : Managed). setting_of (record run { manager = manager })) some.now_is))
-              ∙ ap (effects_of (setting_of (record run { manager = now })) run.probes 0 0 (began_first slots run onward is inside).state) (append_assoc made_before onward.some.made some.made);
+          front_is = ap (λ setting. carried_so_far setting (began_first slots run onward is inside) ((made_before ++ onward.some.made) ++ some.made)) (sym (ap (λ (manager : Managed). setting_of (record run { manager = manager })) some.now_is))
+              ∙ ap (carried_so_far (setting_of (record run { manager = now })) (began_first slots run onward is inside)) (append_assoc made_before onward.some.made some.made);
         })) some come;
     ends = λ Seen watch width count end now events events_now taken taken_now all.
         with-most (λ most. (all : MakesAll Seen most run.manager watch width (count_of run) count end now events events_now taken taken_now) → EndsWith run now count end (line_over slots run onward is inside) (ended_over slots run onward is inside))
@@ -226,5 +226,5 @@ as-onward slots before front run stands is inside =
     let onward = stands.onward in
     subst (λ (at : Progress). Rest slots at front run) (sym stands.before_is)
     (subst (λ effects. Rest slots (began_first slots run onward is inside) effects run)
-    (sym (stands.front_is ∙ ap (λ (at : Progress). effects_of (setting_of run) run.probes 0 0 at.state (first_actions run onward.begun onward.holds.1.made onward.after ++ onward.some.made)) stands.before_is))
+    (sym (stands.front_is ∙ ap (λ (at : Progress). carried_so_far (setting_of run) at (first_actions run onward.begun onward.holds.1.made onward.after ++ onward.some.made)) stands.before_is))
     (rest-onward slots run onward is inside))

@@ -14,10 +14,10 @@ use Rattle.replay.specs.declared.RunFault.{RunFault}
 use Rattle.replay.specs.declared.RunFault.TheVariants as fault
 use Rattle.replay.specs.declared.fate.Fate.TheVariants as fates
 use Rattle.replay.specs.declared.watch.Count.{Count}
-use Rattle.replay.specs.Effects.{Setting, Effect, Prints, effects_of}
+use Rattle.replay.specs.Effects.{Setting, Effect, Prints}
 use Rattle.rule_store.specs.Verdict.{Accepted, verdict}
-use Rattle.replay.specs.Run.{Progress, Commits, CrashesIn, StopsAtCrash, actions_before, actions_for, carried}
-use Rattle.replay.specs.Text.{accepted_line}
+use Rattle.replay.specs.Run.{Progress, Commits, CrashesIn, StopsAtCrash, actions_before, actions_for, carried, carried_so_far}
+use Rattle.replay.specs.Reports.{done_line}
 use Rattle.replay.specs.Carried.{IsAt}
 use Rattle.replay.specs.Fates.{IsUpTo, commit_act}
 use Rattle.replay.specs.Pausing.{MakesUpTo}
@@ -96,7 +96,7 @@ module _ (slots after : ℕ) (base : Running) (half : IsHalfway (crashing after 
   first-made = sym (first-before (subst (λ n. after < n) (sym whole-writes) more)) ∙ ap (up_to_writes after) whole-commit
 
   abbrev whole_commit_effects : List Effect
-  whole_commit_effects = carried begun_setting first (actions_for begun_setting first half.holds.1.made) ++ Prints (accepted_line (run.commits + 1) half.holds.0) ∷ []
+  whole_commit_effects = carried begun_setting first (actions_for begun_setting first half.holds.1.made) ++ Prints (done_line run.json (run.commits + 1) half.holds.0) ∷ []
 
   pub crashes-in : CrashesIn (setting_of run) first after half.holds.1.made
   crashes-in = subst (λ setting. CrashesIn setting first after half.holds.1.made) (sym (setting-begun run half)) (record {
@@ -134,7 +134,7 @@ module _ (slots after : ℕ) (base : Running) (half : IsHalfway (crashing after 
       made = half.holds.1.made;
       crash = crashes-in;
       back = back;
-      parts = ap (effects_of (setting_of run) run.probes 0 0 first.state) (sym whole-first) ∙ parts;
+      parts = ap (carried_so_far (setting_of run) first) (sym whole-first) ∙ parts;
     });
   }
 
@@ -143,7 +143,7 @@ module _ (slots after : ℕ) (base : Running) (half : IsHalfway (crashing after 
   stops-now none = record {
     made = half.holds.1.made;
     crash = crashes-in;
-    effects_are = ap (effects_of (setting_of run) run.probes 0 0 first.state) (sym (append-nil half.some.made) ∙ ap (λ actions. half.some.made ++ actions) (sym none) ∙ whole-first);
+    effects_are = ap (carried_so_far (setting_of run) first) (sym (append-nil half.some.made) ∙ ap (λ actions. half.some.made ++ actions) (sym none) ∙ whole-first);
   }
 
   -- more writes are left than come before the crash
@@ -199,7 +199,7 @@ module _ (slots after : ℕ) (base : Running) (half : IsHalfway (crashing after 
       halfway = still-half;
       before_is = refl;
       front_is = sym (told-then slots first (so_far slots run half is inside) run course-first some.made)
-          ∙ ap (λ setting. effects_of setting run.probes 0 0 first.state (half.some.made ++ some.made)) (sym setting-new);
+          ∙ ap (λ setting. carried_so_far setting first (half.some.made ++ some.made)) (sym setting-new);
     })
 
   -- what its first part comes to
@@ -347,7 +347,7 @@ comes-to slots after run stop more inside before front (inl stands) events_old e
     let half = first.halfway in
     let start : Progress = began slots (crashing after run) half stop.is inside in
     let so : front ≡ so_far slots (crashing after run) half stop.is inside =
-    first.front_is ∙ ap (λ (progress : Progress). effects_of (setting_of run) run.probes 0 0 progress.state half.some.made) first.before_is in
+    first.front_is ∙ ap (λ (progress : Progress). carried_so_far (setting_of run) progress half.some.made) first.before_is in
     let fate_is : run.fate ≡ fates.CrashAfter after = ap (λ (r : Running). r.fate) stop.same in
     subst (λ (new : Running). ComesToCrash slots before (commit_act run.fate) front new result events_old events_new flight_new old taken)
     (sym (ap (λ (r : Running). record r { manager = now; told = count.told; waiting = count.waiting }) stop.same))

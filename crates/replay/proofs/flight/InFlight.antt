@@ -14,7 +14,7 @@ use Rattle.commit_writes.specs.Bits.{FieldBits}
 use Rattle.commit_writes.specs.InFlight.{IsCurrent, AreCurrent, ServesLive}
 use Rattle.commit_writes.proofs.Current.{current_answers, translated_current}
 use Rattle.replay.specs.declared.Family.{Family}
-use Rattle.replay.specs.Effects.{Effect, Prints, flushed, searches_of}
+use Rattle.replay.specs.Effects.{Effect, Prints, flushed, searches_of, probes_told}
 use Rattle.replay.specs.InFlight.{AreOf, repeated, probe_words, found_lines, found_all, found_after, flight_left}
 use Rattle.replay.specs.Running.{Watching}
 use Rattle.replay.specs.Text.{probe_line}
@@ -175,22 +175,35 @@ module _ (probes : List Key) (depth waiting : ℕ) (state : State) (flight : Fli
             (keys-front with_words probes (repeated probes waiting) are-more)
         go false = refl
 
+-- where some probe is told of, all are
+told-all : (json : Bool) (probes : List Key) (place : ℕ) → place < length (probes_told json probes) → probes_told json probes ≡ probes
+told-all true probes place within = absurd (omega arith)
+told-all false probes place within = refl
+
+-- no more are told of than there are
+pub told-few : (json : Bool) (probes : List Key) (most : ℕ) → length probes ≤ most → length (probes_told json probes) ≤ most
+told-few true probes most few = omega arith
+told-few false probes most few = few
+
 -- the words of some probes, and of the next one
-module _ (inside watch : Watching) (place : ℕ) (key : Key) (same : inside ≡ watch) (within : place < length inside.probes) (is : key ≡ get_or inside.probes place key) where
-  pub next-probe : take (place + 1) watch.probes ≡ take place watch.probes ++ key ∷ []
+module _ (inside watch : Watching) (place : ℕ) (key : Key) (same : inside ≡ watch) (within : place < length (probes_told watch.json watch.probes)) (is : key ≡ get_or inside.probes place key) where
+  abbrev keys : List Key
+  keys = probes_told watch.json watch.probes
+
+  pub next-probe : take (place + 1) keys ≡ take place keys ++ key ∷ []
   next-probe =
       let next : place + 1 ≡ suc place = omega arith in
-      ap (λ n. take n watch.probes) next
-      ∙ subst (λ (one : Watching). take (suc place) one.probes ≡ take place one.probes ++ key ∷ []) same
-      (take-suc inside.probes place key within ∙ ap (λ one. take place inside.probes ++ one ∷ []) (sym is))
+      let at : key ≡ get_or keys place key =
+      is ∙ ap (λ (one : Watching). get_or one.probes place key) same ∙ ap (λ all. get_or all place key) (sym (told-all watch.json watch.probes place within)) in
+      ap (λ n. take n keys) next ∙ take-suc keys place key within ∙ ap (λ one. take place keys ++ one ∷ []) (sym at)
 
-  pub translated : (state : State) (flight mid new : Flight) → mid ≡ flight ++ probe_words state (take place watch.probes) → new ≡ with_word state key mid → new ≡ flight ++ probe_words state (take (place + 1) watch.probes)
+  pub translated : (state : State) (flight mid new : Flight) → mid ≡ flight ++ probe_words state (take place keys) → new ≡ with_word state key mid → new ≡ flight ++ probe_words state (take (place + 1) keys)
   translated state flight mid new was more =
-      more ∙ ap (λ words. words ++ (key, search_word state key) ∷ []) was ∙ append_assoc flight (probe_words state (take place watch.probes)) ((key, search_word state key) ∷ [])
-      ∙ ap (λ words. flight ++ words) (sym (ap (probe_words state) next-probe ∙ map-append {A = Key} {B = Key × Word} (λ one. (one, search_word state one)) (take place watch.probes) (key ∷ [])))
+      more ∙ ap (λ words. words ++ (key, search_word state key) ∷ []) was ∙ append_assoc flight (probe_words state (take place keys)) ((key, search_word state key) ∷ [])
+      ∙ ap (λ words. flight ++ words) (sym (ap (probe_words state) next-probe ∙ map-append {A = Key} {B = Key × Word} (λ one. (one, search_word state one)) (take place keys) (key ∷ [])))
 
-  pub keys-more : AllByRecursion IsKey (take place watch.probes) → IsKey key → AllByRecursion IsKey (take (place + 1) watch.probes)
-  keys-more keys valid = subst (AllByRecursion IsKey) (sym next-probe) (all_append IsKey (take place watch.probes) (key ∷ []) keys (valid, tt))
+  pub keys-more : AllByRecursion IsKey (take place keys) → IsKey key → AllByRecursion IsKey (take (place + 1) keys)
+  keys-more all valid = subst (AllByRecursion IsKey) (sym next-probe) (all_append IsKey (take place keys) (key ∷ []) all (valid, tt))
 
 -- with the words of a depth of writes in flight the oldest are searched
 full-now : (waiting depth : ℕ) → waiting ≡ depth → (waiting == depth) ≡ true

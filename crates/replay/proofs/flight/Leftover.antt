@@ -14,7 +14,7 @@ use Rattle.replay.specs.declared.RunFault.{RunFault}
 use Rattle.replay.specs.declared.RunFault.TheVariants as fault
 use Rattle.replay.specs.declared.fate.Fate.TheVariants as fates
 use Rattle.replay.specs.Crashing.{IsGoneOnWith}
-use Rattle.replay.specs.Effects.{waiting_after}
+use Rattle.replay.specs.Effects.{waiting_after, probes_told}
 use Rattle.replay.specs.InFlight.{AreOf}
 use Rattle.replay.specs.Running.{Running, IsHalfway, IsRun, AreLeft, LeavesWords, sink_failed}
 
@@ -39,16 +39,16 @@ left-by : (held : Option HeldCommit) (probes : List Key) (waiting : ℕ) (flight
 left-by None probes waiting flight some left = absurd (cc)
 left-by (Some one) probes waiting flight some left = left
 
-pub are-of-left : (run : Running) (flight : Flight) → IsSome run.manager.held → AreLeft run flight → AreOf run.probes run.waiting flight
-are-of-left run flight some left = left-by run.manager.held run.probes run.waiting flight some left
+pub are-of-left : (run : Running) (flight : Flight) → IsSome run.manager.held → AreLeft run flight → AreOf (probes_told run.json run.probes) run.waiting flight
+are-of-left run flight some left = left-by run.manager.held (probes_told run.json run.probes) run.waiting flight some left
 
 left-from : (held : Option HeldCommit) (probes : List Key) (waiting : ℕ) (flight : Flight) → IsSome held → AreOf probes waiting flight
     → IsLeft held probes waiting flight
 left-from None probes waiting flight some are = absurd (cc)
 left-from (Some one) probes waiting flight some are = are
 
-pub left-of : (run : Running) (flight : Flight) → IsSome run.manager.held → AreOf run.probes run.waiting flight → AreLeft run flight
-left-of run flight some are = left-from run.manager.held run.probes run.waiting flight some are
+pub left-of : (run : Running) (flight : Flight) → IsSome run.manager.held → AreOf (probes_told run.json run.probes) run.waiting flight → AreLeft run flight
+left-of run flight some are = left-from run.manager.held (probes_told run.json run.probes) run.waiting flight some are
 
 -- and there is none where none of them waits
 none-by : (held : Option HeldCommit) (probes : List Key) (waiting : ℕ) (flight : Flight) → waiting ≡ 0 → flight ≡ []
@@ -57,7 +57,7 @@ none-by None probes waiting flight zero none = none
 none-by (Some one) probes waiting flight zero none = subst (λ n. AreOf probes n flight) (sym zero) (subst (AreOf probes 0) (sym none) refl)
 
 pub left-none : (run : Running) (flight : Flight) → run.waiting ≡ 0 → flight ≡ [] → AreLeft run flight
-left-none run flight zero none = none-by run.manager.held run.probes run.waiting flight zero none
+left-none run flight zero none = none-by run.manager.held (probes_told run.json run.probes) run.waiting flight zero none
 
 none-left : (held : Option HeldCommit) (probes : List Key) (waiting : ℕ) (flight : Flight) → held ≡ None
     → IsLeft held probes waiting flight → flight ≡ []
@@ -65,7 +65,7 @@ none-left None probes waiting flight idle left = left
 none-left (Some one) probes waiting flight idle left = absurd (cc)
 
 pub none-of-left : (run : Running) (flight : Flight) → run.manager.held ≡ None → AreLeft run flight → flight ≡ []
-none-of-left run flight idle left = none-left run.manager.held run.probes run.waiting flight idle left
+none-of-left run flight idle left = none-left run.manager.held (probes_told run.json run.probes) run.waiting flight idle left
 
 -- a call that touched none, and didn't fail by a write
 pub words-kept : (new : Running) (result : Result (Unit {0}) ActFault) (flight_old flight_new : Flight) → flight_new ≡ flight_old → flight_old ≡ [] → (result ≡ Err (Stopped fault.Device) → ⊥)
@@ -101,12 +101,12 @@ words-cut new why flight_old flight_new (inr device) left = subst (λ one. Leave
 
 -- a commit of which some is left, and the words of the last writes
 pub words-stopped : (new : Running) (why : RunFault) (flight_old flight_new : Flight) → ((why ≡ fault.Sink) ⊎ (why ≡ fault.Device)) → IsSome new.manager.held
-    → (why ≡ fault.Device → AreOf new.probes new.waiting flight_new) → LeavesWords new (Err (Stopped why)) flight_old flight_new
+    → (why ≡ fault.Device → AreOf (probes_told new.json new.probes) new.waiting flight_new) → LeavesWords new (Err (Stopped why)) flight_old flight_new
 words-stopped new why flight_old flight_new kind held are = words-cut new why flight_old flight_new kind (λ device. left-of new flight_new held (are device))
 
 -- the same by what the run held before
 pub words-cut_run : (inside : Running) (now : Managed) (count : Count) (why : RunFault) (flight_old flight_new : Flight) → IsRun inside → ((why ≡ fault.Sink) ⊎ (why ≡ fault.Device)) → IsSome now.held
-    → (why ≡ fault.Device → AreOf inside.probes count.waiting flight_new) → LeavesWords (record inside { manager = now; told = count.told; waiting = count.waiting }) (Err (Stopped why)) flight_old flight_new
+    → (why ≡ fault.Device → AreOf (probes_told inside.json inside.probes) count.waiting flight_new) → LeavesWords (record inside { manager = now; told = count.told; waiting = count.waiting }) (Err (Stopped why)) flight_old flight_new
 words-cut_run inside now count why flight_old flight_new is kind held are =
     words-stopped (record inside { manager = now; told = count.told; waiting = count.waiting }) why flight_old flight_new kind held are
 

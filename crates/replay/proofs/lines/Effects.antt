@@ -5,12 +5,13 @@ use Rattle.std.specs.Io.KnownBytes.{Appends}
 use Rattle.std.proofs.KnownBytes.{Appends-nil, Appends-trans}
 use Rattle.rule_model.specs.declared.Key.{Key}
 use Rattle.tcam_device.specs.declared.Action.{Action}
+use Rattle.tcam_device.specs.declared.Write.{Write}
 use Rattle.tcam_device.specs.declared.Action.TheVariants.{Written, Drained}
 use Rattle.tcam_device.specs.Flight.{writes_in}
 use Rattle.tcam_device.specs.State.{State, apply, state_after}
 use Rattle.commit_writes.proofs.WritesIn.{writes_in-append}
 use Rattle.replay.specs.declared.Family.{Family}
-use Rattle.replay.specs.Effects.{Setting, Effect, Acts, Prints, events_in, journal_of, printed, traced, searches_of, flushed, searched_after, waiting_after, effects_of}
+use Rattle.replay.specs.Effects.{Setting, Effect, Acts, Prints, events_in, journal_of, printed, traced, write_told, drain_told, searches_of, flushed, searched_after, waiting_after, effects_of}
 use Rattle.replay.specs.Text.{write_line, drain_line}
 use Rattle.replay.specs.Carried.{Does}
 
@@ -35,9 +36,17 @@ written-append a b = ap writes_in (events-append a b) ∙ writes_in-append (even
 none-behind : (a b : List Effect) → events_in a ≡ [] → events_in (a ++ b) ≡ events_in b
 none-behind a b none = events-append a b ∙ ap (λ actions. actions ++ events_in b) none
 
-pub events-traced : (trace : Bool) (line : List ℕ) → events_in (traced trace line) ≡ []
+events-traced : (trace : Bool) (line : List ℕ) → events_in (traced trace line) ≡ []
 events-traced true line = refl
 events-traced false line = refl
+
+pub events-write_told : (json trace : Bool) (family : Family) (number : ℕ) (write : Write) → events_in (write_told json trace family number write) ≡ []
+events-write_told true trace family number write = refl
+events-write_told false trace family number write = events-traced trace (write_line family number write)
+
+pub events-drain_told : (json trace : Bool) (number : ℕ) → events_in (drain_told json trace number) ≡ []
+events-drain_told true trace number = refl
+events-drain_told false trace number = events-traced trace (drain_line number)
 
 pub events-searches : (family : Family) (number : ℕ) (state : State) (probe : ℕ) (keys : List Key) → events_in (searches_of family number state probe keys) ≡ []
 events-searches family number state probe [] = refl
@@ -63,14 +72,14 @@ events-actions setting probes number waiting state (Written write ∷ actions) =
     let next = apply state write in
     let later = effects_of setting probes (number + 1) (min (waiting + 1) setting.depth) next actions in
     ap (λ made. Written write ∷ made)
-    (none-behind (traced setting.trace (write_line setting.family (number + 1) write)) (searched_after setting probes (number + 1) waiting next ++ later) (events-traced setting.trace (write_line setting.family (number + 1) write))
+    (none-behind (write_told setting.json setting.trace setting.family (number + 1) write) (searched_after setting probes (number + 1) waiting next ++ later) (events-write_told setting.json setting.trace setting.family (number + 1) write)
     ∙ none-behind (searched_after setting probes (number + 1) waiting next) later (events-searched setting probes (number + 1) waiting next)
     ∙ events-actions setting probes (number + 1) (min (waiting + 1) setting.depth) next actions)
 events-actions setting probes number waiting state (Drained ∷ actions) =
     let later = effects_of setting probes number 0 state actions in
-    none-behind (flushed setting.family probes number state waiting) (Acts Drained ∷ (traced setting.trace (drain_line number) ++ later)) (events-flushed setting.family probes number state waiting)
+    none-behind (flushed setting.family probes number state waiting) (Acts Drained ∷ (drain_told setting.json setting.trace number ++ later)) (events-flushed setting.family probes number state waiting)
     ∙ ap (λ made. Drained ∷ made)
-    (none-behind (traced setting.trace (drain_line number)) later (events-traced setting.trace (drain_line number)) ∙ events-actions setting probes number 0 state actions)
+    (none-behind (drain_told setting.json setting.trace number) later (events-drain_told setting.json setting.trace number) ∙ events-actions setting probes number 0 state actions)
 
 -- where no action is left behind a line, none was before it
 pub events-front : (front : List Effect) (line : List ℕ) (back : List Effect) → events_in (front ++ Prints line ∷ back) ≡ [] → events_in front ≡ []
@@ -93,7 +102,7 @@ effects-append setting probes number waiting state [] more = let same : number �
 effects-append setting probes number waiting state (Written write ∷ made) more =
     let next = apply state write in
     let later = min (waiting + 1) setting.depth in
-    let here = traced setting.trace (write_line setting.family (number + 1) write) in
+    let here = write_told setting.json setting.trace setting.family (number + 1) write in
     let found = searched_after setting probes (number + 1) waiting next in
     let front = effects_of setting probes (number + 1) later next made in
     let back : ℕ → List Effect = λ n. effects_of setting probes n (waiting_after setting.depth later made) (state_after next (writes_in made)) more in
@@ -103,7 +112,7 @@ effects-append setting probes number waiting state (Written write ∷ made) more
     ∙ ap (λ effects. Acts (Written write) ∷ effects) (sym (append_assoc here (found ++ front) (back (number + length (write ∷ writes_in made)))))
 effects-append setting probes number waiting state (Drained ∷ made) more =
     let ahead = flushed setting.family probes number state waiting in
-    let here = traced setting.trace (drain_line number) in
+    let here = drain_told setting.json setting.trace number in
     let front = effects_of setting probes number 0 state made in
     let back = effects_of setting probes (number + length (writes_in made)) (waiting_after setting.depth 0 made) (state_after state (writes_in made)) more in
     ap (λ effects. ahead ++ Acts Drained ∷ (here ++ effects)) (effects-append setting probes number 0 state made more)

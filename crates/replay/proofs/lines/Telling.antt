@@ -2,6 +2,7 @@
 use Rattle.std.proofs.Common.{◌≡◌, ℕ, List, [], ◌∷◌, ◌++◌, Option, Result, Ok, Err, IsErr, OnErr, sym, ap, ◌∙◌, subst, append_assoc, append-nil}
 use Rattle.std.specs.Io.KnownBytes.{Appends}
 use Rattle.std.proofs.KnownBytes.{Appends-trans}
+use Rattle.script_lines.specs.Given.{counted}
 use Rattle.tcam_device.specs.declared.Write.{Write}
 use Rattle.replay.specs.declared.Family.{Family}
 use Rattle.replay.specs.Text.{write_line}
@@ -20,6 +21,20 @@ line-cut taken accepted faults line more (Err other) old new fault failed front 
       record { front = []; partial = part.0; rest = part.1; back = more; cut = ap (λ text. Prints text ∷ more) part.2; grown = part.3 };
   told = front.told;
   cause = record { later = front.cause.later; once = front.cause.once; failed = front.cause.failed; stayed = tt };
+}
+
+-- a line alone, or a part of it
+pub line-alone : {S E : Type 0} (taken : S → Option (List ℕ)) (accepted : S → List ℕ) (faults : S → ℕ) (old new : S) (line : List ℕ) (result : Result (Unit {0}) E)
+    → WritesLine taken accepted faults old new line result → WritesLines taken accepted faults old new (Prints line ∷ []) result
+line-alone taken accepted faults old new line (Ok done) writes =
+    record { whole = λ which. subst (Appends (counted which (taken old) (accepted old)) (counted which (taken new) (accepted new))) (sym (append-nil line)) (writes.whole which); part = λ which. tt; told = writes.told; cause = writes.cause }
+line-alone taken accepted faults old new line (Err fault) writes = record {
+  whole = λ which. tt;
+  part = λ which.
+      let part = writes.part which in
+      record { front = []; partial = part.0; rest = part.1; back = []; cut = ap (λ text. Prints text ∷ []) part.2; grown = part.3 };
+  told = writes.told;
+  cause = writes.cause;
 }
 
 -- a write's line names its rule by the family that is told

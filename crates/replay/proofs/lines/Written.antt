@@ -9,23 +9,25 @@ use Rattle.commit_writes.specs.Actions.{have_bits, up_to_writes, with_drain}
 use Rattle.commit_writes.specs.Undo.{undo_writes}
 use Rattle.commit_writes.specs.Bits.{bits_with, new_bits}
 use Rattle.commit_writes.proofs.WritesIn.{writes_of_commit, writes_of_map, writes_in-append}
-use Rattle.replay.specs.Effects.{Setting, Prints, events_in, journal_of, effects_of, flushed, waiting_after}
+use Rattle.replay.specs.Effects.{Setting, Prints, events_in, journal_of, flushed, probes_told, waiting_after}
 use Rattle.readback.specs.Going.{needs_drain}
-use Rattle.replay.specs.Run.{Progress, actions_back, actions_before, actions_for, actions_over, carried, crash_state}
+use Rattle.replay.specs.Run.{Progress, actions_back, actions_before, actions_for, actions_over, carried, carried_so_far, crash_state}
 use Rattle.replay.proofs.course.Returning.{writes-up_to}
-use Rattle.replay.proofs.lines.Effects.{events-actions, events-append, events-flushed}
+use Rattle.replay.proofs.lines.Effects.{events-append, events-flushed}
+use Rattle.replay.proofs.lines.Opened.{events-so_far}
 
 -- all that a commit does to the device are its actions
 pub events-carried : (setting : Setting) (old : Progress) (actions : List Action) (line : List ℕ) → events_in (carried setting old actions ++ Prints line ∷ []) ≡ actions
 events-carried setting old actions line =
-    let front = effects_of setting old.probes 0 0 old.state actions in
+    let front = carried_so_far setting old actions in
+    let keys = probes_told setting.json old.probes in
     let number = length (writes_in actions) in
     let state = state_after old.state (writes_in actions) in
     let waiting = waiting_after setting.depth 0 actions in
     events-append (carried setting old actions) (Prints line ∷ []) ∙ append-nil (events_in (carried setting old actions))
-    ∙ events-append front (flushed setting.family old.probes number state waiting)
-    ∙ ap (λ more. events_in front ++ more) (events-flushed setting.family old.probes number state waiting)
-    ∙ append-nil (events_in front) ∙ events-actions setting old.probes 0 0 old.state actions
+    ∙ events-append front (flushed setting.family keys number state waiting)
+    ∙ ap (λ more. events_in front ++ more) (events-flushed setting.family keys number state waiting)
+    ∙ append-nil (events_in front) ∙ events-so_far setting old actions
 
 -- so it writes its segment
 pub written-segment : (setting : Setting) (old : Progress) (made : List Write) (line : List ℕ) → journal_of (carried setting old (actions_for setting old made) ++ Prints line ∷ []) ≡ made

@@ -15,7 +15,7 @@ use Rattle.batch_order.specs.CarriedOut.{HasRoomBothWays}
 use Rattle.batch_order.specs.Managed.{Managed, HeldCommit}
 use Rattle.batch_order.specs.Steps.{Steps, actions_of, awaits_drain, next_of}
 use Rattle.replay.specs.declared.watch.Count.{Count}
-use Rattle.replay.specs.Effects.{waiting_after}
+use Rattle.replay.specs.Effects.{waiting_after, probes_told}
 use Rattle.replay.specs.InFlight.{AreOf, flight_left}
 use Rattle.replay.specs.Running.{Watching, HasCome, IsSame, MakesSome, MayTurnBack, TurnsBackAt, actions_left, trial_rest}
 use Rattle.replay.proofs.making.Acting.{ActsOnce, GoesOn, IsTurned, Straight, drained-first, due-first, goes-on, never-idle, rest-more, same-then, some-held, turns-at, waiting-first, wrote-first}
@@ -102,7 +102,7 @@ pub record IsMaking (most : Option ℕ) (begun now : Managed) (watch : Watching)
   pub come : HasCome watch count count_now some.made
   pub events : events_now ≡ events_begun ++ some.made
   pub room : HasRoomBothWays now.held spare
-  pub words : AreOf watch.probes count_now.waiting flight
+  pub words : AreOf (probes_told watch.json watch.probes) count_now.waiting flight
   pub few : count_now.waiting ≤ watch.depth
 
 pub some_held : (held : Option HeldCommit) → IsSome held → (one : HeldCommit) × (held ≡ Some one)
@@ -121,7 +121,7 @@ may-still (Some limit) before now held one was is same may =
 
 -- none is made yet
 abbrev pub making-none : (most : Option ℕ) (begun : Managed) (watch : Watching) (count : Count) (events : List Action) (flight : Flight) (spare : ℕ) → IsSome begun.held
-    → HasRoomBothWays begun.held spare → AreOf watch.probes count.waiting flight → count.waiting ≤ watch.depth → IsMaking most begun begun watch count count events events flight spare
+    → HasRoomBothWays begun.held spare → AreOf (probes_told watch.json watch.probes) count.waiting flight → count.waiting ≤ watch.depth → IsMaking most begun begun watch count count events events flight spare
 making-none most begun watch count events flight spare some room words few =
     let (held, is) = some_held begun.held some in
     let same : count.told ≡ count.told + length (writes_in []) = omega arith in record {
@@ -231,7 +231,7 @@ module _ (most : Option ℕ) (begun now new : Managed) (watch : Watching) (count
     more-left = sym making.some.left_is ∙ acts.is
 
     abbrev pub making-action : events_new ≡ events_now ++ action ∷ [] → HasRoomBothWays new.held spare_new → HasCome watch count_now count_new (action ∷ [])
-        → AreOf watch.probes count_new.waiting flight_new → count_new.waiting ≤ watch.depth → IsMaking most begun new watch count count_new events_begun events_new flight_new spare_new
+        → AreOf (probes_told watch.json watch.probes) count_new.waiting flight_new → count_new.waiting ≤ watch.depth → IsMaking most begun new watch count count_new events_begun events_new flight_new spare_new
     making-action events room come words few = record {
       some = some-more;
       come = come-then watch count count_now count_new making.some.made (action ∷ []) making.come come;
@@ -279,14 +279,14 @@ module _ (most : Option ℕ) (begun now new : Managed) (watch : Watching) (count
       fewer-written told waiting = fewer-action (action.Written write) wrote-acts (wrote-come told waiting)
 
       abbrev pub making-written : (state : State) → events_new ≡ events_now ++ actions_of step → HasRoomBothWays new.held spare_new → count_new.told ≡ count_now.told + 1
-          → count_new.waiting ≡ min (count_now.waiting + 1) watch.depth → flight_new ≡ flight_left watch.probes watch.depth count_now.waiting state flight
+          → count_new.waiting ≡ min (count_now.waiting + 1) watch.depth → flight_new ≡ flight_left (probes_told watch.json watch.probes) watch.depth count_now.waiting state flight
           → IsMaking most begun new watch count count_new events_begun events_new flight_new spare_new
       making-written state events room told waiting words =
-          let few : min (count_now.waiting + 1) watch.depth ≤ watch.depth = few-after watch.probes watch.depth count_now.waiting state flight making.few making.words in
+          let few : min (count_now.waiting + 1) watch.depth ≤ watch.depth = few-after (probes_told watch.json watch.probes) watch.depth count_now.waiting state flight making.few making.words in
           making-action (action.Written write) wrote-acts (events ∙ ap (λ one. events_now ++ actions_of one) wrote) room (wrote-come told waiting)
-          (subst (AreOf watch.probes count_new.waiting) (sym words)
-          (subst (λ n. AreOf watch.probes n (flight_left watch.probes watch.depth count_now.waiting state flight)) (sym waiting)
-          (are-after watch.probes watch.depth count_now.waiting state flight making.few making.words)))
+          (subst (AreOf (probes_told watch.json watch.probes) count_new.waiting) (sym words)
+          (subst (λ n. AreOf (probes_told watch.json watch.probes) n (flight_left (probes_told watch.json watch.probes) watch.depth count_now.waiting state flight)) (sym waiting)
+          (are-after (probes_told watch.json watch.probes) watch.depth count_now.waiting state flight making.few making.words)))
           (subst (λ n. n ≤ watch.depth) (sym waiting) few)
 
     -- a drain is made, with no word in flight
@@ -307,7 +307,7 @@ module _ (most : Option ℕ) (begun now new : Managed) (watch : Watching) (count
           → flight_new ≡ [] → IsMaking most begun new watch count count_new events_begun events_new flight_new spare_new
       making-drained events room told waiting words =
           making-action action.Drained drained-acts (events ∙ ap (λ one. events_now ++ actions_of one) drained) room (come-drained watch count_now count_new told waiting)
-          (subst (AreOf watch.probes count_new.waiting) (sym words) (subst (λ n. AreOf watch.probes n []) (sym waiting) refl))
+          (subst (AreOf (probes_told watch.json watch.probes) count_new.waiting) (sym words) (subst (λ n. AreOf (probes_told watch.json watch.probes) n []) (sym waiting) refl))
           (omega (arith, waiting))
 
     -- it waited for its drain
@@ -346,7 +346,7 @@ module _ (most : Option ℕ) (begun now new passed : Managed) (watch : Watching)
       → IsMaking most begun passed watch count count_new events_begun events_new flight_new spare_new
   making-passed events room told waiting words =
       making-action most begun now passed watch count count_now count_new events_begun events_now events_new flight flight_new spare spare_new making action.Drained passed-acts events room (come-drained watch count_now count_new told waiting)
-      (subst (AreOf watch.probes count_new.waiting) (sym words) (subst (λ n. AreOf watch.probes n []) (sym waiting) refl))
+      (subst (AreOf (probes_told watch.json watch.probes) count_new.waiting) (sym words) (subst (λ n. AreOf (probes_told watch.json watch.probes) n []) (sym waiting) refl))
       (omega (arith, waiting))
 
   pub fewer-passed : count_new.told ≡ count_now.told → count_new.waiting ≡ 0 → left_number (trial_rest most count_new.told) passed.state passed.held < length making.some.left

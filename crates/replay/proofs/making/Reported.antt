@@ -12,12 +12,11 @@ use Rattle.tcam_device.proofs.Spans.{state_after-append}
 use Rattle.commit_writes.proofs.WritesIn.{writes_in-append}
 use Rattle.batch_order.specs.Managed.{Managed}
 use Rattle.replay.specs.declared.watch.Count.{Count}
-use Rattle.replay.specs.Effects.{Effect, Acts, Prints, events_in, printed, traced, flushed, searched_after, waiting_after, effects_of}
+use Rattle.replay.specs.Effects.{Effect, Acts, Prints, events_in, printed, write_told, drain_told, probes_told, flushed, searched_after, waiting_after, effects_of}
 use Rattle.replay.specs.Outside.{CutsLines}
 use Rattle.replay.specs.Carried.{CutsEffects}
 use Rattle.replay.specs.Running.{Watching, HasCome, TellsActions, effects_on, telling}
-use Rattle.replay.specs.Text.{write_line, drain_line}
-use Rattle.replay.proofs.lines.Effects.{effects-append, events-actions, events-append, events-front, events-flushed, events-searched, events-traced, printed-append}
+use Rattle.replay.proofs.lines.Effects.{effects-append, events-actions, events-append, events-front, events-flushed, events-searched, events-write_told, events-drain_told, printed-append}
 
 -- lines that are cut, behind effects that were told
 pub cut-lines : (all before lines after : List Effect) (events_begun events_now : List Action) (old mid new : Option (List ℕ)) → all ≡ before ++ (lines ++ after)
@@ -52,7 +51,7 @@ module _ (begun : Managed) (watch : Watching) (slots : ℕ) (count : Count) (eve
   state_now = replay slots (writes_in events)
 
   acts : events_in so_far ≡ made
-  acts = events-actions (telling begun watch) watch.probes count.told count.waiting (replay slots (writes_in events_begun)) made
+  acts = events-actions (telling begun watch) (probes_told watch.json watch.probes) count.told count.waiting (replay slots (writes_in events_begun)) made
 
   -- those of more actions are behind them
   pub effects-then : (more : List Action) → effects_on begun watch slots count events_begun (made ++ more) ≡ so_far ++ effects_on begun watch slots now events more
@@ -64,10 +63,10 @@ module _ (begun : Managed) (watch : Watching) (slots : ℕ) (count : Count) (eve
       ap (λ actions. replay slots (writes_in actions)) is ∙ ap (replay slots) (writes_in-append events_begun made)
       ∙ state_after-append (blank slots) (writes_in events_begun) (writes_in made) in
       let told = come.told in
-      effects-append (telling begun watch) watch.probes count.told count.waiting state made more
-      ∙ ap (λ n. so_far ++ effects_of (telling begun watch) watch.probes n waiting after more) (sym told)
-      ∙ ap (λ n. so_far ++ effects_of (telling begun watch) watch.probes now.told n after more) (sym come.waiting)
-      ∙ ap (λ one. so_far ++ effects_of (telling begun watch) watch.probes now.told now.waiting one more) (sym at)
+      effects-append (telling begun watch) (probes_told watch.json watch.probes) count.told count.waiting state made more
+      ∙ ap (λ n. so_far ++ effects_of (telling begun watch) (probes_told watch.json watch.probes) n waiting after more) (sym told)
+      ∙ ap (λ n. so_far ++ effects_of (telling begun watch) (probes_told watch.json watch.probes) now.told n after more) (sym come.waiting)
+      ∙ ap (λ one. so_far ++ effects_of (telling begun watch) (probes_told watch.json watch.probes) now.told now.waiting one more) (sym at)
 
   -- some more are told
   pub tells-then : (more : List Action) (old mid new : Option (List ℕ)) → TellsActions begun watch slots count events_begun made old mid
@@ -79,21 +78,21 @@ module _ (begun : Managed) (watch : Watching) (slots : ℕ) (count : Count) (eve
   -- the lines of a write
   abbrev pub lines_of : Write → List Effect
   lines_of write =
-      traced watch.trace (write_line watch.family (now.told + 1) write) ++ searched_after (telling begun watch) watch.probes (now.told + 1) now.waiting (apply state_now write)
+      write_told watch.json watch.trace watch.family (now.told + 1) write ++ searched_after (telling begun watch) (probes_told watch.json watch.probes) (now.told + 1) now.waiting (apply state_now write)
 
   lines-none : (write : Write) → events_in (lines_of write) ≡ []
   lines-none write =
-      let found = searched_after (telling begun watch) watch.probes (now.told + 1) now.waiting (apply state_now write) in
-      events-append (traced watch.trace (write_line watch.family (now.told + 1) write)) found
-      ∙ ap (λ actions. actions ++ events_in found) (events-traced watch.trace (write_line watch.family (now.told + 1) write))
-      ∙ events-searched (telling begun watch) watch.probes (now.told + 1) now.waiting (apply state_now write)
+      let found = searched_after (telling begun watch) (probes_told watch.json watch.probes) (now.told + 1) now.waiting (apply state_now write) in
+      events-append (write_told watch.json watch.trace watch.family (now.told + 1) write) found
+      ∙ ap (λ actions. actions ++ events_in found) (events-write_told watch.json watch.trace watch.family (now.told + 1) write)
+      ∙ events-searched (telling begun watch) (probes_told watch.json watch.probes) (now.told + 1) now.waiting (apply state_now write)
 
   -- a write is told
   pub tells-write : (write : Write) (old mid new : Option (List ℕ)) → TellsActions begun watch slots count events_begun made old mid → Appends mid new (printed (lines_of write))
       → TellsActions begun watch slots count events_begun (made ++ Written write ∷ []) old new
   tells-write write old mid new before lines =
-      let trace = traced watch.trace (write_line watch.family (now.told + 1) write) in
-      let found = searched_after (telling begun watch) watch.probes (now.told + 1) now.waiting (apply state_now write) in
+      let trace = write_told watch.json watch.trace watch.family (now.told + 1) write in
+      let found = searched_after (telling begun watch) (probes_told watch.json watch.probes) (now.told + 1) now.waiting (apply state_now write) in
       tells-then (Written write ∷ []) old mid new before
       (subst (λ effects. Appends mid new (printed effects)) (ap (λ effects. trace ++ effects) (sym (append-nil found))) lines)
 
@@ -102,9 +101,9 @@ module _ (begun : Managed) (watch : Watching) (slots : ℕ) (count : Count) (eve
       → TellsActions begun watch slots count events_begun made old mid → CutsLines (lines_of write) mid new
       → CutsEffects (effects_on begun watch slots count events_begun all) events_begun events_new old new
   cuts-write write rest all events_new old mid new whole grown before cuts =
-      let trace = traced watch.trace (write_line watch.family (now.told + 1) write) in
-      let found = searched_after (telling begun watch) watch.probes (now.told + 1) now.waiting (apply state_now write) in
-      let later = effects_of (telling begun watch) watch.probes (now.told + 1) (min (now.waiting + 1) watch.depth) (apply state_now write) rest in
+      let trace = write_told watch.json watch.trace watch.family (now.told + 1) write in
+      let found = searched_after (telling begun watch) (probes_told watch.json watch.probes) (now.told + 1) now.waiting (apply state_now write) in
+      let later = effects_of (telling begun watch) (probes_told watch.json watch.probes) (now.told + 1) (min (now.waiting + 1) watch.depth) (apply state_now write) rest in
       cut-lines (effects_on begun watch slots count events_begun all) (so_far ++ Acts (Written write) ∷ []) (lines_of write) later events_begun events_new old mid new
       (ap (effects_on begun watch slots count events_begun) whole ∙ effects-then (Written write ∷ rest)
       ∙ ap (λ effects. so_far ++ Acts (Written write) ∷ effects) (sym (append_assoc trace found later))
@@ -117,10 +116,10 @@ module _ (begun : Managed) (watch : Watching) (slots : ℕ) (count : Count) (eve
 
   -- the lines before a drain, and behind it
   abbrev pub lines_before : List Effect
-  lines_before = flushed watch.family watch.probes now.told state_now now.waiting
+  lines_before = flushed watch.family (probes_told watch.json watch.probes) now.told state_now now.waiting
 
   abbrev pub lines_behind : List Effect
-  lines_behind = traced watch.trace (drain_line now.told)
+  lines_behind = drain_told watch.json watch.trace now.told
 
   -- a drain is told, behind the words that it waited for
   pub tells-drain : (old mid searched new : Option (List ℕ)) → TellsActions begun watch slots count events_begun made old mid → Appends mid searched (printed lines_before)
@@ -135,29 +134,29 @@ module _ (begun : Managed) (watch : Watching) (slots : ℕ) (count : Count) (eve
   pub cuts-before : (rest all : List Action) (old mid new : Option (List ℕ)) → all ≡ made ++ Drained ∷ rest
       → TellsActions begun watch slots count events_begun made old mid → CutsLines lines_before mid new → CutsEffects (effects_on begun watch slots count events_begun all) events_begun events old new
   cuts-before rest all old mid new whole before cuts =
-      let later = Acts Drained ∷ (lines_behind ++ effects_of (telling begun watch) watch.probes now.told 0 state_now rest) in
+      let later = Acts Drained ∷ (lines_behind ++ effects_of (telling begun watch) (probes_told watch.json watch.probes) now.told 0 state_now rest) in
       cut-lines (effects_on begun watch slots count events_begun all) so_far lines_before later events_begun events old mid new
       (ap (effects_on begun watch slots count events_begun) whole ∙ effects-then (Drained ∷ rest))
       (is ∙ ap (λ actions. events_begun ++ actions) (sym acts))
-      (events-flushed watch.family watch.probes now.told state_now now.waiting) before cuts
+      (events-flushed watch.family (probes_told watch.json watch.probes) now.told state_now now.waiting) before cuts
 
   -- or its own
   pub cuts-drain : (rest all : List Action) (events_new : List Action) (old mid searched new : Option (List ℕ)) → all ≡ made ++ Drained ∷ rest → events_new ≡ events ++ Drained ∷ []
       → TellsActions begun watch slots count events_begun made old mid → Appends mid searched (printed lines_before) → CutsLines lines_behind searched new
       → CutsEffects (effects_on begun watch slots count events_begun all) events_begun events_new old new
   cuts-drain rest all events_new old mid searched new whole grown before flush cuts =
-      let later = effects_of (telling begun watch) watch.probes now.told 0 state_now rest in
+      let later = effects_of (telling begun watch) (probes_told watch.json watch.probes) now.told 0 state_now rest in
       let ahead = so_far ++ (lines_before ++ Acts Drained ∷ []) in
       let does : events_in ahead ≡ made ++ Drained ∷ [] =
       events-append so_far (lines_before ++ Acts Drained ∷ [])
       ∙ ap (λ actions. actions ++ events_in (lines_before ++ Acts Drained ∷ [])) acts
-      ∙ ap (λ actions. made ++ actions) (events-append lines_before (Acts Drained ∷ []) ∙ ap (λ actions. actions ++ Drained ∷ []) (events-flushed watch.family watch.probes now.told state_now now.waiting)) in
+      ∙ ap (λ actions. made ++ actions) (events-append lines_before (Acts Drained ∷ []) ∙ ap (λ actions. actions ++ Drained ∷ []) (events-flushed watch.family (probes_told watch.json watch.probes) now.told state_now now.waiting)) in
       cut-lines (effects_on begun watch slots count events_begun all) ahead lines_behind later events_begun events_new old searched new
       (ap (effects_on begun watch slots count events_begun) whole ∙ effects-then (Drained ∷ rest)
       ∙ ap (λ effects. so_far ++ effects) (sym (append_assoc lines_before (Acts Drained ∷ []) (lines_behind ++ later)))
       ∙ sym (append_assoc so_far (lines_before ++ Acts Drained ∷ []) (lines_behind ++ later)))
       (grown ∙ ap (λ actions. actions ++ Drained ∷ []) is ∙ append_assoc events_begun made (Drained ∷ []) ∙ ap (λ actions. events_begun ++ actions) (sym does))
-      (events-traced watch.trace (drain_line now.told))
+      (events-drain_told watch.json watch.trace now.told)
       (subst (Appends old searched)
       (sym (printed-append so_far (lines_before ++ Acts Drained ∷ [])
       ∙ ap (λ text. printed so_far ++ text) (printed-append lines_before (Acts Drained ∷ []) ∙ append-nil (printed lines_before))))

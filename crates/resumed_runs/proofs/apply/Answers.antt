@@ -1,6 +1,9 @@
-use Rattle.std.proofs.Common.{true, ap, arith}
-use Rattle.resumed_runs.proofs.Going.{whole_left, words_left, lost_behind}
+use Rattle.std.proofs.Common.{true, ap, ◌∙◌, arith}
+use Rattle.resumed_runs.proofs.Going.{told_words, whole_left, words_left, lost_behind}
 use Rattle.resumed_runs.proofs.apply.Goals as goal
+
+pub apply-requires-clause-told : goal.apply-requires-clause-told
+apply-requires-clause-told g c = told_words _ c.args.act.now c.requires.going.words
 
 pub returns-clause-going : goal.returns-clause-going
 returns-clause-going g c sound memory =
@@ -11,6 +14,7 @@ returns-clause-going g c sound memory =
     let step = c.apply.ensures.in_step whole c.requires.going.stands c.requires.going.current in record {
       slots = omega arith;
       whole = whole;
+      words = ap (λ setting. setting.json) c.apply.ensures.setting ∙ c.requires.going.words;
       room = c.apply.ensures.room c.requires.going.room;
       in_flight = words_left (g.D.Writable.slot_count c.args.device.now) c.args.run.now c.apply.new.self c.args.act.now c.apply.result _ _ _ _ (g.D.Writable.flight c.args.device.now)
           (g.D.Writable.flight c.apply.new.device) sound memory (c.apply.ensures.acts true) c.apply.ensures.idle c.apply.ensures.in_flight c.requires.going.in_flight;

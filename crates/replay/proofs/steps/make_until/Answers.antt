@@ -8,10 +8,9 @@ use Rattle.tcam_device.specs.declared.Action.TheVariants as action
 use Rattle.tcam_device.specs.Flight.{writes_in}
 use Rattle.tcam_device.specs.State.{replay}
 use Rattle.batch_order.specs.Steps.{KeepsCurrent, actions_of}
-use Rattle.replay.specs.Effects.{printed, traced}
+use Rattle.replay.specs.Effects.{printed, write_told}
 use Rattle.replay.specs.InFlight.{IsSeen}
 use Rattle.replay.specs.Outside.{CutsLines}
-use Rattle.replay.specs.Text.{write_line}
 use Rattle.replay.proofs.making.Acting.{some-slots}
 use Rattle.replay.proofs.between.Leaving.{uncounted, leaves-line, leaves-writes, leaves-then}
 use Rattle.replay.proofs.making.Making.{come-drained, drained-acts, drained-none, few-written, fewer-drained, fewer-passed, fewer-written, goes-idle, left-now, making-drained, making-none, making-passed, making-turned, making-written, may-now, more-left, passed-acts, turned-straight, waits-left, wrote-acts}
@@ -80,7 +79,7 @@ making-preserved-in-Ok g c =
           (rw told.spare made.room) told.told told.waiting (rw made.flight at told.flight);
       told = λ which seen. tells-write c.args.manager.now c.args.watch.now (g.D.Writable.slot_count c.args.device.now) c.args.count.now (g.D.Writable.events c.args.device.now) m.some.made c.making.count (g.D.Writable.events c.making.device) m.come m.events write (counted which (g.K.Sink.taken c.args.sink.now) (g.K.Sink.accepted c.args.sink.now)) (counted which (g.K.Sink.taken c.making.sink) (g.K.Sink.accepted c.making.sink)) (counted which (g.K.Sink.taken c.tell_write.new.sink) (g.K.Sink.accepted c.tell_write.new.sink)) (i.told which seen)
           (as-written c.args.manager.now c.turn_round.new.manager c.step_tried.new.manager c.args.watch.now step write (g.D.Writable.slot_count c.args.device.now) (g.D.Writable.journal c.making.device) (g.D.Writable.journal c.step_tried.new.device) (g.D.Writable.events c.making.device) (g.D.Writable.events c.step_tried.new.device) (g.D.Writable.flight c.making.device) (g.D.Writable.flight c.step_tried.new.device) c.making.count.waiting agrees agrees_mid grown made.flight stays wrote made.keeps within made.serves m.words m.few told.keys (seen-turned c.making.manager c.turn_round.new.manager (g.D.Writable.slot_count c.args.device.now) (g.D.Writable.events c.making.device) (g.D.Writable.flight c.making.device) c.turn_round.ensures.state c.turn_round.ensures.current (i.seen seen))
-          (λ lines. Appends (counted which (g.K.Sink.taken c.making.sink) (g.K.Sink.accepted c.making.sink)) (counted which (g.K.Sink.taken c.tell_write.new.sink) (g.K.Sink.accepted c.tell_write.new.sink)) (printed lines)) (traced c.args.watch.now.trace (write_line c.args.watch.now.family (c.making.count.told + 1) write)) (c.making.count.told + 1) (rw (made.slot_count, i.leaves.slot_count) at (told.lines.whole which)));
+          (λ lines. Appends (counted which (g.K.Sink.taken c.making.sink) (g.K.Sink.accepted c.making.sink)) (counted which (g.K.Sink.taken c.tell_write.new.sink) (g.K.Sink.accepted c.tell_write.new.sink)) (printed lines)) (write_told c.args.watch.now.json c.args.watch.now.trace c.args.watch.now.family (c.making.count.told + 1) write) (c.making.count.told + 1) (rw (made.slot_count, i.leaves.slot_count) at (told.lines.whole which)));
       seen = λ seen. seen-written c.args.manager.now c.turn_round.new.manager c.step_tried.new.manager c.args.watch.now step write (g.D.Writable.slot_count c.args.device.now) (g.D.Writable.journal c.making.device) (g.D.Writable.journal c.step_tried.new.device) (g.D.Writable.events c.making.device) (g.D.Writable.events c.step_tried.new.device) (g.D.Writable.flight c.making.device) (g.D.Writable.flight c.step_tried.new.device) c.making.count.waiting agrees agrees_mid grown made.flight stays wrote made.keeps within made.serves m.words m.few told.keys (seen-turned c.making.manager c.turn_round.new.manager (g.D.Writable.slot_count c.args.device.now) (g.D.Writable.events c.making.device) (g.D.Writable.flight c.making.device) c.turn_round.ensures.state c.turn_round.ensures.current (i.seen seen))
           (g.D.Writable.events c.tell_write.new.device) (g.D.Writable.flight c.tell_write.new.device) told.events (rw (made.slot_count, i.leaves.slot_count) at told.flight);
       before = before;
@@ -129,13 +128,13 @@ returns-in-Err-tell_write-clause-makes g c = λ which.
             (λ seen. cuts-write c.args.manager.now c.args.watch.now (g.D.Writable.slot_count c.args.device.now) c.args.count.now (g.D.Writable.events c.args.device.now) m.some.made c.making.count (g.D.Writable.events c.making.device) m.come m.events write acts.left (m.some.made ++ action.Written write ∷ acts.left) (g.D.Writable.events c.tell_write.new.device) (counted which (g.K.Sink.taken c.args.sink.now) (g.K.Sink.accepted c.args.sink.now)) (counted which (g.K.Sink.taken c.making.sink) (g.K.Sink.accepted c.making.sink)) (counted which (g.K.Sink.taken c.tell_write.new.sink) (g.K.Sink.accepted c.tell_write.new.sink))
             refl (told.events ∙ grown) (i.told which seen)
             (as-written c.args.manager.now c.turn_round.new.manager c.step_tried.new.manager c.args.watch.now step write (g.D.Writable.slot_count c.args.device.now) (g.D.Writable.journal c.making.device) (g.D.Writable.journal c.step_tried.new.device) (g.D.Writable.events c.making.device) (g.D.Writable.events c.step_tried.new.device) (g.D.Writable.flight c.making.device) (g.D.Writable.flight c.step_tried.new.device) c.making.count.waiting agrees agrees_mid grown made.flight stays wrote made.keeps within made.serves m.words m.few told.keys (seen-turned c.making.manager c.turn_round.new.manager (g.D.Writable.slot_count c.args.device.now) (g.D.Writable.events c.making.device) (g.D.Writable.flight c.making.device) c.turn_round.ensures.state c.turn_round.ensures.current (i.seen seen))
-            (λ lines. CutsLines lines (counted which (g.K.Sink.taken c.making.sink) (g.K.Sink.accepted c.making.sink)) (counted which (g.K.Sink.taken c.tell_write.new.sink) (g.K.Sink.accepted c.tell_write.new.sink))) (traced c.args.watch.now.trace (write_line c.args.watch.now.family (c.making.count.told + 1) write)) (c.making.count.told + 1) (rw (made.slot_count, i.leaves.slot_count) at (told.lines.part which)))),
+            (λ lines. CutsLines lines (counted which (g.K.Sink.taken c.making.sink) (g.K.Sink.accepted c.making.sink)) (counted which (g.K.Sink.taken c.tell_write.new.sink) (g.K.Sink.accepted c.tell_write.new.sink))) (write_told c.args.watch.now.json c.args.watch.now.trace c.args.watch.now.family (c.making.count.told + 1) write) (c.making.count.told + 1) (rw (made.slot_count, i.leaves.slot_count) at (told.lines.part which)))),
         before,
         within-written c.args.stop c.args.count.now.told c.making.count.told c.tell_write.new.count.told m.some.made m.some.left acts.left write m.come.told i.reach left early told.told,
         all-some c.args.stop _ (λ after. λ enough. (λ seen. cuts-write c.args.manager.now c.args.watch.now (g.D.Writable.slot_count c.args.device.now) c.args.count.now (g.D.Writable.events c.args.device.now) m.some.made c.making.count (g.D.Writable.events c.making.device) m.come m.events write (up_to_writes (after - c.args.count.now.told - length (writes_in (m.some.made ++ action.Written write ∷ []))) acts.left) ((m.some.made ++ action.Written write ∷ []) ++ up_to_writes (after - c.args.count.now.told - length (writes_in (m.some.made ++ action.Written write ∷ []))) acts.left) (g.D.Writable.events c.tell_write.new.device) (counted which (g.K.Sink.taken c.args.sink.now) (g.K.Sink.accepted c.args.sink.now)) (counted which (g.K.Sink.taken c.making.sink) (g.K.Sink.accepted c.making.sink)) (counted which (g.K.Sink.taken c.tell_write.new.sink) (g.K.Sink.accepted c.tell_write.new.sink))
             (append_assoc m.some.made (action.Written write ∷ []) (up_to_writes (after - c.args.count.now.told - length (writes_in (m.some.made ++ action.Written write ∷ []))) acts.left)) (told.events ∙ grown) (i.told which seen)
             (as-written c.args.manager.now c.turn_round.new.manager c.step_tried.new.manager c.args.watch.now step write (g.D.Writable.slot_count c.args.device.now) (g.D.Writable.journal c.making.device) (g.D.Writable.journal c.step_tried.new.device) (g.D.Writable.events c.making.device) (g.D.Writable.events c.step_tried.new.device) (g.D.Writable.flight c.making.device) (g.D.Writable.flight c.step_tried.new.device) c.making.count.waiting agrees agrees_mid grown made.flight stays wrote made.keeps within made.serves m.words m.few told.keys (seen-turned c.making.manager c.turn_round.new.manager (g.D.Writable.slot_count c.args.device.now) (g.D.Writable.events c.making.device) (g.D.Writable.flight c.making.device) c.turn_round.ensures.state c.turn_round.ensures.current (i.seen seen))
-            (λ lines. CutsLines lines (counted which (g.K.Sink.taken c.making.sink) (g.K.Sink.accepted c.making.sink)) (counted which (g.K.Sink.taken c.tell_write.new.sink) (g.K.Sink.accepted c.tell_write.new.sink))) (traced c.args.watch.now.trace (write_line c.args.watch.now.family (c.making.count.told + 1) write)) (c.making.count.told + 1) (rw (made.slot_count, i.leaves.slot_count) at (told.lines.part which))))),
+            (λ lines. CutsLines lines (counted which (g.K.Sink.taken c.making.sink) (g.K.Sink.accepted c.making.sink)) (counted which (g.K.Sink.taken c.tell_write.new.sink) (g.K.Sink.accepted c.tell_write.new.sink))) (write_told c.args.watch.now.json c.args.watch.now.trace c.args.watch.now.family (c.making.count.told + 1) write) (c.making.count.told + 1) (rw (made.slot_count, i.leaves.slot_count) at (told.lines.part which))))),
       ),
     )
 

@@ -1,7 +1,7 @@
-use Rattle.std.proofs.Common.{Err, ap, sym, ◌∙◌, Ok, refl}
+use Rattle.std.proofs.Common.{Err, ap, codes, sym, ◌∙◌, Ok, refl}
 use Rattle.tcam_cli.proofs.FaultCounts.{closed-leaves, closes-leaves, some-leaves, stopped-leaves}
 use Rattle.tcam_cli.proofs.Outcomes.{stops, stops-grows, stops-memory}
-use Rattle.tcam_cli.proofs.Exits.{exit-bytes, exit-end, exit-read, goes-none, exit-word, exit-full, goes-on, exit-stopped, wants-next}
+use Rattle.tcam_cli.proofs.Exits.{exit-bytes, exit-end, exit-read, goes-none, exit-word, closes-by, exit-full, goes-on, exit-stopped, wants-next}
 use Rattle.tcam_cli.proofs.InTime.{does-grows, same-grows, closes-grows, so-far-at}
 use Rattle.tcam_cli.proofs.GivenRuns.{rounds-some, rounds-stopped, rounds-none, rests-same}
 use Rattle.tcam_cli.proofs.top.round.Goals as goal
@@ -101,7 +101,7 @@ returns-in-Err-BatchFull-clause-gives g c =
           (λ bytes taken begun now start may parts s.
           let same = rw c.in-Err-BatchFull.field-0-is at (c.in-Err-BatchFull.ensures.acts which) in
           rw same.events (exit-full _ _ bytes _ begun _ _ start _ s h.line c.next.new.self now (rw h.field-0-is at h.ensures.again) (λ going. rw h.field-0-is at (h.ensures.gives.2.hands going begun now may))
-          taken _ _ _ _ (c.in-Ok-Some-read_act.ensures.ok ∙ ap Ok c.in-Ok-Some-read_act.field-0-is) (sym (rw c.in-Err-BatchFull.field-0-is at (c.in-Err-BatchFull.ensures.limit c.requires.stands.idle))) (rw same.report at (c.fault-in-Err-BatchFull.ensures.closes.closes which)))),
+          taken _ _ _ _ (c.in-Ok-Some-read_act.ensures.ok ∙ ap Ok c.in-Ok-Some-read_act.field-0-is) (sym (rw c.in-Err-BatchFull.field-0-is at (c.in-Err-BatchFull.ensures.limit c.requires.stands.idle))) (closes-by c.args.run.now c.apply.new.self h.line.number (codes "batch full") _ _ _ same.run (rw same.report at (c.fault-in-Err-BatchFull.ensures.closes.closes which))))),
     )
 
 pub returns-in-Err-ProbesFull-clause-gives : goal.returns-in-Err-ProbesFull-clause-gives
@@ -115,7 +115,7 @@ returns-in-Err-ProbesFull-clause-gives g c =
           (λ bytes taken begun now start may parts s.
           let same = rw c.in-Err-ProbesFull.field-0-is at (c.in-Err-ProbesFull.ensures.acts which) in
           rw same.events (exit-full _ _ bytes _ begun _ _ start _ s h.line c.next.new.self now (rw h.field-0-is at h.ensures.again) (λ going. rw h.field-0-is at (h.ensures.gives.2.hands going begun now may))
-          taken _ _ _ _ (c.in-Ok-Some-read_act.ensures.ok ∙ ap Ok c.in-Ok-Some-read_act.field-0-is) (sym (rw c.in-Err-ProbesFull.field-0-is at (c.in-Err-ProbesFull.ensures.limit c.requires.stands.idle))) (rw same.report at (c.fault-in-Err-ProbesFull.ensures.closes.closes which)))),
+          taken _ _ _ _ (c.in-Ok-Some-read_act.ensures.ok ∙ ap Ok c.in-Ok-Some-read_act.field-0-is) (sym (rw c.in-Err-ProbesFull.field-0-is at (c.in-Err-ProbesFull.ensures.limit c.requires.stands.idle))) (closes-by c.args.run.now c.apply.new.self h.line.number (codes "too many probes") _ _ _ same.run (rw same.report at (c.fault-in-Err-ProbesFull.ensures.closes.closes which))))),
     )
 
 pub returns-in-Err-Stopped-clause-gives : goal.returns-in-Err-Stopped-clause-gives

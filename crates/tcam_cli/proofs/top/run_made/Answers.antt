@@ -46,6 +46,7 @@ apply-requires g c =
       slots = omega (arith, slots, count, within);
       none_in_flight = λ _. i.none_in_flight;
       act = subst (λ (family : Family). IsActOf family c.act_of_made.result) (sym family) c.act_of_made.ensures.list;
+      told = c.act_of_made.ensures.told c.acts.run.json;
       whole = i.whole;
       stands = λ crash. absurd (never-crash c.in-Some.made (subst IsCrash c.act_of_made.ensures.act crash));
       commits = omega (arith, few);

@@ -3,7 +3,7 @@ use Rattle.std.proofs.Common.{◌≡◌, ◌≤◌, true, rules, IsSome, Err, ap
 use Rattle.replay.specs.declared.RunFault.TheVariants as fault
 use Rattle.std.specs.Io.KnownBytes.{Appends}
 use Rattle.script_lines.specs.Given.{counted}
-use Rattle.replay.specs.Effects.{printed}
+use Rattle.replay.specs.Effects.{printed, probes_told}
 use Rattle.replay.specs.Outside.{CutsLines}
 use Rattle.replay.specs.InFlight.{AreOf}
 use Rattle.replay.specs.Running.{IsRun, Running, setting_of}
@@ -19,7 +19,7 @@ use Rattle.replay.proofs.run.Run.complete.Goals.{in-Ok-write_ended, in-Err-write
 
 pub make_writes-requires-clause-in_flight : goal.make_writes-requires-clause-in_flight
 make_writes-requires-clause-in_flight g c =
-    subst (λ (run : Running). AreOf run.probes run.waiting (g.D.Writable.flight c.args.device.now)) (sym c.self.view_is)
+    subst (λ (run : Running). AreOf (probes_told run.json run.probes) run.waiting (g.D.Writable.flight c.args.device.now)) (sym c.self.view_is)
     (are-of-left c.args.self.now (g.D.Writable.flight c.args.device.now) c.requires.held c.requires.in_flight)
 
 pub make_writes-requires-clause-waiting : goal.make_writes-requires-clause-waiting
@@ -129,10 +129,10 @@ returns-clause-resumes g c = λ which before front unfinished at current.
     elim c.match-write_ended.branch [
       | in-Ok-write_ended w ↦ rw (w.result-is, c.in-Ok-search_all.ensures.events)
           (resumes-all slots before front _ c.args.self.now c.self.view_is c.requires.slots (g.D.Writable.events c.args.device.now) (g.D.Writable.events c.make_writes.new.device) rest at _ current c.in-Ok.ended c.make_writes.new.manager c.make_writes.new.count _ _ all _ closed _ last _ (g.D.Writable.flight c.search_all.new.device)
-          (w.in-Ok-write_ended.ensures.whole which))
+          (rw c.is_json.ensures at (w.in-Ok-write_ended.ensures.whole which)))
       | in-Err-write_ended w ↦ rw (w.result-is, c.in-Ok-search_all.ensures.events)
           (resumes-last slots before front _ c.args.self.now c.self.view_is c.requires.slots (g.D.Writable.events c.args.device.now) (g.D.Writable.events c.make_writes.new.device) rest at _ current c.in-Ok.ended c.make_writes.new.manager c.make_writes.new.count _ _ all _ closed _ last _ (g.D.Writable.flight c.search_all.new.device)
-          (w.in-Err-write_ended.ensures.part which))
+          (rw c.is_json.ensures at (w.in-Err-write_ended.ensures.part which)))
     ]
 
 pub returns-clause-idle : goal.returns-clause-idle

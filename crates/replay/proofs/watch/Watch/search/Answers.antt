@@ -1,6 +1,7 @@
 -- Each word that is searched has its line, and a part of the last one where the sink fails.
-use Rattle.std.proofs.Common.{rules, ◌≡◌, ◌<◌, ◌∙◌, length, drop, ap, subst, arith}
+use Rattle.std.proofs.Common.{rules, ◌≡◌, ◌<◌, ◌∙◌, length, drop, ap, arith}
 use Rattle.tcam_device.specs.State.{replay}
+use Rattle.replay.specs.Effects.{probes_told}
 use Rattle.replay.specs.Running.{Watching}
 use Rattle.replay.proofs.flight.Searching.{search-left, search-more, search-none, search-part}
 use Rattle.replay.proofs.watch.Watch.search.Goals as goal
@@ -9,8 +10,7 @@ pub returns-in_err-write_probe-in-Some-clause-lines : goal.returns-in_err-write_
 returns-in_err-write_probe-in-Some-clause-lines g c =
     let i = c.loop-place.invariant in
     let state = replay (g.D.Writable.slot_count c.args.device.now) (g.D.Writable.journal c.args.device.now) in
-    let inside : c.loop-place.place < length c.self.inside.probes.items = search rules in
-    let within : c.loop-place.place < length c.args.self.now.probes = subst (λ (one : Watching). c.loop-place.place < length one.probes) c.self.view_is inside in
+    let within : c.loop-place.place < length (probes_told c.args.self.now.json c.args.self.now.probes) = search rules in
     let family : c.self.inside.family ≡ c.args.self.now.family = ap (λ (one : Watching). one.family) c.self.view_is in
     record {
       whole = λ which. search rules;
@@ -24,8 +24,7 @@ pub unreachable-requires : goal.unreachable-requires
 unreachable-requires g c =
     let i = c.loop-place.invariant in
     let state = replay (g.D.Writable.slot_count c.args.device.now) (g.D.Writable.journal c.args.device.now) in
-    let inside : c.loop-place.place < length c.self.inside.probes.items = search rules in
-    let within : c.loop-place.place < length c.args.self.now.probes = subst (λ (one : Watching). c.loop-place.place < length one.probes) c.self.view_is inside in
+    let within : c.loop-place.place < length (probes_told c.args.self.now.json c.args.self.now.probes) = search rules in
     let words = c.requires.words in
     search-none state _ c.loop-place.place (omega (arith, within, words)) (rw (i.slots, i.journal, i.flight) at c.in-None.ensures.answer)
 
@@ -33,8 +32,7 @@ pub loop-place-preserved : goal.loop-place-preserved
 loop-place-preserved g c =
     let i = c.loop-place.invariant in
     let state = replay (g.D.Writable.slot_count c.args.device.now) (g.D.Writable.journal c.args.device.now) in
-    let inside : c.loop-place.place < length c.self.inside.probes.items = search rules in
-    let within : c.loop-place.place < length c.args.self.now.probes = subst (λ (one : Watching). c.loop-place.place < length one.probes) c.self.view_is inside in
+    let within : c.loop-place.place < length (probes_told c.args.self.now.json c.args.self.now.probes) = search rules in
     let family : c.self.inside.family ≡ c.args.self.now.family = ap (λ (one : Watching). one.family) c.self.view_is in
     let s = c.in-Some.ensures in
     record {

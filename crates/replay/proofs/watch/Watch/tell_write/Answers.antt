@@ -1,12 +1,18 @@
 -- The line of a write names its rule by the family, and may be cut.
-use Rattle.std.proofs.Common.{◌≡◌, true, [], sym, ap, ◌∙◌}
+use Rattle.std.proofs.Common.{◌≡◌, true, false, [], sym, ap, ◌∙◌}
 use Rattle.replay.specs.Running.{Watching}
-use Rattle.replay.proofs.lines.Telling.{line-cut, trace-named}
+use Rattle.replay.proofs.lines.Telling.{line-alone, line-cut, trace-named}
 use Rattle.replay.proofs.watch.Watch.tell_write.Goals as goal
+
+pub returns-then-self : goal.returns-then-self
+returns-then-self g c =
+    let json : c.args.self.now.json ≡ true = ap (λ (watch : Watching). watch.json) (sym c.self.view_is) ∙ c.if-self.true in
+    rw json (line-alone g.K.Sink.taken g.K.Sink.accepted g.K.Sink.faults _ _ _ c.write_json.result (rw c.journal_line.ensures at c.write_json.ensures))
 
 pub returns-in_err-write_trace : goal.returns-in_err-write_trace
 returns-in_err-write_trace g c =
-    let asked : c.args.self.now.trace ≡ true = ap (λ (watch : Watching). watch.trace) (sym c.self.view_is) ∙ c.if-self.true in
+    let words : c.args.self.now.json ≡ false = ap (λ (watch : Watching). watch.json) (sym c.self.view_is) ∙ c.if-self.false in
+    let asked : c.args.self.now.trace ≡ true = ap (λ (watch : Watching). watch.trace) (sym c.self.view_is) ∙ c.if-self-2.true in
     let named : c.self.inside.family ≡ c.args.self.now.family = ap (λ (watch : Watching). watch.family) c.self.view_is in
-    rw asked (line-cut g.K.Sink.taken g.K.Sink.accepted g.K.Sink.faults _ [] c.from_residual.result _ _ _ c.from_residual.ensures.0
+    rw (words, asked) (line-cut g.K.Sink.taken g.K.Sink.accepted g.K.Sink.faults _ [] c.from_residual.result _ _ _ c.from_residual.ensures.0
     (trace-named g.K.Sink.taken g.K.Sink.accepted g.K.Sink.faults _ _ _ c.args.self.now.family c.self.inside.family c.args.number c.args.write.now named c.in_err-write_trace.ensures))

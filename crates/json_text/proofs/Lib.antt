@@ -1,0 +1,3 @@
+mod Examples
+pub mod JsonForms
+pub mod Parts
