@@ -45,8 +45,6 @@ mod kinds;
 mod laws;
 mod numbers;
 mod printed;
-#[cfg(test)]
-mod tests;
 mod words;
 
 pub use addresses::{prefix_of, side_of};

@@ -13,8 +13,6 @@
 
 mod draws;
 mod maker;
-#[cfg(test)]
-mod tests;
 
 pub use maker::Maker;
 use rule_store::Command;
