@@ -114,8 +114,8 @@ state_of translation entries slots (Some held) =
     state_after (settled_state translation entries slots) (take held.made (held_writes entries held))
 
 -- how many writes it has left, forward or back
-abbrev pub left_of : Held → ℕ
-left_of held = elim held.turned [ None ↦ length (all_writes held.writes) - held.made | Some undone ↦ held.made ]
+abbrev pub left_count : Held → ℕ
+left_count held = elim held.turned [ None ↦ length (all_writes held.writes) - held.made | Some undone ↦ held.made ]
 
 -- a commit as it is turned round
 abbrev pub turned_at : Held → Held

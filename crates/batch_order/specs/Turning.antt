@@ -39,14 +39,14 @@ StepsKeepCurrent =
     → IsHeldRight new × KeepsCurrent old made new
 
 -- the commit is still under way
-abbrev pub IsUnderWay : Managed → Type 0
-IsUnderWay manager = (held : HeldCommit) × (manager.held ≡ Some held)
+abbrev pub IsStillUnderWay : Managed → Type 0
+IsStillUnderWay manager = (held : HeldCommit) × (manager.held ≡ Some held)
 
 -- A step of a commit that doesn't end it keeps the way back; where it ends one that was turned round, the device holds what it
 -- did before it.
 abbrev pub StepsKeepTheWayBack : Type 0
 StepsKeepTheWayBack =
-    (old : Managed) (words : ℕ) (made : Step) (new : Managed) → IsUnderWay old → Steps old words old.held made new → IsUnderWay new
+    (old : Managed) (words : ℕ) (made : Step) (new : Managed) → IsStillUnderWay old → Steps old words old.held made new → IsStillUnderWay new
     → begun_in new ≡ begun_in old
 
 abbrev pub RevertsToTheOldState : Type 0

@@ -1,7 +1,7 @@
 //! The commit under way.
 
 ghost use Rattle.std.specs.Prelude.{◌≡◌, ◌≤◌, ◌&&◌, true, false, None, Ok, Err, IsSome, is_none, length, nat_eq};
-ghost use Rattle.batch_order.specs.Kept.{drains_at, left_of, one_less, turned_at};
+ghost use Rattle.batch_order.specs.Kept.{drains_at, left_count, one_less, turned_at};
 ghost use Rattle.batch_order.specs.Planning.{all_writes};
 
 use crate::planned_writes::{PlannedWrite, PlannedWrites};
@@ -52,7 +52,7 @@ impl Held {
     /// How many writes are left, forward or back.
     pub(crate) fn left(&self) -> usize
         requires { self.now.made ≤ length (all_writes self.now.writes) }
-        ensures { result ≡ left_of self.now }
+        ensures { result ≡ left_count self.now }
     {
         match self.turned {
             None => self.writes.len() - self.made,

@@ -74,12 +74,13 @@
 //! - **`prepare`, `step`, `carry_out` and `abort` leave the slots in use as they were, and say so** (`slots`): a caller
 //!   who keeps a manager together with its device needs it to call again, and else had to show it by a walk along the
 //!   actions that were made.
-//! - **A batch is planned over no device** (`plan_commit`), and `prepare` reserves the device for the plan. So whoever makes
-//!   the writes elsewhere, by parts or outside of this program, has the same planner, told by `pass` what was made. Where the
-//!   device has no memory the plan is dropped (`cancel`), as it may be until its first write. The parts of a plan are counted
-//!   by what puts back what its writes replace (`parts`), so that they are exact whatever the plan's shape. Those of its longest
-//!   insertion are counted as it is planned (`most_parts`): an insertion ends with an entry that stood in no slot, which is
-//!   known there without a search.
+//! - **A batch is planned over no device** (`plan_commit`), and `prepare` reserves the device for the plan. So whoever
+//!   makes the writes elsewhere, by parts or outside of this program, has the same planner, told by `pass` what was
+//!   made. Where the device has no memory the plan is dropped (`cancel`), as it may be until its first write, where
+//!   none that failed may have been made. The parts of a plan are counted by what puts back what its writes replace
+//!   (`parts`), so that they are exact whatever the plan's shape. Those of its longest insertion are counted as it is
+//!   planned (`most_parts`): an insertion ends with an entry that stood in no slot, which is known there without a
+//!   search.
 //! - **A plan that is held can be turned round at any moment** (`abort`), so a commit that was begun too early, or on a
 //!   device that grows slow, is given up without a look-up that sees anything but the old or the new answer: the way
 //!   back passes the states that the commit passed (`GoesBackFrom`). `prepare` plans what restores each write, since

@@ -182,6 +182,18 @@ impl Manager {
         }
     }
 
+    /// The next write was made elsewhere, forward or back, as `pass` takes it; which it was isn't told once more.
+    pub fn pass_write(&mut self)
+        requires { IsSome (next_of self.old.held) }
+        ensures { (words : ℕ) → (write : Write) → next_of self.old.held ≡ Some write → Steps self.old words self.old.held (Step.Wrote write) self.new }
+    {
+        if self.is_turned() {
+            self.go_back();
+        } else {
+            self.go_on();
+        }
+    }
+
     /// What puts back what the next write replaces, of a commit that `prepare` planned and that goes forward: so it tells
     /// what stands in that write's slot.
     pub fn replaced(&self) -> Option<Write>
@@ -198,7 +210,8 @@ impl Manager {
 
     /// Drops a plan of which no write was made, unless a restart made it: no commit is under way then, and all else is as
     /// it was before the plan. False comes exactly where there is no such plan, and nothing changes then. Words in flight
-    /// that were current are so still.
+    /// that were current are so still. A first write that failed must surely not have been made: else the device has it,
+    /// and nobody knows.
     pub fn cancel(&mut self) -> bool
         ensures cancels { result ≡ is_unwritten self.old.held }
         ensures dropped { self.new ≡ cancelled result self.old }

@@ -23,7 +23,9 @@
 //! old block beside the new one.
 //!
 //! # What isn't promised
-//! Any order of the ids that are named. Room is never given back before the whole is.
+//! Any order of the ids that are named. Room is never given back before the whole is; and that it is then no clause can
+//! say, since what a value owns may always be dropped, and an allocator tells nothing of what it has back. The drivers in
+//! C are tried for leaks (`examples/c/check`), as far as the sanitizers look for them.
 //!
 //! # Decided
 //! - **`reserve` answers want of memory too where places would no longer fit 32 bits**, so no caller has to count

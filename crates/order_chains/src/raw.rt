@@ -48,7 +48,8 @@ pub(crate) fn take<A: Allocator>(alloc: &A, len: usize) -> Result<(Places, Deed<
     }
 }
 
-/// Gives a block back, with what its places hold.
+/// Gives a block back, with what its places hold. That it does no clause can say: what is owned may always be dropped, and
+/// an allocator tells nothing of a block that it has back.
 pub(crate) fn give_back<A: Allocator>(places: Places, deed: Deed<A>, alloc: &A, len: usize)
     requires { (deed.alloc ≡ alloc.now) × (deed.start ≡ places.at) × (deed.len ≡ len) × (length places.nodes ≡ len) }
 {

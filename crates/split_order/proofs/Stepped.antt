@@ -7,7 +7,7 @@ use Rattle.split_device.specs.Flight.{state_of_events}
 use Rattle.split_order.specs.declared.SplitStep.{SplitStep}
 use Rattle.split_order.specs.Left.{ServesSplit, left_of, state_on}
 use Rattle.split_order.specs.Managed.{SplitManaged}
-use Rattle.split_order.specs.Next.{IsLed, ServesAhead}
+use Rattle.split_order.specs.Next.{LeadsDevice, ServesAhead}
 use Rattle.split_order.specs.Steps.{Advances, Ends, SplitSteps, made_by}
 
 -- what was made is told
@@ -24,7 +24,7 @@ room_taken before after made spare spare' told took = let size : length after �
 
 -- a manager whose device has its events leads it
 pub led_is : (slots : ℕ) (events : List SplitAction) (manager : SplitManaged) → events ≡ manager.events → ServesSplit (state_on slots manager) manager
-    → ServesAhead (left_of slots manager) (state_on slots manager) manager → IsLed slots events manager
+    → ServesAhead (left_of slots manager) (state_on slots manager) manager → LeadsDevice slots events manager
 led_is slots events manager same serves next = record {
   on = same;
   serves = subst (λ some. ServesSplit (state_of_events slots some) manager) (sym same) serves;

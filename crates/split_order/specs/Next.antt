@@ -42,7 +42,7 @@ ServesAhead (Drained ∷ left) state manager = Unit {0}
 
 -- A device of so many slots with these events is led by the manager: nothing but its parts and drains was made of it. It serves
 -- each key, and so it does where the part that is next was made already.
-pub record IsLed (slots : ℕ) (events : List SplitAction) (manager : SplitManaged) : Type 0 where
+pub record LeadsDevice (slots : ℕ) (events : List SplitAction) (manager : SplitManaged) : Type 0 where
   pub on : events ≡ manager.events
   pub serves : ServesSplit (state_of_events slots events) manager
   pub serves_next : ServesAhead (left_of slots manager) (state_of_events slots events) manager

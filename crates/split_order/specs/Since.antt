@@ -1,5 +1,5 @@
 -- What is kept of what was done since the last drain.
-use Rattle.std.specs.Prelude.{◌≡◌, ℕ, ◌<◌, Bool, false, is_some, length, slice_index_or}
+use Rattle.std.specs.Prelude.{◌≡◌, ℕ, ◌<◌, ◌≤◌, Bool, is_some, length, nat_eq, slice_index_or}
 use Rattle.slot_order.specs.Order.{slot}
 use Rattle.split_device.specs.declared.SplitWrite.{SplitWrite}
 use Rattle.split_device.specs.declared.SplitWrite.TheVariants.{Slot, Result, Table}
@@ -7,9 +7,11 @@ use Rattle.split_device.specs.State.{SplitState}
 use Rattle.split_device.specs.Drains.{SinceDrain, is_erased}
 use Rattle.split_order.specs.declared.since.Since.{Since}
 
--- it tells of the slots in use which were erased, whether a slot was written, and whether a word of a table was
+-- It tells of the slots in use which were erased, in this stretch and so not in a later one, whether a slot was written, and
+-- whether a word of a table was.
 pub record IsSince (kept : Since) (since : SinceDrain) : Type 0 where
-  pub erased : (at : ℕ) → at < length kept.erased.items → slice_index_or kept.erased.items at false ≡ is_erased since at
+  pub erased : (at : ℕ) → at < length kept.erased.items → nat_eq (slice_index_or kept.erased.items at 0) kept.stretch ≡ is_erased since at
+  pub earlier : (at : ℕ) → at < length kept.erased.items → slice_index_or kept.erased.items at 0 ≤ kept.stretch
   pub slots : kept.slots ≡ since.slots
   pub bits : kept.bits ≡ since.bits
 

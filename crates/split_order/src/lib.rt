@@ -2,7 +2,7 @@
 //!
 //! **One planner serves both kinds of device.** A [`SplitManager`] is a `batch_order::Manager`, which judges and plans,
 //! and what lowers its plan: each undivided write that is due is made by its parts, one a step, and once its last part
-//! is made the planner is told so (`Manager::pass`). Nothing is planned twice, and a plan is as small as the planner's.
+//! is made the planner is told so (`Manager::pass_write`). Nothing is planned twice, and a plan is as small as the planner's.
 //!
 //! **The one hard idea.** A look-up finds a slot and reads the slot's result word later. So an entry's result word is
 //! written before its value and mask; a slot is erased before another entry is written there, and between the two stands

@@ -140,6 +140,7 @@ impl SplitManager {
         ensures spare { D.spare device.old ≤ D.spare device.new }
         ensures events { D.events device.new ≡ D.events device.old }
         ensures flight { D.flight device.new ≡ D.flight device.old }
+        ensures slots { self.new.whole.slots ≡ self.old.whole.slots }
         ensures slot_count { D.slot_count device.new ≡ D.slot_count device.old }
         ensures faults { D.faults device.new ≡ D.faults device.old }
     {

@@ -1,6 +1,6 @@
 //! What was done since the last drain.
 
-ghost use Rattle.std.specs.Prelude.{◌≡◌, ◌<◌, true, false, IfOk, length, slice_index_or};
+ghost use Rattle.std.specs.Prelude.{◌≡◌, ◌<◌, ℕ, true, false, nat_eq, IfOk, length, slice_index_or};
 ghost use Rattle.split_device.specs.State.{IsSplitInUse, SplitState};
 ghost use Rattle.split_device.specs.Drains.{SinceDrain, is_drain_due, nothing_since, since_write};
 ghost use Rattle.split_order.specs.Since.{IsSince, StandsIn};
@@ -11,9 +11,11 @@ use std::alloc::{AllocError, Global};
 /// Which slots in use were erased since the last drain, whether a slot was written, and whether a word of a table was.
 #[derive(Drop)]
 pub(crate) struct Since {
-    // A byte for each slot in use, 4,096 at most: the toolchain has no crate of bit sets, and a row of `slot_pool::Marks` has
-    // no call that takes marks away, which each drain does.
-    erased: Vec<bool>,
+    // For each slot in use the stretch between two drains in which it was erased last, 0 where it never was: so a drain, of
+    // which a commit may have as many as entries that move, begins another stretch, and walks over no slots.
+    erased: Vec<u32>,
+    // The number of this stretch, from 1. At the last number of its type all begins anew.
+    stretch: u32,
     slots: bool,
     bits: bool,
 }
@@ -25,7 +27,8 @@ impl Since {
         ensures since { IfOk result (λ since. IsSince since nothing_since) }
     {
         Ok(Since {
-            erased: vec![in alloc; false; slots as usize]?,
+            erased: vec![in alloc; 0u32; slots as usize]?,
+            stretch: 1,
             slots: false,
             bits: false,
         })
@@ -47,12 +50,12 @@ impl Since {
     /// and of an empty slot where that one was erased since.
     fn waits(&self, slot: u32, stands: bool) -> bool
         requires { slot < length self.now.erased.items }
-        ensures { result ≡ elim stands [ true ↦ self.now.slots | false ↦ slice_index_or self.now.erased.items slot false ] }
+        ensures { result ≡ elim stands [ true ↦ self.now.slots | false ↦ nat_eq (slice_index_or self.now.erased.items slot 0) self.now.stretch ] }
     {
         if stands {
             self.slots
         } else {
-            self.erased[slot as usize]
+            self.erased[slot as usize] == self.stretch
         }
     }
 
@@ -65,7 +68,7 @@ impl Since {
         match part {
             SplitWrite::Slot(slot, None) => {
                 self.slots = true;
-                self.erased[*slot as usize] = true;
+                self.erased[*slot as usize] = self.stretch;
             }
             SplitWrite::Slot(_, Some(_)) => self.slots = true,
             SplitWrite::Result(_, _, _) => {}
@@ -76,12 +79,28 @@ impl Since {
     /// The device drained.
     pub(crate) fn drained(&mut self)
         ensures size { length self.new.erased.items ≡ length self.old.erased.items }
-        ensures since { IsSince self.new nothing_since }
+        ensures since { (since : SinceDrain) → IsSince self.old since → IsSince self.new nothing_since }
     {
         self.slots = false;
         self.bits = false;
+        if self.stretch < u32::MAX {
+            self.stretch += 1;
+            return;
+        }
+        self.begin_anew();
+    }
+
+    /// No slot was erased in any stretch, and the first one begins.
+    fn begin_anew(&mut self)
+        ensures size { length self.new.erased.items ≡ length self.old.erased.items }
+        ensures erased { (at : ℕ) → at < length self.new.erased.items → slice_index_or self.new.erased.items at 0 ≡ 0 }
+        ensures stretch { self.new.stretch ≡ 1 }
+        ensures slots { self.new.slots ≡ self.old.slots }
+        ensures bits { self.new.bits ≡ self.old.bits }
+    {
+        self.stretch = 1;
         for place in 0..self.erased.len() {
-            self.erased[place] = false;
+            self.erased[place] = 0;
         }
     }
 }

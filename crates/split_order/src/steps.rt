@@ -8,7 +8,7 @@ ghost use Rattle.split_device.specs.Flight.{flight_count, written};
 ghost use Rattle.split_device.specs.declared.SplitAction.{SplitAction};
 ghost use Rattle.batch_order.specs.CarriedOut.{IsTried, ahead};
 ghost use Rattle.split_order.specs.Left.{left_of};
-ghost use Rattle.split_order.specs.Next.{IsLed, IsNext, IsPartDue};
+ghost use Rattle.split_order.specs.Next.{LeadsDevice, IsNext, IsPartDue};
 ghost use Rattle.split_order.specs.CarriedOut.{AreServed, IsFinished, IsStoppedBy, IsStuckSplit};
 ghost use Rattle.split_order.specs.Steps.{Advances, Ends, IsPartNext, LeavesCurrent, SplitSteps, made_by};
 
@@ -58,7 +58,7 @@ impl SplitManager {
         ensures flight { D.flight device.new ≡ D.flight device.old }
         ensures slot_count { D.slot_count device.new ≡ D.slot_count device.old }
         ensures cause { HasCause (D.faults device.old) (D.faults device.new) result }
-        ensures led { D.events device.old ≡ self.old.events → IsLed (D.slot_count device.new) (D.events device.new) self.new }
+        ensures led { D.events device.old ≡ self.old.events → LeadsDevice (D.slot_count device.new) (D.events device.new) self.new }
     {
         self.serving();
         match self.next() {
@@ -144,7 +144,7 @@ impl SplitManager {
             return;
         }
         self.progress.made = 0;
-        self.whole.pass();
+        self.whole.pass_write();
     }
 
     /// Drains where a drain is next, or waits until nothing is in flight.
@@ -231,7 +231,7 @@ impl SplitManager {
         ensures slot_count { D.slot_count device.new ≡ D.slot_count device.old }
         ensures tried { IsTried tries (length (written (D.events device.new)) - length (written (D.events device.old))) (IsStuckSplit result) (D.faults device.old) (D.faults device.new) }
         ensures current { AreCurrent (live_now self.old.whole) (D.flight device.old).words → AreCurrent (live_now self.new.whole) (D.flight device.new).words }
-        ensures led { D.events device.old ≡ self.old.events → IsLed (D.slot_count device.new) (D.events device.new) self.new }
+        ensures led { D.events device.old ≡ self.old.events → LeadsDevice (D.slot_count device.new) (D.events device.new) self.new }
         ensures hitless { D.events device.old ≡ self.old.events → AreServed (D.slot_count device.new) (D.events device.old) (D.events device.new) self.old.whole.rules (ahead self.old.whole) }
     {
         self.serving();

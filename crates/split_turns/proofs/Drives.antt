@@ -6,12 +6,12 @@ use Rattle.split_device.specs.Flight.{Flight}
 use Rattle.split_order.specs.Managed.{SplitManaged}
 use Rattle.split_turns.specs.declared.SplitTurn.{SplitTurn}
 use Rattle.split_turns.specs.Seen.{AreSeen, TurnsOn}
-use Rattle.split_turns.specs.Turns.{Course, Drives, Outcome, AreAllTaken, TakesSplitTurn, course_of, with_turn_number}
+use Rattle.split_turns.specs.Turns.{TurnState, Drives, Outcome, AreAllTaken, TakesSplitTurn, turn_state_of, with_turn_number}
 
-drives_more : (slots : ℕ) (course : Course) (number : ℕ) (turns : List SplitTurn) (answers : List (ℕ × Answer)) (mid : Course) (turn : SplitTurn) (once : Outcome)
-    → Drives slots course number turns answers mid → TakesSplitTurn slots mid turn once
-    → Drives slots course number (turns ++ turn ∷ []) (answers ++ with_turn_number (number + length turns) once.answered) once.course
-drives_more slots course number [] answers mid turn once did turned =
+drives_more : (slots : ℕ) (before : TurnState) (number : ℕ) (turns : List SplitTurn) (answers : List (ℕ × Answer)) (mid : TurnState) (turn : SplitTurn) (once : Outcome)
+    → Drives slots before number turns answers mid → TakesSplitTurn slots mid turn once
+    → Drives slots before number (turns ++ turn ∷ []) (answers ++ with_turn_number (number + length turns) once.answered) once.after
+drives_more slots before number [] answers mid turn once did turned =
     let at : number + 0 ≡ number = omega arith in (
       once,
       [],
@@ -19,13 +19,13 @@ drives_more slots course number [] answers mid turn once did turned =
       (refl, refl),
       ap₂ (λ (before : List (ℕ × Answer)) (k : ℕ). before ++ with_turn_number k once.answered) did.0 at ∙ sym (append-nil (with_turn_number number once.answered)),
     )
-drives_more slots course number (first ∷ turns) answers mid turn once did turned =
-    let behind = drives_more slots did.0.course (number + 1) turns did.1 mid turn once did.3 turned in
+drives_more slots before number (first ∷ turns) answers mid turn once did turned =
+    let behind = drives_more slots did.0.after (number + 1) turns did.1 mid turn once did.3 turned in
     let at : number + 1 + length turns ≡ number + suc (length turns) = omega arith in (
       did.0,
       did.1 ++ with_turn_number (number + suc (length turns)) once.answered,
       did.2,
-      subst (λ k. Drives slots did.0.course (number + 1) (turns ++ turn ∷ []) (did.1 ++ with_turn_number k once.answered) once.course) at behind,
+      subst (λ k. Drives slots did.0.after (number + 1) (turns ++ turn ∷ []) (did.1 ++ with_turn_number k once.answered) once.after) at behind,
       ap (λ (xs : List (ℕ × Answer)). xs ++ with_turn_number (number + suc (length turns)) once.answered) did.4
           ∙ append_assoc (with_turn_number number did.0.answered) did.1 (with_turn_number (number + suc (length turns)) once.answered),
     )
@@ -57,9 +57,9 @@ pub driven_more : (slots : ℕ) (manager mid last : SplitManaged) (flight flying
 driven_more slots manager mid last flight flying left turns place turn answers answered so_far turns_on inside is =
     let was = so_far.driven in
     let one = turns_on was.looks was.found so_far.seen in
-    let once : Outcome = record { answered = answered; course = course_of last left one.later } in
-    let begin = course_of manager flight [] in
-    let more = drives_more slots begin 0 (take place turns) answers (course_of mid flying was.looks) turn once was.driven one.turned in
+    let once : Outcome = record { answered = answered; after = turn_state_of last left one.later } in
+    let begin = turn_state_of manager flight [] in
+    let more = drives_more slots begin 0 (take place turns) answers (turn_state_of mid flying was.looks) turn once was.driven one.turned in
     let size : length (take place turns) ≡ place = length-take-le place turns (let b : place ≤ length turns = omega arith in b) in
     let at : 0 + length (take place turns) ≡ place = omega arith in
     let longer : take place turns ++ turn ∷ [] ≡ take (place + 1) turns = ap (λ t. take place turns ++ t ∷ []) is ∙ sym (take_more turns place turn inside) in
@@ -67,8 +67,8 @@ driven_more slots manager mid last flight flying left turns place turn answers a
       driven = record {
         looks = one.later;
         found = one.found;
-        driven = subst (λ ts. Drives slots begin 0 ts (answers ++ with_turn_number place answered) (course_of last left one.later)) longer
-            (subst (λ k. Drives slots begin 0 (take place turns ++ turn ∷ []) (answers ++ with_turn_number k answered) (course_of last left one.later)) at more);
+        driven = subst (λ ts. Drives slots begin 0 ts (answers ++ with_turn_number place answered) (turn_state_of last left one.later)) longer
+            (subst (λ k. Drives slots begin 0 (take place turns ++ turn ∷ []) (answers ++ with_turn_number k answered) (turn_state_of last left one.later)) at more);
       };
       seen = one.seen;
     }

@@ -22,7 +22,7 @@ use Rattle.split_order.proofs.Stepped.{advances_slots, ends_slots}
 use Rattle.split_turns.specs.declared.SplitTurn.TheVariants.{Step, Translate, Search, Read}
 use Rattle.split_turns.specs.LookUps.{LookUp, Moment, moment_of, searched, told_in_flight}
 use Rattle.split_turns.specs.Seen.{AreSeen, IsTurned}
-use Rattle.split_turns.specs.Turns.{Outcome, TakesSplitTurn, course_of, seen_by, translated}
+use Rattle.split_turns.specs.Turns.{Outcome, TakesSplitTurn, turn_state_of, seen_by, translated}
 use Rattle.split_turns.proofs.Waits.{drop_told, oldest_answered, part_seen, read_seen, same_seen, search_seen, search_told, told_seen}
 
 -- the slots in use stay
@@ -94,7 +94,7 @@ translate_turned slots manager key flight looks found seen = record {
   seen = seen;
   turned = ap (λ (some : List (Key × Option ℕ)). let left : Outcome = record {
     answered = None;
-    course = record { manager = manager; words = (translated (state_on slots manager) key (record { words = flight.words; found = some })).words; looks = looks };
+    after = record { manager = manager; words = (translated (state_on slots manager) key (record { words = flight.words; found = some })).words; looks = looks };
   } in left) found;
 }
   where
@@ -133,11 +133,11 @@ read_turned slots manager flight looks found seen = record {
 }
   where
     by : (some : List LookUp) → flight.found ≡ map told_in_flight some → AreSeen slots manager some
-        → TakesSplitTurn slots (course_of manager flight some) Read (record { answered = oldest_read (state_on slots manager) flight.found; course = course_of manager (with_read flight) (drop 1 some) })
+        → TakesSplitTurn slots (turn_state_of manager flight some) Read (record { answered = oldest_read (state_on slots manager) flight.found; after = turn_state_of manager (with_read flight) (drop 1 some) })
     by [] is waits =
-        ap (λ (slots_found : List (Key × Option ℕ)). let left : Outcome = record { answered = oldest_read (state_on slots manager) slots_found; course = record { manager = manager; words = flight.words; looks = [] } } in left) is
+        ap (λ (slots_found : List (Key × Option ℕ)). let left : Outcome = record { answered = oldest_read (state_on slots manager) slots_found; after = record { manager = manager; words = flight.words; looks = [] } } in left) is
     by (oldest ∷ some) is waits = (
       read_at (state_on slots manager).results oldest.slot,
       oldest_answered slots manager oldest some waits,
-      ap (λ (slots_found : List (Key × Option ℕ)). let left : Outcome = record { answered = oldest_read (state_on slots manager) slots_found; course = record { manager = manager; words = flight.words; looks = some } } in left) is,
+      ap (λ (slots_found : List (Key × Option ℕ)). let left : Outcome = record { answered = oldest_read (state_on slots manager) slots_found; after = record { manager = manager; words = flight.words; looks = some } } in left) is,
     )

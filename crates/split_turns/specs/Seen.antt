@@ -11,7 +11,7 @@ use Rattle.split_order.specs.Managed.{SplitManaged}
 use Rattle.split_order.specs.Left.{since_of, state_on}
 use Rattle.split_turns.specs.declared.SplitTurn.{SplitTurn}
 use Rattle.split_turns.specs.LookUps.{LookUp, Moment, told_in_flight}
-use Rattle.split_turns.specs.Turns.{TakesSplitTurn, course_of}
+use Rattle.split_turns.specs.Turns.{TakesSplitTurn, turn_state_of}
 
 -- a look-up as one that waits at a device, which knows of no rules
 abbrev pub plain : LookUp → Look
@@ -33,7 +33,7 @@ pub record IsTurned (slots : ℕ) (old : SplitManaged) (flying : Flight) (looks 
   pub later : List LookUp
   pub found : left.found ≡ map told_in_flight later
   pub seen : AreSeen slots new later
-  pub turned : TakesSplitTurn slots (course_of old flying looks) turn (record { answered = answered; course = course_of new left later })
+  pub turned : TakesSplitTurn slots (turn_state_of old flying looks) turn (record { answered = answered; after = turn_state_of new left later })
 
 -- whichever look-ups wait
 abbrev pub TurnsOn : ℕ → SplitManaged → Flight → SplitTurn → Option Answer → SplitManaged → Flight → Type 0

@@ -16,18 +16,18 @@ use Rattle.split_turns.specs.declared.SplitTurn.TheVariants.{Step, Translate, Se
 use Rattle.split_turns.specs.LookUps.{IsAnswered, LookUp, Moment, moment_of, searched, seen_at, told_in_flight}
 
 -- where turns stand: the manager, the words in flight with their keys, and the look-ups that wait for their read
-pub record Course : Type 0 where
+pub record TurnState : Type 0 where
   pub manager : SplitManaged
   pub words : List (Key × Word)
   pub looks : List LookUp
 
 -- what is in flight then
-abbrev pub flight_of : Course → Flight
-flight_of course = record { words = course.words; found = map told_in_flight course.looks }
+abbrev pub flight_of : TurnState → Flight
+flight_of now = record { words = now.words; found = map told_in_flight now.looks }
 
 -- with these look-ups among what is in flight
-abbrev pub course_of : SplitManaged → Flight → List LookUp → Course
-course_of manager flight looks = record { manager = manager; words = flight.words; looks = looks }
+abbrev pub turn_state_of : SplitManaged → Flight → List LookUp → TurnState
+turn_state_of manager flight looks = record { manager = manager; words = flight.words; looks = looks }
 
 -- what is in flight after a translation, which is passed over where as many are in flight as may be
 abbrev pub translated : SplitState → Key → Flight → Flight
@@ -44,37 +44,37 @@ seen_by now step.Idle looks = looks
 -- what a turn leaves: what it answered, if it was a read that found a look-up, and where the turns stand then
 pub record Outcome : Type 0 where
   pub answered : Option Answer
-  pub course : Course
+  pub after : TurnState
 
 -- what a read does, by the look-ups that wait: with none it is passed over
-abbrev pub ReadsOnce : ℕ → Course → List LookUp → Outcome → Type 0
-ReadsOnce slots course [] left = left ≡ record { answered = None; course = course }
-ReadsOnce slots course (oldest ∷ looks) left =
-    (found : Answer) × IsAnswered (state_on slots course.manager) oldest found
-    × (left ≡ record { answered = Some found; course = record course { looks = looks } })
+abbrev pub ReadsOnce : ℕ → TurnState → List LookUp → Outcome → Type 0
+ReadsOnce slots before [] left = left ≡ record { answered = None; after = before }
+ReadsOnce slots before (oldest ∷ looks) left =
+    (found : Answer) × IsAnswered (state_on slots before.manager) oldest found
+    × (left ≡ record { answered = Some found; after = record before { looks = looks } })
 
 -- What one turn does on a device of so many slots. A search without a word changes nothing.
-abbrev pub TakesSplitTurn : ℕ → Course → SplitTurn → Outcome → Type 0
-TakesSplitTurn slots course Step left =
-    (made : SplitStep) × (next : SplitManaged) × SplitSteps slots course.manager (flight_count (flight_of course)) (left_of slots course.manager) made next
+abbrev pub TakesSplitTurn : ℕ → TurnState → SplitTurn → Outcome → Type 0
+TakesSplitTurn slots before Step left =
+    (made : SplitStep) × (next : SplitManaged) × SplitSteps slots before.manager (flight_count (flight_of before)) (left_of slots before.manager) made next
     × (left ≡ record {
       answered = None;
-      course = record { manager = next; words = course.words; looks = seen_by (moment_of slots next) made course.looks };
+      after = record { manager = next; words = before.words; looks = seen_by (moment_of slots next) made before.looks };
     })
-TakesSplitTurn slots course (Translate key) left =
+TakesSplitTurn slots before (Translate key) left =
     left ≡ record {
       answered = None;
-      course = record course { words = (translated (state_on slots course.manager) key (flight_of course)).words };
+      after = record before { words = (translated (state_on slots before.manager) key (flight_of before)).words };
     }
-TakesSplitTurn slots course Search left =
+TakesSplitTurn slots before Search left =
     left ≡ record {
       answered = None;
-      course = record course {
-        words = drop 1 course.words;
-        looks = course.looks ++ searched (moment_of slots course.manager) course.words;
+      after = record before {
+        words = drop 1 before.words;
+        looks = before.looks ++ searched (moment_of slots before.manager) before.words;
       };
     }
-TakesSplitTurn slots course Read left = ReadsOnce slots course course.looks left
+TakesSplitTurn slots before Read left = ReadsOnce slots before before.looks left
 
 -- the answer of a turn, with the turn's number
 abbrev pub with_turn_number : ℕ → Option Answer → List (ℕ × Answer)
@@ -82,10 +82,10 @@ with_turn_number number None = []
 with_turn_number number (Some found) = (number, found) ∷ []
 
 -- What turns do, from a turn of this number on: the answers of the reads with their turns' numbers, and where they lead.
-abbrev pub Drives : ℕ → Course → ℕ → List SplitTurn → List (ℕ × Answer) → Course → Type 0
-Drives slots course number [] answers last = (answers ≡ []) × (last ≡ course)
-Drives slots course number (turn ∷ turns) answers last =
-    (once : Outcome) × (rest : List (ℕ × Answer)) × TakesSplitTurn slots course turn once × Drives slots once.course (number + 1) turns rest last
+abbrev pub Drives : ℕ → TurnState → ℕ → List SplitTurn → List (ℕ × Answer) → TurnState → Type 0
+Drives slots before number [] answers last = (answers ≡ []) × (last ≡ before)
+Drives slots before number (turn ∷ turns) answers last =
+    (once : Outcome) × (rest : List (ℕ × Answer)) × TakesSplitTurn slots before turn once × Drives slots once.after (number + 1) turns rest last
     × (answers ≡ with_turn_number number once.answered ++ rest)
 
 -- All turns, where no found slot is unread before them: what is in flight behind them are words, and these look-ups.
@@ -93,7 +93,7 @@ pub record AreAllTaken (slots : ℕ) (manager : SplitManaged) (flight : Flight) 
     (last : SplitManaged) (left : Flight) : Type 0 where
   pub looks : List LookUp
   pub found : left.found ≡ map told_in_flight looks
-  pub driven : Drives slots (course_of manager flight []) 0 turns answers (course_of last left looks)
+  pub driven : Drives slots (turn_state_of manager flight []) 0 turns answers (turn_state_of last left looks)
 
 -- The turns before one of them were made, whatever their reads answered. That one is a step, with a part due.
 pub record StandsBefore (slots : ℕ) (manager : SplitManaged) (flight : Flight) (turns : List SplitTurn) (last : SplitManaged) (left : Flight) : Type 0 where

@@ -4,8 +4,7 @@ use Rattle.std.specs.Prelude.{◌&&◌, not, IsOk, IsSome, is_some, option_map, 
 use Rattle.rule_store.specs.declared.Command.{Command}
 use Rattle.rule_store.specs.declared.Mode.{Mode}
 use Rattle.batch_order.specs.declared.Placement.{Placement}
-use Rattle.commit_writes.specs.InFlight.{ArePartOf}
-use Rattle.batch_order.specs.Managed.{HeldCommit, Managed, live_now}
+use Rattle.batch_order.specs.Managed.{HeldCommit, Managed}
 use Rattle.split_device.specs.declared.SplitAction.{SplitAction}
 use Rattle.split_device.specs.declared.SplitAction.TheVariants.{Written, Drained}
 use Rattle.split_device.specs.Flight.{Flight, flight_count, no_flight}
@@ -20,8 +19,8 @@ use Rattle.split_order.specs.Prepared.{HoldsSplit}
 use Rattle.split_order.specs.Steps.{Advances, Ends, LeavesCurrent, SplitSteps, dropped, is_untouched, made_by}
 use Rattle.split_order.proofs.Live.{same_current}
 use Rattle.split_order.proofs.Stepped.{advances_slots, ends_events, ends_slots}
-use Rattle.tcam_c.specs.Driven.{IsDue}
-use Rattle.tcam_c.specs.Split.{Cancels, CancelsHeld, cancelled_by, IsSplitEnded, IsSplitHandled, IsUnsettled, KeepsLive, KeepsWords, PassesDue, PassesTo, PlansParts, kind_of_part, part_due, parts_left, settled, settled_by}
+use Rattle.tcam_c.specs.Driven.{IsDue, KeepsLive}
+use Rattle.tcam_c.specs.Split.{Cancels, CancelsHeld, cancelled_by, IsSplitEnded, IsSplitHandled, IsUnsettled, KeepsSplitWords, PassesDue, PassesTo, kind_of_part, part_due, parts_left, settled_split, settled_split_by}
 
 -- hardware of which no write fails has none that failed
 pub never_failed : {H : Type 0} (drains : H → H → Type 0) (given : List H) (calls : List (Call H)) (now : H)
@@ -32,21 +31,21 @@ never_failed drains given (Put before write (Err fault) ∷ earlier) now are = a
 never_failed drains given (Drain before ∷ earlier) now are = never_failed drains given earlier before are.1
 
 -- words stay current where they do from one call to the next
-pub keeps_on : (old mid new : SplitManaged) → KeepsLive old mid → KeepsLive mid new → KeepsLive old new
+pub keeps_on : (old mid new : SplitManaged) → KeepsLive old.whole mid.whole → KeepsLive mid.whole new.whole → KeepsLive old.whole new.whole
 keeps_on old mid new first next = record {
   src = λ bit range is. first.src bit range (next.src bit range is);
   dst = λ bit range is. first.dst bit range (next.dst bit range is);
 }
 
-pub keeps_same : (old new : SplitManaged) → new ≡ old → KeepsLive old new
+pub keeps_same : (old new : SplitManaged) → new ≡ old → KeepsLive old.whole new.whole
 keeps_same old new same = same_current old.whole new.whole (ap (λ (m : SplitManaged). m.whole) same)
 
-pub words_on : (action : SplitAction) (old mid new : SplitManaged) → KeepsWords action old mid → KeepsLive mid new → KeepsWords action old new
+pub words_on : (action : SplitAction) (old mid new : SplitManaged) → KeepsSplitWords action old mid → KeepsLive mid.whole new.whole → KeepsSplitWords action old new
 words_on (Written part) old mid new first next = keeps_on old mid new first next
 words_on Drained old mid new first next = tt
 
 -- a step that doesn't drain leaves words current
-ends_live : (old : SplitManaged) (made : SplitStep) (new : SplitManaged) → made_by made ≡ [] → LeavesCurrent old made new → KeepsLive old new
+ends_live : (old : SplitManaged) (made : SplitStep) (new : SplitManaged) → made_by made ≡ [] → LeavesCurrent old made new → KeepsLive old.whole new.whole
 ends_live old (step.Wrote write) new none leaves = leaves
 ends_live old step.Drained new none leaves = absurd (cc)
 ends_live old (step.Waiting flying) new none leaves = leaves
@@ -54,7 +53,7 @@ ends_live old (step.Finished counts) new none leaves = leaves
 ends_live old step.Idle new none leaves = leaves
 
 ends_to : (old : SplitManaged) (held : Option HeldCommit) (made : SplitStep) (new : SplitManaged) → Ends old held made new → LeavesCurrent old made new
-    → (new ≡ settled_by [] held old) × KeepsLive old new
+    → (new ≡ settled_split_by [] held old) × KeepsLive old.whole new.whole
 ends_to old None made new did leaves = (did.1, ends_live old made new (ap made_by did.0) leaves)
 ends_to old (Some held) made new did leaves = (did.1, ends_live old made new (ap made_by did.0) leaves)
 
@@ -113,15 +112,15 @@ passes_to old new made slots spare events flight was did leaves =
     subst (λ n. PassesTo (left_of n old) old new) was.same_slots (steps_to old slots (flight_count flight) (left_of slots old) made new was.same_slots (none_flies flight was.still) did leaves)
 
 -- with nothing left it is the end of the commit, and with something left there is none
-settles : (left : List SplitAction) (held : Option HeldCommit) (manager : SplitManaged) → slice_get left 0 ≡ None → settled_by left held manager ≡ settled_by [] held manager
+settles : (left : List SplitAction) (held : Option HeldCommit) (manager : SplitManaged) → slice_get left 0 ≡ None → settled_split_by left held manager ≡ settled_split_by [] held manager
 settles [] held manager none = refl
 settles (action ∷ left) held manager none = absurd (cc)
 
-ends_at : (left : List SplitAction) (old new : SplitManaged) → slice_get left 0 ≡ None → PassesTo left old new → (new ≡ settled_by [] old.whole.held old) × KeepsLive old new
+ends_at : (left : List SplitAction) (old new : SplitManaged) → slice_get left 0 ≡ None → PassesTo left old new → (new ≡ settled_split_by [] old.whole.held old) × KeepsLive old.whole new.whole
 ends_at [] old new none passes = passes
 ends_at (action ∷ left) old new none passes = absurd (cc)
 
-pub settled_end : (old new : SplitManaged) → part_due old ≡ None → PassesTo (parts_left old) old new → (new ≡ settled old) × KeepsLive old new
+pub settled_end : (old new : SplitManaged) → part_due old ≡ None → PassesTo (parts_left old) old new → (new ≡ settled_split old) × KeepsLive old.whole new.whole
 settled_end old new none passes =
     let ended = ends_at (parts_left old) old new none passes in
     (ended.0 ∙ sym (settles (parts_left old) old.whole.held old none), ended.1)
@@ -129,14 +128,14 @@ settled_end old new none passes =
 pub none_held : (old new : SplitManaged) → part_due old ≡ None → PassesTo (parts_left old) old new → new.whole.held ≡ None
 none_held old new none passes = ap (λ (m : SplitManaged). m.whole.held) (ends_at (parts_left old) old new none passes).0 ∙ over old.whole.held refl
   where
-    over : (held : Option HeldCommit) → old.whole.held ≡ held → (settled_by [] held old).whole.held ≡ None
+    over : (held : Option HeldCommit) → old.whole.held ≡ held → (settled_split_by [] held old).whole.held ≡ None
     over None is = is
     over (Some held) is = refl
 
-pub settled_same : (old : SplitManaged) → ¬ (part_due old ≡ None) → old ≡ settled old
+pub settled_same : (old : SplitManaged) → ¬ (part_due old ≡ None) → old ≡ settled_split old
 settled_same old some = go (parts_left old) some
   where
-    go : (left : List SplitAction) → ¬ (slice_get left 0 ≡ None) → old ≡ settled_by left old.whole.held old
+    go : (left : List SplitAction) → ¬ (slice_get left 0 ≡ None) → old ≡ settled_split_by left old.whole.held old
     go [] none = absurd (none refl)
     go (action ∷ left) none = refl
 
@@ -145,7 +144,7 @@ some_left [] none = absurd (none refl)
 some_left (action ∷ left) none = omega arith
 
 -- what is due was made, and the commit settled
-pub passes_due : (old mid new : SplitManaged) → IsDue (kind_of_part (part_due old)) → PassesTo (parts_left old) old mid → new ≡ settled mid → KeepsLive mid new → PassesDue (part_due old) old new
+pub passes_due : (old mid new : SplitManaged) → IsDue (kind_of_part (part_due old)) → PassesTo (parts_left old) old mid → new ≡ settled_split mid → KeepsLive mid.whole new.whole → PassesDue (part_due old) old new
 passes_due old mid new some passes is keeps = go (parts_left old) some passes
   where
     go : (left : List SplitAction) → IsDue (kind_of_part (slice_get left 0)) → PassesTo left old mid → PassesDue (slice_get left 0) old new

@@ -155,8 +155,8 @@ stepped_of None manager = manager
 stepped_of (Some held) manager = stepped_by held.turned held manager
 
 -- and behind the last one the rules are the new set, or the old one where the commit was turned round
-abbrev pub made_of : Option HeldCommit → Managed → Managed
-made_of held manager = settled (stepped_of held manager)
+abbrev pub passed_of : Option HeldCommit → Managed → Managed
+passed_of held manager = settled (stepped_of held manager)
 
 -- nothing is due exactly where no commit is under way
 abbrev pub IsEnded : Option HeldCommit → Option Action → Type 0
@@ -181,7 +181,7 @@ pub record KeepsWayBack (old new : Managed) : Type 0 where
 
 -- what telling does that the write or the drain which is due was made
 pub record PassesOn (old new : Driven) : Type 0 where
-  pub manager : new.manager ≡ made_of old.manager.held old.manager
+  pub manager : new.manager ≡ passed_of old.manager.held old.manager
   pub events : new.events ≡ old.events ++ due_actions (due_of old.manager.held)
   pub keeps : KeepsWords (due_of old.manager.held) old.manager new.manager
   pub back : KeepsWayBack old.manager new.manager

@@ -2,7 +2,7 @@
 -- memory since that was blank the manager has.
 use Rattle.std.specs.Prelude.{◌≡◌, ℕ, ◌≤◌, Bool, true, false, Option, Some, None, IsSome, List, [], ◌∷◌, length, slice_get}
 use Rattle.rule_store.specs.declared.Command.{Command}
-use Rattle.commit_writes.specs.InFlight.{ArePartOf, ServesLive}
+use Rattle.commit_writes.specs.InFlight.{ServesLive}
 use Rattle.batch_order.specs.Managed.{HeldCommit, live_now}
 use Rattle.split_device.specs.State.{undivided}
 use Rattle.split_device.specs.Flight.{Flight, no_flight}
@@ -15,6 +15,7 @@ use Rattle.split_order.specs.Left.{ServesSplit, left_of, since_of, state_on}
 use Rattle.split_order.specs.Next.{ServesAhead}
 use Rattle.split_order.specs.Prepared.{HoldsSplit}
 use Rattle.split_order.specs.Steps.{Advances, dropped, ended_split}
+use Rattle.tcam_c.specs.Driven.{KeepsLive}
 use Rattle.tcam_c.specs.declared.split.Cancelled.{Cancelled}
 use Rattle.tcam_c.specs.declared.split.Cancelled.TheVariants as cancelled
 use Rattle.tcam_c.specs.declared.steps.DueKind.{DueKind}
@@ -48,13 +49,13 @@ pub record IsSplitHandled (manager : SplitManaged) (slots : ℕ) (events : List 
   pub due : IsSome manager.whole.held → 1 ≤ length (parts_left manager)
 
 -- a manager whose commit under way, if it has nothing left, has come to its end
-abbrev pub settled_by : List SplitAction → Option HeldCommit → SplitManaged → SplitManaged
-settled_by [] None manager = manager
-settled_by [] (Some held) manager = ended_split manager held
-settled_by (action ∷ left) held manager = manager
+abbrev pub settled_split_by : List SplitAction → Option HeldCommit → SplitManaged → SplitManaged
+settled_split_by [] None manager = manager
+settled_split_by [] (Some held) manager = ended_split manager held
+settled_split_by (action ∷ left) held manager = manager
 
-abbrev pub settled : SplitManaged → SplitManaged
-settled manager = settled_by (parts_left manager) manager.whole.held manager
+abbrev pub settled_split : SplitManaged → SplitManaged
+settled_split manager = settled_split_by (parts_left manager) manager.whole.held manager
 
 -- Each key is answered as the rules do, and while a commit is under way as the old ones or the new ones do, by the parts that
 -- were made.
@@ -75,33 +76,29 @@ abbrev pub IsSplitEnded : Option HeldCommit → Option SplitAction → Type 0
 IsSplitEnded None due = due ≡ None
 IsSplitEnded (Some held) due = ¬ (due ≡ None)
 
--- words that are current in look-ups under way are so still
-abbrev pub KeepsLive : SplitManaged → SplitManaged → Type 0
-KeepsLive old new = ArePartOf (live_now new.whole) (live_now old.whole)
-
--- unless the drain was made
-abbrev pub KeepsWords : SplitAction → SplitManaged → SplitManaged → Type 0
-KeepsWords (Written part) old new = KeepsLive old new
-KeepsWords Drained old new = Unit {0}
+-- words that are current in look-ups under way are so still, unless the drain was made
+abbrev pub KeepsSplitWords : SplitAction → SplitManaged → SplitManaged → Type 0
+KeepsSplitWords (Written part) old new = KeepsLive old.whole new.whole
+KeepsSplitWords Drained old new = Unit {0}
 
 -- A batch was taken: it is planned as the manager's call says, and a plan with nothing to make has finished.
 pub record PlansParts (old : SplitManaged) (batch : List Command) (counts : SplitDone) (new : SplitManaged) : Type 0 where
   pub planned : SplitManaged
   pub holds : HoldsSplit old batch counts planned
-  pub settled_is : new ≡ settled planned
+  pub settled_is : new ≡ settled_split planned
 
 -- what a step does where this is left: it makes the first of it, or ends the commit under way
 abbrev pub PassesTo : List SplitAction → SplitManaged → SplitManaged → Type 0
-PassesTo [] old new = (new ≡ settled_by [] old.whole.held old) × KeepsLive old new
-PassesTo (action ∷ left) old new = Advances old.whole.slots action old new × KeepsWords action old new
+PassesTo [] old new = (new ≡ settled_split_by [] old.whole.held old) × KeepsLive old.whole new.whole
+PassesTo (action ∷ left) old new = Advances old.whole.slots action old new × KeepsSplitWords action old new
 
 -- What telling does that this part or drain was made, which was due: it is the first of what was left, and where nothing is
 -- left behind it the commit has finished.
 pub record PassesPart (action : SplitAction) (old new : SplitManaged) : Type 0 where
   pub passed : SplitManaged
   pub advances : Advances old.whole.slots action old passed
-  pub settled_is : new ≡ settled passed
-  pub keeps : KeepsWords action old new
+  pub settled_is : new ≡ settled_split passed
+  pub keeps : KeepsSplitWords action old new
 
 abbrev pub PassesDue : Option SplitAction → SplitManaged → SplitManaged → Type 0
 PassesDue None old new = ⊥

@@ -1,5 +1,5 @@
 -- What stands behind a handle, of one kind of memory or the other, and what its calls do.
-use Rattle.std.specs.Prelude.{◌≡◌, ℕ, Result, Ok, Err, Option, Some, None, List, IfOk, OnErr}
+use Rattle.std.specs.Prelude.{◌≡◌, ℕ, Result, Ok, Err, Some, List, IfOk, OnErr}
 use Rattle.rule_model.specs.declared.Key.{Key}
 use Rattle.rule_model.specs.RuleSet.{Answer}
 use Rattle.rule_store.specs.declared.Command.{Command}
@@ -21,7 +21,6 @@ use Rattle.split_order.specs.Managed.{SplitManaged, fresh_split}
 use Rattle.split_order.specs.Prepared.{JudgesSplit}
 use Rattle.tcam_c.specs.Driven.{AbortsHeld, Driven, IsEnded, IsServing, IsServingAhead, KeepsLive, PassesOn, Prepares, due_of, fresh_driven, journal_of, kind_of_due}
 use Rattle.tcam_c.specs.Plain.{IsDuePart, IsDueWrite}
-use Rattle.tcam_c.specs.Split as parts
 use Rattle.tcam_c.specs.Split.{Cancels, IsServingSplit, IsSplitEnded, PassesDue, PlansParts, ServesOn, kind_of_part, part_due}
 use Rattle.tcam_c.specs.declared.plain.TcamNumbers.{TcamNumbers}
 use Rattle.tcam_c.specs.declared.plain.TcamWrite.{TcamWrite}
@@ -70,7 +69,7 @@ pub record PreparesSplit (batch : List Command) (judged : Result SplitDone Refus
   pub judges : JudgesSplit before.whole.slots before before.whole.held batch judged
   pub ready : IfOk judged (λ counts. PlansParts before batch counts after)
   pub refused : OnErr judged (after ≡ before)
-  pub keeps : parts.KeepsLive before after
+  pub keeps : KeepsLive before.whole after.whole
   pub before_serves : IsServingSplit before
   pub after_serves : IsServingSplit after
 
@@ -131,7 +130,7 @@ pub record AbortsSplit (left left' code : ℕ) (before after : SplitManaged) : T
   pub answer : Cancelled
   pub cancels : Cancels before answer after
   pub told : IsCancelTold left left' answer code
-  pub keeps : parts.KeepsLive before after
+  pub keeps : KeepsLive before.whole after.whole
   pub before_serves : IsServingSplit before
   pub after_serves : IsServingSplit after
 

@@ -2,8 +2,8 @@
 
 ghost use Rattle.std.specs.Prelude.{◌≡◌, IfOk, OnErr};
 ghost use Rattle.split_order.specs.Prepared.{JudgesSplit};
-ghost use Rattle.tcam_c.specs.Driven.{IsDue};
-ghost use Rattle.tcam_c.specs.Split.{IsServingSplit, IsSplitHandled, IsUnsettled, KeepsLive, PassesDue, PassesTo, PlansParts, kind_of_part, part_due, parts_left, settled};
+ghost use Rattle.tcam_c.specs.Driven.{IsDue, KeepsLive};
+ghost use Rattle.tcam_c.specs.Split.{IsServingSplit, IsSplitHandled, IsUnsettled, PassesDue, PassesTo, PlansParts, kind_of_part, part_due, parts_left, settled_split};
 
 use crate::outside::Outside;
 use batch_order::Refusal;
@@ -23,7 +23,7 @@ pub(crate) fn prepare(
     ensures judged { JudgesSplit manager.old.whole.slots manager.old manager.old.whole.held batch.now result }
     ensures ready { IfOk result (λ counts. PlansParts manager.old batch.now counts manager.new) }
     ensures refused { OnErr result (manager.new ≡ manager.old) }
-    ensures keeps { KeepsLive manager.old manager.new }
+    ensures keeps { KeepsLive manager.old.whole manager.new.whole }
     ensures driven { IsSplitHandled manager.new device.new.slots device.new.events device.new.flight device.new.spare }
     ensures before { IsServingSplit manager.old }
     ensures serves { IsServingSplit manager.new }
@@ -53,8 +53,8 @@ pub(crate) fn go_on(manager: &mut SplitManager, device: &mut SplitShadowed<Outsi
 /// A commit under way that has nothing left comes to its end.
 fn settle(manager: &mut SplitManager, device: &mut SplitShadowed<Outside>)
     requires { IsUnsettled manager.old device.old.slots device.old.events device.old.flight device.old.spare }
-    ensures settled { manager.new ≡ settled manager.old }
-    ensures keeps { KeepsLive manager.old manager.new }
+    ensures settled { manager.new ≡ settled_split manager.old }
+    ensures keeps { KeepsLive manager.old.whole manager.new.whole }
     ensures driven { IsSplitHandled manager.new device.new.slots device.new.events device.new.flight device.new.spare }
     ensures serves { IsServingSplit manager.new }
 {

@@ -5,8 +5,8 @@ ghost use Rattle.split_device.specs.State.{split_lookup};
 ghost use Rattle.split_order.specs.Left.{state_on};
 ghost use Rattle.split_order.specs.Managed.{fresh_split};
 ghost use Rattle.split_order.specs.Prepared.{JudgesSplit};
-ghost use Rattle.tcam_c.specs.Driven.{IsDue};
-ghost use Rattle.tcam_c.specs.Split.{Cancels, IsServingSplit, IsSplitEnded, KeepsLive, PassesDue, PlansParts, ServesOn, cancelled_by, kind_of_part, part_due};
+ghost use Rattle.tcam_c.specs.Driven.{IsDue, KeepsLive};
+ghost use Rattle.tcam_c.specs.Split.{Cancels, IsServingSplit, IsSplitEnded, PassesDue, PlansParts, ServesOn, cancelled_by, kind_of_part, part_due};
 
 use crate::outside::Outside;
 use crate::part_steps::{go_on, prepare};
@@ -77,7 +77,7 @@ impl SplitTable {
         ensures judged { JudgesSplit self.old.whole.slots self.old self.old.whole.held batch.now result }
         ensures ready { IfOk result (λ counts. PlansParts self.old batch.now counts self.new) }
         ensures refused { OnErr result (self.new ≡ self.old) }
-        ensures keeps { KeepsLive self.old self.new }
+        ensures keeps { KeepsLive self.old.whole self.new.whole }
         ensures before { IsServingSplit self.old }
         ensures serves { IsServingSplit self.new }
     {
@@ -117,7 +117,7 @@ impl SplitTable {
     /// takes no memory.
     pub(crate) fn cancel(&mut self) -> Cancelled
         ensures cancels { Cancels self.old result self.new }
-        ensures keeps { KeepsLive self.old self.new }
+        ensures keeps { KeepsLive self.old.whole self.new.whole }
         ensures before { IsServingSplit self.old }
         ensures serves { IsServingSplit self.new }
     {

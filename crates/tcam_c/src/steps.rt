@@ -6,7 +6,7 @@ ghost use Rattle.tcam_device.specs.Flight.{writes_in};
 ghost use Rattle.batch_order.specs.Managed.{Judges, Serves, IsOn};
 ghost use Rattle.batch_order.specs.CarriedOut.{HasRoomBothWays};
 ghost use Rattle.batch_order.specs.Steps.{next_of};
-ghost use Rattle.tcam_c.specs.Driven.{IsHandled, KeepsLive, KeepsWayBack, KeepsWords, Plans, TakesBack, due_actions, due_of, made_of, settled, stepped_of, kind_of_due};
+ghost use Rattle.tcam_c.specs.Driven.{IsHandled, KeepsLive, KeepsWayBack, KeepsWords, Plans, TakesBack, due_actions, due_of, passed_of, settled, stepped_of, kind_of_due};
 
 use crate::outside::Outside;
 use batch_order::{AbortFault, Done, Manager, Refusal};
@@ -103,7 +103,7 @@ pub(crate) fn kind_due(manager: &Manager) -> DueKind
 pub(crate) fn go_on(manager: &mut Manager, device: &mut Shadowed<Outside>)
     requires driven { IsHandled manager.old device.old.slots device.old.events device.old.flight device.old.spare }
     requires due { IsSome (due_of manager.old.held) }
-    ensures made { manager.new ≡ made_of manager.old.held manager.old }
+    ensures made { manager.new ≡ passed_of manager.old.held manager.old }
     ensures back { KeepsWayBack manager.old manager.new }
     ensures keeps { KeepsWords (due_of manager.old.held) manager.old manager.new }
     ensures events { device.new.events ≡ device.old.events ++ due_actions (due_of manager.old.held) }

@@ -16,7 +16,7 @@ use Rattle.batch_order.specs.declared.Placement.{Placement}
 use Rattle.batch_order.specs.declared.held.Held.{Held}
 use Rattle.batch_order.specs.declared.translation.Translation.{Translation}
 use Rattle.batch_order.specs.Entries.{Entries}
-use Rattle.batch_order.specs.Kept.{IsManaged, held_of, held_writes, left_of, most_made, settled_state, turned_at}
+use Rattle.batch_order.specs.Kept.{IsManaged, held_of, held_writes, left_count, most_made, settled_state, turned_at}
 use Rattle.batch_order.specs.Managed.{HeldCommit, Managed, live_now, writes_due, room_both_ways, room_needed}
 use Rattle.batch_order.specs.Passed.{WayBackFrom, HasWayBack}
 use Rattle.batch_order.specs.Steps.{Aborts, TurnsBack, TurnsPrepared}
@@ -47,7 +47,7 @@ module _ (translation : Option Translation) (rules : StoredRules) (kept : Entrie
       omega arith
 
   -- so many writes are left, forward or back
-  pub left_is : left_of held ≡ length (writes_due (held_of translation slots rules.rules kept.entries held))
+  pub left_is : left_count held ≡ length (writes_due (held_of translation slots rules.rules kept.entries held))
   left_is = go held.turned refl
     where
       writes : List Write

@@ -9,17 +9,17 @@ use Rattle.batch_order.specs.declared.Step.{Step}
 use Rattle.batch_order.specs.declared.Step.TheVariants as step
 use Rattle.batch_order.specs.Managed.{Managed, HeldCommit}
 use Rattle.batch_order.specs.Steps.{Steps, StepsEither, StepsOn, StepsBack}
-use Rattle.batch_order.specs.Turning.{begun_in, IsUnderWay, StepsKeepTheWayBack, RevertsToTheOldState}
+use Rattle.batch_order.specs.Turning.{begun_in, IsStillUnderWay, StepsKeepTheWayBack, RevertsToTheOldState}
 
 -- where a held commit began
 begun_is : (manager : Managed) (held : HeldCommit) → manager.held ≡ Some held → begun_in manager ≡ state_after manager.state held.undo
 begun_is manager held is = ap (λ (h : Option HeldCommit). elim h [ None ↦ manager.state | Some x ↦ state_after manager.state x.undo ]) is
 
-none_under_way : (manager : Managed) (h : Option HeldCommit) → manager.held ≡ h → h ≡ None → IsUnderWay manager → ⊥
+none_under_way : (manager : Managed) (h : Option HeldCommit) → manager.held ≡ h → h ≡ None → IsStillUnderWay manager → ⊥
 none_under_way manager h is none under = let clash : Some under.0 ≡ None = sym under.1 ∙ is ∙ none in cc
 
 forward : (old : Managed) (held : HeldCommit) (words : ℕ) (actions : List Action) (made : Step) (new : Managed) → old.held ≡ Some held
-    → StepsOn old held words actions made new → IsUnderWay new → begun_in new ≡ begun_in old
+    → StepsOn old held words actions made new → IsStillUnderWay new → begun_in new ≡ begun_in old
 forward old held words [] made new is did under = absurd (none_under_way new None (ap (λ (m : Managed). m.held) did.1) refl under)
 forward old held words (Written write ∷ actions) made new is did under =
     ap begun_in did.1 ∙ ap (λ s. state_after s held.undo) (restored old.state write) ∙ sym (begun_is old held is)
@@ -27,13 +27,13 @@ forward old held zero (Drained ∷ actions) made new is did under = ap begun_in 
 forward old held (suc words) (Drained ∷ actions) made new is did under = ap begun_in did.1
 
 backward : (old : Managed) (held : HeldCommit) (undone : ℕ) (undo : List Write) (made : Step) (new : Managed) → old.held ≡ Some held → held.undo ≡ undo
-    → StepsBack old held undone undo made new → IsUnderWay new → begun_in new ≡ begun_in old
+    → StepsBack old held undone undo made new → IsStillUnderWay new → begun_in new ≡ begun_in old
 backward old held undone [] made new is rest did under = absurd (none_under_way new None (ap (λ (m : Managed). m.held) did.1) refl under)
 backward old held undone (write ∷ undo) made new is rest did under =
     ap begun_in did.1 ∙ ap (state_after old.state) (sym rest) ∙ sym (begun_is old held is)
 
 either : (old : Managed) (held : HeldCommit) (words : ℕ) (turned : Option ℕ) (made : Step) (new : Managed) → old.held ≡ Some held
-    → StepsEither old held words turned made new → IsUnderWay new → begun_in new ≡ begun_in old
+    → StepsEither old held words turned made new → IsStillUnderWay new → begun_in new ≡ begun_in old
 either old held words None made new is did under = forward old held words held.actions made new is did under
 either old held words (Some undone) made new is did under = backward old held undone held.undo made new is refl did under
 

@@ -7,7 +7,7 @@ use Rattle.split_device.specs.declared.SplitAction.{SplitAction}
 use Rattle.split_device.specs.Flight.{Flight, flight_count, oldest_read, state_of_events, with_read, with_search}
 use Rattle.split_order.specs.Left.{ServesSplit, left_of, state_on}
 use Rattle.split_order.specs.Managed.{SplitManaged}
-use Rattle.split_order.specs.Next.{IsLed}
+use Rattle.split_order.specs.Next.{LeadsDevice}
 use Rattle.split_order.proofs.Live.{step_current}
 use Rattle.split_turns.specs.declared.SplitTurn.{SplitTurn}
 use Rattle.split_turns.specs.declared.SplitTurn.TheVariants.{Step, Translate, Search, Read}
@@ -23,8 +23,8 @@ returns-in_ok-step-in-Step-clause-turned g c =
     let slots = g.D.SplitDevice.slot_count c.args.device.now in
     let flight = g.D.SplitDevice.flight c.args.device.now in
     let did = c.in_ok-step-in-Step.ensures in
-    let led : IsLed slots (g.D.SplitDevice.events c.step.new.device) new =
-    subst (λ n. IsLed n (g.D.SplitDevice.events c.step.new.device) new) c.step.ensures.slot_count (c.step.ensures.led c.requires.on) in
+    let led : LeadsDevice slots (g.D.SplitDevice.events c.step.new.device) new =
+    subst (λ n. LeadsDevice n (g.D.SplitDevice.events c.step.new.device) new) c.step.ensures.slot_count (c.step.ensures.led c.requires.on) in
     let serves : ServesSplit (state_on slots new) new = subst (λ some. ServesSplit (state_of_events slots some) new) led.on led.serves in
     subst (λ (t : SplitTurn). TurnsOn slots old flight t None new (g.D.SplitDevice.flight c.step.new.device)) (sym c.in-Step.is)
     (subst (λ (f : Flight). TurnsOn slots old flight Step None new f) (sym c.step.ensures.flight)

@@ -1,4 +1,5 @@
 use Rattle.std.proofs.Common.{◌≡◌, true, false, refl, sym, ◌∙◌}
+use Rattle.split_order.specs.Left.{since_of}
 use Rattle.split_order.specs.Managed.{SplitManaged}
 use Rattle.split_order.proofs.Drained.{IsDrained, drains, kept_drained}
 use Rattle.split_order.proofs.manager.SplitManager.note_drain.Goals as goal
@@ -16,7 +17,7 @@ invariant_of-self c =
       on_own = λ own. absurd (let wrong : false ≡ true = sym c.if-not-drains_next.true ∙ (c.drains_next.ensures ∙ own) in cc);
       on_part = λ part. refl;
     } in
-    kept_drained i.since c.drained.new.self i.progress.left m m' c.self.invariant (rw (← c.self.view_is) at c.requires) did c.drained.ensures.size c.drained.ensures.since
+    kept_drained i.since c.drained.new.self i.progress.left m m' c.self.invariant (rw (← c.self.view_is) at c.requires) did c.drained.ensures.size (c.drained.ensures.since (since_of m) c.self.invariant.since_is)
 
 pub returns-then-not-drains_next : goal.returns-then-not-drains_next
 returns-then-not-drains_next c slots wide =
@@ -46,7 +47,7 @@ invariant_of-self-2 c =
       on_own = λ own. (c.pass.result, c.pass.ensures);
       on_part = λ part. absurd (let wrong : true ≡ false = sym c.if-not-drains_next.false ∙ (c.drains_next.ensures ∙ part) in cc);
     } in
-    kept_drained i.since c.drained.new.self i.progress.left m m' c.self.invariant (rw (← c.self.view_is) at c.requires) did c.drained.ensures.size c.drained.ensures.since
+    kept_drained i.since c.drained.new.self i.progress.left m m' c.self.invariant (rw (← c.self.view_is) at c.requires) did c.drained.ensures.size (c.drained.ensures.since (since_of m) c.self.invariant.since_is)
 
 pub returns : goal.returns
 returns c slots wide =

@@ -1,4 +1,6 @@
-use Rattle.std.proofs.Common.{◌≤◌, ◌^◌, sym, ◌∙◌, arith}
+use Rattle.std.proofs.Common.{◌≤◌, ◌^◌, ap, sym, ◌∙◌, arith}
+use Rattle.batch_order.specs.Managed.{Managed}
+use Rattle.split_order.specs.Managed.{SplitManaged}
 use Rattle.split_order.proofs.Judged.{busy_judged, dropped_back, none_left}
 use Rattle.split_order.proofs.Live.{plan_current}
 use Rattle.split_order.proofs.manager.SplitManager.prepare.Goals as goal
@@ -25,3 +27,10 @@ returns-in-Ok-clause-current g c =
     let now = c.args.self.now in
     let idle = none_left now c.left.result _ (c.left.ensures now.whole.slots (omega arith)) (λ n is. c.in_default.not-Some n is) in
     plan_current now c.plan.new.self c.args.batch.now c.in_ok-counts.counts c.in_ok-counts.ensures.ready idle
+
+-- the slots in use stay
+pub returns-in-Err-clause-slots : goal.returns-in-Err-clause-slots
+returns-in-Err-clause-slots g c = ap (λ (m : SplitManaged). m.whole.slots) (returns-in-Err-clause-refused g c)
+
+pub returns-in-Ok-clause-slots : goal.returns-in-Ok-clause-slots
+returns-in-Ok-clause-slots g c = ap (λ (w : Managed). w.slots) c.in_ok-counts.ensures.ready.whole.1.new_is
