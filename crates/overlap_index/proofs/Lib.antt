@@ -1,4 +1,3 @@
-mod Blocks
 mod Examples
 mod Linked
 mod Passed

@@ -12,9 +12,10 @@ use Rattle.overlap_index.specs.declared.scan.Side.TheVariants.{Above, Below}
 use Rattle.placement.specs.declared.LivePiece.{LivePiece}
 use Rattle.placement.specs.Live.{is_over}
 use Rattle.overlap_index.specs.Sides.{is_on, ids_on}
-use Rattle.overlap_index.specs.Near.{SpanColumns, columns_of, spans_of, first_of, last_of, is_near}
+use Rattle.block_windows.specs.Windows.{first_of, last_of}
+use Rattle.block_windows.proofs.Blocks.{meet_near, first_below_last}
+use Rattle.overlap_index.specs.Near.{SpanColumns, columns_of, spans_of, is_near}
 use Rattle.overlap_index.specs.declared.near.Spans.{Spans}
-use Rattle.overlap_index.proofs.Blocks.{meet_near, first_below_last}
 
 -- the spans of two pieces have addresses in common, by their destinations and by their sources, and ports
 record AreNear (a b : Spans) : Type 0 where

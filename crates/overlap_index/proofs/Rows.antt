@@ -3,7 +3,8 @@ use Rattle.std.proofs.Common.{◌≡◌, ℕ, ◌-◌, ◌<◌, List, [], ◌∷
 use Rattle.std.specs.List.{swap_remove}
 use Rattle.std.proofs.lemmas.List.{get_or-map, length-map, map-set, map_push, take-map}
 use Rattle.placement.specs.declared.LivePiece.{LivePiece}
-use Rattle.overlap_index.specs.Near.{SpanColumns, columns_of, with_row, without_row, first_of, last_of}
+use Rattle.block_windows.specs.Windows.{first_of, last_of}
+use Rattle.overlap_index.specs.Near.{SpanColumns, columns_of, with_row, without_row}
 
 -- the last takes the place of one that goes, seen through a map
 map_closed : (f : LivePiece → ℕ) (xs : List LivePiece) (k : ℕ) (d : LivePiece) → k < length xs → map f (swap_remove xs k d) ≡ swap_remove (map f xs) k 0

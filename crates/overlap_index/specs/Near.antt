@@ -1,33 +1,15 @@
 -- What windows of 32 bits of addresses, and ports, tell of live pieces that may overlap.
-use Rattle.std.specs.Prelude.{◌≡◌, ℕ, ◌+◌, ◌-◌, ◌*◌, ◌/◌, ◌%◌, ◌^◌, Bool, ◌&&◌, nat_le, List, [], ◌∷◌, ◌++◌, length, map, slice_index}
+use Rattle.std.specs.Prelude.{◌≡◌, ℕ, Bool, ◌&&◌, List, [], ◌∷◌, ◌++◌, length, map}
 use Rattle.std.specs.List.{swap_remove}
-use Rattle.rule_model.specs.AddressBlock.{AddressBlock}
 use Rattle.rule_model.specs.PortRange.{PortRange}
 use Rattle.rule_model.specs.declared.Piece.{Piece}
-use Rattle.overlap_index.specs.declared.near.Span.{Span}
+use Rattle.block_windows.specs.declared.Span.{Span}
+use Rattle.block_windows.specs.Windows.{first_of, last_of, span_of, meets_at}
 use Rattle.overlap_index.specs.declared.near.Spans.{Spans}
 use Rattle.placement.specs.declared.LivePiece.{LivePiece}
 
--- Of a window of 32 bits of an address, with so many bits before it: the bits themselves, and how many of them a block
--- of a length leaves open.
-abbrev pub window_of : ℕ → ℕ → ℕ
-window_of before addr = addr / 2 ^ (96 - before) % 2 ^ 32
-
-abbrev pub open_bits : ℕ → ℕ → ℕ
-open_bits before len = 32 - (len - before)
-
--- the least and the greatest of what the block's addresses have in a window
-abbrev pub first_of : ℕ → AddressBlock → ℕ
-first_of before block = window_of before block.addr / 2 ^ open_bits before block.len * 2 ^ open_bits before block.len
-
-abbrev pub last_of : ℕ → AddressBlock → ℕ
-last_of before block = window_of before block.addr + (2 ^ open_bits before block.len - 1)
-
--- both, the first port and the last, and those of a piece: of three windows of its destination, the upper 32 bits, the
--- next 32 and the lowest 32, of the upper 32 bits of its source, and of its destination ports
-abbrev pub span_of : ℕ → AddressBlock → Span
-span_of before block = record { first = first_of before block; last = last_of before block }
-
+-- the first port and the last, and the windows of a piece: of three of its destination, the upper 32 bits, the next 32
+-- and the lowest 32, of the upper 32 bits of its source, and of its destination ports
 abbrev pub ports_of : PortRange → Span
 ports_of range = record { first = range.lo; last = range.hi }
 
@@ -113,11 +95,7 @@ without_row columns place =
       port_lasts = swap_remove columns.port_lasts place 0;
     }
 
--- the range at one place of two columns has a number in common with a span
-abbrev pub meets_at : List ℕ → List ℕ → Span → ℕ → Bool
-meets_at firsts lasts span at = nat_le (slice_index firsts at) span.last && nat_le span.first (slice_index lasts at)
-
--- so have the destinations at that place, in each window, the sources and the destination ports
+-- the destinations at one place, in each window, the sources and the destination ports have a number in common with spans
 abbrev pub is_near : SpanColumns → Spans → ℕ → Bool
 is_near columns spans at =
     meets_at columns.dst_firsts columns.dst_lasts spans.dst at && meets_at columns.next_firsts columns.next_lasts spans.next at

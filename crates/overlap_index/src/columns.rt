@@ -2,7 +2,8 @@
 ghost use Rattle.std.specs.Prelude.{◌≡◌, ℕ, ◌+◌, ◌<◌, ◌≤◌, false, [], length, IfOk, OnOk, OnErr};
 ghost use Rattle.overlap_index.specs.Near.{columns_of, with_row, without_row, is_near};
 
-use crate::near::{Spans, also_apart, apart_eight, is_all, meets_at, pass_apart, spans_of};
+use crate::near::{Spans, spans_of};
+use block_windows::{also_apart, apart_eight, is_all, meets_at, pass_apart};
 use eight_lanes::first_zero;
 use rule_model::Piece;
 use std::alloc::{AllocError, Global};

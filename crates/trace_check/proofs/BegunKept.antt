@@ -34,8 +34,8 @@ translated_at Cover bits rules state are = translated Cover bits rules state are
 translated_at Bits bits rules state are = translated Bits bits rules state (are.0.serves, are.1.serves)
 
 module _ (slots : ℕ) (mode : Mode) (bits : FieldBits) (rules : List Rule) (batch : List Command) (device : Device) (commit : Commit)
-    (sized : length device.places.items ≡ slots) (rest : IsAtRest mode bits rules (device_state device)) (alone : IsPair (device_state device).slots None)
-    (placed : (at : ℕ) (x : RankedPiece) → slot device.places.items at ≡ Some x → Contains (set_pieces mode bits rules) x)
+    (sized : length device.places ≡ slots) (rest : IsAtRest mode bits rules (device_state device)) (alone : IsPair (device_state device).slots None)
+    (placed : (at : ℕ) (x : RankedPiece) → slot device.places at ≡ Some x → Contains (set_pieces mode bits rules) x)
     (accepted : verdict slots mode rules batch ≡ Accepted) (is : IsCommitOf mode bits rules batch commit)
     (none_done : commit.done ≡ 0) (no_pair : commit.pair ≡ None) (unserved : IsFalse commit.served) where
   abbrev state : State
@@ -73,7 +73,7 @@ module _ (slots : ℕ) (mode : Mode) (bits : FieldBits) (rules : List Rule) (bat
   one = record { one = λ a b twin other. absurd (alone twin.0 a twin.1); equal = λ l at w. absurd (alone l at w) }
 
   unused : (at : ℕ) → slots ≤ at → slot state.slots at ≡ None
-  unused at past = get_or_past state.slots at None (let size = entries_size device.places.items in let all = sized in omega arith)
+  unused at past = get_or_past state.slots at None (let size = entries_size device.places in let all = sized in omega arith)
 
   stage : IsCommitAt slots mode bits rules batch state (first_inserts p 0) (other_tasks p 0)
   stage = inserting slots bits during p facts state 0 unused old_words (λ x member stands. absurd (none_put x member stands)) one ordered

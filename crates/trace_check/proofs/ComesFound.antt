@@ -1,6 +1,6 @@
 -- What the calls find of an entry that comes is what is said of it.
 use Rattle.std.proofs.Common.{◌≡◌, ℕ, ◌<◌, ◌≤◌, Bool, true, false, IsTrue, IsFalse, Option, Some, None, Contains, inl, inr, ◌⊎◌, refl, sym, subst, ap}
-use Rattle.std.specs.Prelude.{◌↔◌}
+use Rattle.std.specs.Prelude.{◌↔◌, IfSome, IsNone}
 use Rattle.slot_order.specs.Order.{slot}
 use Rattle.rule_model.specs.Piece.{PiecesOverlap}
 use Rattle.rule_model.specs.declared.words.Entry.{Entry}
@@ -43,16 +43,16 @@ module _ (commit : Commit) (entry : Entry) where
   )
 
   -- an entry that is right
-  pub entry_comes : (device : Device) (at : ℕ) (ranked : RankedPiece) (puts : Bool) → entry_for ranked ≡ entry → IsFamiliar commit device.places.items ranked
-      → ((i : ℕ) (first : RankedPiece) → i < at → slot device.places.items i ≡ Some first → PiecesOverlap first.piece ranked.piece → ranked.rank ≤ first.rank)
-      → ((j : ℕ) (second : RankedPiece) → at < j → slot device.places.items j ≡ Some second → PiecesOverlap ranked.piece second.piece → second.rank ≤ ranked.rank)
+  pub entry_comes : (device : Device) (at : ℕ) (ranked : RankedPiece) (puts : Bool) → entry_for ranked ≡ entry → IsFamiliar commit device.places ranked
+      → ((i : ℕ) (first : RankedPiece) → i < at → slot device.places i ≡ Some first → PiecesOverlap first.piece ranked.piece → ranked.rank ≤ first.rank)
+      → ((j : ℕ) (second : RankedPiece) → at < j → slot device.places j ≡ Some second → PiecesOverlap ranked.piece second.piece → second.rank ≤ ranked.rank)
       → IsTrue puts ↔ ((x : RankedPiece) × Contains commit.inserted.items x × IsTrue (same_match (entry_for x) entry))
       → (IsTrue puts → IsTrue commit.served ⊎ AreTranslated (device_state device) (during_of commit.live)) → ComesRight commit device at (Some entry) (Some ranked) puts
   entry_comes device at ranked puts is familiar ahead behind found serves = record {
     is = ap Some is;
-    familiar = λ x same. subst (IsFamiliar commit device.places.items) (one x same) familiar;
-    ahead = λ x same. subst (λ (y : RankedPiece). (i : ℕ) (first : RankedPiece) → i < at → slot device.places.items i ≡ Some first → PiecesOverlap first.piece y.piece → y.rank ≤ first.rank) (one x same) ahead;
-    behind = λ x same. subst (λ (y : RankedPiece). (j : ℕ) (second : RankedPiece) → at < j → slot device.places.items j ≡ Some second → PiecesOverlap y.piece second.piece → second.rank ≤ y.rank) (one x same) behind;
+    familiar = λ x same. subst (IsFamiliar commit device.places) (one x same) familiar;
+    ahead = λ x same. subst (λ (y : RankedPiece). (i : ℕ) (first : RankedPiece) → i < at → slot device.places i ≡ Some first → PiecesOverlap first.piece y.piece → y.rank ≤ first.rank) (one x same) ahead;
+    behind = λ x same. subst (λ (y : RankedPiece). (j : ℕ) (second : RankedPiece) → at < j → slot device.places j ≡ Some second → PiecesOverlap y.piece second.piece → second.rank ≤ y.rank) (one x same) behind;
     puts_in = puts_are puts found;
     serves = serves;
   }
@@ -64,7 +64,7 @@ module _ (commit : Commit) (entry : Entry) where
   pub strange : (device : Device) (at : ℕ) → ((x : RankedPiece) → Contains (known_pieces (pieces_kept commit)) x → entry_for x ≡ entry → ⊥) → ComesWrong commit device at (Some entry)
   strange device at none = inl (entry, refl, none)
 
-  pub crosses : (device : Device) (at : ℕ) (ranked : RankedPiece) → entry_for ranked ≡ entry → IsFamiliar commit device.places.items ranked → IsCrossing device.places.items at ranked
+  pub crosses : (device : Device) (at : ℕ) (ranked : RankedPiece) → entry_for ranked ≡ entry → IsFamiliar commit device.places ranked → IsCrossing device.places at ranked
       → ComesWrong commit device at (Some entry)
   crosses device at ranked is familiar crossing = inr (inl (ranked, ap Some (sym is), familiar, crossing))
 
@@ -84,3 +84,11 @@ some_live state live during is right = subst (λ (l : Option FieldBits). AreTran
 
 pub live_some : (state : State) (live : Option FieldBits) (during : FieldBits) → live ≡ Some during → AreTranslated state (during_of live) → AreTranslated state during
 live_some state live during is right = subst (λ (l : Option FieldBits). AreTranslated state (during_of l)) is right
+
+-- what was found or wasn't
+pub some_of : {X : Type 0} (P : X → Type 0) (found : Option X) (x : X) → found ≡ Some x → IfSome found P → P x
+some_of P found x is holds = subst (λ o. IfSome o P) is holds
+
+pub none_of : {X : Type 0} (found : Option X) → ((x : X) → found ≡ Some x → ⊥) → IsNone found
+none_of None other = refl
+none_of (Some x) other = absurd (other x refl)

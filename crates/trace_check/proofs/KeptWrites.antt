@@ -40,12 +40,12 @@ use Rattle.trace_check.proofs.Local.{slot_writes_are_local, was_done, was_left}
 use Rattle.trace_check.proofs.PlacedEntries.{entries_size}
 
 module _ (slots : ℕ) (mode : Mode) (bits : FieldBits) (rules : List Rule) (batch : List Command) (device : Device) (commit : Commit) (kept : IsKeptRight slots mode bits rules batch device commit)
-    (at : ℕ) (used : at < slots) (inside : at < length device.places.items) where
+    (at : ℕ) (used : at < slots) (inside : at < length device.places) where
   abbrev p : CommitPieces
   p = commit_pieces mode bits rules batch
 
   abbrev places : List (Option RankedPiece)
-  places = device.places.items
+  places = device.places
 
   abbrev state : State
   state = device_state device
@@ -171,7 +171,7 @@ module _ (slots : ℕ) (mode : Mode) (bits : FieldBits) (rules : List Rule) (bat
         stage_behind = (slot_writes_are_local slots bits (bits_with mode rules batch bits) p state kept.done kept.left at entry parted.front parted.back kept.stage used room).1 keeps
 
         -- and what is kept then is right
-        module _ (device_then : Device) (commit_then : Commit) (places_are : device_then.places.items ≡ slice_set places at content) (src_is : device_then.src.items ≡ device.src.items)
+        module _ (device_then : Device) (commit_then : Commit) (places_are : device_then.places ≡ slice_set places at content) (src_is : device_then.src.items ≡ device.src.items)
             (dst_is : device_then.dst.items ≡ device.dst.items) (pieces_same : pieces_kept commit_then ≡ pieces_kept commit) (live_same : commit_then.live ≡ commit.live)
             (gives_same : commit_then.gives_bit ≡ commit.gives_bit) (done_is_number : commit_then.done ≡ done)
             (pair_is : IsPair (slice_set (entries_in places) at (option_map entry_for content)) commit_then.pair) (served_is : IsTrue commit_then.served → IsTrue commit.served ⊎ IsTrue puts) where
@@ -181,7 +181,7 @@ module _ (slots : ℕ) (mode : Mode) (bits : FieldBits) (rules : List Rule) (bat
               ∙ (ap (λ (table : List ℕ). let s : State = record { slots = slice_set state.slots at entry; src = table; dst = device_then.dst.items } in s) src_is
               ∙ ap (λ (table : List ℕ). let s : State = record { slots = slice_set state.slots at entry; src = device.src.items; dst = table } in s) dst_is)
 
-          known_then : (i : ℕ) (x : RankedPiece) → slot device_then.places.items i ≡ Some x → Contains (known_pieces (pieces_kept commit_then)) x
+          known_then : (i : ℕ) (x : RankedPiece) → slot device_then.places i ≡ Some x → Contains (known_pieces (pieces_kept commit_then)) x
           known_then i x there =
               let held : slot (slice_set places at content) i ≡ Some x = subst (λ some. slot some i ≡ Some x) places_are there in
               let among : Contains (known_pieces p) x = elim (cases_eq i at) [

@@ -3,6 +3,7 @@ pub mod Maps
 pub mod Hitless
 pub mod AnyMode
 pub mod Yes
+pub mod OneAnswer
 pub mod Chained
 pub mod Whole
 pub mod GetsYes
@@ -10,6 +11,7 @@ pub mod Ended
 pub mod Kept
 pub mod Taken
 pub mod PlacedEntries
+pub mod ColumnsKept
 pub mod PlacedTasks
 pub mod Comes
 pub mod PairsBehind
@@ -23,6 +25,7 @@ pub mod SlotsBegun
 pub mod ComesFound
 pub mod TablesFound
 pub mod LeavesFound
+pub mod StandsFound
 pub mod WritesFound
 pub mod CountedTasks
 pub mod PairsFound

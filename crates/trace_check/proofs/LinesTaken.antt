@@ -177,7 +177,7 @@ head_takes before acl bits slots device mode may blank_is mode_is = record { kee
       at_rest = subst (λ b. IsAtRest mode b before.rules.rules (device_state device)) (sym no_live)
           (subst (λ r. IsAtRest mode no_bits r (device_state device)) (sym no_rules) (subst (λ s. IsAtRest mode no_bits [] s) (sym blank_is) (blank_rests mode slots)));
       placed = λ at ranked there. absurd (none_stands slots at (entry_for ranked)
-          (ap (λ (s : State). slot s.slots at) (sym blank_is) ∙ (entry_in device.places.items at ∙ ap (option_map entry_for) there)));
+          (ap (λ (s : State). slot s.slots at) (sym blank_is) ∙ (entry_in device.places at ∙ ap (option_map entry_for) there)));
       alone = subst (λ (s : State). IsPair s.slots None) (sym blank_is) (blank_alone slots);
     }
 

@@ -37,7 +37,7 @@ pub begun_opens : (trace : Trace) (rest : Option Commit) (result : Result Commit
 begun_opens trace rest (Err fault) sized none running accepted is untouched = tt
 begun_opens trace rest (Ok commit) sized none running accepted is untouched =
     let rests = (rests_of trace none running).0 in
-    let size = sym (entries_size trace.device.places.items) ∙ sized.size in
+    let size = sym (entries_size trace.device.places) ∙ sized.size in
     record {
       kept = kept_begun trace.slots trace.mode trace.bits trace.rules.rules trace.batch trace.device commit size rests.at_rest rests.alone rests.placed accepted is untouched.done untouched.pair untouched.served;
       unmoved = λ _. record {

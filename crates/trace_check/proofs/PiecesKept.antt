@@ -14,7 +14,8 @@ use Rattle.readback.specs.Tasks.{CommitPieces, commit_pieces, changes_result}
 use Rattle.readback.proofs.Begun.{no_bits_live}
 use Rattle.readback.proofs.StageFound.{old_encodable, inserted_encodable, rewritten_encodable, erased_encodable}
 use Rattle.trace_check.specs.declared.commit.Commit.{Commit}
-use Rattle.trace_check.specs.Kept.{IsCommitOf, MayJudge}
+use Rattle.trace_check.specs.Coming.{FindsRules}
+use Rattle.trace_check.specs.Kept.{IsCommitOf, MayJudge, first_rules}
 
 module _ (mode : Mode) (bits : FieldBits) (rules : List Rule) (batch : List Command) (may : MayJudge mode bits rules batch) (during : FieldBits) (is : during ≡ bits_with mode rules batch bits) where
   -- each piece has an entry
@@ -35,7 +36,7 @@ module _ (mode : Mode) (bits : FieldBits) (rules : List Rule) (batch : List Comm
 
   -- what is kept of the commit
   pub is_commit : (commit : Commit) → coded_by commit.live ≡ mode → during_of commit.live ≡ during → commit.gives_bit ≡ have_bits (new_bits bits during)
-      → commit.found.items ≡ set_pieces mode during rules → commit.inserted.items ≡ inserted_pieces mode during rules batch
+      → first_rules commit.found.items ≡ rules → commit.inserted.items ≡ inserted_pieces mode during rules batch
       → commit.rewritten.items ≡ filter (changes_result rules) (rewritten_pieces mode during rules batch) → commit.erased.items ≡ erased_pieces mode during rules batch → IsCommitOf mode bits rules batch commit
   is_commit commit coded same gives found inserted rewritten erased = record {
     may = may;
@@ -43,7 +44,8 @@ module _ (mode : Mode) (bits : FieldBits) (rules : List Rule) (batch : List Comm
     during = same ∙ is;
     gives = gives ∙ ap (λ b. have_bits (new_bits bits b)) is;
     pieces =
-        pieces_of_lists commit.found.items commit.inserted.items commit.rewritten.items commit.erased.items (found ∙ ap (λ b. set_pieces mode b rules) is)
+        pieces_of_lists (set_pieces (coded_by commit.live) (during_of commit.live) (first_rules commit.found.items)) commit.inserted.items commit.rewritten.items commit.erased.items
+        (ap (λ m. set_pieces m (during_of commit.live) (first_rules commit.found.items)) coded ∙ ap₂ (λ (b : FieldBits) (r : List Rule). set_pieces mode b r) (same ∙ is) found)
         (inserted ∙ ap (λ b. inserted_pieces mode b rules batch) is) (rewritten ∙ ap (λ b. filter (changes_result rules) (rewritten_pieces mode b rules batch)) is)
         (erased ∙ ap (λ b. erased_pieces mode b rules batch) is);
   }
@@ -70,3 +72,13 @@ no_live live bits rules batch may none =
 pub none_new : (live : Option FieldBits) (bits : FieldBits) → live ≡ None → bits ≡ no_bits → false ≡ have_bits (new_bits bits (during_of live))
 none_new live bits none is =
     subst (λ (l : Option FieldBits). false ≡ have_bits (new_bits bits (during_of l))) (sym none) (subst (λ b. false ≡ have_bits (new_bits b no_bits)) (sym is) refl)
+
+-- a commit of a set finds its rules
+pub finds_rules : (mode : Mode) (bits : FieldBits) (rules : List Rule) (batch : List Command) (commit : Commit) → IsCommitOf mode bits rules batch commit → FindsRules commit rules
+finds_rules mode bits rules batch commit is =
+    let same : set_pieces (coded_by commit.live) (during_of commit.live) rules ≡ set_pieces mode (bits_with mode rules batch bits) rules =
+    ap₂ (λ (m : Mode) (b : FieldBits). set_pieces m b rules) is.coded is.during in
+    record {
+      old = ap (λ (p : CommitPieces). p.old) is.pieces ∙ sym same;
+      encodable = found_by mode bits rules batch is.may (bits_with mode rules batch bits) refl (set_pieces (coded_by commit.live) (during_of commit.live) rules) same;
+    }

@@ -32,12 +32,12 @@ use Rattle.trace_check.proofs.KeptWrites.{facts, room, known}
 use Rattle.trace_check.proofs.Local.{slot_writes_are_local}
 
 module _ (slots : ℕ) (mode : Mode) (bits : FieldBits) (rules : List Rule) (batch : List Command) (device : Device) (commit : Commit) (kept : IsKeptRight slots mode bits rules batch device commit)
-    (at : ℕ) (used : at < slots) (inside : at < length device.places.items) (entry : Option Entry) (later : IsStage slots mode bits rules batch (apply (device_state device) (Slot at entry))) where
+    (at : ℕ) (used : at < slots) (inside : at < length device.places) (entry : Option Entry) (later : IsStage slots mode bits rules batch (apply (device_state device) (Slot at entry))) where
   abbrev p : CommitPieces
   p = commit_pieces mode bits rules batch
 
   abbrev places : List (Option RankedPiece)
-  places = device.places.items
+  places = device.places
 
   abbrev state : State
   state = device_state device

@@ -28,12 +28,12 @@ use Rattle.trace_check.proofs.PlacedAnew.{inserts_placed, rewrites_placed, erase
 use Rattle.trace_check.proofs.RefusedWrites.{not_early}
 
 module _ (slots : ℕ) (mode : Mode) (bits : FieldBits) (rules : List Rule) (batch : List Command) (device : Device) (commit : Commit) (kept : IsKeptRight slots mode bits rules batch device commit)
-    (at : ℕ) (used : at < slots) (inside : at < length device.places.items) (content : Option RankedPiece) (entry : Option Entry) (is : option_map entry_for content ≡ entry) where
+    (at : ℕ) (used : at < slots) (inside : at < length device.places) (content : Option RankedPiece) (entry : Option Entry) (is : option_map entry_for content ≡ entry) where
   abbrev p : CommitPieces
   p = commit_pieces mode bits rules batch
 
   abbrev places : List (Option RankedPiece)
-  places = device.places.items
+  places = device.places
 
   abbrev state : State
   state = device_state device
@@ -86,7 +86,7 @@ module _ (slots : ℕ) (mode : Mode) (bits : FieldBits) (rules : List Rule) (bat
       → KeepsTwins (entries_in places) at (option_map entry_for content) × IsPair (slice_set (entries_in places) at (option_map entry_for content)) pair)
       → (done : ℕ)
       → (AreAllPlaced commit (slice_set places at content) at (slot places at) → (left : ℕ) × AreParted (entries_in (slice_set places at content)) (tasks_of (pieces_kept commit)) done left)
-      → (device_then : Device) (commit_then : Commit) → device_then.places.items ≡ slice_set places at content → device_then.src.items ≡ device.src.items → device_then.dst.items ≡ device.dst.items
+      → (device_then : Device) (commit_then : Commit) → device_then.places ≡ slice_set places at content → device_then.src.items ≡ device.src.items → device_then.dst.items ≡ device.dst.items
       → pieces_kept commit_then ≡ pieces_kept commit → commit_then.live ≡ commit.live → commit_then.gives_bit ≡ commit.gives_bit → commit_then.done ≡ done → commit_then.pair ≡ pair
       → (IsTrue commit_then.served → IsTrue commit.served ⊎ IsTrue puts)
       → IsKeptRight slots mode bits rules batch device_then commit_then × (device_state device_then ≡ apply state (Slot at entry))

@@ -134,7 +134,7 @@ module _ (before : Trace) (commit : commits.Commit) (sized : IsTraceSized before
       (table_size before.slots state field sized) none_put).0 stage)
 
   -- and one that is leads to one, with as many tasks done
-  module _ (device : Device) (short : word < 2 ^ 16) (right : HasBits (ranges_in field before.bits) port word) (places : device.places.items ≡ before.device.places.items)
+  module _ (device : Device) (short : word < 2 ^ 16) (right : HasBits (ranges_in field before.bits) port word) (places : device.places ≡ before.device.places)
       (written : device_state device ≡ apply state (write.Table field port word)) where
     room : port < length (table_of field state)
     room = let size = table_size before.slots state field sized in omega arith
@@ -247,12 +247,12 @@ module _ (before : Trace) (commit : commits.Commit) (sized : IsTraceSized before
             (subst (λ rules. IsAtRest before.mode (bits_left (set_after before.rules.rules before.batch) (bits_with before.mode before.rules.rules before.batch before.bits)) rules shown) (sym rules_are)
             (rests_on before.slots before.mode before.bits before.rules.rules before.batch shown opened.kept.is.may.can state_size opened.kept.done arrived))
 
-        placed : (at : ℕ) (x : RankedPiece) → slot before.device.places.items at ≡ Some x → Contains (set_pieces before.mode bits stored.rules) x
+        placed : (at : ℕ) (x : RankedPiece) → slot before.device.places at ≡ Some x → Contains (set_pieces before.mode bits stored.rules) x
         placed at x there = subst (λ b. Contains (set_pieces before.mode b stored.rules) x) (sym left_are)
             (subst (λ rules. Contains (set_pieces before.mode (bits_left (set_after before.rules.rules before.batch) (bits_with before.mode before.rules.rules before.batch before.bits)) rules) x) (sym rules_are)
             (is_new before.slots before.mode before.bits before.rules.rules before.batch shown opened.kept.is.may.can state_size opened.kept.done arrived at x
             (subst (λ (q : CommitPieces). Contains (known_pieces q) x) opened.kept.is.pieces (opened.kept.known at x there))
-            (entry_in before.device.places.items at ∙ ap (option_map entry_for) there)))
+            (entry_in before.device.places at ∙ ap (option_map entry_for) there)))
 
         sound : (next : Place) → place_after before.slots before.place (Done n) ≡ Some next
             → IsSoundTrace next (record before { rules = stored; batch = []; bits = bits; counts = record before.counts { commits = before.counts.commits + 1 } })

@@ -1,7 +1,7 @@
 -- A text of which yes is told is an orderly trace.
 use Rattle.std.proofs.Common.{◌≡◌, ℕ, ◌+◌, Bool, true, false, List, [], ◌∷◌, length, Option, Some, None, inl, inr, refl, ◌∙◌, subst, arith}
 use Rattle.std.specs.List.{AllByRecursion}
-use Rattle.script_lines.specs.Lines.{NumberedLine, LinesEnd, EndOfInput, Faulty, lines_of}
+use Rattle.script_lines.specs.Lines.{NumberedLine, LinesEnd, EndOfInput, Faulty, text_lines}
 use Rattle.trace_file.specs.declared.TraceLine.{TraceLine}
 use Rattle.trace_file.specs.declared.TraceLine.TheVariants.{Head, Commit, Add, Set, Del, Put, Erase, Table, Drain, Done, Refused, End, Fault}
 use Rattle.trace_file.specs.Forms.{IsTraceLine}
@@ -146,7 +146,7 @@ yes_from last commits writes (line ∷ lines) check start told =
 
 pub yes_is_orderly : YesIsOrderly
 yes_is_orderly bytes commits writes told =
-    let y = yes_from (lines_of bytes).last commits writes (lines_of bytes).lines unchecked (refl, refl) told in
+    let y = yes_from (text_lines bytes).last commits writes (text_lines bytes).lines unchecked (refl, refl) told in
     record {
       lines = y.found;
       whole = y.whole;

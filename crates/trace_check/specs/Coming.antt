@@ -1,11 +1,14 @@
 -- What is found of a write of a slot: of what comes, of what goes, and of the commit's tasks behind it.
 use Rattle.std.specs.Prelude.{◌≡◌, ◌≢◌, ◌↔◌, ℕ, ◌+◌, ◌<◌, ◌≤◌, ◌⊎◌, Bool, IsTrue, IsFalse, Option, Some, List, Contains, length, option_map}
+use Rattle.std.specs.List.{AllByRecursion}
 use Rattle.slot_order.specs.Order.{slot}
 use Rattle.rule_model.specs.Piece.{PiecesOverlap}
 use Rattle.rule_model.specs.declared.words.Entry.{Entry}
-use Rattle.rule_model.specs.Entry.{RankedPiece, entry_for, same_match}
-use Rattle.commit_writes.specs.Changes.{during_of}
+use Rattle.rule_model.specs.declared.Rule.{Rule}
+use Rattle.rule_model.specs.Entry.{RankedPiece, IsEncodable, entry_for, same_match}
+use Rattle.commit_writes.specs.Changes.{coded_by, during_of}
 use Rattle.commit_writes.specs.Serving.{AreTranslated}
+use Rattle.commit_writes.specs.Shape.{set_pieces}
 use Rattle.readback.specs.Tasks.{known_pieces}
 use Rattle.trace_check.specs.declared.commit.Commit.{Commit}
 use Rattle.trace_check.specs.declared.commit.Device.{Device}
@@ -13,6 +16,11 @@ use Rattle.trace_check.specs.declared.tasks.TaskKind.TheVariants as kind
 use Rattle.trace_check.specs.Behind.{ArePlacedTasks}
 use Rattle.trace_check.specs.Kept.{device_state, pieces_kept}
 use Rattle.trace_check.specs.Local.{HoldsPiece}
+
+-- A commit finds these rules, each of whose pieces has an entry.
+pub record FindsRules (commit : Commit) (rules : List Rule) : Type 0 where
+  pub old : (pieces_kept commit).old ≡ set_pieces (coded_by commit.live) (during_of commit.live) rules
+  pub encodable : AllByRecursion (λ ranked. IsEncodable ranked.piece) (set_pieces (coded_by commit.live) (during_of commit.live) rules)
 
 -- the piece is one of the commit's, or stands
 abbrev pub IsFamiliar : Commit → List (Option RankedPiece) → RankedPiece → Type 0
@@ -32,10 +40,10 @@ PutsIn commit entry = (ranked : RankedPiece) × Contains commit.inserted.items r
 -- What comes is right: the entry of such a piece, in order with the other slots, and where it is put in the tables serve.
 pub record ComesRight (commit : Commit) (device : Device) (at : ℕ) (entry : Option Entry) (content : Option RankedPiece) (puts : Bool) : Type 0 where
   pub is : option_map entry_for content ≡ entry
-  pub familiar : (ranked : RankedPiece) → content ≡ Some ranked → IsFamiliar commit device.places.items ranked
-  pub ahead : (ranked : RankedPiece) → content ≡ Some ranked → (i : ℕ) (first : RankedPiece) → i < at → slot device.places.items i ≡ Some first
+  pub familiar : (ranked : RankedPiece) → content ≡ Some ranked → IsFamiliar commit device.places ranked
+  pub ahead : (ranked : RankedPiece) → content ≡ Some ranked → (i : ℕ) (first : RankedPiece) → i < at → slot device.places i ≡ Some first
       → PiecesOverlap first.piece ranked.piece → ranked.rank ≤ first.rank
-  pub behind : (ranked : RankedPiece) → content ≡ Some ranked → (j : ℕ) (second : RankedPiece) → at < j → slot device.places.items j ≡ Some second
+  pub behind : (ranked : RankedPiece) → content ≡ Some ranked → (j : ℕ) (second : RankedPiece) → at < j → slot device.places j ≡ Some second
       → PiecesOverlap ranked.piece second.piece → second.rank ≤ ranked.rank
   pub puts_in : IsTrue puts ↔ PutsIn commit entry
   pub serves : IsTrue puts → IsTrue commit.served ⊎ AreTranslated (device_state device) (during_of commit.live)
@@ -44,7 +52,7 @@ pub record ComesRight (commit : Commit) (device : Device) (at : ℕ) (entry : Op
 abbrev pub ComesWrong : Commit → Device → ℕ → Option Entry → Type 0
 ComesWrong commit device at entry =
     ((held : Entry) × (entry ≡ Some held) × ((ranked : RankedPiece) → Contains (known_pieces (pieces_kept commit)) ranked → entry_for ranked ≡ held → ⊥))
-    ⊎ (((ranked : RankedPiece) × (entry ≡ Some (entry_for ranked)) × IsFamiliar commit device.places.items ranked × IsCrossing device.places.items at ranked)
+    ⊎ (((ranked : RankedPiece) × (entry ≡ Some (entry_for ranked)) × IsFamiliar commit device.places ranked × IsCrossing device.places at ranked)
     ⊎ (PutsIn commit entry × IsFalse commit.served × (AreTranslated (device_state device) (during_of commit.live) → ⊥)))
 
 -- What stands may go: it comes again, stands elsewhere, or is put in or taken out.

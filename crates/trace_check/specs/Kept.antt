@@ -1,17 +1,19 @@
 -- What a checker keeps of the device and of the commit under way, and when that is right.
-use Rattle.std.specs.Prelude.{◌≡◌, ℕ, IsTrue, IsFalse, Option, Some, None, List, Contains, length}
+use Rattle.std.specs.Prelude.{◌≡◌, ℕ, IsTrue, IsFalse, Option, Some, None, List, [], ◌∷◌, Contains, length}
 use Rattle.slot_order.specs.Order.{slot}
 use Rattle.rule_model.specs.declared.Rule.{Rule}
 use Rattle.rule_model.specs.declared.words.Entry.{Entry}
 use Rattle.rule_model.specs.Entry.{RankedPiece}
 use Rattle.rule_store.specs.declared.Mode.{Mode}
 use Rattle.rule_store.specs.declared.Command.{Command}
+use Rattle.rule_store.specs.Store.{StoredRules}
 use Rattle.rule_store.specs.Verdict.{Accepted, verdict}
 use Rattle.tcam_device.specs.State.{State, IsState}
 use Rattle.tcam_device.specs.Order.{AreAlike}
 use Rattle.commit_writes.specs.Bits.{FieldBits, bits_with}
 use Rattle.commit_writes.specs.Changes.{coded_by, during_of}
 use Rattle.commit_writes.specs.Serving.{AreTranslated}
+use Rattle.commit_writes.specs.Shape.{set_pieces}
 use Rattle.readback.specs.Laws.{CanCommit}
 use Rattle.readback.specs.Stage.{IsCommitAt}
 use Rattle.readback.specs.Tasks.{CommitPieces, Task, commit_pieces, known_pieces}
@@ -27,13 +29,18 @@ use Rattle.trace_check.specs.Orderly.{gives_bit}
 -- the state of a device whose slots hold these pieces
 abbrev pub device_state : Device → State
 device_state device =
-    record { slots = entries_in device.places.items; src = device.src.items; dst = device.dst.items }
+    record { slots = entries_in device.places; src = device.src.items; dst = device.dst.items }
+
+-- the first of some sets
+abbrev pub first_rules : List StoredRules → List Rule
+first_rules [] = []
+first_rules (set ∷ later) = set.rules
 
 -- the pieces of a commit
 abbrev pub pieces_kept : Commit → CommitPieces
 pieces_kept commit =
     record {
-      old = commit.found.items;
+      old = set_pieces (coded_by commit.live) (during_of commit.live) (first_rules commit.found.items);
       inserted = commit.inserted.items;
       rewritten = commit.rewritten.items;
       erased = commit.erased.items;
@@ -81,7 +88,7 @@ pub record IsKeptRight (slots : ℕ) (mode : Mode) (bits : FieldBits) (rules : L
   pub accepted : verdict slots mode rules batch ≡ Accepted
   pub is : IsCommitOf mode bits rules batch commit
   -- each slot's piece is one of the commit's
-  pub known : (at : ℕ) (ranked : RankedPiece) → slot device.places.items at ≡ Some ranked → Contains (known_pieces (pieces_kept commit)) ranked
+  pub known : (at : ℕ) (ranked : RankedPiece) → slot device.places at ≡ Some ranked → Contains (known_pieces (pieces_kept commit)) ranked
   pub done : List Task
   pub left : List Task
   pub stage : IsCommitAt slots mode bits rules batch (device_state device) done left

@@ -5,6 +5,7 @@ pub mod Answers
 pub mod Segments
 pub mod Local
 pub mod Checked
+pub mod Columns
 pub mod Behind
 pub mod Kept
 pub mod Coming

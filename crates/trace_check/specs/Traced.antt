@@ -47,7 +47,7 @@ IsTraceSized trace = IsState trace.slots (device_state trace.device)
 -- Between two commits the set is at rest on the device: each slot has one of its pieces, and no two have one entry.
 pub record Rests (trace : Trace) : Type 0 where
   pub at_rest : IsAtRest trace.mode trace.bits trace.rules.rules (device_state trace.device)
-  pub placed : (at : ℕ) (ranked : RankedPiece) → slot trace.device.places.items at ≡ Some ranked → Contains (set_pieces trace.mode trace.bits trace.rules.rules) ranked
+  pub placed : (at : ℕ) (ranked : RankedPiece) → slot trace.device.places at ≡ Some ranked → Contains (set_pieces trace.mode trace.bits trace.rules.rules) ranked
   pub alone : IsPair (device_state trace.device).slots None
 
 -- before its first slot write no piece that a commit puts in stands, and no word was looked at for one

@@ -1,6 +1,6 @@
 //! A commit under way: which pieces it is about, and how far it came.
 
-ghost use Rattle.std.specs.Prelude.{◌≡◌, ◌↔◌, ◌⊎◌, ◌<◌, ◌^◌, ℕ, IfOk, IfErr, IsTrue, IsFalse, IfSome, IsNone, Some, None, List, Contains, length, option_map, option_copied, replicate};
+ghost use Rattle.std.specs.Prelude.{◌≡◌, ◌↔◌, ◌⊎◌, ◌<◌, ◌^◌, ℕ, IfOk, IfErr, IsTrue, IsFalse, IfSome, IsNone, Some, None, List, Contains, length, option_map, option_copied};
 ghost use Rattle.slot_order.specs.Order.{slot};
 ghost use Rattle.rule_model.specs.declared.Rule as model;
 ghost use Rattle.rule_model.specs.Entry.{RankedPiece, entry_for};
@@ -21,27 +21,28 @@ ghost use Rattle.readback.specs.Progress.{AreParted, IsOutOfTurn};
 ghost use Rattle.readback.specs.Stage.{IsStage};
 ghost use Rattle.readback.specs.Tasks.{known_pieces, tasks_of};
 ghost use Rattle.trace_check.specs.Behind.{entries_in};
-ghost use Rattle.trace_check.specs.Coming.{AreAllPlaced, ComesRight, ComesWrong, IsFamiliar, MayLeave};
+ghost use Rattle.trace_check.specs.Coming.{AreAllPlaced, ComesRight, ComesWrong, FindsRules, IsFamiliar, MayLeave};
 ghost use Rattle.trace_check.specs.Kept.{IsCommitOf, IsKeptRight, IsRefusal, IsJustBegun, MayJudge, pieces_kept, device_state};
 ghost use Rattle.trace_check.specs.Local.{HoldsPiece};
 
 use crate::CheckFault;
-use crate::known::{Known, any_matches, changing, find, same_match, with_entries};
+use crate::known::{Known, any_matches, changing, find, find_in_set, same_match, with_entries};
 use crate::pairs::pair_behind;
+use crate::placed::Placed;
 use crate::slots::{Pair, copy_of, is_before_higher, is_behind_lower, standing};
 use crate::tasks::{Progress, TaskKind, count};
 use crate::words::is_right_table;
-use commit_writes::{FieldBits, Ranked, batch_pieces, set_pieces};
+use call_history::History;
+use commit_writes::{FieldBits, Ranked, batch_pieces};
 use readback::verdict;
 use rule_model::{Entry, Field};
 use rule_store::{Batch, Mode, Store};
 use std::alloc::{AllocError, Global};
-use std::mem::replace;
 
 /// What a device holds by the writes of a trace: the piece of each slot, and the words of both tables.
 #[derive(Drop)]
 pub(crate) struct Device {
-    pub(crate) places: Vec<Option<Known>>,
+    pub(crate) places: Placed,
     pub(crate) src: Vec<u16>,
     pub(crate) dst: Vec<u16>,
 }
@@ -52,7 +53,7 @@ impl Device {
         requires src { length self.old.src.items ≡ 2 ^ 16 }
         requires dst { length self.old.dst.items ≡ 2 ^ 16 }
         ensures state { device_state self.new ≡ apply (device_state self.old) (writes.Table field port word) }
-        ensures places { self.new.places.items ≡ self.old.places.items }
+        ensures places { self.new.places ≡ self.old.places }
     {
         match field {
             Field::Src => self.src[port as usize] = word,
@@ -70,7 +71,8 @@ impl Device {
 pub(crate) struct Commit {
     live: Option<FieldBits>,
     gives_bit: bool,
-    found: Vec<Known>,
+    // the rules that it finds, as contracts know them
+    found: History<Store>,
     inserted: Vec<Known>,
     rewritten: Vec<Known>,
     erased: Vec<Known>,
@@ -90,21 +92,10 @@ struct Coming {
 pub(crate) fn blank_device(alloc: Global, slots: u32) -> Result<Device, AllocError>
     ensures { IfOk result (λ device. device_state device ≡ blank slots) }
 {
-    let places = no_places(alloc, slots)?;
+    let places = Placed::new(alloc, slots)?;
     let src = vec![in alloc; 0u16; 65_536]?;
     let dst = vec![in alloc; 0u16; 65_536]?;
     Ok(Device { places, src, dst })
-}
-
-/// So many empty slots.
-fn no_places(alloc: Global, slots: u32) -> Result<Vec<Option<Known>>, AllocError>
-    ensures { IfOk result (λ places. places.items ≡ replicate slots None) }
-{
-    let mut places = Vec::new(alloc);
-    for _ in 0..slots {
-        places.push(None)?;
-    }
-    Ok(places)
 }
 
 /// The commit of a batch, of which nothing is made, if it is accepted.
@@ -187,9 +178,7 @@ fn commit_of(
     ensures commit { IfOk result (λ commit. IsCommitOf (coded_by live) bits.now rules.now.rules batch.now commit) }
     ensures begun { IfOk result IsJustBegun }
 {
-    let old = set_pieces(alloc, &live, rules)?;
     let pieces = batch_pieces(alloc, &live, rules, batch)?;
-    let found = with_entries(alloc, &old)?;
     let inserted = with_entries(alloc, &pieces.inserted)?;
     let rewritten = changing(alloc, rules, &pieces.rewritten)?;
     let erased = with_entries(alloc, &pieces.erased)?;
@@ -197,7 +186,7 @@ fn commit_of(
     Ok(Commit {
         live,
         gives_bit,
-        found,
+        found: History::new().and(rules),
         inserted,
         rewritten,
         erased,
@@ -239,34 +228,44 @@ impl Commit {
         }
     }
 
-    /// Puts an entry into a slot, or empties it. False where that breaks the commit's order.
-    pub(crate) fn write(&mut self, device: &mut Device, at: usize, entry: Option<&Entry>) -> bool
-        requires inside { at < length device.old.places.items }
-        requires few { length device.old.places.items < 2 ^ 32 }
+    /// Puts an entry into a slot, or empties it. False where that breaks the commit's order. It fails only for want of
+    /// memory.
+    pub(crate) fn write(
+        &mut self,
+        alloc: Global,
+        rules: &Store,
+        device: &mut Device,
+        at: usize,
+        entry: Option<&Entry>,
+    ) -> Result<bool, AllocError>
+        requires found { FindsRules self.old rules.now.rules }
+        requires inside { at < length device.old.places }
+        requires few { length device.old.places < 2 ^ 32 }
         requires src { length device.old.src.items ≡ 2 ^ 16 }
         requires dst { length device.old.dst.items ≡ 2 ^ 16 }
-        ensures taken { IsTrue result → (slots : ℕ) (mode : modes.Mode) (bits : bitsets.FieldBits) (rules : List model.Rule) (batch : List commands.Command) → at < slots
+        ensures taken { IfOk result (λ taken. IsTrue taken → (slots : ℕ) (mode : modes.Mode) (bits : bitsets.FieldBits) (rules : List model.Rule) (batch : List commands.Command) → at < slots
             → IsKeptRight slots mode bits rules batch device.old self.old → IsKeptRight slots mode bits rules batch device.new self.new
-            × (device_state device.new ≡ apply (device_state device.old) (writes.Slot at (option_copied entry.entry))) }
-        ensures refused { IsFalse result → (slots : ℕ) (mode : modes.Mode) (bits : bitsets.FieldBits) (rules : List model.Rule) (batch : List commands.Command) → at < slots
+            × (device_state device.new ≡ apply (device_state device.old) (writes.Slot at (option_copied entry.entry)))) }
+        ensures refused { IfOk result (λ taken. IsFalse taken → (slots : ℕ) (mode : modes.Mode) (bits : bitsets.FieldBits) (rules : List model.Rule) (batch : List commands.Command) → at < slots
             → IsKeptRight slots mode bits rules batch device.old self.old
-            → IsStage slots mode bits rules batch (apply (device_state device.old) (writes.Slot at (option_copied entry.entry))) → ⊥ }
+            → IsStage slots mode bits rules batch (apply (device_state device.old) (writes.Slot at (option_copied entry.entry))) → ⊥) }
     {
-        let Some(Coming { content, puts }) = self.coming(device, at, entry) else {
-            return false;
+        let came = self.coming(alloc, rules, device, at, entry)?;
+        let Some(Coming { content, puts }) = came else {
+            return Ok(false);
         };
         if !self.may_go(&device.places, at, &content) {
-            return false;
+            return Ok(false);
         }
         let Ok(pair) = pair_behind(self.pair, &device.places, at, &content) else {
-            return false;
+            return Ok(false);
         };
-        let before = replace(&mut device.places[at], content);
+        let before = device.places.set(at, content);
         let Some(done) = self.count_tasks(&device.places, at, &before) else {
-            return false;
+            return Ok(false);
         };
         self.come_to(done, pair, puts);
-        true
+        Ok(true)
     }
 
     /// How far it came behind a write, which may have put a piece in.
@@ -281,65 +280,91 @@ impl Commit {
         }
     }
 
-    /// What an entry brings into a slot, or none, where it is right there.
-    fn coming(&self, device: &Device, at: usize, entry: Option<&Entry>) -> Option<Coming>
-        requires inside { at < length device.now.places.items }
+    /// What an entry brings into a slot, or none, where it is right there. It fails only for want of memory.
+    fn coming(
+        &self,
+        alloc: Global,
+        rules: &Store,
+        device: &Device,
+        at: usize,
+        entry: Option<&Entry>,
+    ) -> Result<Option<Coming>, AllocError>
+        requires found { FindsRules self.now rules.now.rules }
+        requires inside { at < length device.now.places }
         requires src { length device.now.src.items ≡ 2 ^ 16 }
         requires dst { length device.now.dst.items ≡ 2 ^ 16 }
-        ensures right { IfSome result (λ coming. ComesRight self.now device.now at (option_copied entry.entry) coming.content coming.puts) }
-        ensures wrong { IsNone result → ComesWrong self.now device.now at (option_copied entry.entry) }
+        ensures right { IfOk result (λ came. IfSome came (λ coming. ComesRight self.now device.now at (option_copied entry.entry) coming.content coming.puts)) }
+        ensures wrong { IfOk result (λ came. IsNone came → ComesWrong self.now device.now at (option_copied entry.entry)) }
     {
         match entry {
-            None => Some(Coming {
+            None => Ok(Some(Coming {
                 content: None,
                 puts: false,
-            }),
-            Some(entry) => self.coming_entry(device, at, entry),
+            })),
+            Some(entry) => self.coming_entry(alloc, rules, device, at, entry),
         }
     }
 
-    /// What an entry brings into a slot, where it is right there.
-    fn coming_entry(&self, device: &Device, at: usize, entry: &Entry) -> Option<Coming>
-        requires inside { at < length device.now.places.items }
+    /// What an entry brings into a slot, where it is right there. It fails only for want of memory.
+    fn coming_entry(
+        &self,
+        alloc: Global,
+        rules: &Store,
+        device: &Device,
+        at: usize,
+        entry: &Entry,
+    ) -> Result<Option<Coming>, AllocError>
+        requires found { FindsRules self.now rules.now.rules }
+        requires inside { at < length device.now.places }
         requires src { length device.now.src.items ≡ 2 ^ 16 }
         requires dst { length device.now.dst.items ≡ 2 ^ 16 }
-        ensures right { IfSome result (λ coming. ComesRight self.now device.now at (Some entry.now) coming.content coming.puts) }
-        ensures wrong { IsNone result → ComesWrong self.now device.now at (Some entry.now) }
+        ensures right { IfOk result (λ came. IfSome came (λ coming. ComesRight self.now device.now at (Some entry.now) coming.content coming.puts)) }
+        ensures wrong { IfOk result (λ came. IsNone came → ComesWrong self.now device.now at (Some entry.now)) }
     {
-        let ranked = self.known_piece(&device.places, entry)?;
+        let known = self.known_piece(alloc, rules, &device.places, entry)?;
+        let Some(ranked) = known else {
+            return Ok(None);
+        };
         if is_behind_lower(&device.places, at, &ranked) {
-            return None;
+            return Ok(None);
         }
         if is_before_higher(&device.places, at, &ranked) {
-            return None;
+            return Ok(None);
         }
         let puts = any_matches(&self.inserted, entry);
         if !self.serves(device, puts) {
-            return None;
+            return Ok(None);
         }
         let content = Some(Known {
             ranked,
             entry: *entry,
         });
-        Some(Coming { content, puts })
+        Ok(Some(Coming { content, puts }))
     }
 
-    /// The piece whose entry this is, with its result: one of the commit's. A move's piece stands, so that it is found
-    /// before all pieces of the set are looked through.
-    fn known_piece(&self, places: &[Option<Known>], entry: &Entry) -> Option<Ranked>
-        ensures found { IfSome result (λ ranked. (entry_for ranked ≡ entry.now) × IsFamiliar self.now places.now ranked) }
-        ensures none { IsNone result → (ranked : RankedPiece) → Contains (known_pieces (pieces_kept self.now)) ranked → entry_for ranked ≡ entry.now → ⊥ }
+    /// The piece whose entry this is, with its result: one of the commit's. A move's piece stands, so the pieces of the set
+    /// are cut only where one that went is put back, or where no piece has the entry. It fails only for want of memory.
+    fn known_piece(
+        &self,
+        alloc: Global,
+        rules: &Store,
+        places: &Placed,
+        entry: &Entry,
+    ) -> Result<Option<Ranked>, AllocError>
+        requires { FindsRules self.now rules.now.rules }
+        ensures found { IfOk result (λ known. IfSome known (λ ranked. (entry_for ranked ≡ entry.now) × IsFamiliar self.now places.now ranked)) }
+        ensures none { IfOk result (λ known. IsNone known → (ranked : RankedPiece) → Contains (known_pieces (pieces_kept self.now)) ranked → entry_for ranked ≡ entry.now → ⊥) }
     {
         if let Some(ranked) = find(&self.inserted, entry) {
-            return Some(ranked);
+            return Ok(Some(ranked));
         }
         if let Some(ranked) = find(&self.rewritten, entry) {
-            return Some(ranked);
+            return Ok(Some(ranked));
         }
         if let Some(ranked) = standing(places, entry) {
-            return Some(ranked);
+            return Ok(Some(ranked));
         }
-        find(&self.found, entry)
+        find_in_set(alloc, &self.live, rules, entry)
     }
 
     /// Whether the tables serve the ranges that are live meanwhile, where a piece is put in. They are read up to the first
@@ -363,25 +388,19 @@ impl Commit {
     }
 
     /// Whether what stands in a slot may go from there.
-    fn may_go(&self, places: &[Option<Known>], at: usize, content: &Option<Known>) -> bool
+    fn may_go(&self, places: &Placed, at: usize, content: &Option<Known>) -> bool
         requires { at < length places.now }
         ensures right { IsTrue result → (ranked : RankedPiece) → slot places.now at ≡ Some ranked → MayLeave self.now places.now at content.now ranked }
         ensures wrong { IsFalse result → (ranked : RankedPiece) × (slot places.now at ≡ Some ranked) × (MayLeave self.now places.now at content.now ranked → ⊥) }
     {
-        match &places[at] {
+        match places.at(at) {
             None => true,
             Some(before) => self.may_leave(places, at, content, before),
         }
     }
 
     /// Whether a piece that stands in a slot may go from there.
-    fn may_leave(
-        &self,
-        places: &[Option<Known>],
-        at: usize,
-        content: &Option<Known>,
-        before: &Known,
-    ) -> bool
+    fn may_leave(&self, places: &Placed, at: usize, content: &Option<Known>, before: &Known) -> bool
         ensures right { IsTrue result → MayLeave self.now places.now at content.now before.now }
         ensures wrong { IsFalse result → MayLeave self.now places.now at content.now before.now → ⊥ }
     {
@@ -398,12 +417,7 @@ impl Commit {
     }
 
     /// How many tasks are done behind a write of a slot, where this stood. None where one is done behind one that isn't.
-    fn count_tasks(
-        &self,
-        places: &[Option<Known>],
-        at: usize,
-        before: &Option<Known>,
-    ) -> Option<u128>
+    fn count_tasks(&self, places: &Placed, at: usize, before: &Option<Known>) -> Option<u128>
         requires { at < length places.now }
         ensures parted { IfSome result (λ done. AreAllPlaced self.now places.now at before.now
             → (left : ℕ) × AreParted (entries_in places.now) (tasks_of (pieces_kept self.now)) done left) }

@@ -4,9 +4,11 @@ ghost use Rattle.std.specs.Prelude.{◌≡◌, ◌↔◌, IfOk, IfSome, IsNone, 
 ghost use Rattle.std.specs.List.{AllByRecursion};
 ghost use Rattle.rule_model.specs.Entry as entries;
 ghost use Rattle.rule_model.specs.Entry.{RankedPiece, IsEncodable, entry_for};
+ghost use Rattle.commit_writes.specs.Changes.{coded_by, during_of};
+ghost use Rattle.commit_writes.specs.Shape as shape;
 ghost use Rattle.readback.specs.Tasks as tasks;
 
-use commit_writes::Ranked;
+use commit_writes::{FieldBits, Ranked, set_pieces};
 use rule_model::{Entry, entry_of};
 use rule_store::Store;
 use std::alloc::{AllocError, Global};
@@ -101,6 +103,24 @@ pub(crate) fn find(pieces: &[Known], entry: &Entry) -> Option<Ranked>
     None
 }
 
+/// The piece of a set that has the entry.
+pub(crate) fn find_in_set(
+    alloc: Global,
+    live: &Option<FieldBits>,
+    rules: &Store,
+    entry: &Entry,
+) -> Result<Option<Ranked>, AllocError>
+    requires { AllByRecursion (λ ranked. IsEncodable ranked.piece) (shape.set_pieces (coded_by live.now) (during_of live.now) rules.now.rules) }
+    ensures found { IfOk result (λ found. IfSome found (λ ranked. Contains (shape.set_pieces (coded_by live.now) (during_of live.now) rules.now.rules) ranked
+        × (entry_for ranked ≡ entry.now))) }
+    ensures none { IfOk result (λ found. IsNone found → (ranked : RankedPiece) → Contains (shape.set_pieces (coded_by live.now) (during_of live.now) rules.now.rules) ranked
+        → entry_for ranked ≡ entry.now → ⊥) }
+{
+    let pieces = set_pieces(alloc, live, rules)?;
+    let known = with_entries(alloc, &pieces)?;
+    Ok(find(&known, entry))
+}
+
 /// Whether one of some pieces has an entry of the same value, mask and tag.
 pub(crate) fn any_matches(pieces: &[Known], entry: &Entry) -> bool
     ensures { IsTrue result ↔ ((ranked : RankedPiece) × Contains pieces.now ranked × IsTrue (entries.same_match (entry_for ranked) entry.now)) }
@@ -114,7 +134,7 @@ pub(crate) fn any_matches(pieces: &[Known], entry: &Entry) -> bool
 }
 
 /// Whether two entries are one, with their results.
-fn same_entry(a: &Entry, b: &Entry) -> bool
+pub(crate) fn same_entry(a: &Entry, b: &Entry) -> bool
     ensures { IsTrue result ↔ (a.now ≡ b.now) }
 {
     same_match(a, b) && a.result == b.result

@@ -20,8 +20,11 @@
 //! - **The bits of ranges aren't in a trace**, and are reckoned: a new range gets the least free bit. So a driver that
 //!   gives others is refused at its first entry that tests one.
 //! - **A write takes up to five walks over the slots**, one after the other: for the piece that comes, where a move
-//!   brings it, before and behind its slot for the order, and for a copy of what comes and of what goes. A column of
-//!   priorities, compared eight at a time, would pass most slots over; no contract would change.
+//!   brings it, before and behind its slot for the order, and for a copy of what comes and of what goes. A piece takes
+//!   240 bytes, so columns stand beside the pieces (`placed`), of their ranks in 32 bits and of the upper 32 bits of
+//!   their destinations: a walk passes over eight slots in a step, and looks at the pieces that are left. Of a dense list
+//!   these are few by their ranks, since pieces that overlap stand in the order of ranks, and of routes by their
+//!   destinations.
 //! - **More writes than a `u64` counts, or rules than a `u32`, are told as want of memory.**
 #![tactic(auto)]
 
@@ -30,6 +33,7 @@ mod commit;
 mod known;
 mod laws;
 mod pairs;
+mod placed;
 mod places;
 mod slots;
 mod tasks;
@@ -38,9 +42,9 @@ mod words;
 
 pub use checker::{Checker, Counts};
 pub use laws::{
-    orderly_traces_are_hitless, orderly_traces_are_taken, orderly_traces_get_yes, places_are_exact,
-    segments_are_orderly, slot_writes_are_local, table_writes_are_local, taken_traces_are_hitless,
-    traces_are_commits, yes_is_hitless, yes_is_orderly,
+    answers_are_one, orderly_traces_are_hitless, orderly_traces_are_taken, orderly_traces_get_yes,
+    places_are_exact, segments_are_orderly, slot_writes_are_local, table_writes_are_local,
+    taken_traces_are_hitless, traces_are_commits, yes_is_hitless, yes_is_orderly,
 };
 pub use places::Place;
 use thiserror::Error;

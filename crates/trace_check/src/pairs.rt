@@ -10,6 +10,7 @@ ghost use Rattle.trace_check.specs.Kept.{HasResult, IsPair};
 ghost use Rattle.trace_check.specs.Local.{KeepsTwins};
 
 use crate::known::Known;
+use crate::placed::Placed;
 use crate::slots::{Pair, copy_of};
 
 /// An entry comes that stands elsewhere with another result, or while two other slots hold one entry.
@@ -19,7 +20,7 @@ pub(crate) struct CopyFault;
 /// Which two slots hold one entry behind a write of one, if two do.
 pub(crate) fn pair_behind(
     pair: Option<Pair>,
-    places: &[Option<Known>],
+    places: &Placed,
     at: usize,
     content: &Option<Known>,
 ) -> Result<Option<Pair>, CopyFault>
@@ -44,7 +45,7 @@ pub(crate) fn pair_behind(
 /// The slot that is written and another one that holds its entry, if no two others hold one and the other has its result.
 fn pair_with(
     others: Option<Pair>,
-    places: &[Option<Known>],
+    places: &Placed,
     at: usize,
     other: usize,
     answer: u32,
@@ -60,7 +61,7 @@ fn pair_with(
     if others.is_some() {
         return Err(CopyFault);
     }
-    if !has_result(&places[other], answer) {
+    if !has_result(places.at(other), answer) {
         return Err(CopyFault);
     }
     Ok(Some(pair_of(at as u32, other as u32)))

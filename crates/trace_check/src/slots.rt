@@ -7,7 +7,9 @@ ghost use Rattle.rule_model.specs.Piece.{PiecesOverlap};
 ghost use Rattle.rule_model.specs.Entry as entries;
 ghost use Rattle.rule_model.specs.Entry.{RankedPiece, entry_for};
 
-use crate::known::{Known, same_match};
+use crate::known::{Known, same_entry, same_match};
+use crate::placed::{Placed, every_window, just_rank, ranks_above, ranks_below};
+use block_windows::span_of;
 use commit_writes::Ranked;
 use rule_model::{Entry, piece_overlaps};
 
@@ -19,33 +21,42 @@ pub(crate) struct Pair {
 }
 
 /// Whether some slot before one holds a piece that overlaps this one and is lower.
-pub(crate) fn is_behind_lower(places: &[Option<Known>], at: usize, ranked: &Ranked) -> bool
+pub(crate) fn is_behind_lower(places: &Placed, at: usize, ranked: &Ranked) -> bool
     requires { at ≤ length places.now }
     ensures some { IsTrue result → (i : ℕ) × (low : RankedPiece) × (i < at) × (slot places.now i ≡ Some low)
         × PiecesOverlap low.piece ranked.now.piece × (low.rank < ranked.now.rank) }
     ensures none { IsFalse result → (i : ℕ) (first : RankedPiece) → i < at → slot places.now i ≡ Some first
         → PiecesOverlap first.piece ranked.now.piece → ranked.now.rank ≤ first.rank }
 {
-    for lesser in 0..at {
-        if is_under(&places[lesser], ranked) {
+    let ranks = ranks_below(ranked.rank);
+    let windows = span_of(&ranked.piece.dst, 0);
+    let mut lesser = places.next_near(ranks, windows, 0, at);
+    while lesser < at {
+        if is_under(places.at(lesser), ranked) {
             return true;
         }
+        lesser = places.next_near(ranks, windows, lesser + 1, at);
     }
     false
 }
 
 /// Whether some slot behind one holds a piece that overlaps this one and is higher.
-pub(crate) fn is_before_higher(places: &[Option<Known>], at: usize, ranked: &Ranked) -> bool
+pub(crate) fn is_before_higher(places: &Placed, at: usize, ranked: &Ranked) -> bool
     requires { at < length places.now }
     ensures some { IsTrue result → (j : ℕ) × (high : RankedPiece) × (at < j) × (slot places.now j ≡ Some high)
         × PiecesOverlap ranked.now.piece high.piece × (ranked.now.rank < high.rank) }
     ensures none { IsFalse result → (j : ℕ) (second : RankedPiece) → at < j → slot places.now j ≡ Some second
         → PiecesOverlap ranked.now.piece second.piece → second.rank ≤ ranked.now.rank }
 {
-    for greater in at + 1..places.len() {
-        if is_over(&places[greater], ranked) {
+    let slots = places.len();
+    let ranks = ranks_above(ranked.rank);
+    let windows = span_of(&ranked.piece.dst, 0);
+    let mut greater = places.next_near(ranks, windows, at + 1, slots);
+    while greater < slots {
+        if is_over(places.at(greater), ranked) {
             return true;
         }
+        greater = places.next_near(ranks, windows, greater + 1, slots);
     }
     false
 }
@@ -75,17 +86,22 @@ fn is_over(place: &Option<Known>, ranked: &Ranked) -> bool
 }
 
 /// The least other slot than one that holds an entry of the same value, mask and tag as this.
-pub(crate) fn copy_of(places: &[Option<Known>], at: usize, entry: &Entry) -> Option<usize>
+pub(crate) fn copy_of(places: &Placed, at: usize, entry: &Entry) -> Option<usize>
     ensures some { IfSome result (λ other. (other ≢ at) × ((copy : RankedPiece) × (slot places.now other ≡ Some copy)
         × IsTrue (entries.same_match entry.now (entry_for copy)))) }
     ensures inside { IfSome result (λ other. other < length places.now) }
     ensures none { IsNone result → (other : ℕ) (copy : RankedPiece) → other ≢ at → slot places.now other ≡ Some copy
         → IsTrue (entries.same_match entry.now (entry_for copy)) → ⊥ }
 {
-    for other in 0..places.len() {
-        if other != at && holds_match(&places[other], entry) {
+    let slots = places.len();
+    let ranks = just_rank(entry.tag);
+    let windows = every_window();
+    let mut other = places.next_near(ranks, windows, 0, slots);
+    while other < slots {
+        if other != at && holds_match(places.at(other), entry) {
             return Some(other);
         }
+        other = places.next_near(ranks, windows, other + 1, slots);
     }
     None
 }
@@ -101,16 +117,36 @@ fn holds_match(place: &Option<Known>, entry: &Entry) -> bool
 }
 
 /// The piece of a slot that holds just this entry.
-pub(crate) fn standing(places: &[Option<Known>], entry: &Entry) -> Option<Ranked>
+pub(crate) fn standing(places: &Placed, entry: &Entry) -> Option<Ranked>
     ensures found { IfSome result (λ ranked. (entry_for ranked ≡ entry.now) × ((at : ℕ) × (slot places.now at ≡ Some ranked))) }
     ensures none { IsNone result → (at : ℕ) (ranked : RankedPiece) → slot places.now at ≡ Some ranked → entry_for ranked ≡ entry.now → ⊥ }
 {
-    for place in places {
-        if let Some(held) = place {
-            if same_match(entry, &held.entry) && entry.result == held.entry.result {
-                return Some(held.ranked);
+    let slots = places.len();
+    let ranks = just_rank(entry.tag);
+    let windows = every_window();
+    let mut place = places.next_near(ranks, windows, 0, slots);
+    while place < slots {
+        if let Some(ranked) = piece_with(places.at(place), entry) {
+            return Some(ranked);
+        }
+        place = places.next_near(ranks, windows, place + 1, slots);
+    }
+    None
+}
+
+/// The piece of a slot, if it holds just this entry.
+fn piece_with(place: &Option<Known>, entry: &Entry) -> Option<Ranked>
+    ensures found { IfSome result (λ ranked. (place.now ≡ Some ranked) × (entry_for ranked ≡ entry.now)) }
+    ensures none { IsNone result → (ranked : RankedPiece) → place.now ≡ Some ranked → entry_for ranked ≡ entry.now → ⊥ }
+{
+    match place {
+        None => None,
+        Some(held) => {
+            if same_entry(&held.entry, entry) {
+                Some(held.ranked)
+            } else {
+                None
             }
         }
     }
-    None
 }

@@ -9,6 +9,8 @@ ghost use Rattle.trace_check.specs.Behind as behind;
 ghost use Rattle.trace_check.specs.Behind.{ArePlacedTasks, done_behind, entries_in, task_by_kind};
 
 use crate::known::{Known, same_match};
+use crate::placed::Placed;
+use crate::slots::{copy_of, standing};
 
 /// How many tasks are done, and how many behind them are left. Three lists may have more elements than a `u64` counts.
 #[derive(Clone, Copy)]
@@ -31,7 +33,7 @@ pub(crate) enum TaskKind {
 /// Counts the tasks of some pieces behind earlier ones, where a slot was written in which this stood before, and so many
 /// tasks were done before. None where one is done behind one that isn't.
 pub(crate) fn count(
-    places: &[Option<Known>],
+    places: &Placed,
     at: usize,
     before: &Option<Known>,
     kind: TaskKind,
@@ -65,7 +67,7 @@ pub(crate) fn count(
 
 /// Whether a task of a piece is done behind a write, before which it was done or wasn't.
 fn is_done(
-    places: &[Option<Known>],
+    places: &Placed,
     at: usize,
     before: &Option<Known>,
     kind: TaskKind,
@@ -75,7 +77,7 @@ fn is_done(
     requires { at < length places.now }
     ensures { result ≡ done_behind places.now at before.now was_done (task_by_kind kind piece.now) }
 {
-    if !is_of(before, piece) && !is_of(&places[at], piece) {
+    if !is_of(before, piece) && !is_of(places.at(at), piece) {
         return was_done;
     }
     match kind {
@@ -96,37 +98,15 @@ fn is_of(place: &Option<Known>, piece: &Known) -> bool
 }
 
 /// Whether some slot holds an entry of the piece, whatever its result.
-fn stands(places: &[Option<Known>], piece: &Known) -> bool
+fn stands(places: &Placed, piece: &Known) -> bool
     ensures { result ≡ tasks.stands_in (entries_in places.now) piece.now }
 {
-    for place in places {
-        if is_of(place, piece) {
-            return true;
-        }
-    }
-    false
+    copy_of(places, places.len(), &piece.entry).is_some()
 }
 
 /// Whether some slot holds the piece's entry with its result.
-fn is_told(places: &[Option<Known>], piece: &Known) -> bool
+fn is_told(places: &Placed, piece: &Known) -> bool
     ensures { result ≡ tasks.is_told_in (entries_in places.now) piece.now }
 {
-    for place in places {
-        if is_told_at(place, piece) {
-            return true;
-        }
-    }
-    false
-}
-
-/// Whether a slot holds the piece's entry with its result.
-fn is_told_at(place: &Option<Known>, piece: &Known) -> bool
-    ensures { result ≡ behind.tells piece.now place.now }
-{
-    match place {
-        None => false,
-        Some(held) => {
-            same_match(&piece.entry, &held.entry) && piece.entry.result == held.entry.result
-        }
-    }
+    standing(places, &piece.entry).is_some()
 }

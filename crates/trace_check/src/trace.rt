@@ -258,7 +258,16 @@ impl Trace {
     {
         // Slots are counted by a `u32`.
         let _slots = self.slots;
-        if !commit.write(&mut self.device, slot as usize, entry) {
+        let Ok(taken) = commit.write(
+            self.alloc,
+            &self.rules,
+            &mut self.device,
+            slot as usize,
+            entry,
+        ) else {
+            return Err(CheckFault::Memory);
+        };
+        if !taken {
             return Err(CheckFault::Unordered);
         }
         self.commit = Some(commit);

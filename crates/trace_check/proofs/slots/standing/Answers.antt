@@ -1,31 +1,34 @@
-use Rattle.std.proofs.Common.{◌≡◌, Some, None, IsTrue, sym, ◌∙◌, ap, subst}
-use Rattle.std.proofs.lemmas.Bool.{both_ways}
+use Rattle.std.proofs.Common.{◌≡◌, ◌+◌, Some, inl, inr, refl, sym, ◌∙◌, arith}
+use Rattle.std.proofs.lemmas.Bool.{cases_lt}
 use Rattle.slot_order.specs.Order.{slot}
-use Rattle.rule_model.specs.declared.words.Entry.{Entry}
-use Rattle.rule_model.specs.Entry.{RankedPiece, entry_for, same_match}
-use Rattle.tcam_device.proofs.One.{same_match-same}
+use Rattle.slot_order.proofs.Writes.{slot_inside}
+use Rattle.rule_model.specs.Entry.{RankedPiece, entry_for}
 use Rattle.readback.proofs.Pairs.{below_next}
-use Rattle.readback.proofs.Walks.{slot_read}
+use Rattle.trace_check.proofs.ColumnsKept.{entry_rank, near_by, same_near}
 use Rattle.trace_check.proofs.slots.standing.Goals as goal
-use Rattle.trace_check.proofs.slots.standing.Goals.{in-Some+else-same_match, else-same_match-via-then-same_match+else-entry-held, else-same_match-via-else-same_match, in_default}
+
+pub loop-place-init : goal.loop-place-init
+loop-place-init c = record {
+  most = c.next_near-place.ensures.most;
+  none = λ k ranked less there same. c.next_near-place.ensures.passed k ranked (omega arith) less there (λ fits. near_by c.just_rank-ranks.ensures c.every_window-windows.ensures (same_near ranked c.args.entry.now.tag (entry_rank c.args.entry.now ranked same)));
+}
+
+pub returns-in-Some-clause-found : goal.returns-in-Some-clause-found
+returns-in-Some-clause-found c = let w = c.in-Some.ensures.found in (w.1, (c.loop-place.place, sym c.at.ensures ∙ w.0))
 
 pub loop-place-preserved : goal.loop-place-preserved
-loop-place-preserved c k ranked below =
-    below_next (λ k. (one : RankedPiece) → slot c.args.places.now k ≡ Some one → entry_for one ≡ c.args.entry.now → ⊥) c.loop-place.place-index
-    (λ k before one. c.loop-place.invariant k one before) here k below ranked
-  where
-    read : slot c.args.places.now c.loop-place.place-index ≡ c.place-item.result
-    read = slot_read c.args.places.now c.loop-place.place-index c.place-item.result c.loop-place-test.true c.place-item.is
+loop-place-preserved c = record {
+  most = c.next_near-place-in-loop-place.ensures.most;
+  none = λ k ranked less there same. elim (cases_lt k (c.loop-place.place + 1)) [
+    | inl before ↦ below_next (λ k. (one : RankedPiece) → slot c.args.places.now k ≡ Some one → entry_for one ≡ c.args.entry.now → ⊥) c.loop-place.place
+        (λ k earlier one read is. c.loop-place.invariant.none k one earlier read is) (λ one read is. c.in_default.ensures.none refl one (c.at.ensures ∙ read) is) k before ranked there same
+    | inr past ↦ c.next_near-place-in-loop-place.ensures.passed k ranked past less there (λ fits. near_by c.just_rank-ranks.ensures c.every_window-windows.ensures (same_near ranked c.args.entry.now.tag (entry_rank c.args.entry.now ranked same)))
+  ];
+}
 
-    here : (one : RankedPiece) → slot c.args.places.now c.loop-place.place-index ≡ Some one → entry_for one ≡ c.args.entry.now → ⊥
-    here one there same = elim c.match-place.branch [
-      | in-Some+else-same_match w ↦
-          let one_is : w.in-Some.held ≡ one = (let k : Some w.in-Some.held ≡ Some one = sym w.in-Some.is ∙ (sym read ∙ there) in cc) in
-          let entry : w.held.inside.entry ≡ c.args.entry.now = w.held.invariant ∙ (ap entry_for (w.held.view_is ∙ one_is) ∙ same) in
-          elim w.else-same_match.branch [
-            | else-same_match-via-then-same_match+else-entry-held v ↦ v.if-entry-held.false (ap (λ (e : Entry). e.result) (sym entry))
-            | else-same_match-via-else-same_match v ↦ both_ways (same_match c.args.entry.now w.held.inside.entry) (sym w.same_match.ensures ∙ v.if-same_match.false)
-                (subst (λ (e : Entry). IsTrue (same_match c.args.entry.now e)) (sym entry) (same_match-same c.args.entry.now))
-          ]
-      | in_default w ↦ let wrong : None ≡ Some one = sym w.in_default.is ∙ (sym read ∙ there) in cc
-    ]
+pub returns-clause-none : goal.returns-clause-none
+returns-clause-none c _ at ranked there same =
+    let inside = slot_inside c.args.places.now at ranked there in
+    let all = c.loop-place-test.false in
+    let size = c.len-slots.ensures in
+    c.loop-place.invariant.none at ranked (omega arith) there same

@@ -1,5 +1,4 @@
-use Rattle.std.proofs.Common.{◌≡◌, true, false, not, sym, ◌∙◌, ap, subst}
-use Rattle.readback.proofs.Walks.{slot_read}
+use Rattle.std.proofs.Common.{◌≡◌, true, not, sym, ◌∙◌, ap, subst}
 use Rattle.trace_check.specs.declared.tasks.TaskKind.{TaskKind}
 use Rattle.trace_check.specs.declared.tasks.TaskKind.TheVariants as kind
 use Rattle.trace_check.specs.Behind.{task_by_kind, is_of, touches, done_behind}
@@ -10,7 +9,7 @@ use Rattle.trace_check.proofs.tasks.is_done.Goals.{else-not-is_of-via-then-not-i
 pub returns-then-not-is_of-2 : goal.returns-then-not-is_of-2
 returns-then-not-is_of-2 c =
     untouched_is c.args.places.now c.args.at c.args.before.now c.args.kind c.args.piece.now c.args.was_done (sym c.is_of.ensures ∙ c.if-not-is_of.true)
-    (ap (is_of c.args.piece.now) (slot_read c.args.places.now c.args.at c.index-places-at.result c.requires c.index-places-at.is) ∙ (sym c.is_of-then-not-is_of.ensures ∙ c.if-not-is_of-2.true))
+    (ap (is_of c.args.piece.now) (sym c.at.ensures) ∙ (sym c.is_of-then-not-is_of.ensures ∙ c.if-not-is_of-2.true))
 
 pub returns-in-Insert : goal.returns-in-Insert
 returns-in-Insert c =
@@ -20,7 +19,7 @@ returns-in-Insert c =
     touched : touches c.args.places.now c.args.at c.args.before.now c.args.piece.now ≡ true
     touched = elim c.else-not-is_of.branch [
       | else-not-is_of-via-then-not-is_of+else-not-is_of-2 w ↦ stands_here c.args.places.now c.args.at c.args.before.now c.args.piece.now
-          (ap (is_of c.args.piece.now) (slot_read c.args.places.now c.args.at w.index-places-at.result c.requires w.index-places-at.is) ∙ (sym w.is_of-then-not-is_of.ensures ∙ w.if-not-is_of-2.false))
+          (ap (is_of c.args.piece.now) (sym w.at.ensures) ∙ (sym w.is_of-then-not-is_of.ensures ∙ w.if-not-is_of-2.false))
       | else-not-is_of-via-else-not-is_of w ↦ stood_here c.args.places.now c.args.at c.args.before.now c.args.piece.now (sym c.is_of.ensures ∙ w.if-not-is_of.false)
     ]
 
@@ -32,7 +31,7 @@ returns-in-Rewrite c =
     touched : touches c.args.places.now c.args.at c.args.before.now c.args.piece.now ≡ true
     touched = elim c.else-not-is_of.branch [
       | else-not-is_of-via-then-not-is_of+else-not-is_of-2 w ↦ stands_here c.args.places.now c.args.at c.args.before.now c.args.piece.now
-          (ap (is_of c.args.piece.now) (slot_read c.args.places.now c.args.at w.index-places-at.result c.requires w.index-places-at.is) ∙ (sym w.is_of-then-not-is_of.ensures ∙ w.if-not-is_of-2.false))
+          (ap (is_of c.args.piece.now) (sym w.at.ensures) ∙ (sym w.is_of-then-not-is_of.ensures ∙ w.if-not-is_of-2.false))
       | else-not-is_of-via-else-not-is_of w ↦ stood_here c.args.places.now c.args.at c.args.before.now c.args.piece.now (sym c.is_of.ensures ∙ w.if-not-is_of.false)
     ]
 
@@ -44,6 +43,6 @@ returns-in-Erase c =
     touched : touches c.args.places.now c.args.at c.args.before.now c.args.piece.now ≡ true
     touched = elim c.else-not-is_of.branch [
       | else-not-is_of-via-then-not-is_of+else-not-is_of-2 w ↦ stands_here c.args.places.now c.args.at c.args.before.now c.args.piece.now
-          (ap (is_of c.args.piece.now) (slot_read c.args.places.now c.args.at w.index-places-at.result c.requires w.index-places-at.is) ∙ (sym w.is_of-then-not-is_of.ensures ∙ w.if-not-is_of-2.false))
+          (ap (is_of c.args.piece.now) (sym w.at.ensures) ∙ (sym w.is_of-then-not-is_of.ensures ∙ w.if-not-is_of-2.false))
       | else-not-is_of-via-else-not-is_of w ↦ stood_here c.args.places.now c.args.at c.args.before.now c.args.piece.now (sym c.is_of.ensures ∙ w.if-not-is_of.false)
     ]

@@ -1,5 +1,5 @@
-use Rattle.std.proofs.Common.{None, false, sym, subst}
-use Rattle.std.specs.Prelude.{IfSome, option_copied}
+use Rattle.std.proofs.Common.{None, Option, false, sym, subst}
+use Rattle.std.specs.Prelude.{IfOk, IfSome, IsNone, option_copied}
 use Rattle.trace_check.specs.declared.commit.Coming.{Coming}
 use Rattle.trace_check.specs.Coming.{ComesRight, ComesWrong}
 use Rattle.trace_check.proofs.ComesFound.{none_comes}
@@ -11,8 +11,9 @@ returns-in-None-clause-right c =
 
 pub returns-in-Some-clause-right : goal.returns-in-Some-clause-right
 returns-in-Some-clause-right c =
-    subst (λ e. IfSome c.coming_entry.result (λ (coming : Coming). ComesRight c.args.self.now c.args.device.now c.args.at (option_copied e) coming.content coming.puts)) (sym c.in-Some.is) c.coming_entry.ensures.right
+    subst (λ e. IfOk c.coming_entry.result (λ (came : Option Coming). IfSome came (λ (coming : Coming). ComesRight c.args.self.now c.args.device.now c.args.at (option_copied e) coming.content coming.puts)))
+    (sym c.in-Some.is) c.coming_entry.ensures.right
 
 pub returns-in-Some-clause-wrong : goal.returns-in-Some-clause-wrong
-returns-in-Some-clause-wrong c none =
-    subst (λ e. ComesWrong c.args.self.now c.args.device.now c.args.at (option_copied e)) (sym c.in-Some.is) (c.coming_entry.ensures.wrong none)
+returns-in-Some-clause-wrong c =
+    subst (λ e. IfOk c.coming_entry.result (λ (came : Option Coming). IsNone came → ComesWrong c.args.self.now c.args.device.now c.args.at (option_copied e))) (sym c.in-Some.is) c.coming_entry.ensures.wrong

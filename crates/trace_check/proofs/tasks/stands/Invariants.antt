@@ -1,8 +1,0 @@
-use Rattle.std.proofs.Common.{◌≡◌, false, take}
-use Rattle.std.specs.List.{list_any}
-use Rattle.trace_check.specs.Behind.{is_of}
-use Rattle.trace_check.proofs.tasks.stands.Given as goal
-
--- none of the first slots does
-abbrev pub invariant-loop-place : goal.invariant-loop-place
-invariant-loop-place l = list_any (is_of l.piece) (take l.place-index l.places) ≡ false
