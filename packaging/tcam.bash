@@ -5,7 +5,7 @@ _tcam() {
     --ranges) words="cover bits" ;;
     --placement) words="middle rank" ;;
     --slots | --depth) ;; # a number
-    tcam | */tcam) words="route acl route6 acl6 gen --help --version" ;;
+    tcam | */tcam) words="route acl route6 acl6 gen verify --help --version" ;;
     *)
         case $command in
         route) words="--slots --placement --trace --depth --json --help" ;;
@@ -13,6 +13,7 @@ _tcam() {
         acl) words="--slots --ranges --placement --trace --depth --json --help" ;;
         acl6) words="--slots --ranges --placement --trace --depth --help" ;;
         gen) words="--slots --ranges --placement --help" ;;
+        verify) words="--help" ;;
         esac
         ;;
     esac

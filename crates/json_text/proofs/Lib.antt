@@ -1,3 +1,4 @@
 mod Examples
 pub mod JsonForms
 pub mod Parts
+pub mod PlainTexts

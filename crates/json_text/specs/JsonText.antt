@@ -1,5 +1,6 @@
 -- The lines of a trace as a report prints them (RFC 8259): compact, the members of a line by rising names.
-use Rattle.std.specs.Prelude.{◌≡◌, Bool, if◌then◌else◌, ℕ, ◌+◌, ◌*◌, ◌/◌, ◌^◌, Option, Some, None, List, [], ◌∷◌, ◌++◌, codes, decimal, slice_index}
+use Rattle.std.specs.Prelude.{◌≡◌, Bool, true, not, ◌==◌, ◌&&◌, nat_le, if◌then◌else◌, ℕ, ◌+◌, ◌*◌, ◌/◌, ◌^◌, Option, Some, None, List, [], ◌∷◌, ◌++◌, codes, decimal, slice_index}
+use Rattle.std.specs.List.{list_all}
 use Rattle.rule_model.specs.declared.Rule.{Rule}
 use Rattle.rule_model.specs.declared.Field.{Field}
 use Rattle.rule_model.specs.declared.Field.TheVariants.{Src, Dst}
@@ -12,9 +13,17 @@ use Rattle.trace_file.specs.declared.TraceLine.{TraceLine}
 use Rattle.trace_file.specs.declared.TraceLine.TheVariants.{Head, Commit, Add, Set, Del, Put, Erase, Table, Drain, Done, Refused, End, Fault}
 use Rattle.trace_file.specs.Forms.{form_of}
 
--- a text in quotation marks; no text of a report has any, nor a backslash
+-- a text in quotation marks, as it is
 abbrev pub quoted : List ℕ → List ℕ
 quoted text = 34 ∷ text ++ 34 ∷ []
+
+-- a byte that stands as it is in quotation marks: no control character, no quotation mark and no backslash
+abbrev pub is_plain : ℕ → Bool
+is_plain byte = nat_le 32 byte && not (byte == 34) && not (byte == 92)
+
+-- a text of such bytes
+abbrev pub IsPlainText : List ℕ → Type 0
+IsPlainText text = list_all is_plain text ≡ true
 
 -- values with a comma between them
 abbrev pub comma_text : List (List ℕ) → List ℕ
@@ -71,14 +80,14 @@ rule_text rule =
     ∷ protocol_text rule.proto ∷ decimal rule.sport.lo ∷ decimal rule.sport.hi ∷ decimal rule.dport.lo ∷ decimal rule.dport.hi ∷ decimal rule.result ∷ []
 
 -- the lanes that IPv4 has: the first of each address, ports, protocol, and bits
-abbrev pub word_text : Word → List (List ℕ)
-word_text word =
+abbrev pub lane_numbers : Word → List (List ℕ)
+lane_numbers word =
     decimal (slice_index word.lane 0) ∷ decimal (slice_index word.lane 4) ∷ decimal (slice_index word.lane 8)
     ∷ decimal (slice_index word.lane 9) ∷ decimal (slice_index word.lane 10) ∷ []
 
 -- an entry: its value, its mask, its tag and its result
 abbrev pub entry_text : Entry → List (List ℕ)
-entry_text entry = word_text entry.value ++ word_text entry.mask ++ rank_text entry.tag ∷ decimal entry.result ∷ []
+entry_text entry = lane_numbers entry.value ++ lane_numbers entry.mask ++ rank_text entry.tag ∷ decimal entry.result ∷ []
 
 -- the line that is printed for a line of a trace, by the text of a fault
 abbrev pub json_line : List ℕ → TraceLine → List ℕ
@@ -106,3 +115,7 @@ json_line fault (Fault line) = object_line (member_text (codes "fault") (quoted 
 abbrev pub JsonLinesAreTexts : Type 0
 JsonLinesAreTexts =
     (fault : List ℕ) (line : TraceLine) → json_quoted fault ≡ quoted fault → compact_text (form_of fault line) ++ 10 ∷ [] ≡ json_line fault line
+
+-- A plain text stands in JSON as it is.
+abbrev pub PlainTextsStand : Type 0
+PlainTextsStand = (text : List ℕ) → IsPlainText text → json_quoted text ≡ quoted text

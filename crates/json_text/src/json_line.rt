@@ -1,7 +1,7 @@
 //! A line of a trace, made piece by piece. It stands in fixed room, so that none takes memory.
 
 ghost use Rattle.std.specs.Prelude.{◌≡◌, ◌+◌, ◌≤◌, [], ◌∷◌, ◌++◌, decimal, length};
-ghost use Rattle.json_text.specs.JsonText.{address_text, comma_text, entry_text, json_line, number_line, protocol_text, rank_text, rule_text, word_text};
+ghost use Rattle.json_text.specs.JsonText.{address_text, comma_text, entry_text, json_line, number_line, protocol_text, rank_text, rule_text, lane_numbers};
 ghost use Rattle.trace_file.specs.declared.TraceLine.TheVariants as line_is;
 
 use arrayvec::ArrayString;
@@ -224,7 +224,7 @@ impl JsonLine {
     // The line with the five lanes of IPv4 more.
     fn word(self, word: &Word) -> JsonLine
         requires { length self + 54 ≤ LINE_ROOM }
-        ensures text { result ≡ self ++ comma_text (word_text word.now) }
+        ensures text { result ≡ self ++ comma_text (lane_numbers word.now) }
         ensures len { length result ≤ length self + 54 }
     {
         self.digits(word.lane[0])

@@ -33,6 +33,8 @@ use Rattle.replay.specs.declared.steps.Ended.TheVariants as ended
 use Rattle.replay.specs.declared.Family.{Family}
 use Rattle.replay.specs.declared.Family.TheVariants.{Route, Acl, Route6, Acl6}
 use Rattle.replay.specs.Effects.{Setting, Effect, effects_of, printed, probes_told, waiting_after}
+use Rattle.trace_file.specs.Forms.{IsTraceLine}
+use Rattle.replay.specs.JsonLines.{change_line}
 use Rattle.replay.specs.Reports.{done_line}
 use Rattle.replay.specs.InFlight.{AreOf}
 use Rattle.replay.specs.Text.{aborted_line, restarted_line}
@@ -280,9 +282,10 @@ IsActOf family Commit = Unit {0}
 IsActOf family (Trial most) = Unit {0}
 IsActOf family (Crash after) = Unit {0}
 
--- an act that a report has words for: in JSON there are none for a trial and for a crash
+-- An act that a report can tell. In JSON a command is one of a trace, whose numbers are within their limits, and there
+-- is no line for a trial and for a crash.
 abbrev pub IsToldIn : Bool → Act → Type 0
-IsToldIn json (Command change) = Unit {0}
+IsToldIn json (Command change) = json ≡ true → IsTraceLine (change_line change)
 IsToldIn json (Probe key) = Unit {0}
 IsToldIn json (Packet key) = Unit {0}
 IsToldIn json Commit = Unit {0}

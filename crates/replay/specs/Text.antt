@@ -173,3 +173,11 @@ end_line rules entries writes pending =
 -- the words are no command line
 abbrev pub usage_line : List ℕ
 usage_line = line_text (codes "usage" ∷ [])
+
+-- what is told of a trace that is orderly: its accepted commits and its device writes
+abbrev pub yes_line : ℕ → ℕ → List ℕ
+yes_line commits writes = line_text (codes "yes" ∷ codes "commits" ∷ decimal commits ∷ codes "writes" ∷ decimal writes ∷ [])
+
+-- and of one that isn't, by its first line that breaks the order
+abbrev pub no_line : ℕ → List ℕ
+no_line line = line_text (codes "no" ∷ codes "line" ∷ decimal line ∷ [])

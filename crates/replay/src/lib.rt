@@ -85,16 +85,17 @@
 //! - **A line of a write may fail within a commit**: the run is cut at that line with its commit under way, as where a
 //!   write fails, but no call follows. Where no trace is wanted and the script has no probe, a failed line leaves no
 //!   commit half made.
-//! - **An access list takes any rule that its types give** (`IsActOf`). A script gives sequence numbers from 1 and the
-//!   results 1 and 0 alone; no clause needs it, as the report names any priority by `2^32` less its lower part, or 0
-//!   where that is more, and any result but 1 as `deny`. Rules of a script of routes must be routes of its version of
-//!   IP, on which their bounds rest.
+//! - **An access list takes any rule that its types give** (`IsActOf`), but where the report is in JSON (below). A script
+//!   gives sequence numbers from 1 and the results 1 and 0 alone; no clause needs it, as the report names any priority by
+//!   `2^32` less its lower part, or 0 where that is more, and any result but 1 as `deny`. Rules of a script of routes must
+//!   be routes of its version of IP, on which their bounds rest.
 //! - **A report in JSON has the effects of one in words, with other lines** (`specs/Reports`): a setting says which, and
 //!   a statement without JSON is the same as before there was any. Its probes are counted, so that a script has the same
 //!   fault in either report, and none of them is told of (`probes_told`), so no word of them is made. Its head is due with
 //!   the first line, which is a commit's or the last one (`head_due`): so no act prints what isn't its own, a run that
 //!   wants memory before its first commit prints nothing, and a run keeps nothing more for it than how many commits there
-//!   were. Trials and crashes have no line in a trace file, so no such run takes them (`IsToldIn`).
+//!   were. Trials and crashes have no line in a trace file, so no such run takes them, and the numbers of
+//!   its commands are within the limits of one (`IsToldIn`): else a line would tell of another rule than the one added.
 //! - **A trace line takes any write, of any tag.** The tag's number may have more bits than a `u128`, so its last digit
 //!   is reckoned apart. A trace of IPv6 names the rule instead, and prints all eleven lanes: the tag of a route has 136
 //!   bits, which no one looks up by hand. A line has room for 384 bytes, and the longest has 295.
@@ -116,7 +117,7 @@ mod watch;
 
 pub use batch_order::{Mode, Placement};
 pub use laws::crashed_parts_are_old_or_new;
-pub use report::write_text;
+pub use report::{write_fault, write_no, write_text, write_yes};
 use rule_model::{IpVersion, Key};
 use rule_store::Command;
 pub use run::Run;

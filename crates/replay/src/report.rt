@@ -2,7 +2,7 @@
 //! What is said of a sink's bytes (`WritesLine`) holds of either count of them: of what it tells, and of what it
 //! accepted.
 ghost use Rattle.std.specs.Prelude.{◌≡◌, ◌<◌, ◌≤◌, [], ◌∷◌, ◌++◌, length};
-ghost use Rattle.replay.specs.Text.{packet_line, probe_line, write_line, drain_line, aborted_line, accepted_line, restarted_line, refused_line, fault_line, end_line};
+ghost use Rattle.replay.specs.Text.{packet_line, probe_line, write_line, drain_line, aborted_line, accepted_line, restarted_line, refused_line, fault_line, end_line, yes_line, no_line};
 ghost use Rattle.replay.specs.Told.{verdict_told};
 ghost use Rattle.replay.specs.Outside.{WritesLine};
 
@@ -194,16 +194,13 @@ pub fn write_refused<K: Sink>(
     refused(commit, family, rejection).write(sink)
 }
 
-/// Writes the line that names the fault of a script's line, which is counted from 1. The fault's text has at most 32
+/// Writes the line that names the fault of a script's line or a trace's, which is counted from 1. The fault's text has at most 32
 /// bytes. Takes no memory. Where the sink fails, a part of the line was taken, perhaps none or all of it.
-pub fn write_fault<K: Sink>(sink: &mut K, line: u32, fault: &str) -> Result<(), Failed>
+pub fn write_fault<K: Sink>(sink: &mut K, line: u64, fault: &str) -> Result<(), Failed>
     requires short { length fault.now ≤ 32 }
     ensures { WritesLine K.taken K.accepted K.faults sink.old sink.new (fault_line line fault.now) result }
 {
-    ReportLine::new("line")
-        .number(u64::from(line))
-        .word(fault)
-        .write(sink)
+    ReportLine::new("line").number(line).word(fault).write(sink)
 }
 
 /// Writes the last line of a run that came to its end. Takes no memory. Where the sink fails, a part of the line was
@@ -212,6 +209,27 @@ pub fn write_end<K: Sink>(sink: &mut K, totals: &Totals) -> Result<(), Failed>
     ensures { WritesLine K.taken K.accepted K.faults sink.old sink.new (end_line totals.now.rules totals.now.entries totals.now.writes totals.now.pending) result }
 {
     end(totals).write(sink)
+}
+
+/// Writes what is told of a trace that is orderly: how many of its commits were accepted, and how many device writes
+/// it has. Takes no memory. Where the sink fails, a part of the line was taken, perhaps none or all of it.
+pub fn write_yes<K: Sink>(sink: &mut K, commits: u64, writes: u64) -> Result<(), Failed>
+    ensures { WritesLine K.taken K.accepted K.faults sink.old sink.new (yes_line commits writes) result }
+{
+    ReportLine::new("yes")
+        .word("commits")
+        .number(commits)
+        .word("writes")
+        .number(writes)
+        .write(sink)
+}
+
+/// Writes what is told of a trace that isn't, by its first line that breaks the order, counted from 1. Takes no memory.
+/// Where the sink fails, a part of the line was taken, perhaps none or all of it.
+pub fn write_no<K: Sink>(sink: &mut K, line: u64) -> Result<(), Failed>
+    ensures { WritesLine K.taken K.accepted K.faults sink.old sink.new (no_line line) result }
+{
+    ReportLine::new("no").word("line").number(line).write(sink)
 }
 
 /// Writes a text as it is, with no line feed of its own. Takes no memory. Where the sink fails, a part of the text was

@@ -121,7 +121,7 @@ impl Run {
 
     /// Carries out an act of a script of the run's family, over a device with at least as many slots as the run uses.
     /// In a script of routes each rule that is added is one of an IPv4 prefix. A run that reports in JSON takes neither
-    /// a trial nor a crash. The device is where the run stands: it was blank before the first act, and nobody else has
+    /// a trial nor a crash, and of commands those whose numbers are within the limits of a trace. The device is where the run stands: it was blank before the first act, and nobody else has
     /// written it since. The run has made fewer than 16,777,216 commits.
     ///
     /// A change joins the pending batch. With 4,096 changes pending the answer is `BatchFull`, and nothing has

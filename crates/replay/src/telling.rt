@@ -1,6 +1,7 @@
 //! What a run tells of a commit before its first write, of a refused one, and at its end.
 
 ghost use Rattle.std.specs.Prelude.{ℕ, ◌≡◌, ◌<◌, ◌≤◌, ◌^◌, true, length};
+ghost use Rattle.json_text.specs.JsonText.{IsPlainText};
 ghost use Rattle.replay.specs.Told.{verdict_told};
 ghost use Rattle.replay.specs.Reports.{fault_told, head_due, opened, refusal_line};
 ghost use Rattle.replay.specs.Run.{ending};
@@ -87,8 +88,8 @@ impl Run {
     }
 
     /// Writes the last line of a run that ends at the fault of a line of its script, which is counted from 1; no commit
-    /// is unfinished. The fault's text has at most 32 bytes. Where the sink fails, a part of the line was taken, perhaps
-    /// none or all of it.
+    /// is unfinished. The fault's text has at most 32 bytes, and no control character, quotation mark or backslash, so
+    /// that it stands in JSON as it is. Where the sink fails, a part of the line was taken, perhaps none or all of it.
     pub fn finish_at_fault<K: Sink>(
         &self,
         line: u32,
@@ -96,12 +97,13 @@ impl Run {
         sink: &mut K,
     ) -> Result<(), Failed>
         requires short { length fault.now ≤ 32 }
+        requires plain { IsPlainText fault.now }
         ensures { WritesLine K.taken K.accepted K.faults sink.old sink.new (fault_told (setting_of self.now) self.now.commits line fault.now) result }
     {
         if self.watch.is_json() {
             write_behind(sink, self.head_due(), &TraceLine::Fault(line), fault)
         } else {
-            write_fault(sink, line, fault)
+            write_fault(sink, u64::from(line), fault)
         }
     }
 }

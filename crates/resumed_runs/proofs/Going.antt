@@ -1,5 +1,5 @@
 -- What is left in flight behind an act, by its answer.
-use Rattle.std.proofs.Common.{Bool, ◌≡◌, ◌≢◌, ℕ, true, false, List, [], Option, Some, None, Result, Ok, Err, OnOk, refl}
+use Rattle.std.proofs.Common.{Bool, ◌≡◌, ◌≢◌, ℕ, true, false, List, [], Option, Some, None, Result, Ok, Err, OnOk, refl, sym, ◌∙◌}
 use Rattle.tcam_device.specs.declared.Action.{Action}
 use Rattle.tcam_device.specs.Flight.{Flight}
 use Rattle.batch_order.specs.Managed.{HeldCommit}
@@ -61,7 +61,7 @@ lost_behind slots old new act result events_old events_new taken_old taken_new w
 
 -- a run whose report is in words takes any act
 pub told_words : (json : Bool) (act : Act) → json ≡ false → IsToldIn json act
-told_words json (Command change) words = tt
+told_words json (Command change) words = λ is. let bad : true ≡ false = sym is ∙ words in absurd (cc)
 told_words json (Probe key) words = tt
 told_words json (Packet key) words = tt
 told_words json Commit words = tt

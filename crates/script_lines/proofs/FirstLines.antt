@@ -9,7 +9,7 @@ use Rattle.script_lines.specs.Reader.{is_of_line, IsOpenLine}
 no_fault : (bounds : Limits) (before number in_line byte : ℕ) → before < bounds.script → in_line < bounds.line → IsTrue (is_of_line byte) → byte_fault bounds before number in_line byte ≡ None
 no_fault bounds before number in_line byte room fits of_line = grind (arith, nat_tests)
 
-no_fault-feed : (bounds : Limits) (before number in_line : ℕ) → before < bounds.script → byte_fault bounds before number in_line 10 ≡ None
+pub no_fault-feed : (bounds : Limits) (before number in_line : ℕ) → before < bounds.script → byte_fault bounds before number in_line 10 ≡ None
 no_fault-feed bounds before number in_line room = grind (arith, nat_tests)
 
 pub not_feed : (byte : ℕ) → IsTrue (is_of_line byte) → (byte == line_feed) ≡ false
@@ -29,7 +29,7 @@ lines-byte bounds before number line byte bytes sound other =
     let more : ScriptLines = lines_from bounds (before + 1) number (line ++ byte ∷ []) bytes in
     ap (λ f. picks f (byte == line_feed) here more) sound ∙ ap (λ b. picks None b here more) other
 
-lines-feed : (bounds : Limits) (before number : ℕ) (line bytes : List ℕ) → byte_fault bounds before number (length line) 10 ≡ None
+pub lines-feed : (bounds : Limits) (before number : ℕ) (line bytes : List ℕ) → byte_fault bounds before number (length line) 10 ≡ None
     → lines_from bounds before number line (10 ∷ bytes) ≡ onto_lines (record { number = number; text = line }) (lines_from bounds (before + 1) (number + 1) [] bytes)
 lines-feed bounds before number line bytes sound =
     let here : ScriptLines = onto_lines (record { number = number; text = line }) (lines_from bounds (before + 1) (number + 1) [] bytes) in
@@ -64,11 +64,11 @@ lines-whole before number text rest is room =
     lines-open limits before number [] text (10 ∷ rest) is.plain all is.within
     ∙ lines-feed limits (before + length text) number text rest (no_fault-feed limits (before + length text) number (length text) room)
 
-last_line-last : (number : ℕ) (text : List ℕ) → (last_line number text).last ≡ EndOfInput
+pub last_line-last : (number : ℕ) (text : List ℕ) → (last_line number text).last ≡ EndOfInput
 last_line-last number [] = refl
 last_line-last number (byte ∷ text) = refl
 
-last_line-some : (number : ℕ) (text : List ℕ) → text ≢ [] → last_line number text ≡ onto_lines (record { number = number; text = text }) (ends_at EndOfInput)
+pub last_line-some : (number : ℕ) (text : List ℕ) → text ≢ [] → last_line number text ≡ onto_lines (record { number = number; text = text }) (ends_at EndOfInput)
 last_line-some number [] some = absurd (some refl)
 last_line-some number (byte ∷ text) some = refl
 

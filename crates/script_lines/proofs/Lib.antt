@@ -5,3 +5,5 @@ mod Scans
 mod Buffers
 mod Hands
 pub mod Pieces
+pub mod Texts
+pub mod Turns

@@ -47,6 +47,16 @@ impl Lines {
         }
     }
 
+    /// What is held, and what comes, is taken for the beginning of a script: no byte stands before it, and its first
+    /// line has the number 1. So who begins anew behind each line, and counts them, reads a text of any length. Once it
+    /// is over it stays so.
+    pub fn begin_anew(&mut self)
+        ensures { self.new ≡ record self.old { before = 0; number = 1 } }
+    {
+        self.before = 0;
+        self.number = 1;
+    }
+
     /// The next line, or none at the end of the input. It reads only while it holds no whole line and no
     /// byte that is a fault. At one byte ScriptTooLong, TooLong, BadByte are tried in this order. One of
     /// these, and none, is the answer of each later call too, without a read; after `Read` a later call goes

@@ -1,5 +1,6 @@
 -- A line that is written whole or in part closes a report.
-use Rattle.std.proofs.Common.{◌≡◌, ◌≢◌, inl, inr, ap, true, false, ℕ, Option, List, Ok, Err, refl, sym}
+use Rattle.std.proofs.Common.{◌≡◌, ◌≢◌, inl, inr, ap, true, false, ℕ, Option, List, Result, Ok, Err, refl, sym, ◌∙◌, subst}
+use Rattle.std.specs.Prelude.{MatchResult}
 use Rattle.replay.specs.Outside.{WritesLine}
 use Rattle.replay.specs.Run.{Progress}
 use Rattle.replay.specs.Script.{Whole}
@@ -23,6 +24,12 @@ module _ {S T E : Type 0} (taken : S → Option (List ℕ)) (accepted : S → Li
     told = writes.told;
     cause = record { later = writes.cause.later; once = writes.cause.once; failed = λ _. writes.cause.failed; stayed = λ other. absurd (other refl) };
   }
+
+  -- by the status that follows
+  pub closes-by-status : (status : Status) (written : Result T E) → last ≢ WriteFault → WritesLine {T = T} {E = E} taken accepted faults old new line written
+      → MatchResult written (λ _. status ≡ last) (λ _. status ≡ WriteFault) → ClosesReport taken accepted faults old new line last status
+  closes-by-status status (Ok value) other writes is = closes-whole status value is (λ failed. other (sym is ∙ failed)) writes
+  closes-by-status status (Err value) other writes is = subst (λ s. ClosesReport taken accepted faults old new line last s) (sym is) (closes-cut value writes)
 
 -- the status of a run that came to its end
 pub ended-refused : (last : Progress) → last.refused ≡ true → Refused ≡ status_of last Whole

@@ -6,13 +6,13 @@ use Rattle.clap.proofs.OnLiterals.{clap_on_literals}
 use Rattle.rule_store.specs.declared.Mode.TheVariants.{Cover, Bits}
 use Rattle.batch_order.specs.declared.Placement.TheVariants.{Middle, Rank}
 use Rattle.replay.specs.declared.Family.TheVariants.{Route, Acl, Route6, Acl6}
-use Rattle.tcam_cli.specs.CommandLine.{acl_app, depth_option, gen_app, job_of, number_position, placement_option, ranges_option, route_app, script_setting, slots_option, tcam_app, tcam_top, trace_flag, json_flag}
-use Rattle.tcam_cli.specs.Headline.{NoJob, Tells, Reads, Makes}
-use Rattle.tcam_cli.specs.OwnTexts.{acl_help, acl6_help, gen_help, help_text, route_help, version_text}
+use Rattle.tcam_cli.specs.CommandLine.{acl_app, depth_option, gen_app, job_of, number_position, placement_option, ranges_option, route_app, script_setting, slots_option, tcam_app, tcam_top, trace_flag, json_flag, verify_app}
+use Rattle.tcam_cli.specs.Headline.{NoJob, Tells, Reads, Makes, Verifies}
+use Rattle.tcam_cli.specs.OwnTexts.{acl_help, acl6_help, gen_help, help_text, route_help, verify_help, version_text}
 
 -- what a proof unfolds to compute what words ask for
 unfoldable the_declaration : ⊤
-unfolding clap_on_literals tcam_app tcam_top route_app acl_app gen_app slots_option ranges_option placement_option trace_flag json_flag depth_option number_position
+unfolding clap_on_literals tcam_app tcam_top route_app acl_app gen_app slots_option ranges_option placement_option trace_flag json_flag depth_option number_position verify_app
 the_declaration = tt
 
 unknown : job_of (codes "tcam" ∷ codes "frob" ∷ []) ≡ NoJob
@@ -298,3 +298,19 @@ made-in-no-such-word = refl
 help-of-made-commands : job_of (codes "tcam" ∷ codes "gen" ∷ codes "--help" ∷ []) ≡ Tells gen_help
 unfolding the_declaration
 help-of-made-commands = refl
+
+checked : job_of (codes "tcam" ∷ codes "verify" ∷ []) ≡ Verifies
+unfolding the_declaration
+checked = refl
+
+checked-in-slots : job_of (codes "tcam" ∷ codes "verify" ∷ codes "--slots" ∷ codes "8" ∷ []) ≡ NoJob
+unfolding the_declaration
+checked-in-slots = refl
+
+checked-by-a-name : job_of (codes "tcam" ∷ codes "verify" ∷ codes "trace.jsonl" ∷ []) ≡ NoJob
+unfolding the_declaration
+checked-by-a-name = refl
+
+help-of-checks : job_of (codes "tcam" ∷ codes "verify" ∷ codes "--help" ∷ []) ≡ Tells verify_help
+unfolding the_declaration
+help-of-checks = refl

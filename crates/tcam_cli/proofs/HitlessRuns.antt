@@ -18,7 +18,8 @@ use Rattle.replay.specs.Text.{aborted_line, drain_line, restarted_line, write_li
 use Rattle.replay.specs.Reports.{done_line, packet_told}
 use Rattle.tcam_cli.specs.declared.Status.{Status}
 use Rattle.tcam_cli.specs.declared.Status.TheVariants.{Done, Refused, Script as ScriptFault, ReadFault, WriteFault, DeviceFault, Memory, Usage}
-use Rattle.tcam_cli.specs.Headline.{Job, NoJob, Tells, Reads, Makes, acts_of, script_so_far, IsAtAct, IsComplete, IsEffectDue, IsOutcome, IsOutOfMemory, IsOutOfMemoryAtAct, IsCarriedOut}
+use Rattle.tcam_cli.proofs.Checks.{told-hitless}
+use Rattle.tcam_cli.specs.Headline.{Job, NoJob, Tells, Reads, Makes, Verifies, acts_of, script_so_far, IsAtAct, IsComplete, IsEffectDue, IsOutcome, IsOutOfMemory, IsOutOfMemoryAtAct, IsCarriedOut}
 use Rattle.tcam_cli.specs.MadeScript.{made_script}
 use Rattle.tcam_cli.specs.Readings.{reading_by}
 use Rattle.tcam_cli.specs.AllTheWay.{sets_through, sets_of, AnswersAllTheWay, EndsAtLast, EndsAfter, CrashesNowhere, EndsAfterSome, IsNoProbe, TellsNoWrite, IsHitlessRun, IsHitlessJob}
@@ -356,3 +357,6 @@ hitless-job (Makes setting seed rules batches) slots status left_old left_new ta
     let made = is.1.1 in
     subst (λ writes. IsHitlessRun setting slots script script status writes) (sym (ap writes_in made.events_is))
     (outcome_answers setting slots script script status made.effects made.partial (λ sound. ([], sym (append-nil (acts_of script)))) made.outcome)
+hitless-job Verifies slots status None left_new taken_old taken_new events is = (ap writes_in is.0, λ done. tt)
+hitless-job Verifies slots status (Some old) None taken_old taken_new events is = (ap writes_in is.0, λ done. tt)
+hitless-job Verifies slots status (Some old) (Some new) taken_old taken_new events is = (ap writes_in is.0, λ done. told-hitless old status is.1.report is.1.told done)

@@ -16,13 +16,13 @@ use Rattle.replay.specs.Effects.{Setting, Effect, events_in, printed}
 use Rattle.replay.specs.Run.{Progress, Runs}
 use Rattle.replay.specs.Carried.{IsAt, Does}
 use Rattle.tcam_cli.specs.declared.Status.{Status}
-use Rattle.tcam_cli.specs.declared.Status.TheVariants.{Memory}
-use Rattle.tcam_cli.specs.Headline.{Job, NoJob, Tells, Reads, Makes, acts_of}
+use Rattle.tcam_cli.specs.declared.Status.TheVariants.{Memory, ReadFault}
+use Rattle.tcam_cli.specs.Headline.{Job, NoJob, Tells, Reads, Makes, Verifies, acts_of}
 use Rattle.tcam_cli.specs.Readings.{reading_by}
 use Rattle.tcam_cli.specs.Rounds.{IsGoing, IsReadSoFar, acts_only, SoFar, Closes, Grows, RoundsBy}
 use Rattle.tcam_cli.specs.Given.{given_so_far, IsInTime, WantsInTime, ReadsInTime}
 use Rattle.tcam_cli.proofs.OneMore.{does-events, does-report, run-at}
-use Rattle.tcam_cli.proofs.GivenRuns.{may-second}
+use Rattle.script_lines.proofs.Turns.{may-second}
 use Rattle.tcam_cli.proofs.Endings.{so-far}
 
 -- ---- events and report only grow
@@ -221,9 +221,14 @@ reads-in-time setting slots status given_old given_new pieces events accepted_ol
     (is front last same, λ memory left after may. wants memory front last same left after (subst (λ l. MayGive left l after) (sym same) may))
 
 -- a job that reads nothing
-pub nothing-read : (job : Job) (slots : ℕ) (status : Status) (given : List (List ℕ)) (events : List Action) (accepted : List ℕ) → ReadsInTime job slots status given given events accepted accepted
-nothing-read NoJob slots status given events accepted = refl
-nothing-read (Tells text) slots status given events accepted = refl
-nothing-read (Makes setting seed rules batches) slots status given events accepted = refl
-nothing-read (Reads setting) slots status given events accepted =
+pub nothing-read : (job : Job) (slots : ℕ) (status : Status) (given : List (List ℕ)) (events : List Action) (accepted : List ℕ) → status ≢ ReadFault → ReadsInTime job slots status given given events accepted accepted
+nothing-read NoJob slots status given events accepted other = refl
+nothing-read (Tells text) slots status given events accepted other = refl
+nothing-read (Makes setting seed rules batches) slots status given events accepted other = refl
+nothing-read (Reads setting) slots status given events accepted other =
     reads-in-time setting slots status given given [] events accepted accepted (sym (append-nil given)) (in-time-none setting slots events accepted accepted) (λ memory front last e. absurd (no-push front last e))
+nothing-read Verifies slots status given events accepted other =
+    λ pieces same. (
+      inl (append_cancel_left given pieces [] (sym same ∙ sym (append-nil given))),
+      λ failed. absurd (other failed),
+    )

@@ -3,10 +3,12 @@ mod CommandLines
 mod Numbers
 mod ArgumentRows
 mod TakenRows
-mod NumbersTaken
+pub mod NumbersTaken
 mod Words
 mod WholeLines
 mod RouteLines
+mod TracedLines
+pub mod ToldLines
 mod OneMore
 mod Decided
 mod Endings
@@ -25,7 +27,9 @@ mod Padded
 mod AllTheWay
 mod CutCrash
 mod FirstActs
+mod Checks
 mod HitlessRuns
+mod CheckRuns
 mod SetExamples
 mod GivenRuns
 mod InTime

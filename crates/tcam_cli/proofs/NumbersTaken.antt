@@ -12,7 +12,7 @@ use Rattle.clap.specs.Simple.{Shape, argument_words, built, filled, help_rule, s
 use Rattle.clap.specs.Faults.{fault_of, level_fault}
 use Rattle.replay.specs.declared.Family.{Family}
 use Rattle.replay.specs.declared.Family.TheVariants.{Route, Acl, Route6, Acl6}
-use Rattle.tcam_cli.specs.CommandLine.{acl_app, depth_option, gen_app, is_traced, json_by, job_at, job_of_rows, job_of_subcommand, made_at, mode_wanted, number_of, number_position, placed_by, placement_option, ranges_option, route_app, script_by, slots_option, tcam_app, tcam_top, text_of, trace_flag, json_flag}
+use Rattle.tcam_cli.specs.CommandLine.{acl_app, depth_option, gen_app, is_traced, json_by, job_at, job_of_rows, job_of_subcommand, made_at, mode_wanted, number_of, number_position, placed_by, placement_option, ranges_option, route_app, script_by, slots_option, tcam_app, tcam_top, text_of, trace_flag, json_flag, verify_app}
 use Rattle.tcam_cli.specs.Asked.{job_by, tested_job, tested_job_of_rows, tested_made, tested_script}
 use Rattle.tcam_cli.specs.Headline.{Job}
 use Rattle.tcam_cli.proofs.ArgumentRows.{AllKeep, Good, HasNumber, apart-keeps, depth-default, depth-keep, depth_id, has-apart, number-given, or_no, position, position-keeps, slots-default, slots-keep, slots_id}
@@ -219,7 +219,7 @@ module _ (s : Shape) (are : s.rules ≡ gen_rules) (once : s.args_override_self 
 
 -- where clap finds no fault, the tests of the numbers pass
 pub tested : (words : List Text) → fault_of tcam_app words ≡ [] → (o : Option (Text × List Row)) → subcommand_of tcam_app words ≡ o → job_of_subcommand o ≡ tested_job o
-unfolding tcam_app tcam_top route_app acl_app gen_app slots_option ranges_option placement_option trace_flag json_flag depth_option number_position
+unfolding tcam_app tcam_top route_app acl_app gen_app slots_option ranges_option placement_option trace_flag json_flag depth_option number_position verify_app
 tested words none None are = refl
 tested words none (Some (name, rows)) are =
     built-gives (λ name rows. job_of_rows name rows ≡ tested_job_of_rows name rows) (built tcam_app) (
@@ -230,7 +230,7 @@ tested words none (Some (name, rows)) are =
           λ words none. script-tested Route6 (rows_after (filled slots_option ∷ route_rest) [] words) (script-slots _ route_rest refl refl refl words none) (script-depth _ route_front back_plain refl refl refl refl words none),
           (
             λ words none. script-tested Acl6 (rows_after (filled slots_option ∷ list_rest) [] words) (script-slots _ list_rest refl refl refl words none) (script-depth _ list_front back_plain refl refl refl refl words none),
-            (λ words none. gen-made _ refl refl words none, tt),
+            (λ words none. gen-made _ refl refl words none, (λ words none. refl, tt)),
           ),
         ),
       ),

@@ -25,7 +25,7 @@ kept {C = C} (Ok found) command e =
     let same : found ≡ command = cc in ap Ok same
 kept (Err fault) command e = let bad = e in absurd (cc)
 
-line-command : {C : Type 0} (words : List (List ℕ)) (read : Result C WordFault) (command : C)
+pub line-command : {C : Type 0} (words : List (List ℕ)) (read : Result C WordFault) (command : C)
     → cond (is_skipped words) (Ok None) (read >>= λ found. Ok (Some found)) ≡ Ok (Some command) → read ≡ Ok command
 line-command words read command is = elim (cases_Bool (is_skipped words)) [
   | inl same ↦
@@ -36,7 +36,7 @@ line-command words read command is = elim (cases_Bool (is_skipped words)) [
 
 -- ---- a prefix
 
-within : (word : List ℕ) (bound value : ℕ) → number_up_to bound word ≡ Some value → value ≤ bound
+pub within : (word : List ℕ) (bound value : ℕ) → number_up_to bound word ≡ Some value → value ≤ bound
 within word bound value is = elim (cases_Bool (is_number word && nat_le (number_value word) bound)) [
   | inl fits ↦
       let some = rw fits at is in

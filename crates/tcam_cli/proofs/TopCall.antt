@@ -6,7 +6,7 @@ use Rattle.replay.specs.Script.{Script}
 use Rattle.replay.specs.Effects.{Setting}
 use Rattle.tcam_cli.specs.declared.Status.{Status}
 use Rattle.tcam_cli.specs.declared.Status.TheVariants.{Done, Memory, Usage}
-use Rattle.tcam_cli.specs.Headline.{Job, NoJob, Tells, Reads, Makes, IsPrinted, IsToldAlone, IsCarriedOut, MatchesOutcome}
+use Rattle.tcam_cli.specs.Headline.{Job, NoJob, Tells, Reads, Makes, Verifies, IsPrinted, IsToldAlone, IsCarriedOut, MatchesOutcome}
 use Rattle.tcam_cli.specs.Rounds.{Closes}
 
 nothing-told : (text : List ℕ) (last : Status) (taken : Option (List ℕ)) → IfSome taken (λ before. IfSome taken (λ after. (report : List ℕ) × (after ≡ before ++ report) × IsPrinted text last Memory report))
@@ -26,6 +26,9 @@ memory-carried (Reads setting) slots None taken events blank = tt
 memory-carried (Reads setting) slots (Some old) taken events blank =
     (record { taken = []; parts = refl; all = λ e. elim e [ inl d ↦ absurd (cc) | inr r ↦ absurd (cc) ] }, nothing-done setting slots _ _ taken events blank)
 memory-carried (Makes setting seed rules batches) slots left taken events blank = (refl, (λ e. absurd (cc), nothing-done setting slots _ _ taken events blank))
+memory-carried Verifies slots None taken events blank = (blank, tt)
+memory-carried Verifies slots (Some old) taken events blank =
+    (blank, record { taken = []; parts = refl; all = λ e. absurd (cc); report = []; told = inr (inr refl, refl); report_is = Appends-nil taken })
 
 told-text : (text : List ℕ) (last result : Status) (before after : Option (List ℕ)) → Closes text last result before after
     → IfSome before (λ b. IfSome after (λ a. (report : List ℕ) × (a ≡ b ++ report) × IsPrinted text last result report))

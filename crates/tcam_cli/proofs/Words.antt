@@ -15,23 +15,23 @@ use Rattle.clap.proofs.OnLiterals.{clap_on_literals}
 use Rattle.tcam_cli.specs.declared.own_texts.Topic.{Topic}
 use Rattle.tcam_cli.specs.declared.command_line.Asked.{Asked}
 use Rattle.tcam_cli.specs.declared.command_line.WordsFault.{WordsFault}
-use Rattle.tcam_cli.specs.CommandLine.{job_by_faults, job_of, job_of_fault, acl_app, depth_option, gen_app, number_position, placement_option, ranges_option, route_app, slots_option, tcam_app, tcam_top, text_of, trace_flag, json_flag, topic_in}
+use Rattle.tcam_cli.specs.CommandLine.{job_by_faults, job_of, job_of_fault, acl_app, depth_option, gen_app, number_position, placement_option, ranges_option, route_app, slots_option, tcam_app, tcam_top, text_of, trace_flag, json_flag, verify_app, topic_in}
 use Rattle.tcam_cli.specs.Asked.{asked_by, tested_job}
 use Rattle.tcam_cli.specs.Headline.{Job}
 use Rattle.tcam_cli.proofs.NumbersTaken.{tested}
 use Rattle.tcam_cli.proofs.ClearFaults.{Clear, built-clear, fault_job}
 
 pub simple_and_free : is_simple_and_free tcam_app ≡ true
-unfolding clap_on_literals tcam_app tcam_top route_app acl_app gen_app slots_option ranges_option placement_option trace_flag json_flag depth_option number_position
+unfolding clap_on_literals tcam_app tcam_top route_app acl_app gen_app slots_option ranges_option placement_option trace_flag json_flag depth_option number_position verify_app
 simple_and_free = refl
 
 pub simple : is_simple tcam_app ≡ true
-unfolding clap_on_literals tcam_app tcam_top route_app acl_app gen_app slots_option ranges_option placement_option trace_flag json_flag depth_option number_position
+unfolding clap_on_literals tcam_app tcam_top route_app acl_app gen_app slots_option ranges_option placement_option trace_flag json_flag depth_option number_position verify_app
 simple = refl
 
 tcam-clear : (words : List Text) → Clear (fault_of tcam_app words)
-unfolding tcam_app tcam_top route_app acl_app gen_app slots_option ranges_option placement_option trace_flag json_flag depth_option number_position
-tcam-clear words = built-clear (built tcam_app) nothing_held (argument_words tcam_app words) refl (refl, (refl, (refl, (refl, (refl, tt)))))
+unfolding tcam_app tcam_top route_app acl_app gen_app slots_option ranges_option placement_option trace_flag json_flag depth_option number_position verify_app
+tcam-clear words = built-clear (built tcam_app) nothing_held (argument_words tcam_app words) refl (refl, (refl, (refl, (refl, (refl, (refl, tt))))))
 
 pub taken : (a : App) (words : List Text) (m : ArgMatches) → a ≡ tcam_app → fault_of a words ≡ [] → subcommand_rows_of m ≡ subcommand_of a words
     → job_of words ≡ tested_job (subcommand_rows_of m)

@@ -16,7 +16,8 @@ use Rattle.replay.specs.Script.{Script, script_of}
 use Rattle.replay.specs.Effects.{Setting}
 use Rattle.tcam_cli.specs.declared.Status.{Status}
 use Rattle.tcam_cli.specs.declared.Status.TheVariants.{Done, Refused, Script as ScriptFault, ReadFault, WriteFault, DeviceFault, Memory, Usage}
-use Rattle.tcam_cli.specs.Headline.{Job, NoJob, Tells, Reads, Makes, acts_of, is_back, script_so_far}
+use Rattle.trace_verify.specs.Verify.{IsHitlessText}
+use Rattle.tcam_cli.specs.Headline.{Job, NoJob, Tells, Reads, Makes, Verifies, acts_of, is_back, script_so_far}
 use Rattle.tcam_cli.specs.MadeScript.{made_script}
 use Rattle.tcam_cli.specs.Readings.{reading_by}
 
@@ -157,7 +158,8 @@ pub record IsHitlessRun (setting : Setting) (device_slots : ℕ) (script came : 
   pub ends : EndsAs (blank device_slots) setting backs script came status journal
 
 -- What packets see of a job over a device that was blank, where the source is told; of one that foretells nothing
--- specs/Given.antt speaks, and made commands need none. A job without a script writes nothing.
+-- specs/Given.antt speaks, and made commands need none. A job without a script writes
+-- nothing; and where the check of a trace ends well, each commit of the trace is hitless.
 abbrev pub IsHitlessJob : Job → ℕ → Status → Option (List ℕ) → Option (List ℕ) → List Write → Type 0
 IsHitlessJob NoJob device_slots status left_old left_new journal = journal ≡ []
 IsHitlessJob (Tells text) device_slots status left_old left_new journal = journal ≡ []
@@ -167,3 +169,5 @@ IsHitlessJob (Reads setting) device_slots status left_old left_new journal =
     (script_so_far (reading_by setting) (take (length old - length new) old)) status journal))
 IsHitlessJob (Makes setting seed rules batches) device_slots status left_old left_new journal =
     IsHitlessRun setting device_slots (made_script seed rules batches) (made_script seed rules batches) status journal
+IsHitlessJob Verifies device_slots status left_old left_new journal =
+    (journal ≡ []) × (status ≡ Done → IfSome left_old (λ text. IfSome left_new (λ _. (commits : ℕ) × (writes : ℕ) × IsHitlessText text commits writes)))

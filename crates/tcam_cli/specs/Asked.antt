@@ -10,7 +10,7 @@ use Rattle.tcam_cli.specs.declared.command_line.Asked.{Asked}
 use Rattle.tcam_cli.specs.declared.command_line.Asked.TheVariants as asked
 use Rattle.tcam_cli.specs.CommandLine.{is_traced, job_at, json_by, made_at, mode_wanted, number_in, placed_by, script_setting, text_of}
 use Rattle.tcam_cli.specs.OwnTexts.{help_on, version_text}
-use Rattle.tcam_cli.specs.Headline.{Job, NoJob, Tells, Reads, Makes}
+use Rattle.tcam_cli.specs.Headline.{Job, NoJob, Tells, Reads, Makes, Verifies}
 
 -- the number that a text writes, if it is one of the range
 abbrev pub number_within : ℕ → ℕ → Text → Option ℕ
@@ -47,6 +47,7 @@ tested_job_of_rows name rows =
     else if bytes_eq name (codes "route6") then tested_script Route6 rows
     else if bytes_eq name (codes "acl6") then tested_script Acl6 rows
     else if bytes_eq name (codes "gen") then tested_made rows
+    else if bytes_eq name (codes "verify") then Verifies
     else NoJob
 
 abbrev pub tested_job : Option (Text × List Row) → Job
@@ -57,6 +58,7 @@ tested_job (Some (name, rows)) = tested_job_of_rows name rows
 abbrev pub asked_by : Asked → Job
 asked_by (asked.Script family slots mode placement trace depth json) = Reads (script_setting family slots mode placement trace depth json)
 asked_by (asked.Made slots mode placement seed rules batches) = Makes (script_setting Acl slots mode placement false 0 false) seed rules batches
+asked_by asked.Verify = Verifies
 asked_by (asked.Help topic) = Tells (help_on topic)
 asked_by asked.Version = Tells version_text
 
@@ -75,5 +77,6 @@ abbrev pub IsInRange : Asked → Type 0
 IsInRange (asked.Script family slots mode placement trace depth json) =
     (1 ≤ slots) × (slots ≤ most_slots) × (depth ≤ 15) × (json ≡ true → (family ≡ Route) ⊎ (family ≡ Acl))
 IsInRange (asked.Made slots mode placement seed rules batches) = AreMadeNumbers slots seed rules batches
+IsInRange asked.Verify = Unit {0}
 IsInRange (asked.Help topic) = Unit {0}
 IsInRange asked.Version = Unit {0}

@@ -20,7 +20,7 @@ use Rattle.replay.specs.declared.Family.TheVariants.{Route, Acl, Route6, Acl6}
 use Rattle.replay.specs.Effects.{Setting}
 use Rattle.tcam_cli.specs.declared.own_texts.Topic.{Topic}
 use Rattle.tcam_cli.specs.declared.own_texts.Topic.TheVariants as about
-use Rattle.tcam_cli.specs.Headline.{Job, NoJob, Tells, Reads, Makes}
+use Rattle.tcam_cli.specs.Headline.{Job, NoJob, Tells, Reads, Makes, Verifies}
 use Rattle.tcam_cli.specs.OwnTexts.{help_on, version_text}
 
 -- a script of a family over so many slots in use, port ranges tested as the mode says, each insertion aiming as the
@@ -97,6 +97,10 @@ gen_app =
     with_rule (with_rule (with_rule (with_rule (with_rule (with_rule (new_app (codes "gen")) (number_position (codes "seed") 0 2147483647))
     (number_position (codes "rules") 1 256)) (number_position (codes "batches") 1 64)) slots_option) ranges_option) placement_option
 
+-- the subcommand for the check of a trace
+unfoldable pub verify_app : App
+verify_app = new_app (codes "verify")
+
 -- tcam with a required subcommand and a version; help is asked for by its flag alone
 unfoldable pub tcam_top : App
 tcam_top = on_top (λ top. record top {
@@ -108,8 +112,8 @@ tcam_top = on_top (λ top. record top {
 -- and with its subcommands
 unfoldable pub tcam_app : App
 tcam_app =
-    with_subcommand (with_subcommand (with_subcommand (with_subcommand (with_subcommand tcam_top (with_rule (route_app (codes "route")) json_flag).top)
-    (with_rule (acl_app (codes "acl")) json_flag).top) (route_app (codes "route6")).top) (acl_app (codes "acl6")).top) gen_app.top
+    with_subcommand (with_subcommand (with_subcommand (with_subcommand (with_subcommand (with_subcommand tcam_top (with_rule (route_app (codes "route")) json_flag).top)
+    (with_rule (acl_app (codes "acl")) json_flag).top) (route_app (codes "route6")).top) (acl_app (codes "acl6")).top) gen_app.top) verify_app.top
 
 -- the text that an argument was given, or has by default
 abbrev pub text_of : Text → List Row → Text
@@ -177,7 +181,8 @@ script_by family rows =
     job_at family (number_of (codes "slots") rows) (mode_wanted family rows) (placed_by rows) (is_traced rows) (number_of (codes "depth") rows)
     (json_by family rows)
 
--- what a subcommand and its arguments ask for: a script of its family over so many slots, or made commands
+-- what a subcommand and its arguments ask for: a script of its family over so many slots, made commands, or the check of a
+-- trace
 abbrev pub job_of_rows : Text → List Row → Job
 job_of_rows name rows =
     if bytes_eq name (codes "route") then script_by Route rows
@@ -186,6 +191,7 @@ job_of_rows name rows =
     else if bytes_eq name (codes "acl6") then script_by Acl6 rows
     else if bytes_eq name (codes "gen") then made_at (number_of (codes "slots") rows) (mode_wanted Acl rows) (placed_by rows) (number_of (codes "seed") rows)
     (number_of (codes "rules") rows) (number_of (codes "batches") rows)
+    else if bytes_eq name (codes "verify") then Verifies
     else NoJob
 
 -- what a subcommand asks for, if there is one
@@ -201,6 +207,7 @@ topic_named word =
     else if bytes_eq word (codes "route6") then Some about.Route6
     else if bytes_eq word (codes "acl6") then Some about.Acl6
     else if bytes_eq word (codes "gen") then Some about.Gen
+    else if bytes_eq word (codes "verify") then Some about.Verify
     else None
 
 -- whose help words ask for, the program's name first: that of the subcommand that follows the name, if one does

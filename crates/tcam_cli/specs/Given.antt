@@ -10,9 +10,10 @@ use Rattle.replay.specs.declared.Act.{Act}
 use Rattle.replay.specs.Script.{Script, Whole, script_of}
 use Rattle.replay.specs.Effects.{Setting, Effect, events_in, printed}
 use Rattle.replay.specs.Run.{Progress, Runs}
+use Rattle.trace_verify.specs.Verify.{IsNeeded, IsUnsettled}
 use Rattle.tcam_cli.specs.declared.Status.{Status}
-use Rattle.tcam_cli.specs.declared.Status.TheVariants.{Memory}
-use Rattle.tcam_cli.specs.Headline.{Job, NoJob, Tells, Reads, Makes, IsCarriedOut, IsOutOfMemoryAtAct, MayEnd, acts_of, script_so_far}
+use Rattle.tcam_cli.specs.declared.Status.TheVariants.{Memory, ReadFault}
+use Rattle.tcam_cli.specs.Headline.{Job, NoJob, Tells, Reads, Makes, Verifies, IsCarriedOut, IsOutOfMemoryAtAct, MayEnd, acts_of, script_so_far}
 use Rattle.tcam_cli.specs.AllTheWay.{IsHitlessJob}
 use Rattle.tcam_cli.specs.Readings.{reading_by}
 
@@ -56,7 +57,8 @@ pub record WantsInTime (setting : Setting) (device_slots : ℕ) (before : List (
 
 -- Lines are carried out as soon as they are known, and their report is accepted: no read comes between, since the write
 -- after it may fail, which ends the run. Where memory was wanting, no read came after that either, whatever the bytes
--- that were to come. A job without a script of the source's reads nothing.
+-- that were to come. The check of a trace reads only where the bytes before leave open what is told of it. A job without a
+-- script or a trace of the source's reads nothing.
 abbrev pub ReadsInTime : Job → ℕ → Status → List (List ℕ) → List (List ℕ) → List Action → List ℕ → List ℕ → Type 0
 ReadsInTime NoJob device_slots status given_old given_new events accepted_old accepted_new = given_new ≡ given_old
 ReadsInTime (Tells text) device_slots status given_old given_new events accepted_old accepted_new = given_new ≡ given_old
@@ -65,3 +67,5 @@ ReadsInTime (Reads setting) device_slots status given_old given_new events accep
     (front : List (List ℕ)) (last : List ℕ) → given_new ≡ given_old ++ front ++ last ∷ []
     → IsInTime setting device_slots front events accepted_old accepted_new
     × (status ≡ Memory → (left after : List ℕ) → MayGive left (front ++ last ∷ []) after → WantsInTime setting device_slots front left events accepted_old accepted_new)
+ReadsInTime Verifies device_slots status given_old given_new events accepted_old accepted_new =
+    (pieces : List (List ℕ)) → given_new ≡ given_old ++ pieces → IsNeeded pieces × (status ≡ ReadFault → IsUnsettled pieces)

@@ -3,9 +3,11 @@
 -- a commit that finishes the new one, of a trial that is taken back the old one; a refused commit writes nothing; and an
 -- insertion takes at most 1 + 2 m (1 + c) writes. Writes, drains and lines come in one order: a probe's line stands a
 -- depth of writes behind its write, or before a drain or the commit's end, and a drain only where a commit gives new bits.
-use Rattle.std.specs.Prelude.{◌≡◌, ◌≢◌, ℕ, ◌-◌, ◌==◌, true, false, Bool, Option, Some, option_map, IfSome, List, [], ◌∷◌, ◌++◌, length, take, drop, map, ◌⊎◌}
+use Rattle.std.specs.Prelude.{◌≡◌, ◌≢◌, ℕ, ◌-◌, ◌==◌, true, false, Bool, Option, Some, None, option_map, IfSome, List, [], ◌∷◌, ◌++◌, length, take, drop, map, codes, ◌⊎◌}
 use Rattle.std.specs.Io.KnownBytes.{Appends}
 use Rattle.call_history.specs.Cause.{IsCounted}
+use Rattle.script_lines.specs.declared.LineFault.{LineFault}
+use Rattle.script_lines.specs.declared.LineFault.TheVariants as line_fault
 use Rattle.script_lines.specs.Lines.{line_feed, lines_of}
 use Rattle.rule_model.specs.declared.Rule.{Rule}
 use Rattle.rule_store.specs.declared.Command.{Command as Change}
@@ -18,21 +20,24 @@ use Rattle.batch_order.specs.CarriedOut.{IsTried}
 use Rattle.replay.specs.declared.Act.{Act}
 use Rattle.replay.specs.declared.Act.TheVariants.{Command, Probe, Packet, Commit, Trial, Crash}
 use Rattle.replay.specs.Script.{Script, ScriptEnd, Whole, FaultAt, Reading, acts_from, script_of}
-use Rattle.replay.specs.Text.{usage_line}
+use Rattle.replay.specs.Text.{usage_line, fault_line, yes_line, no_line}
 use Rattle.replay.specs.Effects.{Setting, Effect, Acts, Prints, events_in, printed}
 use Rattle.replay.specs.Reports.{fault_told}
 use Rattle.replay.specs.Run.{Progress, IsCutStep, TakesMemory, Runs, ending}
+use Rattle.trace_check.specs.Answers.{TraceAnswer, Yes, No, Bad, Unread, IsTraceAnswer}
 use Rattle.tcam_cli.specs.declared.Status.{Status}
 use Rattle.tcam_cli.specs.declared.Status.TheVariants.{Done, Refused, Script as ScriptFault, ReadFault, WriteFault, DeviceFault, Memory, Usage}
 use Rattle.tcam_cli.specs.Readings.{reading_by}
 use Rattle.tcam_cli.specs.MadeScript.{made_script}
 
--- what words ask for: nothing, a text of the product about itself, a script from the source, or made commands
+-- what words ask for: nothing, a text of the product about itself, a script from the source, made commands, or the check
+-- of a trace from the source
 pub data Job : Type 0 where
   NoJob : Job
   Tells : (text : List ℕ) → Job
   Reads : (setting : Setting) → Job
   Makes : (setting : Setting) (seed rules batches : ℕ) → Job
+  Verifies : Job
 
 -- the acts of a script without the numbers of their lines
 abbrev pub acts_of : Script → List Act
@@ -150,6 +155,39 @@ IsPrinted text last status report =
     ⊎ (((status ≡ WriteFault) × ((rest : List ℕ) × (text ≡ report ++ rest)))
     ⊎ ((status ≡ Memory) × (report ≡ [])))
 
+-- the line that a check prints of a trace
+abbrev pub told_line : TraceAnswer → List ℕ
+told_line (Yes commits writes) = yes_line commits writes
+told_line (No line) = no_line line
+told_line (Bad line) = fault_line line (codes "bad trace")
+told_line (Unread (line_fault.ScriptTooLong line)) = fault_line line (codes "script too long")
+told_line (Unread (line_fault.TooLong line)) = fault_line line (codes "line too long")
+told_line (Unread (line_fault.BadByte line)) = fault_line line (codes "bad byte")
+told_line (Unread line_fault.Read) = []
+
+-- and its status
+abbrev pub told_status : TraceAnswer → Status
+told_status (Yes commits writes) = Done
+told_status (No line) = Refused
+told_status (Bad line) = ScriptFault
+told_status (Unread fault) = ScriptFault
+
+-- What is told of a trace was printed, or a part of its line where the sink failed; or nothing was, where the source
+-- failed or memory was wanting.
+abbrev pub IsToldOf : List ℕ → Status → List ℕ → Type 0
+IsToldOf text status report =
+    ((answer : TraceAnswer) × IsTraceAnswer text answer × IsPrinted (told_line answer) (told_status answer) status report)
+    ⊎ (((status ≡ ReadFault) ⊎ (status ≡ Memory)) × (report ≡ []))
+
+-- A trace was checked: what was taken of the source is the beginning of it, and all of it where it is orderly.
+pub record IsChecked (status : Status) (old new : List ℕ) (taken_old taken_new : Option (List ℕ)) : Type 0 where
+  pub taken : List ℕ
+  pub parts : old ≡ taken ++ new
+  pub all : status ≡ Done → new ≡ []
+  pub report : List ℕ
+  pub told : IsToldOf old status report
+  pub report_is : Appends taken_old taken_new report
+
 -- The writes and drains of the device, and the report where it is told, are those of an outcome.
 pub record MatchesOutcome (setting : Setting) (device_slots : ℕ) (script came : Script) (status : Status) (events : List Action) (taken_old taken_new : Option (List ℕ)) : Type 0 where
   pub effects : List Effect
@@ -189,6 +227,8 @@ IsCarriedOut (Reads setting) device_slots status left_old left_new taken_old tak
     (script_so_far (reading_by setting) (take (length old - length new) old)) status events taken_old taken_new))
 IsCarriedOut (Makes setting seed rules batches) device_slots status left_old left_new taken_old taken_new events =
     (left_new ≡ left_old) × MatchesMade setting device_slots (made_script seed rules batches) status events taken_old taken_new
+IsCarriedOut Verifies device_slots status left_old left_new taken_old taken_new events =
+    (events ≡ []) × IfSome left_old (λ old. IfSome left_new (λ new. IsChecked status old new taken_old taken_new))
 
 -- whether the next trial that is accepted is taken back: each in their order, and none past the last
 abbrev pub is_back : List Bool → Bool
@@ -237,10 +277,16 @@ decision NoJob backs left = Some Usage
 decision (Tells text) backs left = Some Done
 decision (Reads setting) backs left = option_map (λ bytes. decided setting backs (script_of (reading_by setting) bytes)) left
 decision (Makes setting seed rules batches) backs left = Some (decided setting backs (made_script seed rules batches))
+decision Verifies backs left = None
 
--- words and script alone decide this status, where the script is told or made
+-- words and script alone decide this status, where the script is told or made; and what is told of a trace does
 abbrev pub IsDecided : Status → Job → Option (List ℕ) → Type 0
-IsDecided status job left = (backs : List Bool) × IfSome (decision job backs left) (λ is. is ≡ status)
+IsDecided status NoJob left = (backs : List Bool) × IfSome (decision NoJob backs left) (λ is. is ≡ status)
+IsDecided status (Tells text) left = (backs : List Bool) × IfSome (decision (Tells text) backs left) (λ is. is ≡ status)
+IsDecided status (Reads setting) left = (backs : List Bool) × IfSome (decision (Reads setting) backs left) (λ is. is ≡ status)
+IsDecided status (Makes setting seed rules batches) left =
+    (backs : List Bool) × IfSome (decision (Makes setting seed rules batches) backs left) (λ is. is ≡ status)
+IsDecided status Verifies left = IfSome left (λ text. (answer : TraceAnswer) × IsTraceAnswer text answer × (told_status answer ≡ status))
 
 -- a job that reads the source
 abbrev pub ReadsSource : Job → Type 0
@@ -248,6 +294,7 @@ ReadsSource NoJob = ⊥
 ReadsSource (Tells text) = ⊥
 ReadsSource (Reads setting) = Unit {0}
 ReadsSource (Makes setting seed rules batches) = ⊥
+ReadsSource Verifies = Unit {0}
 
 -- a job that writes the device
 abbrev pub WritesDevice : Job → Type 0
@@ -255,6 +302,7 @@ WritesDevice NoJob = ⊥
 WritesDevice (Tells text) = ⊥
 WritesDevice (Reads setting) = Unit {0}
 WritesDevice (Makes setting seed rules batches) = Unit {0}
+WritesDevice Verifies = ⊥
 
 -- how a job may end: by a fault of what it uses, for want of memory, or as its words and its script decide
 abbrev pub MayEnd : Status → Job → Option (List ℕ) → Type 0

@@ -8,18 +8,20 @@ unfoldable pub help_text : List ℕ
 help_text = codes "tcam: the table manager of a ternary content-addressable memory."
     ++ 10 ∷ codes "It reads a script from standard input, or makes one, carries its commits out"
     ++ 10 ∷ codes "over a modelled device one write at a time, and writes a report to standard"
-    ++ 10 ∷ codes "output."
+    ++ 10 ∷ codes "output. Or it checks a trace of writes, its own or another driver's."
     ++ 10 ∷ 10 ∷ codes "    tcam route [OPTIONS] < FILE    a script of routes"
     ++ 10 ∷ codes "    tcam acl [OPTIONS] < FILE      a script of an access list"
     ++ 10 ∷ codes "    tcam route6 [OPTIONS] < FILE   a script of IPv6 routes"
     ++ 10 ∷ codes "    tcam acl6 [OPTIONS] < FILE     a script of an IPv6 access list"
     ++ 10 ∷ codes "    tcam gen SEED RULES BATCHES [OPTIONS]"
     ++ 10 ∷ codes "                                   changes of an access list, made from SEED"
+    ++ 10 ∷ codes "    tcam verify < FILE             whether each write of a trace is hitless"
     ++ 10 ∷ codes "    tcam route --help              the commands of a script of routes"
     ++ 10 ∷ codes "    tcam acl --help                the commands of a script of an access list"
     ++ 10 ∷ codes "    tcam route6 --help             those of a script of IPv6 routes"
     ++ 10 ∷ codes "    tcam acl6 --help               those of a script of an IPv6 access list"
     ++ 10 ∷ codes "    tcam gen --help                what SEED, RULES and BATCHES make"
+    ++ 10 ∷ codes "    tcam verify --help             the lines of a trace, and what is told of it"
     ++ 10 ∷ codes "    tcam --help                    this text"
     ++ 10 ∷ codes "    tcam --version                 name and version"
     ++ 10 ∷ 10 ∷ codes "Options:"
@@ -40,9 +42,10 @@ help_text = codes "tcam: the table manager of a ternary content-addressable memo
     ++ 10 ∷ codes "                     probes are searched: 0 to 15, by default 0, at once"
     ++ 10 ∷ 10 ∷ codes "Exit status:"
     ++ 10 ∷ codes "    0     the script was read, or made, to its end and no commit was refused,"
-    ++ 10 ∷ codes "          or a text like this one was printed"
-    ++ 10 ∷ codes "    1     the script was read, or made, to its end, and some commit was refused"
-    ++ 10 ∷ codes "    2     a line of the script is at fault"
+    ++ 10 ∷ codes "          or a text like this one was printed; of verify, the trace is orderly"
+    ++ 10 ∷ codes "    1     the script was read, or made, to its end, and some commit was refused;"
+    ++ 10 ∷ codes "          of verify, a line breaks the order"
+    ++ 10 ∷ codes "    2     a line of the script is at fault, or of the trace"
     ++ 10 ∷ codes "    3     standard input could not be read"
     ++ 10 ∷ codes "    4     standard output could not be written"
     ++ 10 ∷ codes "    5     a device write failed four times"
@@ -201,6 +204,40 @@ gen_help = codes "tcam gen: carries out changes of an access list that it makes 
     ++ 10 ∷ 10 ∷ codes "The manual is docs/SCRIPT.md."
     ++ 10 ∷ []
 
+-- the help of the check of a trace
+unfoldable pub verify_help : List ℕ
+verify_help = codes "tcam verify: tells whether each write of a trace is hitless, that is, whether"
+    ++ 10 ∷ codes "each packet gets the answer of the rules before its commit or of those after it."
+    ++ 10 ∷ 10 ∷ codes "    tcam verify < FILE"
+    ++ 10 ∷ 10 ∷ codes "A trace has a JSON value a line, as tcam route --json and tcam acl --json print:"
+    ++ 10 ∷ codes "    {\"family\":F,\"mode\":M,\"slots\":N}"
+    ++ 10 ∷ codes "                         first: route or acl, cover or bits, the slots in use"
+    ++ 10 ∷ codes "    {\"commit\":N}         commit N begins, counted from 1"
+    ++ 10 ∷ codes "    {\"add\":[P,SA,SL,DA,DL,PR,A,B,C,D,R]}"
+    ++ 10 ∷ codes "                         it adds a rule of priority P"
+    ++ 10 ∷ codes "    {\"set\":[P,R]}        it gives the rule of priority P the result R"
+    ++ 10 ∷ codes "    {\"del\":P}            it removes the rule of priority P"
+    ++ 10 ∷ codes "    {\"put\":[5 values,5 masks,P,R],\"slot\":S}"
+    ++ 10 ∷ codes "                         slot S gets an entry"
+    ++ 10 ∷ codes "    {\"erase\":S}          slot S is emptied"
+    ++ 10 ∷ codes "    {\"port\":P,\"table\":F,\"word\":W}"
+    ++ 10 ∷ codes "                         a word of the table of src or dst is written"
+    ++ 10 ∷ codes "    {\"drain\":true}       the words in flight are searched"
+    ++ 10 ∷ codes "    {\"done\":N}           commit N is done"
+    ++ 10 ∷ codes "    {\"refused\":N}        commit N was refused"
+    ++ 10 ∷ codes "    {\"end\":W}            last: the trace has W writes"
+    ++ 10 ∷ codes "    {\"fault\":TEXT,\"line\":N}"
+    ++ 10 ∷ codes "                         or last: line N of a script was at fault"
+    ++ 10 ∷ 10 ∷ codes "Spaces and the order of members are free, blank lines are skipped, and a line"
+    ++ 10 ∷ codes "has at most 512 bytes."
+    ++ 10 ∷ 10 ∷ codes "What is told, and the exit status:"
+    ++ 10 ∷ codes "    yes commits N writes W    0: each write is hitless; N commits were accepted"
+    ++ 10 ∷ codes "    no line N                 1: line N is the first that breaks the order"
+    ++ 10 ∷ codes "    line N bad trace          2: it is none of a trace, or may not stand there,"
+    ++ 10 ∷ codes "                              or the last line is missing"
+    ++ 10 ∷ 10 ∷ codes "The manual is docs/SCRIPT.md."
+    ++ 10 ∷ []
+
 -- the help of a subcommand, or of the program where none is named
 abbrev pub help_on : Option Topic → List ℕ
 help_on None = help_text
@@ -209,6 +246,7 @@ help_on (Some about.Acl) = acl_help
 help_on (Some about.Route6) = route6_help
 help_on (Some about.Acl6) = acl6_help
 help_on (Some about.Gen) = gen_help
+help_on (Some about.Verify) = verify_help
 
 -- the name and the version
 unfoldable pub version_text : List ℕ

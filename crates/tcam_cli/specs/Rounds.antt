@@ -1,6 +1,6 @@
 -- Where a run over a script stands between two lines, what a round comes to, how a run ends, and what a command of it
 -- has.
-use Rattle.std.specs.Prelude.{◌≡◌, ◌≢◌, ◌⊎◌, ℕ, ◌≤◌, ◌++◌, ◌∷◌, Bool, false, Option, None, Some, IsSome, IfNone, IfSome, List, [], length, map}
+use Rattle.std.specs.Prelude.{◌≡◌, ◌≢◌, ◌⊎◌, ℕ, ◌≤◌, ◌++◌, ◌∷◌, Bool, true, false, Option, None, Some, IsSome, IfNone, IfSome, List, [], length, map}
 use Rattle.std.specs.Io.KnownBytes.{Appends}
 use Rattle.call_history.specs.Cause.{IsCounted}
 use Rattle.script_lines.specs.Given.{HasEnd, MayGive, counted}
@@ -12,6 +12,7 @@ use Rattle.tcam_device.specs.declared.Action.{Action}
 use Rattle.route_reader.specs.declared.RouteCommand.{RouteCommand}
 use Rattle.route_reader.specs.declared.RouteCommand.TheVariants as route
 use Rattle.replay.specs.declared.Act.{Act}
+use Rattle.replay.specs.declared.Family.TheVariants.{Route, Acl}
 use Rattle.replay.specs.declared.RunFault.{RunFault}
 use Rattle.replay.specs.declared.RunFault.TheVariants as fault
 use Rattle.replay.specs.Script.{Script, Reading, NumberedAct, Whole, acts_from, script_of}
@@ -20,9 +21,13 @@ use Rattle.replay.specs.Run.{Progress, Runs}
 use Rattle.replay.specs.Outside.{AppendsPart}
 use Rattle.replay.specs.Carried.{Wants}
 use Rattle.replay.specs.Running.{Running}
+use Rattle.trace_check.specs.Answers.{TraceAnswer}
+use Rattle.trace_verify.specs.declared.Verified.{Verified}
+use Rattle.trace_verify.specs.declared.Verified.TheVariants as verified
+use Rattle.trace_verify.specs.Verify.{told_of}
 use Rattle.tcam_cli.specs.declared.Status.{Status}
-use Rattle.tcam_cli.specs.declared.Status.TheVariants.{Done, Refused, WriteFault, DeviceFault, Memory}
-use Rattle.tcam_cli.specs.Headline.{acts_of, whole_lines, script_so_far, IsOutcome}
+use Rattle.tcam_cli.specs.declared.Status.TheVariants.{Done, Refused, ReadFault, WriteFault, DeviceFault, Memory}
+use Rattle.tcam_cli.specs.Headline.{acts_of, whole_lines, script_so_far, told_line, told_status, IsOutcome}
 use Rattle.tcam_cli.specs.Readings.{reading_by}
 use Rattle.script_lines.specs.declared.Over.{Over}
 use Rattle.script_lines.specs.declared.Over.TheVariants as over
@@ -39,6 +44,10 @@ IsCommandOf version (route.Add block answer) = IsBlockOf version block
 IsCommandOf version (route.Set block answer) = Unit {0}
 IsCommandOf version (route.Del block) = Unit {0}
 IsCommandOf version (route.Common command) = Unit {0}
+
+-- a report in JSON is of a family of IPv4
+abbrev pub IsJsonOfIpv4 : Setting → Type 0
+IsJsonOfIpv4 setting = setting.json ≡ true → (setting.family ≡ Route) ⊎ (setting.family ≡ Acl)
 
 -- a script with these acts at its front
 abbrev pub onto_all : List NumberedAct → Script → Script
@@ -105,6 +114,13 @@ pub record ClosesReport {S : Type 0} (taken : S → Option (List ℕ)) (accepted
   pub closes : (which : Bool) → Closes line last status (counted which (taken old) (accepted old)) (counted which (taken new) (accepted new))
   pub told : IsSome (taken old) → IsSome (taken new)
   pub cause : IsCounted (status ≡ WriteFault) (faults old) (faults new)
+
+-- What was told of a trace is the last line of a report, if something was; else nothing was written.
+abbrev pub Reports : {S : Type 0} → (S → Option (List ℕ)) → (S → List ℕ) → (S → ℕ) → S → S → Verified → Status → Type 0
+Reports taken accepted faults old new verified.Read status = (status ≡ ReadFault) × (new ≡ old)
+Reports taken accepted faults old new verified.Memory status = (status ≡ Memory) × (new ≡ old)
+Reports taken accepted faults old new answer status =
+    (told : TraceAnswer) × (told_of answer ≡ Some told) × ClosesReport taken accepted faults old new (told_line told) (told_status told) status
 
 -- A run between two lines: no commit is under way, the sink hasn't failed, and there are no more commits than bytes
 -- taken, since a line takes one.

@@ -3,7 +3,7 @@
 ghost use Rattle.std.specs.Prelude.{◌≡◌, ◌⊎◌, ◌≤◌, codes, Err, IfOk, IsErrOf, IfSome, IsNone, None, false, true, map, string_bytes};
 ghost use Rattle.clap.specs.Words.{app_of, with_rule, rule_of, rows_of, found_of, subcommand_rows_of, kind_of};
 ghost use Rattle.clap.specs.declared.builder.command.Command.TheViews.{out-Command};
-ghost use Rattle.tcam_cli.specs.CommandLine.{job_of, job_of_fault, mode_wanted, mode_in, placement_in, topic_in, topic_named, acl_app, depth_option, gen_app, json_by, json_flag, number_position, placement_option, ranges_option, route_app, slots_option, tcam_app, text_of as text_in, trace_flag};
+ghost use Rattle.tcam_cli.specs.CommandLine.{job_of, job_of_fault, mode_wanted, mode_in, placement_in, topic_in, topic_named, verify_app, acl_app, depth_option, gen_app, json_by, json_flag, number_position, placement_option, ranges_option, route_app, slots_option, tcam_app, text_of as text_in, trace_flag};
 ghost use Rattle.tcam_cli.specs.Asked.{IsInRange, asked_by, number_within, tested_job, tested_made, tested_script};
 ghost use Rattle.tcam_cli.specs.Headline.{NoJob};
 
@@ -41,6 +41,8 @@ pub enum Asked {
         rules: u32,
         batches: u32,
     },
+    /// The check of a trace from the source.
+    Verify,
     /// The help of a subcommand, or of the program where none is named.
     Help(Option<Topic>),
     /// Name and version.
@@ -187,6 +189,14 @@ fn gen_command<'a>(alloc: Global) -> Result<Command<'a>, AllocError>
     )
 }
 
+/// The subcommand for the check of a trace.
+fn verify_command<'a>(alloc: Global) -> Command<'a>
+    ensures app { app_of result ≡ verify_app }
+    ensures local { (out-Command result).has_globals ≡ false }
+{
+    Command::new(alloc, "verify")
+}
+
 /// The declared command line: a required subcommand, help by its flag alone, and a version.
 fn tcam_command<'a>(alloc: Global) -> Result<Command<'a>, AllocError>
     ensures { IfOk result (λ c. app_of c ≡ tcam_app) }
@@ -200,7 +210,8 @@ fn tcam_command<'a>(alloc: Global) -> Result<Command<'a>, AllocError>
             .subcommand(with_json(alloc, acl_command(alloc, "acl")?)?)?
             .subcommand(route_command(alloc, "route6")?)?
             .subcommand(acl_command(alloc, "acl6")?)?
-            .subcommand(gen_command(alloc)?)?,
+            .subcommand(gen_command(alloc)?)?
+            .subcommand(verify_command(alloc))?,
     )
 }
 
@@ -237,6 +248,7 @@ fn job_of_matches(matches: &ArgMatches) -> Option<Asked>
         Some((name, found)) if name == "route6" => job_of_script(Family::Route6, found),
         Some((name, found)) if name == "acl6" => job_of_script(Family::Acl6, found),
         Some((name, found)) if name == "gen" => job_of_made(found),
+        Some((name, _)) if name == "verify" => Some(Asked::Verify),
         _ => None,
     }
 }
@@ -353,6 +365,7 @@ fn topic_by(word: &str) -> Option<Topic>
         "route6" => Some(Topic::Route6),
         "acl6" => Some(Topic::Acl6),
         "gen" => Some(Topic::Gen),
+        "verify" => Some(Topic::Verify),
         _ => None,
     }
 }

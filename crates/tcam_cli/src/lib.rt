@@ -1,5 +1,5 @@
 //! The library of the program `tcam`: it reads a script of changes to routes or to an access list from a source, or
-//! makes one, carries it out over a device, and writes the report to a sink.
+//! makes one, carries it out over a device, and writes the report to a sink; or it checks a trace of device writes.
 //!
 //! # The one hard idea
 //! The promise is a clause of one function, [`run`], over any source, sink and device. Standard input foretells
@@ -8,7 +8,8 @@
 //!
 //! # How it stands
 //! `command_line` says what `clap` is to take and what its answer asks for, `own_texts` what the program says about
-//! itself; `top` is the loop of lines, acts and the last line, and that of made commands.
+//! itself; `top` is the loop of lines, acts and the last line, and that of made commands; `traces` prints what is told of
+//! a trace.
 //!
 //! # What it cost
 //! Lines are carried out before the next read, so a source that gives one line a read is read once a line. A device
@@ -45,6 +46,12 @@
 //!   (`MatchesMade`), and words alone decide how it ends, also over a source that tells nothing (`decision`). Its acts
 //!   have the line number 0, which no line has. That there is room for each change is proved from the size of the
 //!   batches (`AreBatches`). The price is a case more in each definition and lemma over jobs.
+//! - **The check of a trace is a job beside the others** (`Verifies` of `Job`), with the statuses 0, 1 and 2 of its three
+//!   answers. It has no setting and no acts, so the definitions of a run's outcome don't speak of it: what is told of the
+//!   text is `trace_check`'s, its line is printed or cut as a text of the product is (`IsPrinted`), and that no input is
+//!   taken in vain is said by what the bytes before a read leave open (`IsUnsettled` of `trace_verify`). The status is no
+//!   function of the text (`IsDecided`), since an orderly trace is said by relations; `answers_are_one` of `trace_check` says
+//!   that there is only one.
 //! - **`--help`, `-h` and `--version` print the product's own text** to the report's sink with status 0, the one answer
 //!   beside the table of statuses. Where `clap` finds another fault first, as in `tcam frob --help`, the words are no
 //!   command line. There is no subcommand `help`.
@@ -77,17 +84,19 @@ ghost use Rattle.tcam_cli.specs.ExitCodes.{exit_code};
 mod command_line;
 mod own_texts;
 mod top;
+mod traces;
 
 pub use top::run;
 
 /// How a run ends.
 #[derive(Clone, Copy, Debug, PartialEq, Eq)]
 pub enum Status {
-    /// The input was read, or made, to its end, and no commit was refused.
+    /// The input was read, or made, to its end, and no commit was refused; or it is a trace whose writes are hitless.
     Done,
-    /// The input was read, or made, to its end, and some commit was refused.
+    /// The input was read, or made, to its end, and some commit was refused; or it is a trace, and a line of it breaks
+    /// the order.
     Refused,
-    /// A line of the script is at fault.
+    /// A line of the script is at fault, or of the trace.
     Script,
     /// The source failed.
     ReadFault,

@@ -16,6 +16,8 @@ pub enum Topic {
     Acl6,
     /// Made commands.
     Gen,
+    /// The check of a trace.
+    Verify,
 }
 
 /// The help of the program.
@@ -23,7 +25,7 @@ const HELP: &str = "\
 tcam: the table manager of a ternary content-addressable memory.
 It reads a script from standard input, or makes one, carries its commits out
 over a modelled device one write at a time, and writes a report to standard
-output.
+output. Or it checks a trace of writes, its own or another driver's.
 
     tcam route [OPTIONS] < FILE    a script of routes
     tcam acl [OPTIONS] < FILE      a script of an access list
@@ -31,11 +33,13 @@ output.
     tcam acl6 [OPTIONS] < FILE     a script of an IPv6 access list
     tcam gen SEED RULES BATCHES [OPTIONS]
                                    changes of an access list, made from SEED
+    tcam verify < FILE             whether each write of a trace is hitless
     tcam route --help              the commands of a script of routes
     tcam acl --help                the commands of a script of an access list
     tcam route6 --help             those of a script of IPv6 routes
     tcam acl6 --help               those of a script of an IPv6 access list
     tcam gen --help                what SEED, RULES and BATCHES make
+    tcam verify --help             the lines of a trace, and what is told of it
     tcam --help                    this text
     tcam --version                 name and version
 
@@ -58,9 +62,10 @@ Options:
 
 Exit status:
     0     the script was read, or made, to its end and no commit was refused,
-          or a text like this one was printed
-    1     the script was read, or made, to its end, and some commit was refused
-    2     a line of the script is at fault
+          or a text like this one was printed; of verify, the trace is orderly
+    1     the script was read, or made, to its end, and some commit was refused;
+          of verify, a line breaks the order
+    2     a line of the script is at fault, or of the trace
     3     standard input could not be read
     4     standard output could not be written
     5     a device write failed four times
@@ -261,6 +266,45 @@ Example, of two commits of one rule each:
 The manual is docs/SCRIPT.md.
 ";
 
+/// The help of the check of a trace.
+const VERIFY_HELP: &str = "\
+tcam verify: tells whether each write of a trace is hitless, that is, whether
+each packet gets the answer of the rules before its commit or of those after it.
+
+    tcam verify < FILE
+
+A trace has a JSON value a line, as tcam route --json and tcam acl --json print:
+    {\"family\":F,\"mode\":M,\"slots\":N}
+                         first: route or acl, cover or bits, the slots in use
+    {\"commit\":N}         commit N begins, counted from 1
+    {\"add\":[P,SA,SL,DA,DL,PR,A,B,C,D,R]}
+                         it adds a rule of priority P
+    {\"set\":[P,R]}        it gives the rule of priority P the result R
+    {\"del\":P}            it removes the rule of priority P
+    {\"put\":[5 values,5 masks,P,R],\"slot\":S}
+                         slot S gets an entry
+    {\"erase\":S}          slot S is emptied
+    {\"port\":P,\"table\":F,\"word\":W}
+                         a word of the table of src or dst is written
+    {\"drain\":true}       the words in flight are searched
+    {\"done\":N}           commit N is done
+    {\"refused\":N}        commit N was refused
+    {\"end\":W}            last: the trace has W writes
+    {\"fault\":TEXT,\"line\":N}
+                         or last: line N of a script was at fault
+
+Spaces and the order of members are free, blank lines are skipped, and a line
+has at most 512 bytes.
+
+What is told, and the exit status:
+    yes commits N writes W    0: each write is hitless; N commits were accepted
+    no line N                 1: line N is the first that breaks the order
+    line N bad trace          2: it is none of a trace, or may not stand there,
+                              or the last line is missing
+
+The manual is docs/SCRIPT.md.
+";
+
 /// What `--version` prints.
 pub const VERSION: &str = "tcam 0.1.0\n";
 
@@ -276,6 +320,7 @@ pub fn help_of(topic: Option<Topic>) -> &'static str
             Topic::Route6 => ROUTE6_HELP,
             Topic::Acl6 => ACL6_HELP,
             Topic::Gen => GEN_HELP,
+            Topic::Verify => VERIFY_HELP,
         },
     }
 }

@@ -9,6 +9,7 @@ ghost use Rattle.script_lines.specs.declared.Over.TheVariants.{Going};
 ghost use Rattle.tcam_cli.specs.Given.{IsPromisedByGiven, ReadsInTime};
 ghost use Rattle.line_words.specs.Texts.{word_fault_text};
 ghost use Rattle.rule_model.specs.Rule.{route_rule};
+ghost use Rattle.json_text.specs.JsonText.{IsPlainText};
 ghost use Rattle.replay.specs.Run.{start, ending};
 ghost use Rattle.replay.specs.Carried.{IsAt};
 ghost use Rattle.replay.specs.Outside.{Leaves};
@@ -20,11 +21,12 @@ ghost use Rattle.tcam_cli.specs.CommandLine.{job_of};
 ghost use Rattle.tcam_cli.specs.Headline.{IsCarriedOut, HasCauses, Makes, Reads, status_of};
 ghost use Rattle.tcam_cli.specs.MadeScript.{made_act};
 ghost use Rattle.tcam_cli.specs.Readings.{acl_act, acl_reading, common_act, reading, reading_by, route_act, route_rank, route_reading, told_by};
-ghost use Rattle.tcam_cli.specs.Rounds.{ClosesReport, IsBetweenLines, IsBlockOf, IsCommandOf, RoundsBy, status_of_fault};
+ghost use Rattle.tcam_cli.specs.Rounds.{ClosesReport, IsBetweenLines, IsBlockOf, IsCommandOf, IsJsonOfIpv4, RoundsBy, status_of_fault};
 
 use crate::Status;
 use crate::command_line::{Asked, WordsFault, read_words};
 use crate::own_texts::{VERSION, help_of};
+use crate::traces::run_verify;
 use acl_reader::{AclCommand, read_acl};
 use line_words::{CommonCommand, WordFault};
 use replay::{Act, ActFault, Family, Run, RunFault, write_text};
@@ -42,8 +44,8 @@ use tcam_device::ReadBack;
 
 /// Runs what the words of a command line ask for, the program's name first, over a blank device of at least 4,096
 /// slots with no word in flight: a script of routes or of an access list from the source, commands of an access list
-/// that are made from a seed, of which the same holds as of a script and which leave the source as it is, or one of the
-/// product's own texts.
+/// that are made from a seed, of which the same holds as of a script and which leave the source as it is, the check of a
+/// trace from the source, or one of the product's own texts.
 ///
 /// After every single device write each packet key has the answer of the set before the commit or of the one after it,
 /// and after the last write of a commit that finishes that of the one after it; a refused commit writes nothing. A
@@ -120,6 +122,7 @@ pub fn run<S: Source, K: Sink, D: ReadBack>(
             Ok(mut run) => run_made(&mut run, seed, rules, batches, sink, device),
             Err(_) => Status::Memory,
         },
+        Ok(Asked::Verify) => run_verify(alloc, source, sink),
         Ok(Asked::Help(topic)) => tell(sink, help_of(topic), Status::Done),
         Ok(Asked::Version) => tell(sink, VERSION, Status::Done),
         Err(WordsFault::Usage) => tell(sink, "usage\n", Status::Usage),
@@ -137,6 +140,7 @@ fn run_script<S: Source, K: Sink, D: ReadBack>(
     requires slots { run.old.manager.slots ≤ D.slot_count device.old }
     requires idle { run.old.manager.held ≡ None }
     requires whole { run.old.broken ≡ false }
+    requires json { IsJsonOfIpv4 (setting_of run.old) }
     requires begun { progress_of (D.slot_count device.old) run.old ≡ start (D.slot_count device.old) }
     requires blank { D.events device.old ≡ [] }
     requires none_in_flight { D.flight device.old ≡ [] }
@@ -172,6 +176,7 @@ fn round<S: Source, K: Sink, D: ReadBack>(
 ) -> Option<Status>
     requires slots { run.old.manager.slots ≤ D.slot_count device.old }
     requires none_in_flight { D.flight device.old ≡ [] }
+    requires json { IsJsonOfIpv4 (setting_of run.old) }
     requires stands { IsBetweenLines lines.old run.old }
     requires at { IsAt (D.slot_count device.old) (D.events device.old) (progress_of (D.slot_count device.old) run.old) }
     ensures goes { IfNone result ((lines.old.before < lines.new.before) × IsBetweenLines lines.new run.new) }
@@ -230,6 +235,7 @@ fn run_made<K: Sink, D: ReadBack>(
     requires some_batches { 1 ≤ batches }
     requires most_batches { batches ≤ 64 }
     requires family { run.old.family ≡ Family.Acl }
+    requires words { run.old.json ≡ false }
     requires slots { run.old.manager.slots ≤ D.slot_count device.old }
     requires idle { run.old.manager.held ≡ None }
     requires whole { run.old.broken ≡ false }
@@ -258,7 +264,7 @@ fn run_made<K: Sink, D: ReadBack>(
 fn act_of_made(made: &Made) -> Act
     ensures act { result ≡ made_act made.now }
     ensures list { IsActOf Family.Acl result }
-    ensures told { (json : Bool) → IsToldIn json result }
+    ensures told { IsToldIn false result }
 {
     match made {
         Made::Change(command) => Act::Command(*command),
@@ -281,12 +287,14 @@ fn status_of_fault(fault: &RunFault) -> Status
 /// What a line does in a script of the run's family, or the text of its fault. With a report in JSON a trial and a crash
 /// are faults.
 fn read_act(run: &Run, line: &Line) -> Result<Option<Act>, &'static str>
-    requires { line.now.len ≤ 512 }
+    requires len { line.now.len ≤ 512 }
+    requires json { IsJsonOfIpv4 (setting_of run.now) }
     ensures ok { IfOk result (λ found. reading_by (setting_of run.now) (numbered line.now).text ≡ Ok found) }
     ensures err { IfErr result (λ text. reading_by (setting_of run.now) (numbered line.now).text ≡ Err text.now) }
     ensures act { IfOk result (λ found. IfSome found (IsActOf run.now.family)) }
     ensures told { IfOk result (λ found. IfSome found (IsToldIn run.now.json)) }
     ensures short { IfErr result (λ text. length text.now ≤ 32) }
+    ensures plain { IfErr result (λ text. IsPlainText text.now) }
 {
     match read_family_act(run.family(), line) {
         Ok(Some(act)) => told_act(run.is_json(), act),
@@ -300,7 +308,6 @@ fn told_act(json: bool, act: Act) -> Result<Option<Act>, &'static str>
     ensures ok { IfOk result (λ found. told_by json act ≡ Ok found) }
     ensures err { IfErr result (λ text. told_by json act ≡ Err text.now) }
     ensures same { IfOk result (λ found. found ≡ Some act) }
-    ensures told { IfOk result (λ found. IfSome found (IsToldIn json)) }
     ensures short { IfErr result (λ text. length text.now ≤ 32) }
 {
     match act {
@@ -459,7 +466,8 @@ fn finish<K: Sink>(run: &mut Run, sink: &mut K) -> Status
 
 /// Writes the line that names the fault of a script's line.
 fn fault<K: Sink>(run: &Run, line: u32, text: &str, sink: &mut K) -> Status
-    requires { length text.now ≤ 32 }
+    requires short { length text.now ≤ 32 }
+    requires plain { IsPlainText text.now }
     ensures closes { ClosesReport K.taken K.accepted K.faults sink.old sink.new (fault_told (setting_of run.now) run.now.commits line text.now) Status.Script result }
     ensures kind { (result ≢ Status.Usage) × (result ≢ Status.ReadFault) × (result ≢ Status.DeviceFault) × (result ≢ Status.Memory) }
 {

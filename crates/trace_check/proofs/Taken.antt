@@ -14,7 +14,7 @@ use Rattle.trace_check.proofs.AnyMode.{orderly_hitless}
 use Rattle.trace_check.proofs.Yes.{IsCounted, counted, more_on}
 
 -- a line is judged by what is known without the writes of the commit under way
-keeps_on : (now : Tracing) (line : TraceLine) → Keeps (without_made now) line → Keeps now line
+pub keeps_on : (now : Tracing) (line : TraceLine) → Keeps (without_made now) line → Keeps now line
 keeps_on now (Head acl bits slots) k = tt
 keeps_on now (Commit n) k = tt
 keeps_on now (Add rule) k = tt
@@ -29,7 +29,7 @@ keeps_on now (Refused n) k = tt
 keeps_on now (End writes) k = k
 keeps_on now (Fault line) k = tt
 
-keeps_back : (now : Tracing) (line : TraceLine) → Keeps now line → Keeps (without_made now) line
+pub keeps_back : (now : Tracing) (line : TraceLine) → Keeps now line → Keeps (without_made now) line
 keeps_back now (Head acl bits slots) k = tt
 keeps_back now (Commit n) k = tt
 keeps_back now (Add rule) k = tt
@@ -45,7 +45,7 @@ keeps_back now (End writes) k = k
 keeps_back now (Fault line) k = tt
 
 -- and so is the next one
-same_on : (now : Tracing) (line : TraceLine) → without_made (traced_on (without_made now) line) ≡ without_made (traced_on now line)
+pub same_on : (now : Tracing) (line : TraceLine) → without_made (traced_on (without_made now) line) ≡ without_made (traced_on now line)
 same_on now (Head acl bits slots) = refl
 same_on now (Commit n) = refl
 same_on now (Add rule) = refl

@@ -1,7 +1,7 @@
 -- What is told of a trace: that it is orderly, or the first line that isn't, or that is no line of one or may not stand there.
-use Rattle.std.specs.Prelude.{◌≡◌, ℕ, ◌+◌, ◌⊎◌, Bool, true, false, ◌==◌, ◌||◌, Option, Some, None, option_map, option_and_then, List, [], ◌∷◌, ◌++◌, length, codes, decimal, if◌then◌else◌}
+use Rattle.std.specs.Prelude.{◌≡◌, ℕ, ◌+◌, ◌⊎◌, Bool, true, false, ◌==◌, ◌||◌, Option, Some, None, option_map, option_and_then, List, [], ◌∷◌, length, if◌then◌else◌}
 use Rattle.std.specs.List.{list_all, AllByRecursion}
-use Rattle.script_lines.specs.Lines.{NumberedLine, LinesEnd, EndOfInput, Faulty, lines_of}
+use Rattle.script_lines.specs.Lines.{NumberedLine, LinesEnd, EndOfInput, Faulty, text_lines}
 use Rattle.script_lines.specs.declared.LineFault.{LineFault}
 use Rattle.trace_file.specs.declared.TraceLine.{TraceLine}
 use Rattle.trace_file.specs.Lines.{trace_line}
@@ -74,16 +74,9 @@ Tells check [] (Faulty fault) answer = answer ≡ Unread fault
 Tells check (line ∷ lines) last answer =
     TellsLine check line (λ next. Tells next lines last answer) answer (is_blank_line line.text)
 
--- What is told of some bytes.
+-- What is told of some bytes, however many.
 abbrev pub IsTraceAnswer : List ℕ → TraceAnswer → Type 0
-IsTraceAnswer bytes answer = Tells unchecked (lines_of bytes).lines (lines_of bytes).last answer
-
--- the report of an answer, but for that of a byte's fault, which a script's report has too
-abbrev pub answer_text : TraceAnswer → Option (List ℕ)
-answer_text (Yes commits writes) = Some (codes "yes commits " ++ decimal commits ++ codes " writes " ++ decimal writes)
-answer_text (No line) = Some (codes "no line " ++ decimal line)
-answer_text (Bad line) = Some (codes "line " ++ decimal line ++ codes " bad trace")
-answer_text (Unread fault) = None
+IsTraceAnswer bytes answer = Tells unchecked (text_lines bytes).lines (text_lines bytes).last answer
 
 -- the lines of a trace in some lines of text, those with blanks alone left out; None where one is no line of a trace
 abbrev pub trace_lines : List NumberedLine → Option (List TraceLine)
@@ -95,8 +88,8 @@ trace_lines (line ∷ lines) =
 -- What a yes says: the input was read to its end, its lines are a trace, and orderly, with so many commits and writes.
 pub record IsOrderlyText (bytes : List ℕ) (commits writes : ℕ) : Type 0 where
   pub lines : List TraceLine
-  pub whole : (lines_of bytes).last ≡ EndOfInput
-  pub read : trace_lines (lines_of bytes).lines ≡ Some lines
+  pub whole : (text_lines bytes).last ≡ EndOfInput
+  pub read : trace_lines (text_lines bytes).lines ≡ Some lines
   pub within : AllByRecursion IsTraceLine lines
   pub trace : IsTrace lines
   pub orderly : IsOrderly lines
@@ -106,6 +99,10 @@ pub record IsOrderlyText (bytes : List ℕ) (commits writes : ℕ) : Type 0 wher
 -- yes is told exactly of such a text
 abbrev pub YesIsOrderly : Type 0
 YesIsOrderly = (bytes : List ℕ) (commits writes : ℕ) → IsTraceAnswer bytes (Yes commits writes) → IsOrderlyText bytes commits writes
+
+-- no two answers are told of one text
+abbrev pub AnswersAreOne : Type 0
+AnswersAreOne = (bytes : List ℕ) (a b : TraceAnswer) → IsTraceAnswer bytes a → IsTraceAnswer bytes b → a ≡ b
 
 -- and each commit of such a text is hitless for every key
 abbrev pub YesIsHitless : Type 0

@@ -1,7 +1,7 @@
 //! Laws as calls: each makes nothing, and its contract is the law.
 ghost use Rattle.trace_check.specs.Places.{PlacesAreExact};
 ghost use Rattle.trace_check.specs.Hitless.{OrderlyTracesAreHitless, TracesAreCommits};
-ghost use Rattle.trace_check.specs.Answers.{YesIsOrderly, YesIsHitless, OrderlyTracesGetYes};
+ghost use Rattle.trace_check.specs.Answers.{AnswersAreOne, YesIsOrderly, YesIsHitless, OrderlyTracesGetYes};
 ghost use Rattle.trace_check.specs.Segments.{SegmentsAreOrderly};
 ghost use Rattle.trace_check.specs.Checked.{TakenTracesAreHitless, OrderlyTracesAreTaken};
 ghost use Rattle.trace_check.specs.Local.{SlotWritesAreLocal, TableWritesAreLocal};
@@ -29,6 +29,11 @@ pub fn yes_is_orderly()
 /// A text of which yes is told is a trace of hitless writes.
 pub fn yes_is_hitless()
     ensures { YesIsHitless }
+{}
+
+/// No two answers are told of one text.
+pub fn answers_are_one()
+    ensures { AnswersAreOne }
 {}
 
 /// An orderly trace gets yes.

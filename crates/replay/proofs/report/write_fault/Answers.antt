@@ -7,5 +7,5 @@ use Rattle.replay.proofs.report.write_fault.Goals as goal
 pub returns : goal.returns
 returns g c =
     let same : c.word.result ++ 10 ∷ [] ≡ fault_line c.args.line c.args.fault.now =
-    rw (c.word.ensures.text, c.number.ensures.text, c.new.ensures, c.from.ensures) (with_words-line (codes "line") (decimal c.args.line ∷ c.args.fault.now ∷ [])) in
+    rw (c.word.ensures.text, c.number.ensures.text, c.new.ensures) (with_words-line (codes "line") (decimal c.args.line ∷ c.args.fault.now ∷ [])) in
     rw same at c.write.ensures

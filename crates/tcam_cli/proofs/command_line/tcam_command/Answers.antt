@@ -33,5 +33,7 @@ returns c =
     ∙ ap₂ with_subcommand lists (ap (λ (a : App). a.top) c.in_ok-route_command-2.ensures.app) in
     let lists6 = c.in_ok-subcommand-4.ensures.shape c.in_ok-acl_command-2.ensures.local
     ∙ ap₂ with_subcommand routes6 (ap (λ (a : App). a.top) c.in_ok-acl_command-2.ensures.app) in
-    c.in_ok-subcommand-5.ensures.shape c.in_ok-gen_command.ensures.local
-    ∙ ap₂ with_subcommand lists6 (ap (λ (a : App). a.top) c.in_ok-gen_command.ensures.app)
+    let made = c.in_ok-subcommand-5.ensures.shape c.in_ok-gen_command.ensures.local
+    ∙ ap₂ with_subcommand lists6 (ap (λ (a : App). a.top) c.in_ok-gen_command.ensures.app) in
+    c.in_ok-subcommand-6.ensures.shape c.verify_command.ensures.local
+    ∙ ap₂ with_subcommand made (ap (λ (a : App). a.top) c.verify_command.ensures.app)

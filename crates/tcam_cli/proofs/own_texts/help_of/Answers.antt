@@ -1,5 +1,5 @@
 use Rattle.std.proofs.Common.{◌∙◌, ap, sym, Some}
-use Rattle.tcam_cli.specs.OwnTexts.{acl_help, acl_help_of, acl6_help, depth_line, gen_help, help_on, help_text, ipv4_named, ipv6_named, list_options, placement_line, route_help, route_help_of, route6_help, script_commands, slots_line, trace_option}
+use Rattle.tcam_cli.specs.OwnTexts.{acl_help, acl_help_of, acl6_help, depth_line, gen_help, help_on, help_text, ipv4_named, ipv6_named, list_options, placement_line, route_help, route_help_of, route6_help, script_commands, slots_line, trace_option, verify_help}
 use Rattle.tcam_cli.proofs.own_texts.help_of.Goals as goal
 
 pub returns-in-None : goal.returns-in-None
@@ -25,3 +25,7 @@ returns-in-Acl6 c = ap help_on (sym (c.in-Some.is ∙ ap Some c.in-Acl6.is))
 pub returns-in-Gen : goal.returns-in-Gen
 unfolding gen_help list_options slots_line placement_line
 returns-in-Gen c = ap help_on (sym (c.in-Some.is ∙ ap Some c.in-Gen.is))
+
+pub returns-in-Verify : goal.returns-in-Verify
+unfolding verify_help
+returns-in-Verify c = ap help_on (sym (c.in-Some.is ∙ ap Some c.in-Verify.is))

@@ -1,19 +1,24 @@
-use Rattle.std.proofs.Common.{true, false, ◌≤◌, refl, ap, sym, ◌∙◌, Err, arith}
+use Rattle.std.proofs.Common.{true, false, ◌≤◌, refl, ap, sym, ◌∙◌, subst, Err, arith}
 use Rattle.tcam_cli.specs.declared.Status.TheVariants.{Done, Usage}
 use Rattle.replay.specs.Running.{Running, progress_of, setting_of}
 use Rattle.replay.specs.Text.{usage_line}
 use Rattle.tcam_cli.specs.OwnTexts.{version_text}
 use Rattle.replay.specs.declared.Family.TheVariants.{Acl}
-use Rattle.tcam_cli.specs.Headline.{Makes, Reads, Tells}
+use Rattle.tcam_cli.specs.Headline.{Makes, Reads, Tells, Verifies}
+use Rattle.tcam_cli.specs.Rounds.{IsJsonOfIpv4}
 use Rattle.tcam_cli.proofs.Begun.{begins}
-use Rattle.replay.proofs.between.Leaving.{uncounted}
+use Rattle.replay.proofs.between.Leaving.{uncounted, leaves-line}
 use Rattle.tcam_device.specs.Flight.{writes_in}
 use Rattle.tcam_cli.proofs.FaultCounts.{made-tried}
+use Rattle.std.specs.List.{concat}
+use Rattle.tcam_cli.proofs.WholeRun.{told-source}
 use Rattle.tcam_cli.proofs.MadeRuns.{made-ends}
 use Rattle.tcam_cli.proofs.TopCall.{memory-carried, told-alone}
 use Rattle.tcam_cli.proofs.HitlessRuns.{hitless-job}
 use Rattle.tcam_cli.proofs.GivenRuns.{promised-none, may-tell, may-usage}
 use Rattle.tcam_cli.proofs.InTime.{nothing-read}
+use Rattle.tcam_cli.proofs.Checks.{shown, only-read, sink-counted, told-sink, no-device-fault, checked-carried, checked-ends, checked-in-time}
+use Rattle.tcam_cli.proofs.CheckRuns.{checked-promised}
 use Rattle.tcam_cli.proofs.top.run.Goals as goal
 
 pub run_script-requires-clause-begun : goal.run_script-requires-clause-begun
@@ -22,6 +27,11 @@ run_script-requires-clause-begun g c =
     let range = rw c.in-Ok-Script.field-0-is at c.in-Ok-Script.ensures.within in
     let within : c.in-Ok-Script.slots ≤ slots = omega (arith, range.1) in
     ap (progress_of slots) c.in-Ok.ensures ∙ begins c.in-Ok-Script.mode c.in-Ok-Script.placement c.in-Ok-Script.family c.in-Ok-Script.slots slots c.in-Ok-Script.trace c.in-Ok-Script.depth c.in-Ok-Script.json within
+
+pub run_script-requires-clause-json : goal.run_script-requires-clause-json
+run_script-requires-clause-json g c =
+    let range = rw c.in-Ok-Script.field-0-is at c.in-Ok-Script.ensures.within in
+    subst (λ (run : Running). IsJsonOfIpv4 (setting_of run)) (sym c.in-Ok.ensures) range.3
 
 pub returns-in-Ok-clause-carried_out : goal.returns-in-Ok-clause-carried_out
 returns-in-Ok-clause-carried_out g c =
@@ -62,7 +72,7 @@ pub returns-in-Err-clause-given : goal.returns-in-Err-clause-given
 returns-in-Err-clause-given g c = λ which. promised-none _ _ _ _ _ _ _ (λ left. memory-carried _ _ left _ _ c.requires.blank) (λ left. tt)
 
 pub returns-in-Err-clause-in_time : goal.returns-in-Err-clause-in_time
-returns-in-Err-clause-in_time g c = nothing-read _ _ _ _ _ _
+returns-in-Err-clause-in_time g c = nothing-read _ _ _ _ _ _ (λ e. cc)
 
 pub returns-in-Ok-Help-clause-carried_out : goal.returns-in-Ok-Help-clause-carried_out
 returns-in-Ok-Help-clause-carried_out g c =
@@ -123,7 +133,7 @@ returns-in-Err-Usage-clause-in_time g c =
     rw is refl
 
 pub returns-in-Err-Memory-clause-in_time : goal.returns-in-Err-Memory-clause-in_time
-returns-in-Err-Memory-clause-in_time g c = nothing-read _ _ _ _ _ _
+returns-in-Err-Memory-clause-in_time g c = nothing-read _ _ _ _ _ _ (λ e. cc)
 
 pub run_made-requires-clause-begun : goal.run_made-requires-clause-begun
 run_made-requires-clause-begun g c =
@@ -171,3 +181,50 @@ returns-in-Err-new-clause-hitless g c =
 
 pub returns-in-Err-new-clause-given : goal.returns-in-Err-new-clause-given
 returns-in-Err-new-clause-given g c = λ which. promised-none _ _ _ _ _ _ _ (λ left. memory-carried _ _ left _ _ c.requires.blank) (λ left. tt)
+
+-- ---- the check of a trace
+
+pub returns-in-Ok-Verify-clause-carried_out : goal.returns-in-Ok-Verify-clause-carried_out
+returns-in-Ok-Verify-clause-carried_out g c =
+    let asked = rw c.in-Ok-Verify.field-0-is at c.in-Ok-Verify.ensures.asked in
+    let v = c.run_verify.ensures.gives in
+    rw asked (checked-carried (g.D.Writable.slot_count c.args.device.now) _ _ _ _ _ v.1 _ _ _ c.requires.blank v.2 (shown _ _ _ _ _ _ v.1 v.0 v.3 v.4 true))
+
+pub returns-in-Ok-Verify-clause-hitless : goal.returns-in-Ok-Verify-clause-hitless
+returns-in-Ok-Verify-clause-hitless g c =
+    let asked = rw c.in-Ok-Verify.field-0-is at c.in-Ok-Verify.ensures.asked in
+    let v = c.run_verify.ensures.gives in
+    rw (asked, g.met.D.Writable.agrees c.args.device.now)
+    (hitless-job Verifies (g.D.Writable.slot_count c.args.device.now) c.run_verify.result _ _ (g.K.Sink.taken c.args.sink.now) (g.K.Sink.taken c.run_verify.new.sink) (g.D.Writable.events c.args.device.now)
+    (checked-carried (g.D.Writable.slot_count c.args.device.now) _ _ _ _ _ v.1 _ _ _ c.requires.blank v.2 (shown _ _ _ _ _ _ v.1 v.0 v.3 v.4 true)))
+
+pub returns-in-Ok-Verify-clause-given : goal.returns-in-Ok-Verify-clause-given
+returns-in-Ok-Verify-clause-given g c = λ which.
+    let asked = rw c.in-Ok-Verify.field-0-is at c.in-Ok-Verify.ensures.asked in
+    let v = c.run_verify.ensures.gives in
+    rw asked (checked-promised _ _ _ _ _ _ v.1 _ _ _ c.requires.blank v.2 (shown _ _ _ _ _ _ v.1 v.0 v.3 v.4 which))
+
+pub returns-in-Ok-Verify-clause-in_time : goal.returns-in-Ok-Verify-clause-in_time
+returns-in-Ok-Verify-clause-in_time g c =
+    let asked = rw c.in-Ok-Verify.field-0-is at c.in-Ok-Verify.ensures.asked in
+    let v = c.run_verify.ensures.gives in
+    rw asked (checked-in-time (g.D.Writable.slot_count c.args.device.now) c.run_verify.result _ _ v.1 (g.D.Writable.events c.args.device.now) (g.K.Sink.accepted c.args.sink.now) (g.K.Sink.accepted c.run_verify.new.sink) v.0 v.2.given v.3 (only-read _ _ _ _ _ _ v.0 v.4))
+
+pub returns-in-Ok-Verify-clause-told : goal.returns-in-Ok-Verify-clause-told
+returns-in-Ok-Verify-clause-told g c =
+    let v = c.run_verify.ensures.gives in
+    (λ some. told-source _ _ (concat v.1, v.2.taken) some, λ some. told-sink _ _ _ _ _ _ v.0 v.4 some)
+
+pub returns-in-Ok-Verify-clause-causes : goal.returns-in-Ok-Verify-clause-causes
+returns-in-Ok-Verify-clause-causes g c =
+    let asked = rw c.in-Ok-Verify.field-0-is at c.in-Ok-Verify.ensures.asked in
+    let v = c.run_verify.ensures.gives in
+    let sink = sink-counted _ _ _ _ _ _ v.0 v.4 in
+    let leaves = leaves-line g.K.Sink.taken g.K.Sink.faults g.D.Writable.slot_count g.D.Writable.journal g.D.Writable.faults c.args.sink.now c.run_verify.new.sink c.args.device.now c.args.device.now _ _
+    (λ some. told-sink _ _ _ _ _ _ v.0 v.4 some) refl refl refl sink (no-device-fault _ _ _ _ _ _ v.0 v.4) in
+    rw asked (record {
+      read = c.run_verify.ensures.cause;
+      write = sink;
+      device = made-tried _ _ _ _ _ _ _ _ _ _ _ (g.met.D.Writable.agrees c.args.device.now ∙ ap writes_in c.requires.blank) leaves;
+      ends = checked-ends _ _ _ _ _ v.1 _ _ v.2 (shown _ _ _ _ _ _ v.1 v.0 v.3 v.4 true);
+    })

@@ -7,7 +7,7 @@ use Rattle.replay.specs.declared.Family.{Family}
 use Rattle.replay.specs.Effects.{Setting}
 use Rattle.replay.specs.Run.{Progress}
 use Rattle.replay.specs.Fates.{IsCrash}
-use Rattle.replay.specs.Running.{IsActOf, progress_of, setting_of}
+use Rattle.replay.specs.Running.{IsActOf, IsToldIn, progress_of, setting_of}
 use Rattle.replay.specs.Carried.{Carries}
 use Rattle.replay.proofs.between.Leaving.{leaves-line, leaves-then, uncounted}
 use Rattle.tcam_cli.specs.MadeScript.{made_act}
@@ -39,6 +39,7 @@ apply-requires g c =
     let i = c.acts.invariant in
     let slots : c.acts.run.manager.slots ≡ c.args.run.now.manager.slots = ap (λ (s : Setting). s.slots) i.setting in
     let family = ap (λ (s : Setting). s.family) i.setting ∙ c.requires.family in
+    let json = ap (λ (s : Setting). s.json) i.setting ∙ c.requires.words in
     let count = i.leaves.slot_count in
     let within = c.requires.slots in
     let few = i.commits in
@@ -46,7 +47,7 @@ apply-requires g c =
       slots = omega (arith, slots, count, within);
       none_in_flight = λ _. i.none_in_flight;
       act = subst (λ (family : Family). IsActOf family c.act_of_made.result) (sym family) c.act_of_made.ensures.list;
-      told = c.act_of_made.ensures.told c.acts.run.json;
+      told = subst (λ (json : Bool). IsToldIn json c.act_of_made.result) (sym json) c.act_of_made.ensures.told;
       whole = i.whole;
       stands = λ crash. absurd (never-crash c.in-Some.made (subst IsCrash c.act_of_made.ensures.act crash));
       commits = omega (arith, few);

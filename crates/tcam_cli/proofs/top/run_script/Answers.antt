@@ -1,7 +1,8 @@
-use Rattle.std.proofs.Common.{true, false, ◌≡◌, ◌++◌, [], Some, refl, sym, ap, ◌∙◌, arith}
+use Rattle.std.proofs.Common.{true, false, ◌≡◌, ◌++◌, [], Some, refl, sym, ap, ◌∙◌, subst, arith}
 use Rattle.std.specs.List.{concat}
 use Rattle.script_lines.specs.Given.{HasEnd, counted}
-use Rattle.tcam_cli.proofs.GivenRuns.{gives-none, gives-trans, may-first, may-second, ended-both, no-more, may-all, ends-told, promised}
+use Rattle.script_lines.proofs.Turns.{gives-none, gives-trans, may-first, may-second, ended-both, no-more, may-all}
+use Rattle.tcam_cli.proofs.GivenRuns.{ends-told, promised}
 use Rattle.tcam_cli.proofs.InTime.{in-time-none, stands-first, stands-next, round-in-time, wants-in-time, reads-in-time}
 use Rattle.script_lines.specs.Reader.{HeldBytes}
 use Rattle.replay.specs.Run.{Progress}
@@ -13,7 +14,11 @@ use Rattle.tcam_device.specs.Flight.{writes_in}
 use Rattle.tcam_device.specs.State.{replay}
 use Rattle.tcam_cli.proofs.FaultCounts.{leaves-none, made-tried, status-leaves}
 use Rattle.tcam_cli.proofs.WholeRun.{starts, told-source, counted-last, carried, may-end}
+use Rattle.tcam_cli.specs.Rounds.{IsJsonOfIpv4}
 use Rattle.tcam_cli.proofs.top.run_script.Goals as goal
+
+pub round-requires-clause-json : goal.round-requires-clause-json
+round-requires-clause-json g c = subst IsJsonOfIpv4 (sym c.acts.invariant.setting) c.requires.json
 
 pub acts-init : goal.acts-init
 acts-init g c = record {

@@ -1,0 +1,180 @@
+-- What a line that was read is in a report in JSON: a command of a trace, or a fault whose text stands as it is.
+use Rattle.std.proofs.Common.{◌≡◌, ◌⊎◌, Bool, true, false, ℕ, inl, inr, List, codes, Option, Some, None, IfSome, Result, Ok, Err, IfOk, IfErr, refl, subst}
+use Rattle.rule_model.specs.declared.IpVersion.TheVariants.{V4, V6}
+use Rattle.packet_keys.specs.declared.FrameFault.TheVariants as frame
+use Rattle.line_words.specs.declared.WordFault.{WordFault}
+use Rattle.line_words.specs.declared.WordFault.TheVariants as word
+use Rattle.line_words.specs.declared.commands.CommonCommand.{CommonCommand}
+use Rattle.line_words.specs.declared.commands.CommonCommand.TheVariants as common
+use Rattle.line_words.specs.Kinds.{ipv4_notation}
+use Rattle.line_words.specs.Texts.{word_fault_text}
+use Rattle.route_reader.specs.declared.RouteCommand.{RouteCommand}
+use Rattle.route_reader.specs.declared.RouteCommand.TheVariants as route
+use Rattle.route_reader.specs.Grammar.{route_line}
+use Rattle.acl_reader.specs.declared.AclCommand.{AclCommand}
+use Rattle.acl_reader.specs.declared.AclCommand.TheVariants as acl
+use Rattle.acl_reader.specs.Grammar.{acl_line}
+use Rattle.trace_file.specs.Forms.{IsTraceLine}
+use Rattle.json_text.specs.JsonText.{IsPlainText}
+use Rattle.replay.specs.declared.Act.{Act}
+use Rattle.replay.specs.declared.Act.TheVariants.{Command, Probe, Packet, Commit, Trial, Crash}
+use Rattle.replay.specs.declared.Family.{Family}
+use Rattle.replay.specs.declared.Family.TheVariants.{Route, Acl, Route6, Acl6}
+use Rattle.replay.specs.Effects.{Setting}
+use Rattle.replay.specs.JsonLines.{change_line}
+use Rattle.replay.specs.Running.{IsToldIn}
+use Rattle.tcam_cli.specs.Readings.{acl_act, common_act, line_told_by, reading, reading_by, reading_of, route_act, told_by}
+use Rattle.tcam_cli.specs.Rounds.{IsJsonOfIpv4}
+use Rattle.tcam_cli.proofs.TracedLines.{IsListWithin, IsRouteWithin, list-line, route-line}
+
+-- ---- commands
+
+-- a command whose line is one of a trace; of an act of another kind nothing is said
+abbrev pub IsTraced : Act → Type 0
+IsTraced (Command change) = IsTraceLine (change_line change)
+IsTraced (Probe key) = Unit {0}
+IsTraced (Packet key) = Unit {0}
+IsTraced Commit = Unit {0}
+IsTraced (Trial most) = Unit {0}
+IsTraced (Crash after) = Unit {0}
+
+common-traced : (command : CommonCommand) → IsTraced (common_act command)
+common-traced (common.Probe key) = tt
+common-traced (common.Packet key) = tt
+common-traced common.Commit = tt
+common-traced (common.Trial most) = tt
+common-traced (common.Crash after) = tt
+
+route-traced : (command : RouteCommand) → IsRouteWithin command → IsTraced (route_act V4 command)
+route-traced (route.Add block answer) within = within
+route-traced (route.Set block answer) within = within
+route-traced (route.Del block) within = within
+route-traced (route.Common command) within = common-traced command
+
+list-traced : (command : AclCommand) → IsListWithin command → IsTraced (acl_act command)
+list-traced (acl.Add rule) within = within
+list-traced (acl.Set sequence answer) within = within
+list-traced (acl.Del sequence) within = within
+list-traced (acl.Common command) within = common-traced command
+
+-- what a reader's command is
+traced-by : {C : Type 0} (act_of : C → Act) (Within : C → Type 0) (line : Result (Option C) WordFault) (act : Act) → ((command : C) → Within command → IsTraced (act_of command))
+    → ((command : C) → line ≡ Ok (Some command) → Within command) → reading_of act_of line ≡ Ok (Some act) → IsTraced act
+traced-by act_of Within (Ok (Some command)) act traced right is =
+    let same : act_of command ≡ act = cc in
+    subst IsTraced same (traced command (right command refl))
+traced-by act_of Within (Ok None) act traced right is = absurd (cc)
+traced-by act_of Within (Err fault) act traced right is = absurd (cc)
+
+pub traced : (family : Family) (text : List ℕ) (act : Act) → (family ≡ Route) ⊎ (family ≡ Acl) → reading family text ≡ Ok (Some act) → IsTraced act
+traced family text act (inl same) is =
+    traced-by (route_act V4) IsRouteWithin (route_line ipv4_notation text) act route-traced (route-line text) (subst (λ (f : Family). reading f text ≡ Ok (Some act)) same is)
+traced family text act (inr same) is =
+    traced-by acl_act IsListWithin (acl_line ipv4_notation text) act list-traced (list-line text) (subst (λ (f : Family). reading f text ≡ Ok (Some act)) same is)
+
+-- ---- by the report
+
+abbrev Either : Bool → Result (Option Act) (List ℕ) → Result (Option Act) (List ℕ) → Result (Option Act) (List ℕ)
+Either json told else_told = elim json [ true ↦ told | false ↦ else_told ]
+
+-- a trial or a crash
+only-in-words : (json : Bool) (act : Act) (found : Option Act) → (json ≡ false → IsToldIn json act) → Either json (Err (codes "not with json")) (Ok (Some act)) ≡ Ok found → IfSome found (IsToldIn json)
+only-in-words true act found told is = absurd (cc)
+only-in-words false act found told is =
+    let same : Some act ≡ found = cc in
+    subst (λ (one : Option Act). IfSome one (IsToldIn false)) same (told refl)
+
+told-act : (json : Bool) (act : Act) (found : Option Act) → (json ≡ true → IsTraced act) → told_by json act ≡ Ok found → IfSome found (IsToldIn json)
+told-act json (Command change) found line is =
+    let same : Some (Command change) ≡ found = cc in
+    subst (λ (one : Option Act). IfSome one (IsToldIn json)) same line
+told-act json (Probe key) found line is =
+    let same : Some (Probe key) ≡ found = cc in
+    subst (λ (one : Option Act). IfSome one (IsToldIn json)) same tt
+told-act json (Packet key) found line is =
+    let same : Some (Packet key) ≡ found = cc in
+    subst (λ (one : Option Act). IfSome one (IsToldIn json)) same tt
+told-act json Commit found line is =
+    let same : Some Commit ≡ found = cc in
+    subst (λ (one : Option Act). IfSome one (IsToldIn json)) same tt
+told-act json (Trial most) found line is = only-in-words json (Trial most) found (λ words. words) is
+told-act json (Crash after) found line is = only-in-words json (Crash after) found (λ words. words) is
+
+told-read : (setting : Setting) (text : List ℕ) (read : Result (Option Act) (List ℕ)) (found : Option Act) → IsJsonOfIpv4 setting → reading setting.family text ≡ read
+    → line_told_by setting.json read ≡ Ok found → IfSome found (IsToldIn setting.json)
+told-read setting text (Ok (Some act)) found ipv4 same is = told-act setting.json act found (λ json. traced setting.family text act (ipv4 json) same) is
+told-read setting text (Ok None) found ipv4 same is =
+    let none : ◌≡◌ {A = Option Act} None found = cc in
+    subst (λ (one : Option Act). IfSome one (IsToldIn setting.json)) none tt
+told-read setting text (Err fault) found ipv4 same is = absurd (cc)
+
+-- A report of the setting can tell the act of a line.
+pub told-line : (setting : Setting) (text : List ℕ) (found : Option Act) → IsJsonOfIpv4 setting → reading_by setting text ≡ Ok found → IfSome found (IsToldIn setting.json)
+told-line setting text found ipv4 is = told-read setting text (reading setting.family text) found ipv4 refl is
+
+pub told-result : {T : Type 0} (setting : Setting) (text : List ℕ) (result : Result (Option Act) T) → IsJsonOfIpv4 setting
+    → IfOk result (λ found. reading_by setting text ≡ Ok found) → IfOk result (λ found. IfSome found (IsToldIn setting.json))
+told-result setting text (Ok found) ipv4 is = told-line setting text found ipv4 is
+told-result setting text (Err fault) ipv4 is = tt
+
+-- ---- the texts of faults
+
+word-plain : (fault : WordFault) → IsPlainText (word_fault_text fault)
+word-plain word.UnknownCommand = refl
+word-plain word.WordCount = refl
+word-plain word.BadPrefix = refl
+word-plain word.HostBits = refl
+word-plain word.BadResult = refl
+word-plain word.BadSequence = refl
+word-plain word.BadCount = refl
+word-plain word.BadAction = refl
+word-plain word.BadProtocol = refl
+word-plain word.BadPorts = refl
+word-plain word.BadAddress = refl
+word-plain word.BadHex = refl
+word-plain (word.Frame frame.Empty) = refl
+word-plain (word.Frame frame.Version) = refl
+word-plain (word.Frame frame.HeaderLength) = refl
+word-plain (word.Frame frame.Short) = refl
+
+plain-by : {C : Type 0} (act_of : C → Act) (line : Result (Option C) WordFault) (text : List ℕ) → reading_of act_of line ≡ Err text → IsPlainText text
+plain-by act_of (Ok found) text is = absurd (cc)
+plain-by act_of (Err fault) text is =
+    let same : word_fault_text fault ≡ text = cc in
+    subst IsPlainText same (word-plain fault)
+
+pub plain-read : (family : Family) (line text : List ℕ) → reading family line ≡ Err text → IsPlainText text
+plain-read Route line text is = plain-by (route_act V4) (route_line ipv4_notation line) text is
+plain-read Acl line text is = plain-by acl_act (acl_line ipv4_notation line) text is
+plain-read Route6 line text is = plain-by (route_act V6) _ text is
+plain-read Acl6 line text is = plain-by acl_act _ text is
+
+plain-words : (json : Bool) (act : Act) (text : List ℕ) → Either json (Err (codes "not with json")) (Ok (Some act)) ≡ Err text → IsPlainText text
+plain-words true act text is =
+    let same : codes "not with json" ≡ text = cc in
+    subst IsPlainText same refl
+plain-words false act text is = absurd (cc)
+
+plain-told : (json : Bool) (act : Act) (text : List ℕ) → told_by json act ≡ Err text → IsPlainText text
+plain-told json (Command change) text is = absurd (cc)
+plain-told json (Probe key) text is = absurd (cc)
+plain-told json (Packet key) text is = absurd (cc)
+plain-told json Commit text is = absurd (cc)
+plain-told json (Trial most) text is = plain-words json (Trial most) text is
+plain-told json (Crash after) text is = plain-words json (Crash after) text is
+
+plain-line : (setting : Setting) (line : List ℕ) (read : Result (Option Act) (List ℕ)) (text : List ℕ) → reading setting.family line ≡ read → line_told_by setting.json read ≡ Err text → IsPlainText text
+plain-line setting line (Ok (Some act)) text same is = plain-told setting.json act text is
+plain-line setting line (Ok None) text same is = absurd (cc)
+plain-line setting line (Err fault) text same is =
+    let here : fault ≡ text = cc in
+    subst IsPlainText here (plain-read setting.family line fault same)
+
+-- The text of a line's fault stands in JSON as it is.
+pub plain-fault : (setting : Setting) (line text : List ℕ) → reading_by setting line ≡ Err text → IsPlainText text
+plain-fault setting line text is = plain-line setting line (reading setting.family line) text refl is
+
+pub plain-result : {T : Type 0} (now : T → List ℕ) (setting : Setting) (line : List ℕ) (result : Result (Option Act) T)
+    → IfErr result (λ text. reading_by setting line ≡ Err (now text)) → IfErr result (λ text. IsPlainText (now text))
+plain-result now setting line (Ok found) is = tt
+plain-result now setting line (Err text) is = plain-fault setting line (now text) is

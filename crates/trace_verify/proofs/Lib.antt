@@ -1,0 +1,5 @@
+pub mod Judged
+pub mod Lines
+pub mod Unsettled
+pub mod Rounds
+pub mod Whole
