@@ -1,0 +1,17 @@
+pub mod Narrowed
+pub mod Ipv4Words
+pub mod Ipv4Rules
+pub mod EventsWithin
+pub mod Standing
+pub mod Texts
+pub mod Through
+pub mod Runs
+pub mod Whole
+pub mod Fitting
+pub mod Told
+pub mod ScriptLines
+pub mod Scripts
+pub mod FaultTexts
+pub mod Wanted
+pub mod Promised
+mod Examples

@@ -1,0 +1,92 @@
+-- What the top call reports in JSON gets yes.
+use Rattle.std.proofs.Common.{◌≡◌, ℕ, ◌^◌, ◌<◌, List, [], ◌∷◌, ◌++◌, length, inl, inr, sym, ap, ◌∙◌, subst, arith, append-nil}
+use Rattle.std.proofs.lemmas.List.{append_cancel_left}
+use Rattle.script_lines.specs.Lines.{lines_of}
+use Rattle.tcam_device.specs.declared.Write.{Write}
+use Rattle.tcam_device.specs.Flight.{writes_in}
+use Rattle.trace_check.specs.Answers.{Yes, IsTraceAnswer}
+use Rattle.replay.specs.Effects.{Setting, Effect, Prints, events_in, journal_of, printed}
+use Rattle.replay.specs.Reports.{fault_told}
+use Rattle.replay.specs.Run.{Progress, Runs, ending, start}
+use Rattle.replay.specs.Script.{Script, ScriptEnd, Whole, FaultAt, script_of}
+use Rattle.replay.proofs.lines.Effects.{events-append, printed-append}
+use Rattle.tcam_cli.specs.declared.Status.{Status}
+use Rattle.tcam_cli.specs.Headline.{acts_of, closing_line, IsComplete, IsOutcome}
+use Rattle.tcam_cli.specs.Readings.{reading_by}
+use Rattle.json_traces.specs.Traces.{AreTraceActs, WantsTrace, accepted_in}
+use Rattle.json_traces.specs.Promised.{IsReported, JsonReportsGetYes}
+use Rattle.json_traces.proofs.FaultTexts.{batch_plain, probes_plain, reading_plain, byte_plain, none_plain}
+use Rattle.json_traces.proofs.Runs.{few_commits}
+use Rattle.json_traces.proofs.ScriptLines.{reads_traces}
+use Rattle.json_traces.proofs.Scripts.{EndsPlainly, acts_told, ends_plainly, act_count, few_lines}
+use Rattle.json_traces.proofs.Told.{reports_get_yes}
+use Rattle.json_traces.proofs.Wanted.{words_ask}
+use Rattle.json_traces.proofs.Whole.{json_runs_orderly}
+
+-- a report that gets yes, with so many commits and these writes
+abbrev GetsYes : ℕ → List ℕ → List Write → Type 0
+GetsYes commits report made = IsTraceAnswer report (Yes commits (length made))
+
+module _ (setting : Setting) (device_slots : ℕ) (wants : WantsTrace setting device_slots) (bytes : List ℕ) where
+  abbrev script : Script
+  script = script_of (reading_by setting) bytes
+
+  abbrev commits : ℕ
+  commits = accepted_in setting (acts_of script)
+
+  told : AreTraceActs 0 (acts_of script)
+  told = acts_told (reading_by setting) (reads_traces setting wants.json wants.family) (lines_of bytes).last (lines_of bytes).lines 0 0 (omega arith)
+
+  plain : EndsPlainly script.last
+  plain =
+      let few = few_lines bytes in
+      ends_plainly (reading_by setting) (reading_plain setting wants.json) batch_plain probes_plain (lines_of bytes).last (byte_plain (lines_of bytes).last few.last) (lines_of bytes).lines few.numbered 0 0
+
+  -- the commits are no more than the lines
+  commits_few : (body : List Effect) (last : Progress) → Runs setting device_slots (acts_of script) body last → last.commits < 2 ^ 32
+  commits_few body last run =
+      let lines = (few_lines bytes).count in
+      let acts = act_count (reading_by setting) (lines_of bytes).lines (lines_of bytes).last 0 0 in
+      let commits = few_commits setting (acts_of script) 0 (start device_slots) body last told run in
+      omega arith
+
+  -- with the line of its end
+  closed : (body : List Effect) (last : Progress) (end : ScriptEnd) → EndsPlainly end → Runs setting device_slots (acts_of script) body last → length (journal_of body) < 2 ^ 64
+      → GetsYes commits (printed body ++ closing_line setting last end) (journal_of body)
+  closed body last Whole ends run few =
+      reports_get_yes [] (printed body ++ ending setting last) commits (journal_of body)
+      (json_runs_orderly setting device_slots (acts_of script) body last wants told run (commits_few body last run) few).0 none_plain
+  closed body last (FaultAt number text) ends run few =
+      reports_get_yes text (printed body ++ fault_told setting last.commits number text) commits (journal_of body)
+      ((json_runs_orderly setting device_slots (acts_of script) body last wants told run (commits_few body last run) few).1 number text ends.0) ends.1
+
+  complete : (status : Status) (effects : List Effect) → IsComplete setting device_slots script status effects → length (journal_of effects) < 2 ^ 64 → GetsYes commits (printed effects) (journal_of effects)
+  complete status effects is few =
+      let closing = closing_line setting is.last script.last in
+      let made : journal_of effects ≡ journal_of is.body = ap writes_in (ap events_in is.effects_are ∙ events-append is.body (Prints closing ∷ []) ∙ append-nil (events_in is.body)) in
+      let report : printed effects ≡ printed is.body ++ closing = ap printed is.effects_are ∙ printed-append is.body (Prints closing ∷ []) ∙ ap (λ text. printed is.body ++ text) (append-nil closing) in
+      let yes = closed is.body is.last script.last plain is.run (subst (λ (ws : List Write). length ws < 2 ^ 64) made few) in
+      subst (λ text. GetsYes commits text (journal_of effects)) (sym report) (subst (GetsYes commits (printed is.body ++ closing)) (sym made) yes)
+
+-- an outcome that is reported is complete
+complete_of : (setting : Setting) (device_slots : ℕ) (script came : Script) (status : Status) (effects : List Effect) (partial : List ℕ) → IsReported status → IsOutcome setting device_slots script came status effects partial
+    → IsComplete setting device_slots script status effects × (partial ≡ [])
+complete_of setting device_slots script came status effects partial (inl done) is =
+    subst (λ (s : Status). IsComplete setting device_slots script s effects × (partial ≡ [])) (sym done) (subst (λ (s : Status). IsOutcome setting device_slots script came s effects partial) done is)
+complete_of setting device_slots script came status effects partial (inr (inl refused)) is =
+    subst (λ (s : Status). IsComplete setting device_slots script s effects × (partial ≡ [])) (sym refused) (subst (λ (s : Status). IsOutcome setting device_slots script came s effects partial) refused is)
+complete_of setting device_slots script came status effects partial (inr (inr fault)) is =
+    subst (λ (s : Status). IsComplete setting device_slots script s effects × (partial ≡ [])) (sym fault) (subst (λ (s : Status). IsOutcome setting device_slots script came s effects partial) fault is)
+
+pub promised_yes : JsonReportsGetYes
+promised_yes words setting device_slots status old new before report events asked json wide reported few (takes, matches) =
+    let asks = words_ask words setting asked in
+    let most = asks.most in
+    let wants : WantsTrace setting device_slots = record { json = json; family = asks.ipv4 json; some = asks.some; most = most; device = omega arith } in
+    let w = complete_of setting device_slots _ _ status matches.effects matches.partial reported matches.outcome in
+    let same : report ≡ printed matches.effects = append_cancel_left before report (printed matches.effects ++ matches.partial) matches.report_is
+    ∙ ap (λ text. printed matches.effects ++ text) w.1 ∙ append-nil (printed matches.effects) in
+    let made : writes_in events ≡ journal_of matches.effects = ap writes_in matches.events_is in
+    let yes = complete setting device_slots wants old status matches.effects w.0 (subst (λ (ws : List Write). length ws < 2 ^ 64) made few) in
+    subst (λ text. GetsYes (accepted_in setting (acts_of (script_of (reading_by setting) old))) text (writes_in events)) (sym same)
+    (subst (GetsYes (accepted_in setting (acts_of (script_of (reading_by setting) old))) (printed matches.effects)) (sym made) yes)

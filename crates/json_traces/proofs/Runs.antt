@@ -1,0 +1,417 @@
+-- What acts print in JSON that are all carried out are the commits of an orderly trace.
+use Rattle.std.proofs.Common.{◌≡◌, ℕ, suc, ◌+◌, ◌^◌, ◌<◌, ◌≤◌, List, [], ◌∷◌, ◌++◌, length, map, None, refl, sym, ap, ap₂, ◌∙◌, subst, arith, append_assoc, append-nil, length-append}
+use Rattle.std.proofs.lemmas.Grind.{flat_map-append}
+use Rattle.std.specs.List.{AllByRecursion}
+use Rattle.slot_order.specs.Order.{most_slots}
+use Rattle.slot_order.proofs.Lists.{all_append}
+use Rattle.rule_store.specs.declared.Command.{Command as Change}
+use Rattle.rule_store.specs.Batch.{most_pending, set_after}
+use Rattle.rule_store.specs.Verdict.{Verdict, Accepted, Unsound, OutOfBits, OutOfSlots, verdict}
+use Rattle.tcam_device.specs.declared.Write.{Write}
+use Rattle.tcam_device.specs.declared.Action.{Action}
+use Rattle.tcam_device.specs.Flight.{writes_in}
+use Rattle.tcam_device.specs.State.{State, IsInUse, state_after}
+use Rattle.commit_writes.specs.Actions.{have_bits}
+use Rattle.commit_writes.specs.Bits.{bits_with, new_bits}
+use Rattle.commit_writes.specs.Commit.{IsSegment}
+use Rattle.commit_writes.specs.Segments.{MayBegin}
+use Rattle.commit_writes.proofs.WritesIn.{writes_of_commit}
+use Rattle.readback.specs.Laws.{HasUnused}
+use Rattle.trace_file.specs.declared.TraceLine.{TraceLine}
+use Rattle.trace_file.specs.declared.TraceLine.TheVariants as line
+use Rattle.trace_file.specs.Forms.{IsTraceLine}
+use Rattle.json_text.specs.JsonText.{json_line}
+use Rattle.trace_check.specs.Hitless.{trace_writes}
+use Rattle.trace_check.specs.Orderly.{Tracing, traced_on, AllKeepOrder}
+use Rattle.trace_check.specs.Places.{Part, Refusal, Work, IsPart, part_lines, parts_lines}
+use Rattle.trace_check.specs.Segments.{action_line, commit_lines}
+use Rattle.replay.specs.declared.Act.{Act}
+use Rattle.replay.specs.declared.Act.TheVariants.{Command, Probe, Packet, Commit, Trial, Crash}
+use Rattle.replay.specs.Effects.{Setting, Effect, Prints, journal_of, printed}
+use Rattle.replay.specs.JsonLines.{behind, change_line}
+use Rattle.replay.specs.Reports.{head_due}
+use Rattle.replay.specs.Run.{Progress, Commits, Refuses, Judged, Run, actions_for, after_refusal, after_segment, carried}
+use Rattle.replay.proofs.lines.Effects.{printed-append, written-append}
+use Rattle.replay.proofs.lines.Written.{written-segment}
+use Rattle.tcam_cli.specs.AllTheWay.{Led, Stands, sets_through}
+use Rattle.json_traces.specs.Traces.{trace_text, AreTraceActs}
+use Rattle.json_traces.proofs.EventsWithin.{TableFits, segment_tables, events_within}
+use Rattle.json_traces.proofs.Ipv4Rules.{IsTraceChange, known_ranked}
+use Rattle.json_traces.proofs.Narrowed.{segments_on_devices}
+use Rattle.json_traces.proofs.Standing.{StandsIn, may_begin, stands_behind}
+use Rattle.json_traces.proofs.Texts.{in_json, behind_append, none_due, of_commit, of_refusal}
+use Rattle.json_traces.proofs.Through.{traced_through, keeps_append, through_append, keeps_commands, through_commands, are_commands, command_count, are_events, with_made, through_events, writes-append, command_writes, event_writes, done_count, done-append, done-commit}
+
+-- what is known between two commits of a run whose slots in use hold a state; what no line between them is judged by is of another trace
+abbrev pub standing : Setting → Progress → State → Tracing → Tracing
+standing setting old state rest =
+    record rest {
+      slots = setting.slots;
+      mode = setting.mode;
+      rules = old.rules;
+      bits = old.bits;
+      batch = [];
+      state = state;
+      writes = old.writes;
+    }
+
+-- commands as a trace has them
+commands_within : (batch : List Change) → AllByRecursion IsTraceChange batch → AllByRecursion IsTraceLine (map change_line batch)
+commands_within [] told = tt
+commands_within (one ∷ batch) told = (told.0, commands_within batch told.1)
+
+-- the number of the next commit
+abbrev next_number : Progress → ℕ
+next_number old = old.commits + 1
+
+module _ (asked : Setting) (device_slots : ℕ) (few : asked.slots ≤ most_slots) (fault : List ℕ) where
+  abbrev setting : Setting
+  setting = in_json asked
+
+  -- what some acts of a run print, as commits of a trace
+  pub record ActsGo (acts : List Act) (old : Progress) (state : State) (rest : Tracing) (effects : List Effect) (new : Progress) : Type 0 where
+    pub parts : List Part
+    pub are : AllByRecursion (IsPart setting.slots) parts
+    pub text : (more : List ℕ) → printed effects ++ behind (head_due setting new.commits) more
+        ≡ behind (head_due setting old.commits) (trace_text fault (parts_lines (old.commits + 1) parts) ++ more)
+    pub keeps : AllKeepOrder (standing setting old state rest) (parts_lines (old.commits + 1) parts)
+    pub last_state : State
+    pub last_rest : Tracing
+    pub comes : traced_through (standing setting old state rest) (parts_lines (old.commits + 1) parts) ≡ standing setting new last_state last_rest
+    pub made : trace_writes (parts_lines (old.commits + 1) parts) ≡ journal_of effects
+    pub accepted : length (sets_through setting [] old.rules old.batch acts) ≡ suc (done_count (parts_lines (old.commits + 1) parts))
+    pub further : old.commits ≤ new.commits
+    pub counts : new.writes ≡ old.writes + length (journal_of effects)
+    pub within : new.commits < 2 ^ 32 → AllByRecursion IsTraceLine (parts_lines (old.commits + 1) parts)
+
+  -- no act
+  none : (old : Progress) (state : State) (rest : Tracing) → ActsGo [] old state rest [] old
+  none old state rest = record {
+    parts = [];
+    are = tt;
+    text = λ more. refl;
+    keeps = tt;
+    last_state = state;
+    last_rest = rest;
+    comes = refl;
+    made = refl;
+    accepted = refl;
+    further = omega arith;
+    counts = (let same : old.writes ≡ old.writes + 0 = omega arith in same);
+    within = λ small. tt;
+  }
+
+  -- a commit of a trace that some effects print
+  record OneGoes (part : Part) (old : Progress) (state : State) (rest : Tracing) (front : List Effect) (mid : Progress) (mid_state : State) (mid_rest : Tracing) : Type 0 where
+    is : IsPart setting.slots part
+    counted : mid.commits ≡ old.commits + 1
+    text : printed front ≡ behind (head_due setting old.commits) (trace_text fault (part_lines (old.commits + 1) part))
+    keeps : AllKeepOrder (standing setting old state rest) (part_lines (old.commits + 1) part)
+    comes : traced_through (standing setting old state rest) (part_lines (old.commits + 1) part) ≡ standing setting mid mid_state mid_rest
+    made : trace_writes (part_lines (old.commits + 1) part) ≡ journal_of front
+    counts : mid.writes ≡ old.writes + length (journal_of front)
+    within : old.commits + 1 < 2 ^ 32 → AllByRecursion IsTraceLine (part_lines (old.commits + 1) part)
+
+  -- the sets that acts lead through are one more where the first of them is a commit that finishes
+  abbrev LeadsOn : Progress → Act → Progress → List Act → Part → Type 0
+  LeadsOn old act mid acts part =
+      length (sets_through setting [] old.rules old.batch (act ∷ acts)) ≡ done_count (part_lines (old.commits + 1) part) + length (sets_through setting [] mid.rules mid.batch acts)
+
+  -- and those behind it
+  one_more : (old : Progress) (state : State) (rest : Tracing) (front : List Effect) (mid : Progress) (mid_state : State) (mid_rest : Tracing) (back : List Effect) (new : Progress) (act : Act) (acts : List Act) (part : Part)
+      → OneGoes part old state rest front mid mid_state mid_rest → LeadsOn old act mid acts part → ActsGo acts mid mid_state mid_rest back new → ActsGo (act ∷ acts) old state rest (front ++ back) new
+  one_more old state rest front mid mid_state mid_rest back new act acts part one led later =
+      let n = old.commits + 1 in
+      let here = part_lines n part in
+      let there = parts_lines (n + 1) later.parts in
+      let same : mid.commits + 1 ≡ n + 1 = ap (λ m. m + 1) one.counted in
+      let due : head_due setting mid.commits ≡ None = ap (head_due setting) one.counted ∙ none_due setting old.commits in
+      record {
+        parts = part ∷ later.parts;
+        are = (one.is, later.are);
+        text = λ more.
+            let first = head_due setting old.commits in
+            let last = behind (head_due setting new.commits) more in
+            ap (λ text. text ++ last) (printed-append front back) ∙ append_assoc (printed front) (printed back) last
+            ∙ ap (λ text. printed front ++ text) (later.text more)
+            ∙ ap₂ (λ head m. printed front ++ behind head (trace_text fault (parts_lines m later.parts) ++ more)) due same
+            ∙ ap (λ text. text ++ (trace_text fault there ++ more)) one.text
+            ∙ behind_append first (trace_text fault here) (trace_text fault there ++ more)
+            ∙ ap (behind first) (sym (append_assoc (trace_text fault here) (trace_text fault there) more) ∙ ap (λ text. text ++ more) (sym (flat_map-append (json_line fault) here there)));
+        keeps = keeps_append here there (standing setting old state rest) one.keeps
+            (subst (λ (t : Tracing). AllKeepOrder t there) (sym one.comes) (subst (λ m. AllKeepOrder (standing setting mid mid_state mid_rest) (parts_lines m later.parts)) same later.keeps));
+        last_state = later.last_state;
+        last_rest = later.last_rest;
+        comes = through_append here there (standing setting old state rest) ∙ ap (λ (t : Tracing). traced_through t there) one.comes
+            ∙ ap (λ m. traced_through (standing setting mid mid_state mid_rest) (parts_lines m later.parts)) (sym same) ∙ later.comes;
+        made = writes-append here there ∙ ap₂ (λ a b. a ++ b) one.made (ap (λ m. trace_writes (parts_lines m later.parts)) (sym same) ∙ later.made) ∙ sym (written-append front back);
+        accepted = (let sum = done-append here there in let more = later.accepted in
+            let there_is : done_count (parts_lines (mid.commits + 1) later.parts) ≡ done_count there = ap (λ m. done_count (parts_lines m later.parts)) same in
+            omega arith);
+        further = (let next = one.counted in let more = later.further in omega arith);
+        counts = (let first = one.counts in let second = later.counts in
+            let sum : length (journal_of (front ++ back)) ≡ length (journal_of front) + length (journal_of back) = ap (λ (ws : List Write). length ws) (written-append front back) ∙ length-append (journal_of front) (journal_of back) in
+            omega arith);
+        within = λ small.
+            let next = one.counted in
+            let more = later.further in
+            all_append IsTraceLine here there (one.within (omega arith)) (subst (λ m. AllByRecursion IsTraceLine (parts_lines m later.parts)) same (later.within small));
+      }
+
+  -- ---- an accepted commit
+
+  module _ (old : Progress) (state : State) (rest : Tracing) (stands : StandsIn setting device_slots old state)
+      (accepted : verdict setting.slots setting.mode old.rules old.batch ≡ Accepted) (made : List Write)
+      (segment : IsSegment setting.mode old.bits old.rules old.batch old.state made) (in_use : AllByRecursion (IsInUse setting.slots) made) where
+    abbrev actions : List Action
+    actions = actions_for setting old made
+
+    abbrev number : ℕ
+    number = next_number old
+
+    abbrev commands : List TraceLine
+    commands = map change_line old.batch
+
+    abbrev events : List TraceLine
+    events = map action_line actions
+
+    -- behind the line of its number, and behind its commands
+    abbrev begun : Tracing
+    begun = traced_on (standing setting old state rest) (line.Commit number)
+
+    abbrev in_batch : Tracing
+    in_batch = record begun { batch = old.batch }
+
+    written : writes_in actions ≡ made
+    written = writes_of_commit (have_bits (new_bits old.bits (bits_with setting.mode old.rules old.batch old.bits))) made
+
+    events_keep : AllKeepOrder in_batch (commit_lines actions number)
+    events_keep =
+        segments_on_devices in_batch device_slots number made stands.size
+        (record {
+          may = subst (MayBegin setting.mode old.bits old.rules old.batch) stands.at (may_begin setting device_slots old state stands accepted);
+          taken = accepted;
+          unused = subst (HasUnused setting.slots) stands.at stands.unused;
+          moved = refl;
+          no_put = refl;
+        })
+        (subst (λ (s : State). IsSegment setting.mode old.bits old.rules old.batch s made) stands.at segment) in_use
+
+    part_keeps : AllKeepOrder (standing setting old state rest) (part_lines number (Work commands events))
+    part_keeps = (
+      tt,
+      keeps_append commands (events ++ line.Done number ∷ []) begun (keeps_commands old.batch begun)
+          (subst (λ (t : Tracing). AllKeepOrder t (commit_lines actions number)) (sym (through_commands old.batch begun)) events_keep),
+    )
+
+    -- what is known behind its last line
+    abbrev ended : Tracing
+    ended = (through_events actions in_batch).0
+
+    part_comes : traced_through (standing setting old state rest) (part_lines number (Work commands events))
+        ≡ standing setting (after_segment setting old made) (state_after state made) (record ended { accepted = ended.accepted + 1 })
+    part_comes =
+        through_append commands (events ++ line.Done number ∷ []) begun
+        ∙ ap (λ (t : Tracing). traced_through t (events ++ line.Done number ∷ [])) (through_commands old.batch begun)
+        ∙ through_append events (line.Done number ∷ []) in_batch
+        ∙ ap (λ (t : Tracing). traced_on t (line.Done number)) (through_events actions in_batch).1
+        ∙ ap (λ (ws : List Write). traced_on (with_made in_batch (state_after state ws) (old.writes + length ws) ended) (line.Done number)) written
+
+    part_writes : trace_writes (part_lines number (Work commands events)) ≡ made
+    part_writes =
+        writes-append commands (events ++ line.Done number ∷ []) ∙ ap (λ some. some ++ trace_writes (events ++ line.Done number ∷ [])) (command_writes old.batch)
+        ∙ writes-append events (line.Done number ∷ []) ∙ append-nil (trace_writes events) ∙ event_writes actions ∙ written
+
+    part_is : IsPart setting.slots (Work commands events)
+    part_is = (
+      subst (λ n. n ≤ most_pending) (sym (command_count old.batch)) stands.short,
+      are_commands old.batch,
+      are_events setting.slots actions (subst (AllByRecursion (IsInUse setting.slots)) (sym written) in_use),
+    )
+
+    part_within : number < 2 ^ 32 → AllByRecursion IsTraceLine (part_lines number (Work commands events))
+    part_within small =
+        let begin = may_begin setting device_slots old state stands accepted in
+        let tables : AllByRecursion TableFits (writes_in actions) = subst (AllByRecursion TableFits) (sym written) (segment_tables setting.mode old.bits old.rules old.batch old.state made begin segment) in
+        let inside : AllByRecursion (IsInUse (length state.slots)) (writes_in actions) =
+        subst (AllByRecursion (IsInUse (length state.slots))) (sym written) (subst (λ n. AllByRecursion (IsInUse n) made) (sym stands.size) in_use) in
+        let room : length state.slots ≤ most_slots = subst (λ n. n ≤ most_slots) (sym stands.size) few in
+        let here = events_within actions in_batch number events_keep inside room (known_ranked setting.mode old.bits old.rules old.batch old.state begin stands.rules_told stands.told) tables in
+        (small, all_append IsTraceLine commands (events ++ line.Done number ∷ []) (commands_within old.batch stands.told) (all_append IsTraceLine events (line.Done number ∷ []) here (small, tt)))
+
+    commit_goes : OneGoes (Work commands events) old state rest (carried setting old actions ++ Prints (json_line [] (line.Done number)) ∷ []) (after_segment setting old made) (state_after state made)
+        (record ended { accepted = ended.accepted + 1 })
+    commit_goes = record {
+      is = part_is;
+      counted = refl;
+      text = of_commit asked fault old actions;
+      keeps = part_keeps;
+      comes = part_comes;
+      made = part_writes ∙ sym (written-segment setting old made (json_line [] (line.Done number)));
+      counts = ap (λ (ws : List Write). old.writes + length ws) (sym (written-segment setting old made (json_line [] (line.Done number))));
+      within = part_within;
+    }
+
+  -- ---- all acts
+
+  -- the rest of a run, from where it stands
+  abbrev Later : List Act → Progress → List Effect → Progress → Type 0
+  Later acts mid back new = (state : State) (rest : Tracing) → StandsIn setting device_slots mid state → ActsGo acts mid state rest back new
+
+  -- the sets by the verdict on a commit
+  abbrev sets_by : List Act → Progress → Verdict → List Led
+  sets_by acts old is = elim is [ Accepted ↦ Stands old.rules ∷ sets_through setting [] (set_after old.rules old.batch) [] acts | _ ↦ sets_through setting [] old.rules [] acts ]
+
+  refusal_led : (acts : List Act) (old : Progress) (is : Verdict) → sets_by acts old is ≡ sets_through setting [] old.rules [] acts → verdict setting.slots setting.mode old.rules old.batch ≡ is
+      → LeadsOn old Commit (after_refusal old) acts Refusal
+  refusal_led acts old is none same =
+      let by : length (sets_through setting [] old.rules old.batch (Commit ∷ acts)) ≡ length (sets_through setting [] old.rules [] acts) = ap (λ (v : Verdict). length (sets_by acts old v)) same ∙ ap (λ (sets : List Led). length sets) none in
+      let more : length (sets_through setting [] old.rules [] acts) ≡ 0 + length (sets_through setting [] old.rules [] acts) = omega arith in
+      by ∙ more
+
+  accepted_goes : (acts : List Act) (old : Progress) (state : State) (rest : Tracing) (front : List Effect) (mid : Progress) (back : List Effect) (new : Progress) → StandsIn setting device_slots old state
+      → verdict setting.slots setting.mode old.rules old.batch ≡ Accepted → Commits setting old front mid → Later acts mid back new → ActsGo (Commit ∷ acts) old state rest (front ++ back) new
+  accepted_goes acts old state rest front mid back new stands accepted commits later =
+      let mid_state = state_after state commits.made in
+      let mid_rest : Tracing = record (ended old state rest stands accepted commits.made commits.segment commits.in_use) { accepted = (ended old state rest stands accepted commits.made commits.segment commits.in_use).accepted + 1 } in
+      let actions = actions_for setting old commits.made in
+      let next = length (sets_through setting [] (set_after old.rules old.batch) [] acts) in
+      let by : length (sets_through setting [] old.rules old.batch (Commit ∷ acts)) ≡ suc next = ap (λ (is : Verdict). length (sets_by acts old is)) accepted in
+      let one : done_count (part_lines (old.commits + 1) (Work (map change_line old.batch) (map action_line actions))) ≡ 1 = done-commit old.batch actions (old.commits + 1) in
+      let led : LeadsOn old Commit (after_segment setting old commits.made) acts (Work (map change_line old.batch) (map action_line actions)) = omega arith in
+      subst (λ (some : List Effect). ActsGo (Commit ∷ acts) old state rest (some ++ back) new) (sym commits.effects_are)
+      (one_more old state rest (carried setting old (actions_for setting old commits.made) ++ Prints (json_line [] (line.Done (old.commits + 1))) ∷ []) (after_segment setting old commits.made) mid_state mid_rest back new Commit acts (Work (map change_line old.batch) (map action_line actions)) (commit_goes old state rest stands accepted commits.made commits.segment commits.in_use) led
+      (subst (λ p. Later acts p back new) commits.after later mid_state mid_rest (stands_behind setting device_slots old state commits.made stands accepted commits.segment commits.in_use)))
+
+  refused_goes : (acts : List Act) (old : Progress) (state : State) (rest : Tracing) (reason : Verdict) (front : List Effect) (mid : Progress) (back : List Effect) (new : Progress) → StandsIn setting device_slots old state
+      → LeadsOn old Commit (after_refusal old) acts Refusal → Refuses setting old reason front mid → Later acts mid back new → ActsGo (Commit ∷ acts) old state rest (front ++ back) new
+  refused_goes acts old state rest reason front mid back new stands led refuses later =
+      let text : List Effect = Prints (behind (head_due setting old.commits) (json_line [] (line.Refused (old.commits + 1)))) ∷ [] in
+      subst (λ (some : List Effect). ActsGo (Commit ∷ acts) old state rest (some ++ back) new) (sym refuses.0)
+      (one_more old state rest text (after_refusal old) state rest back new Commit acts Refusal
+      (record {
+        is = tt;
+        counted = refl;
+        text = of_refusal asked fault old.commits;
+        keeps = (tt, tt);
+        comes = refl;
+        made = refl;
+        counts = (let same : old.writes ≡ old.writes + 0 = omega arith in same);
+        within = λ small. (small, tt);
+      })
+      led
+      (subst (λ p. Later acts p back new) refuses.1 later state rest
+      (record { at = stands.at; size = stands.size; at_rest = stands.at_rest; unused = stands.unused; rules_told = stands.rules_told; told = tt; short = omega arith })))
+
+  judged_goes : (acts : List Act) (old : Progress) (state : State) (rest : Tracing) (is : Verdict) (front : List Effect) (mid : Progress) (back : List Effect) (new : Progress) → StandsIn setting device_slots old state
+      → verdict setting.slots setting.mode old.rules old.batch ≡ is → Judged Commits setting old is front mid → Later acts mid back new → ActsGo (Commit ∷ acts) old state rest (front ++ back) new
+  judged_goes acts old state rest Accepted front mid back new stands same step later = accepted_goes acts old state rest front mid back new stands same step later
+  judged_goes acts old state rest (Unsound why) front mid back new stands same step later = refused_goes acts old state rest (Unsound why) front mid back new stands (refusal_led acts old (Unsound why) refl same) step later
+  judged_goes acts old state rest (OutOfBits field needed free) front mid back new stands same step later = refused_goes acts old state rest (OutOfBits field needed free) front mid back new stands (refusal_led acts old (OutOfBits field needed free) refl same) step later
+  judged_goes acts old state rest (OutOfSlots needed free) front mid back new stands same step later = refused_goes acts old state rest (OutOfSlots needed free) front mid back new stands (refusal_led acts old (OutOfSlots needed free) refl same) step later
+
+  -- behind a commit none is pending
+  none_pending : (old : Progress) (is : Verdict) (front : List Effect) (mid : Progress) → Judged Commits setting old is front mid → [] ≡ mid.batch
+  none_pending old Accepted front mid step = ap (λ (p : Progress). p.batch) (sym step.after)
+  none_pending old (Unsound why) front mid step = ap (λ (p : Progress). p.batch) (sym step.1)
+  none_pending old (OutOfBits field needed free) front mid step = ap (λ (p : Progress). p.batch) (sym step.1)
+  none_pending old (OutOfSlots needed free) front mid step = ap (λ (p : Progress). p.batch) (sym step.1)
+
+  pub acts_go : (acts : List Act) (old : Progress) (state : State) (rest : Tracing) (effects : List Effect) (new : Progress) → StandsIn setting device_slots old state
+      → AreTraceActs (length old.batch) acts → Run setting old acts effects new → ActsGo acts old state rest effects new
+  acts_go [] old state rest effects new stands told run =
+      subst (λ (some : List Effect). ActsGo [] old state rest some new) (sym run.0) (subst (ActsGo [] old state rest []) (sym run.1) (none old state rest))
+  acts_go (Command change ∷ acts) old state rest effects new stands told (front, mid, back, step, run, are) =
+      let size : length (old.batch ++ change ∷ []) ≡ length old.batch + 1 = length-append old.batch (change ∷ []) in
+      let less = told.1 in
+      let later = acts_go acts (record old { batch = old.batch ++ change ∷ [] }) state rest back new
+      (record {
+        at = stands.at;
+        size = stands.size;
+        at_rest = stands.at_rest;
+        unused = stands.unused;
+        rules_told = stands.rules_told;
+        told = all_append IsTraceChange old.batch (change ∷ []) stands.told (told.0, tt);
+        short = omega arith;
+      })
+      (subst (λ n. AreTraceActs n acts) (sym size) told.2) (subst (λ p. Run setting p acts back new) step.1 run) in
+      subst (λ (some : List Effect). ActsGo (Command change ∷ acts) old state rest some new) (sym (are ∙ ap (λ some. some ++ back) step.0))
+      (record {
+        parts = later.parts;
+        are = later.are;
+        text = later.text;
+        keeps = later.keeps;
+        last_state = later.last_state;
+        last_rest = later.last_rest;
+        comes = later.comes;
+        made = later.made;
+        accepted = later.accepted;
+        further = later.further;
+        counts = later.counts;
+        within = later.within;
+      })
+  acts_go (Probe key ∷ acts) old state rest effects new stands told (front, mid, back, step, run, are) =
+      let later = acts_go acts (record old { probes = old.probes ++ key ∷ [] }) state rest back new
+      (record { at = stands.at; size = stands.size; at_rest = stands.at_rest; unused = stands.unused; rules_told = stands.rules_told; told = stands.told; short = stands.short }) told
+      (subst (λ p. Run setting p acts back new) step.1 run) in
+      subst (λ (some : List Effect). ActsGo (Probe key ∷ acts) old state rest some new) (sym (are ∙ ap (λ some. some ++ back) step.0))
+      (record {
+        parts = later.parts;
+        are = later.are;
+        text = later.text;
+        keeps = later.keeps;
+        last_state = later.last_state;
+        last_rest = later.last_rest;
+        comes = later.comes;
+        made = later.made;
+        accepted = later.accepted;
+        further = later.further;
+        counts = later.counts;
+        within = later.within;
+      })
+  acts_go (Packet key ∷ acts) old state rest effects new stands told (front, mid, back, step, run, are) =
+      let later = acts_go acts old state rest back new stands told (subst (λ p. Run setting p acts back new) step.1 run) in
+      subst (λ (some : List Effect). ActsGo (Packet key ∷ acts) old state rest some new) (sym (are ∙ ap (λ some. some ++ back) step.0))
+      (record {
+        parts = later.parts;
+        are = later.are;
+        text = later.text;
+        keeps = later.keeps;
+        last_state = later.last_state;
+        last_rest = later.last_rest;
+        comes = later.comes;
+        made = later.made;
+        accepted = later.accepted;
+        further = later.further;
+        counts = later.counts;
+        within = later.within;
+      })
+  acts_go (Commit ∷ acts) old state rest effects new stands told (front, mid, back, step, run, are) =
+      let is = verdict setting.slots setting.mode old.rules old.batch in
+      subst (λ (some : List Effect). ActsGo (Commit ∷ acts) old state rest some new) (sym are)
+      (judged_goes acts old state rest is front mid back new stands refl step
+      (λ mid_state mid_rest mid_stands.
+      acts_go acts mid mid_state mid_rest back new mid_stands (subst (λ (batch : List Change). AreTraceActs (length batch) acts) (none_pending old is front mid step) told) run))
+  acts_go (Trial most ∷ acts) old state rest effects new stands told run = absurd told
+  acts_go (Crash after ∷ acts) old state rest effects new stands told run = absurd told
+
+-- ---- there are no more commits than acts
+
+judged_commits : (asked : Setting) (old : Progress) (is : Verdict) (front : List Effect) (mid : Progress) → Judged Commits asked old is front mid → mid.commits ≡ old.commits + 1
+judged_commits asked old Accepted front mid step = ap (λ (p : Progress). p.commits) step.after
+judged_commits asked old (Unsound why) front mid step = ap (λ (p : Progress). p.commits) step.1
+judged_commits asked old (OutOfBits field needed free) front mid step = ap (λ (p : Progress). p.commits) step.1
+judged_commits asked old (OutOfSlots needed free) front mid step = ap (λ (p : Progress). p.commits) step.1
+
+pub few_commits : (asked : Setting) (acts : List Act) (pending : ℕ) (old : Progress) (effects : List Effect) (new : Progress) → AreTraceActs pending acts → Run asked old acts effects new → new.commits ≤ old.commits + length acts
+few_commits asked [] pending old effects new told run = let same = ap (λ (p : Progress). p.commits) run.1 in omega arith
+few_commits asked (Command change ∷ acts) pending old effects new told (front, mid, back, step, run, are) =
+    let same = ap (λ (p : Progress). p.commits) step.1 in let later = few_commits asked acts (pending + 1) mid back new told.2 run in omega arith
+few_commits asked (Probe key ∷ acts) pending old effects new told (front, mid, back, step, run, are) =
+    let same = ap (λ (p : Progress). p.commits) step.1 in let later = few_commits asked acts pending mid back new told run in omega arith
+few_commits asked (Packet key ∷ acts) pending old effects new told (front, mid, back, step, run, are) =
+    let same = ap (λ (p : Progress). p.commits) step.1 in let later = few_commits asked acts pending mid back new told run in omega arith
+few_commits asked (Commit ∷ acts) pending old effects new told (front, mid, back, step, run, are) =
+    let same = judged_commits asked old (verdict asked.slots asked.mode old.rules old.batch) front mid step in let later = few_commits asked acts 0 mid back new told run in omega arith
+few_commits asked (Trial most ∷ acts) pending old effects new told run = absurd told
+few_commits asked (Crash after ∷ acts) pending old effects new told run = absurd told

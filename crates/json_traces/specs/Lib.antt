@@ -1,0 +1,4 @@
+pub mod OnDevices
+pub mod Traces
+pub mod Reported
+pub mod Promised
