@@ -5,6 +5,7 @@ pub mod Parted
 pub mod Few
 pub mod Since
 pub mod Aimed
+pub mod Ended
 pub mod Padded
 pub mod Translated
 pub mod Leading

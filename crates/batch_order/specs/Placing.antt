@@ -1,5 +1,6 @@
 -- Where the insertions of a commit aim, and that the insertions of a commit, or of what a restart found left of it, are so placed.
-use Rattle.std.specs.Prelude.{◌≡◌, ℕ, ◌+◌, ◌*◌, ◌/◌, Option, List, [], ◌∷◌, ◌++◌, drop, length, map}
+use Rattle.std.specs.Prelude.{◌≡◌, ℕ, ◌+◌, ◌-◌, ◌*◌, ◌/◌, Bool, not, ◌&&◌, nat_lt, if◌then◌else◌, Option, List, [], ◌∷◌, ◌++◌, drop, length, map}
+use Rattle.std.specs.List.{list_any}
 use Rattle.slot_pool.specs.Arrangement.{Slots}
 use Rattle.rule_model.specs.declared.Rule.{Rule}
 use Rattle.rule_store.specs.declared.Mode.{Mode}
@@ -10,6 +11,7 @@ use Rattle.rule_model.specs.Entry.{RankedPiece}
 use Rattle.placement.specs.declared.LivePiece.{LivePiece}
 use Rattle.placement.specs.declared.Aim.{Aim}
 use Rattle.placement.specs.declared.Aim.TheVariants as aim
+use Rattle.placement.specs.Placement.{Aiming, rank_slot}
 use Rattle.tcam_device.specs.declared.Write.{Write}
 use Rattle.tcam_device.specs.State.{State, state_after}
 use Rattle.commit_writes.specs.declared.Rewrite.{Rewrite}
@@ -21,32 +23,61 @@ use Rattle.readback.specs.Tasks.{Task}
 use Rattle.readback.specs.PlannedRest.{restart_writes}
 use Rattle.readback.specs.Restart.{IsPlannedRestart}
 use Rattle.batch_order.specs.declared.Placement.{Placement}
-use Rattle.batch_order.specs.declared.Placement.TheVariants.{Middle, Rank}
+use Rattle.batch_order.specs.declared.Placement.TheVariants.{Middle, Rank, Ends}
 
 -- how many entries stand before those of a priority: those of the rules of higher priority
 abbrev pub entries_above : Mode → List Rule → ℕ → ℕ
 entries_above mode rules priority = entries_of mode (rules_above rules priority)
 
--- where an entry with so many before it belongs, of so many in all, each with its share of the slots: in the middle of
--- its share
-abbrev pub rank_slot : ℕ → ℕ → ℕ → ℕ
-rank_slot slots before all = (2 * before + 1) * slots / (2 * all)
+-- some rule of the set is higher than a priority, and some is lower
+abbrev pub has_higher : List Rule → ℕ → Bool
+has_higher rules priority = list_any (λ rule. nat_lt priority rule.priority) rules
 
--- The aim of a piece that a batch inserts behind so many others: the middle of its gap; or its slot by rank, among the
--- entries that stand and all that the batch inserts. Before it are those of higher priority and those of its own rule
--- that are inserted earlier.
+abbrev pub has_lower : List Rule → ℕ → Bool
+has_lower rules priority = list_any (λ rule. nat_lt rule.priority priority) rules
+
+-- A batch spreads its entries over the slots where it inserts more than stood, and more than a 64th of the slots; of so many
+-- there are to be, so many stood.
+abbrev pub spreads : ℕ → ℕ → ℕ → Bool
+spreads slots stood all = nat_lt stood (all - stood) && nat_lt slots (64 * (all - stood))
+
+-- the slots that a batch spreads its entries over: a quarter of those that stay free is left behind the last
+abbrev pub spread_over : ℕ → ℕ → ℕ
+spread_over slots all = slots - (slots - all) / 4
+
+-- where a piece aims among the entries of a set, at an end of its gap where it is lower or higher than all rules of the set
+abbrev pub end_or_rank : ℕ → List Rule → ℕ → ℕ → ℕ → Aim
+end_or_rank slots rules before all priority =
+    if not (has_lower rules priority) then aim.Start
+    else if not (has_higher rules priority) then aim.End
+    else aim.At (rank_slot slots before all)
+
+-- Where a piece aims that is inserted at a rank, of so many entries in all: at the middle of its gap; or at its slot by rank; or
+-- by rank where the batch spreads or the piece is amid the set, and else at that end of its gap.
+abbrev pub aim_at : Placement → ℕ → List Rule → ℕ → ℕ → ℕ → ℕ → Aim
+aim_at Middle slots rules stood before all priority = aim.Middle
+aim_at Rank slots rules stood before all priority = aim.At (rank_slot slots before all)
+aim_at Ends slots rules stood before all priority =
+    if spreads slots stood all then aim.At (rank_slot (spread_over slots all) before all) else end_or_rank slots rules before all priority
+
+-- The aim of a piece that a batch inserts behind so many others, of so many entries in all: those that stand and all that the
+-- batch inserts. Before it are those of higher priority and those of its own rule that are inserted earlier.
 abbrev pub aim_of : Placement → Mode → ℕ → List Rule → ℕ → ℕ → RankedPiece → Aim
-aim_of Middle mode slots rules all place ranked = aim.Middle
-aim_of Rank mode slots rules all place ranked = aim.At (rank_slot slots (entries_above mode rules ranked.rank + place) all)
+aim_of placement mode slots rules all place ranked =
+    aim_at placement slots rules (entries_of mode rules) (entries_above mode rules ranked.rank + place) all ranked.rank
 
--- the aims of pieces that are inserted one after the other, behind so many others
-abbrev pub aims_from : Placement → Mode → ℕ → List Rule → ℕ → ℕ → List RankedPiece → List Aim
+-- the priorities of some pieces
+abbrev pub ranks_of : List RankedPiece → List ℕ
+ranks_of pieces = map (λ ranked. ranked.rank) pieces
+
+-- the aims of pieces that are inserted one after the other, behind so many others, each with the priorities of those behind it
+abbrev pub aims_from : Placement → Mode → ℕ → List Rule → ℕ → ℕ → List RankedPiece → List Aiming
 aims_from placement mode slots rules all place [] = []
 aims_from placement mode slots rules all place (ranked ∷ inserted) =
-    aim_of placement mode slots rules all place ranked ∷ aims_from placement mode slots rules all (place + 1) inserted
+    record { aim = aim_of placement mode slots rules all place ranked; coming = ranks_of inserted } ∷ aims_from placement mode slots rules all (place + 1) inserted
 
 -- the aims of all the pieces that a batch inserts into a set
-abbrev pub aims_of : Placement → Mode → ℕ → List Rule → List RankedPiece → List Aim
+abbrev pub aims_of : Placement → Mode → ℕ → List Rule → List RankedPiece → List Aiming
 aims_of placement mode slots rules inserted =
     aims_from placement mode slots rules (entries_of mode rules + length inserted) 0 inserted
 
@@ -66,11 +97,11 @@ pub record IsPlacedBy (placement : Placement) (mode : Mode) (bits : FieldBits) (
   pub erased : List ℕ
   pub stands : state.slots ≡ contents entries arrangement
   pub commit : IsPlannedBatch mode (bits_with mode rules batch bits) (state_after state (words_of mode bits rules batch state)) rules batch live arrangement entries planned rewrites erased
-  pub aims : map (λ insertion. insertion.aim) planned ≡ aims_of placement mode (length arrangement) rules (inserted_pieces mode (bits_with mode rules batch bits) rules batch)
+  pub aims : map (λ insertion. insertion.aiming) planned ≡ aims_of placement mode (length arrangement) rules (inserted_pieces mode (bits_with mode rules batch bits) rules batch)
   pub writes_are : made ≡ words_of mode bits rules batch state ++ batch_writes entries arrangement planned rewrites erased
 
 -- the aims of those that are left of them where so many tasks are done: insertions come first
-abbrev pub aims_left : Placement → Mode → FieldBits → ℕ → List Rule → List Command → List Task → List Aim
+abbrev pub aims_left : Placement → Mode → FieldBits → ℕ → List Rule → List Command → List Task → List Aiming
 aims_left placement mode bits slots rules batch done =
     drop (length done) (aims_of placement mode slots rules (inserted_pieces mode (bits_with mode rules batch bits) rules batch))
 
@@ -84,5 +115,5 @@ pub record IsRestPlacedBy (placement : Placement) (device_slots : ℕ) (mode : M
   pub rewrites : List Rewrite
   pub erased : List ℕ
   pub restart : IsPlannedRestart device_slots mode bits rules batch state done left twin live arrangement entries planned rewrites erased
-  pub aims : map (λ insertion. insertion.aim) planned ≡ aims_left placement mode bits (length arrangement) rules batch done
+  pub aims : map (λ insertion. insertion.aiming) planned ≡ aims_left placement mode bits (length arrangement) rules batch done
   pub writes_are : made ≡ restart_writes mode bits rules batch state twin entries arrangement planned rewrites erased

@@ -4,11 +4,10 @@ use Rattle.std.specs.List.{AllByRecursion}
 use Rattle.slot_order.specs.Order.{most_slots}
 use Rattle.slot_pool.specs.Arrangement.{Slots, home_of}
 use Rattle.rule_model.specs.Entry.{RankedPiece, entry_for}
-use Rattle.placement.specs.Live.{AreApart, is_live, is_above}
-use Rattle.placement.specs.declared.Aim.{Aim}
+use Rattle.placement.specs.Live.{AreApart, is_live, is_above, rank_in}
 use Rattle.placement.specs.declared.Move.{Move}
 use Rattle.placement.specs.declared.Move.TheVariants.{Put, Erase}
-use Rattle.placement.specs.Placement.{IsPlacement, IsInOrder, after_moves, span_of}
+use Rattle.placement.specs.Placement.{Aiming, IsPlacement, IsInOrder, after_moves, span_of}
 use Rattle.placement.specs.Insertion.{IsLive, IsOther, StandOnce, free_slots}
 use Rattle.tcam_device.specs.declared.Write.{Write}
 use Rattle.tcam_device.specs.declared.Write.TheVariants.{Slot}
@@ -83,9 +82,9 @@ pub record IsLastLive (kept : Entries) (slots : Slots) (id : ℕ) : Type 0 where
 
 -- the insertion of a live id was planned: its moves are those of a placement with its aim, and stand behind the other
 -- writes
-pub record IsInserted (kept : Entries) (slots slots' : Slots) (aim : Aim) (id : ℕ) (plan plan' : Plan) : Type 0 where
+pub record IsInserted (kept : Entries) (slots slots' : Slots) (aiming : Aiming) (id : ℕ) (plan plan' : Plan) : Type 0 where
   pub moves : List Move
-  pub placement : IsPlacement (is_above kept.live) aim id slots moves
+  pub placement : IsPlacement (is_above kept.live) (rank_in kept.live) aiming id slots moves
   pub slots_are : slots' ≡ after_moves slots moves
   pub writes : all_writes plan'.writes ≡ all_writes plan.writes ++ map Moved moves
   pub words : plan'.words ≡ plan.words
@@ -94,11 +93,11 @@ pub record IsInserted (kept : Entries) (slots slots' : Slots) (aim : Aim) (id : 
   pub most_parts : plan'.most_parts ≡ max plan.most_parts (insertion_parts (moves_put moves))
 
 -- insertions of some pieces were planned with these aims, one after the other, under ids that weren't live before
-pub record ArePlannedSince (old new : Entries) (slots slots' : Slots) (plan plan' : Plan) (pieces : List RankedPiece) (aims : List Aim) : Type 0 where
+pub record ArePlannedSince (old new : Entries) (slots slots' : Slots) (plan plan' : Plan) (pieces : List RankedPiece) (aims : List Aiming) : Type 0 where
   pub planned : List Planned
   pub are_planned : ArePlanned old.live slots planned
   pub pieces_are : map ranked_of planned ≡ pieces
-  pub aims_are : map (λ insertion. insertion.aim) planned ≡ aims
+  pub aims_are : map (λ insertion. insertion.aiming) planned ≡ aims
   pub live_is : new.live ≡ live_after old.live planned
   pub slots_are : slots' ≡ slots_after slots planned
   pub have_entries : AllByRecursion (λ insertion. entry_at new.entries insertion.one.id ≡ Some (entry_for (ranked_of insertion))) planned
@@ -111,7 +110,7 @@ pub record ArePlannedSince (old new : Entries) (slots slots' : Slots) (plan plan
 
 -- All writes of a commit were planned: insertions of some pieces with these aims, behind them the new entry of each id that
 -- gets one, and last the erase of each id that goes.
-pub record AreAllPlanned (old new : Entries) (slots slots' : Slots) (plan plan' : Plan) (pieces : List RankedPiece) (aims : List Aim)
+pub record AreAllPlanned (old new : Entries) (slots slots' : Slots) (plan plan' : Plan) (pieces : List RankedPiece) (aims : List Aiming)
     (rewrites : List Rewrite) (erased : List ℕ) : Type 0 where
   pub between : Plan
   pub inserted : ArePlannedSince old new slots slots' plan between pieces aims

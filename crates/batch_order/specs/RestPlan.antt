@@ -5,7 +5,7 @@ use Rattle.slot_pool.specs.Arrangement.{Slots}
 use Rattle.rule_model.specs.declared.Rule.{Rule}
 use Rattle.rule_store.specs.declared.Mode.{Mode}
 use Rattle.rule_store.specs.declared.Command.{Command}
-use Rattle.placement.specs.declared.Aim.{Aim}
+use Rattle.placement.specs.Placement.{Aiming}
 use Rattle.tcam_device.specs.State.{State, IsState, state_after, on_device}
 use Rattle.commit_writes.specs.declared.Rewrite.{Rewrite}
 use Rattle.commit_writes.specs.Bits.{FieldBits}
@@ -23,16 +23,16 @@ use Rattle.batch_order.specs.Entries.{Entries}
 use Rattle.batch_order.specs.Planning.{AreAllPlanned, as_writes, all_writes}
 
 -- all that is planned at a restart is a planned restart, with these aims, and its writes are the plan's
-pub record IsRestPlan (device_slots : ℕ) (mode : Mode) (bits : FieldBits) (rules : List Rule) (batch : List Command) (state : State) (done left : List Task) (twin : Option ℕ) (old new : Entries) (slots : Slots) (plan' : Plan) (aims : List Aim) (rewrites : List Rewrite) (erased : List ℕ) : Type 0 where
+pub record IsRestPlan (device_slots : ℕ) (mode : Mode) (bits : FieldBits) (rules : List Rule) (batch : List Command) (state : State) (done left : List Task) (twin : Option ℕ) (old new : Entries) (slots : Slots) (plan' : Plan) (aims : List Aiming) (rewrites : List Rewrite) (erased : List ℕ) : Type 0 where
   pub planned : List Planned
   pub restart : IsPlannedRestart device_slots mode bits rules batch state done left twin old.live slots new.entries planned rewrites erased
-  pub aims_are : map (λ insertion. insertion.aim) planned ≡ aims
+  pub aims_are : map (λ insertion. insertion.aiming) planned ≡ aims
   pub writes_are : as_writes new.entries rewrites (all_writes plan'.writes) ≡ restart_writes mode bits rules batch state twin new.entries slots planned rewrites erased
 
 abbrev pub PlansRest : Type 0
 PlansRest =
     (device_slots : ℕ) (mode : Mode) (bits : FieldBits) (rules : List Rule) (batch : List Command) (state : State) (done left : List Task) (twin : Option ℕ)
-    (old new : Entries) (slots middle : Slots) (plan plan' : Plan) (aims : List Aim) (rewrites : List Rewrite) (erased : List ℕ)
+    (old new : Entries) (slots middle : Slots) (plan plan' : Plan) (aims : List Aiming) (rewrites : List Rewrite) (erased : List ℕ)
     → CanCommit mode bits rules batch → IsState (length state.slots) state
     → IsCommitAt (length slots) mode bits rules batch (on_device device_slots state) done left → IsTwinSlot (on_device device_slots state).slots twin
     → AreReadIds (commit_pieces mode bits rules batch) (state_after state (twin_writes twin)).slots old.live slots old.entries

@@ -7,7 +7,7 @@ ghost use Rattle.rule_model.specs.Entry.{IsEncodable};
 ghost use Rattle.placement.specs.Live.{is_live};
 ghost use Rattle.batch_order.specs.ByParts.{moves_put};
 ghost use Rattle.batch_order.specs.Entries.{AddsIds, AreLast, KeepEntries};
-ghost use Rattle.batch_order.specs.Placing.{aims_from, aims_of};
+ghost use Rattle.batch_order.specs.Placing.{aims_from, aims_of, ranks_of};
 ghost use Rattle.batch_order.specs.Planning.{IsPlannable, IsLastLive, IsWithin, IsInserted, ArePlannedSince, all_writes};
 
 use crate::Placement;
@@ -17,7 +17,9 @@ use crate::plan::Plan;
 use commit_writes::Ranked;
 use move_planner::{Moves, plan_insert};
 use placement::{Aim, Move};
+use rule_model::Rank;
 use rule_store::{Mode, Store};
+use slot_order::MOST_SLOTS;
 use slot_pool::Arrangement;
 use std::alloc::{AllocError, Global};
 
@@ -86,19 +88,24 @@ pub(crate) fn plan_more(
     ensures slots { live.new.slots ≡ live.old.slots }
 {
     let slots = arrangement.slots();
-    let all = slots - arrangement.free_count() + pieces.len() as u32;
+    let stand = slots - arrangement.free_count();
+    let all = stand + pieces.len() as u32;
+    let ranks = ranks_of(alloc, pieces)?;
     let mut ids = Vec::with_capacity(alloc, pieces.len())?;
     for ranked in pieces {
+        let place = ids.len() as u32;
         let aim = aim_of(
             placement,
             mode,
             slots,
             rules,
+            stand - made,
             all,
-            made + ids.len() as u32,
+            made + place,
             ranked,
         );
-        match plan_piece(alloc, ranked, aim, live, arrangement, plan) {
+        let coming = behind(&ranks, place);
+        match plan_piece(alloc, ranked, aim, coming, live, arrangement, plan) {
             Ok(id) => ids.push_reserved(id),
             Err(fault) => {
                 forget_all(live, ids);
@@ -107,6 +114,25 @@ pub(crate) fn plan_more(
         }
     }
     Ok(ids)
+}
+
+/// The priorities of some pieces.
+fn ranks_of(alloc: Global, pieces: &[Ranked]) -> Result<Vec<Rank>, AllocError>
+    ensures { IfOk result (λ ranks. ranks.items ≡ ranks_of pieces.now) }
+{
+    let mut ranks = Vec::with_capacity(alloc, pieces.len())?;
+    for ranked in pieces {
+        ranks.push(ranked.rank)?;
+    }
+    Ok(ranks)
+}
+
+/// The priorities behind the one at a place.
+fn behind(ranks: &[Rank], place: u32) -> &[Rank]
+    requires { place < length ranks.now }
+    ensures { result.now ≡ drop (place + 1) ranks.now }
+{
+    &ranks[place as usize + 1..]
 }
 
 /// The ids that became live last are live no more.
@@ -121,27 +147,29 @@ pub(crate) fn forget_all(live: &mut LiveEntries, mut ids: Vec<u32>)
     }
 }
 
-/// Makes the entry of a piece live and plans its insertion. On want of memory the live entries are as they were.
+/// Makes the entry of a piece live and plans its insertion, before those of these priorities. On want of memory the live entries are as they were.
 fn plan_piece(
     alloc: Global,
     ranked: &Ranked,
     aim: Aim,
+    coming: &[Rank],
     live: &mut LiveEntries,
     arrangement: &mut Arrangement,
     plan: &mut Plan,
 ) -> Result<u32, AllocError>
     requires room { length live.old.live < live.old.slots }
+    requires coming { length coming.now ≤ MOST_SLOTS }
     requires encodable { IsEncodable ranked.now.piece }
     requires plannable { IsPlannable live.old arrangement.old plan.old.writes }
     ensures plannable { OnOk result (IsPlannable live.new arrangement.new plan.new.writes) }
-    ensures planned { OnOk result (ArePlannedSince live.old live.new arrangement.old arrangement.new plan.old plan.new (ranked.now ∷ []) (aim ∷ [])) }
+    ensures planned { OnOk result (ArePlannedSince live.old live.new arrangement.old arrangement.new plan.old plan.new (ranked.now ∷ []) (record { aim = aim; coming = coming.now } ∷ [])) }
     ensures adds { IfOk result (λ id. AddsIds live.old live.new (id ∷ [])) }
     ensures refused { OnErr result (live.new.live ≡ live.old.live) }
     ensures kept { KeepEntries live.old.live live.old.entries live.new.entries }
     ensures slots { live.new.slots ≡ live.old.slots }
 {
     let id = live.add(&ranked.piece, ranked.rank, ranked.result)?;
-    match plan_moves(alloc, id, aim, live, arrangement, plan) {
+    match plan_moves(alloc, id, aim, coming, live, arrangement, plan) {
         Ok(()) => Ok(id),
         Err(fault) => {
             live.forget(id);
@@ -150,24 +178,27 @@ fn plan_piece(
     }
 }
 
-/// Plans the insertion of a live id with an aim, its moves straight behind those of the plan.
+/// Plans the insertion of a live id with an aim, its moves straight behind those of the plan. `coming` has the
+/// priorities of the pieces that the commit inserts later.
 fn plan_moves(
     alloc: Global,
     id: u32,
     aim: Aim,
+    coming: &[Rank],
     live: &LiveEntries,
     arrangement: &mut Arrangement,
     plan: &mut Plan,
 ) -> Result<(), AllocError>
     requires new { IsLastLive live.now arrangement.old id }
+    requires coming { length coming.now ≤ MOST_SLOTS }
     requires within { AllByRecursion (IsWithin live.now.slots) (all_writes plan.old.writes) }
     requires no_changes { plan.old.writes.changes.items ≡ [] }
     ensures plannable { OnOk result (IsPlannable live.now arrangement.new plan.new.writes) }
-    ensures inserted { OnOk result (IsInserted live.now arrangement.old arrangement.new aim id plan.old plan.new) }
+    ensures inserted { OnOk result (IsInserted live.now arrangement.old arrangement.new (record { aim = aim; coming = coming.now }) id plan.old plan.new) }
 {
     let moves = &mut plan.writes.moves;
     let first = moves.len();
-    let insert = plan_insert(alloc, arrangement, live.index(), id, aim, moves)?;
+    let insert = plan_insert(alloc, arrangement, live.index(), id, aim, coming, moves)?;
     let puts = puts_from(&plan.writes.moves, first);
     plan.count(insert, puts);
     Ok(())

@@ -15,8 +15,11 @@
 //! **Where an entry goes.** Of the free slots between the entries that it has to stand between, a new one takes the
 //! slot nearest to its aim, by the manager's [`Placement`]. The middle of that gap leaves room on both sides, as routes
 //! that come one by one want it. The slot of its rank keeps an access list in its order, so that rules that have
-//! nothing in common don't stand against it and cross others later. All that is promised holds of both, and the writes
-//! are those of the one that was chosen: no insertion takes a write more.
+//! nothing in common don't stand against it and cross others later. A list that grows at an end, a line a commit, wants
+//! each line right behind or right before those that it overlaps, so that none has to move, and amid the list by rank:
+//! that is `Ends`. By both of these the last entry of a chain that makes way goes where it belongs, and not to the
+//! nearest free slot. All that is promised holds of each, and the writes are those of the one that was chosen: no
+//! insertion takes a write more.
 //!
 //! **A commit is a list of changes** (`commit_writes::batch_pieces`): by falling priority, at each priority that the
 //! batch names, the rule of the set and the rule after the batch, where there is one. Each rule is cut into its pieces
@@ -179,6 +182,10 @@ pub enum Placement {
     Middle,
     /// At the slot of its rank, among the entries that stand before the commit and all that the commit inserts.
     Rank,
+    /// Where it is lower than all rules of the set at the start of the gap, where it is higher at the end, and else at the
+    /// slot of its rank. A commit that inserts more than stood, and more than a 64th of the slots, spreads its entries by
+    /// rank, with a quarter of the slots that stay free behind the last.
+    Ends,
 }
 
 /// What one step did.

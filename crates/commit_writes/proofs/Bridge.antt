@@ -26,10 +26,9 @@ use Rattle.tcam_device.specs.Order.{IsOrdered, HasOneTwin}
 use Rattle.tcam_device.specs.Insertion.{insertions, IsCrossingSpan}
 use Rattle.tcam_device.proofs.Lookups.{HitAsPieces}
 use Rattle.tcam_device.proofs.One.{slot_write, one_run}
-use Rattle.placement.specs.declared.Aim.{Aim}
 use Rattle.placement.specs.declared.Move.{Move}
 use Rattle.placement.specs.declared.Move.TheVariants.{Put, Erase}
-use Rattle.placement.specs.Placement.{Above, after_moves, gap_start, gap_end, span_of, IsPlacement}
+use Rattle.placement.specs.Placement.{Above, Aiming, after_moves, gap_start, gap_end, span_of, IsPlacement}
 use Rattle.placement.proofs.Chain.{write_of, after_moves-applied, Reads, AllKnown, floor_is, ceiling_is}
 use Rattle.placement.proofs.Planned.{plan}
 use Rattle.commit_writes.specs.Planned.{IdEntries, entry_at, write_for}
@@ -85,11 +84,11 @@ pub record IsBridged (held : IdEntries) (piece : ℕ → RankedPiece) (P Known :
   pub changed : After piece (after_moves d moves) state (state_after state (device_writes piece moves))
   pub same_writes : map (write_for held) moves ≡ device_writes piece moves
 
-pub bridge : (held : IdEntries) (piece : ℕ → RankedPiece) (P Known : ℕ → Type 0) (above : Above) {aim : Aim} (d : Slots) (state : State) (id : ℕ) (moves : List Move)
+pub bridge : (held : IdEntries) (piece : ℕ → RankedPiece) (P Known : ℕ → Type 0) (above : Above) {priority : ℕ → ℕ} {aiming : Aiming} (d : Slots) (state : State) (id : ℕ) (moves : List Move)
     → Reads (over piece) (rank piece) Known above → MatchApart piece Known → HaveEntries held piece Known → ((a : ℕ) → P a → Known a) → Known id → (P id → ⊥)
     → state.slots ≡ entries (entry_by piece) d → Ordered (over piece) (rank piece) P d → AllOnce d
     → HitAsPieces state (Pieces piece Known)
-    → IsPlacement above aim id d moves → IsBridged held piece P Known above d state id moves
+    → IsPlacement above priority aiming id d moves → IsBridged held piece P Known above d state id moves
 bridge held piece P Known above d state id moves reads apart have up known new same o alone hits placement = record {
   during = during;
   copies = copies;

@@ -10,10 +10,10 @@ use Rattle.slot_pool.proofs.Places.{first_slot_is}
 use Rattle.slot_pool.proofs.Scan.{last_slot_is, next_free_is, last_free_is, nearest_free_is}
 use Rattle.placement.specs.declared.LivePiece.{LivePiece}
 use Rattle.placement.specs.Live.{is_above}
-use Rattle.placement.specs.declared.Aim.{Aim}
 use Rattle.placement.specs.declared.Move.{Move}
 use Rattle.placement.specs.declared.Move.TheVariants.{Put, Erase}
-use Rattle.placement.specs.Placement.{Above, after_moves, first_lower, last_upper, next_slot, gap_start, gap_end, span_of, lower_of_held, upper_of_held, IsDownChain, IsUpChain, put_held, moves_along, DownChain, UpChain, Pass, passed, pass_down, pass_up, IsPlacing, into_gap, push_down, push_up, IsPlacement, straight_in, uncross}
+use Rattle.placement.specs.Placement.{Above, Aiming, after_moves, first_lower, last_upper, next_slot, gap_start, gap_end, span_of, lower_of_held, upper_of_held, IsDownChain, IsUpChain, put_held, moves_along, DownChain, UpChain, Pass, passed, pass_down, pass_up, IsPlacing, into_gap, push_down, push_up, IsPlacement, straight_in, uncross}
+use Rattle.placement.proofs.Landing.{landing_free}
 use Rattle.placement.proofs.Settled.{length-after_moves}
 use Rattle.tcam_device.specs.State.{IsInUse}
 use Rattle.commit_writes.specs.Planned.{IdEntries, Planned, ArePlanned, write_for, planned_writes, slots_after}
@@ -47,39 +47,35 @@ put_inside : (size to : ℕ) (held : Option ℕ) → to < size → AreInside siz
 put_inside size to None inside = tt
 put_inside size to (Some id) inside = (inside, tt)
 
--- along a chain each member goes to the free slot or to that of the next one
-down_inside : (above : Above) (slots : Slots) (free from : ℕ) (rest : List ℕ) → free < length slots → IsDownChain above slots free (from ∷ rest) → AreInside (length slots) (moves_along slots free (from ∷ rest))
-down_inside above slots free from [] inside chain = put_inside (length slots) free (slot slots from) inside
-down_inside above slots free from (next ∷ rest) inside chain =
-    both (length slots) (moves_along slots free (next ∷ rest)) (put_held next (slot slots from)) (down_inside above slots free next rest inside chain.2)
+-- along a chain each member goes to that of the next one, and the last to a free slot
+down_inside : (above : Above) (slots : Slots) (free to from : ℕ) (rest : List ℕ) → to < length slots → IsDownChain above slots free (from ∷ rest) → AreInside (length slots) (moves_along slots to (from ∷ rest))
+down_inside above slots free to from [] inside chain = put_inside (length slots) to (slot slots from) inside
+down_inside above slots free to from (next ∷ rest) inside chain =
+    both (length slots) (moves_along slots to (next ∷ rest)) (put_held next (slot slots from)) (down_inside above slots free to next rest inside chain.2)
     (put_inside (length slots) next (slot slots from) (lower_held above slots (slot slots from) next chain.1))
 
-up_inside : (above : Above) (slots : Slots) (free from : ℕ) (rest : List ℕ) → free < length slots → IsUpChain above slots free (from ∷ rest) → AreInside (length slots) (moves_along slots free (from ∷ rest))
-up_inside above slots free from [] inside chain = put_inside (length slots) free (slot slots from) inside
-up_inside above slots free from (next ∷ rest) inside chain =
-    both (length slots) (moves_along slots free (next ∷ rest)) (put_held next (slot slots from)) (up_inside above slots free next rest inside chain.2)
+up_inside : (above : Above) (slots : Slots) (free to from : ℕ) (rest : List ℕ) → to < length slots → IsUpChain above slots free (from ∷ rest) → AreInside (length slots) (moves_along slots to (from ∷ rest))
+up_inside above slots free to from [] inside chain = put_inside (length slots) to (slot slots from) inside
+up_inside above slots free to from (next ∷ rest) inside chain =
+    both (length slots) (moves_along slots to (next ∷ rest)) (put_held next (slot slots from)) (up_inside above slots free to next rest inside chain.2)
     (put_inside (length slots) next (slot slots from) (upper_held above slots (slot slots from) next chain.1))
 
-next_inside : (slots : Slots) (place at : ℕ) → next_free_above slots place ≡ Some at → at < length slots
-next_inside slots place at is = (next_free_is slots place at is).1.inside
-
-last_inside : (slots : Slots) (place at : ℕ) → last_free_below slots place ≡ Some at → at < length slots
-last_inside slots place at is = (last_free_is slots place at is).1.inside
-
 down_chain : (above : Above) (slots : Slots) (from place : ℕ) (down : DownChain above slots from (next_free_above slots place)) → AreInside (length slots) (moves_along slots down.free (from ∷ down.rest))
-down_chain above slots from place down = down_inside above slots down.free from down.rest (next_inside slots place down.free down.to) down.chain
+down_chain above slots from place down = down_inside above slots down.free down.free from down.rest (next_free_is slots place down.free down.to).1.inside down.chain
 
 up_chain : (above : Above) (slots : Slots) (from place : ℕ) (up : UpChain above slots from (last_free_below slots place)) → AreInside (length slots) (moves_along slots up.free (from ∷ up.rest))
-up_chain above slots from place up = up_inside above slots up.free from up.rest (last_inside slots place up.free up.to) up.chain
+up_chain above slots from place up = up_inside above slots up.free up.free from up.rest (last_free_is slots place up.free up.to).1.inside up.chain
 
 -- the moves that place an id where nothing crosses are of slots of the arrangement
-placing_inside : (above : Above) {aim : Aim} (id : ℕ) (slots : Slots) (moves : List Move) → IsPlacing above aim id slots moves → AreInside (length slots) moves
+placing_inside : (above : Above) {priority : ℕ → ℕ} {aiming : Aiming} (id : ℕ) (slots : Slots) (moves : List Move) → IsPlacing above priority aiming id slots moves → AreInside (length slots) moves
 placing_inside above id slots moves (into_gap at low found) =
     ((nearest_free_is slots (gap_start above slots id) (gap_end above slots id) _ at found).free.inside, tt)
 placing_inside above id slots moves (push_down lower low none is down shorter) =
-    both (length slots) (moves_along slots down.free (lower ∷ down.rest)) (Put lower id ∷ []) (down_chain above slots lower lower down) (lower_inside above slots id lower is, tt)
+    both (length slots) (moves_along slots _ (lower ∷ down.rest)) (Put lower id ∷ [])
+    (down_inside above slots down.free _ lower down.rest (landing_free slots _ _ down.free _ (next_free_is slots lower down.free down.to).1).inside down.chain) (lower_inside above slots id lower is, tt)
 placing_inside above id slots moves (push_up upper low none is up shorter) =
-    both (length slots) (moves_along slots up.free (upper ∷ up.rest)) (Put upper id ∷ []) (up_chain above slots upper upper up) (upper_inside above slots id upper is, tt)
+    both (length slots) (moves_along slots _ (upper ∷ up.rest)) (Put upper id ∷ [])
+    (up_inside above slots up.free _ upper up.rest (landing_free slots _ _ up.free _ (last_free_is slots upper up.free up.to).1).inside up.chain) (upper_inside above slots id upper is, tt)
 
 held_inside : (test : ℕ → Bool) (slots : Slots) (at : ℕ) → holds test (slot slots at) ≡ true → at < length slots
 held_inside test slots at is = let h = held_by (slot slots at) is in slot_inside slots at h.0 h.1
@@ -104,7 +100,7 @@ pass_inside above behind before cut slots moves (pass_up {moves = rest} upper fi
           (pass_inside above behind before cut (after_moves slots (moves_along slots up.free (upper ∷ up.rest) ++ Erase upper ∷ [])) rest on),
     )
 
-placement_inside : (above : Above) {aim : Aim} (id : ℕ) (slots : Slots) (moves : List Move) → IsPlacement above aim id slots moves → AreInside (length slots) moves
+placement_inside : (above : Above) {priority : ℕ → ℕ} {aiming : Aiming} (id : ℕ) (slots : Slots) (moves : List Move) → IsPlacement above priority aiming id slots moves → AreInside (length slots) moves
 placement_inside above id slots moves (straight_in placing) = placing_inside above id slots moves placing
 placement_inside above id slots moves (uncross {passing = passing} {moves = rest} behind before cut crossed sides best pass placing) =
     both (length slots) passing rest (pass_inside above behind before cut slots passing pass)

@@ -9,11 +9,10 @@ use Rattle.rule_model.specs.Piece.{PiecesOverlap}
 use Rattle.rule_model.specs.declared.words.Entry.{Entry}
 use Rattle.rule_model.specs.Entry.{RankedPiece, IsEncodable, entry_for}
 use Rattle.placement.specs.declared.LivePiece.{LivePiece}
-use Rattle.placement.specs.Live.{AreApart, is_live, is_above}
-use Rattle.placement.specs.declared.Aim.{Aim}
+use Rattle.placement.specs.Live.{AreApart, is_live, is_above, rank_in}
 use Rattle.placement.specs.declared.Move.{Move}
 use Rattle.placement.specs.declared.Move.TheVariants.{Put, Erase}
-use Rattle.placement.specs.Placement.{IsPlacement, IsInOrder, after_moves, span_of}
+use Rattle.placement.specs.Placement.{Aiming, IsPlacement, IsInOrder, after_moves, span_of}
 use Rattle.placement.specs.Insertion.{IsLive, StandOnce}
 use Rattle.tcam_device.specs.declared.Write.{Write}
 use Rattle.tcam_device.specs.declared.Write.TheVariants.{Slot}
@@ -46,12 +45,12 @@ abbrev pub write_for : IdEntries → Move → Write
 write_for entries (Put slot id) = Slot slot (entry_at entries id)
 write_for entries (Erase slot) = Slot slot None
 
--- one insertion as it was planned: the entry's id with its piece and priority, its result, its aim, its moves and its
--- crossing span
+-- one insertion as it was planned: the entry's id with its piece and priority, its result, its aim with the priorities
+-- that come later, its moves and its crossing span
 pub record Planned : Type 0 where
   pub one : LivePiece
   pub result : ℕ
-  pub aim : Aim
+  pub aiming : Aiming
   pub moves : List Move
   pub span : ℕ
 
@@ -65,7 +64,7 @@ abbrev pub ArePlanned : List LivePiece → Slots → List Planned → Type 0
 ArePlanned live slots [] = Unit {0}
 ArePlanned live slots (planned ∷ rest) =
     IsFalse (is_live live planned.one.id)
-    × IsPlacement (is_above (live ++ planned.one ∷ [])) planned.aim planned.one.id slots planned.moves
+    × IsPlacement (is_above (live ++ planned.one ∷ [])) (rank_in (live ++ planned.one ∷ [])) planned.aiming planned.one.id slots planned.moves
     × (planned.span ≡ span_of (is_above (live ++ planned.one ∷ [])) slots planned.one.id)
     × ArePlanned (live ++ planned.one ∷ []) (after_moves slots planned.moves) rest
 

@@ -6,10 +6,9 @@ use Rattle.slot_moves.specs.Cuts.{holds, early, late}
 use Rattle.slot_order.proofs.Writes.{slot_inside, put_here, put_away}
 use Rattle.slot_moves.proofs.Tally.{take_clear, drop_clear}
 use Rattle.slot_pool.specs.Arrangement.{Slots, next_free_above, last_free_below}
-use Rattle.placement.specs.declared.Aim.{Aim}
 use Rattle.placement.specs.declared.Move.{Move}
 use Rattle.placement.specs.declared.Move.TheVariants.{Put, Erase}
-use Rattle.placement.specs.Placement.{Above, after_moves, DownChain, UpChain, put_held, moves_along, IsCut, IsLastBefore, IsFirstFrom, Pass, passed, pass_down, pass_up, IsPlacing, into_gap, push_down, push_up, IsPlacement, straight_in, uncross}
+use Rattle.placement.specs.Placement.{Above, Aiming, last_of, landing_down, landing_up, after_moves, DownChain, UpChain, put_held, moves_along, IsCut, IsLastBefore, IsFirstFrom, Pass, passed, pass_down, pass_up, IsPlacing, into_gap, push_down, push_up, IsPlacement, straight_in, uncross}
 use Rattle.placement.proofs.Planner.{down_one, up_one, last_alone, first_alone}
 use Rattle.placement.proofs.Planned.{placing_fits}
 use Rattle.placement.proofs.Cutting.{same_held, same_counts, same_tests, same_cut}
@@ -17,41 +16,41 @@ use Rattle.placement.proofs.Readied.{start_inside}
 use Rattle.placement.proofs.Reach.{holding}
 use Rattle.move_planner.proofs.Shifted.{after_append}
 
--- the moves along a chain are the same where the slot that it starts from and the target are
-same_down : (above : Above) (slots : Slots) (from : ℕ → Option ℕ) (a b : ℕ) (x : DownChain above slots a (from a)) (y : DownChain above slots b (from b)) → a ≡ b
-    → moves_along slots x.free (a ∷ x.rest) ≡ moves_along slots y.free (b ∷ y.rest)
-same_down above slots from a b x y same =
-    subst (λ o. (z : DownChain above slots o (from o)) → moves_along slots x.free (a ∷ x.rest) ≡ moves_along slots z.free (o ∷ z.rest)) same
+-- the moves along a chain are the same where the slot that it starts from and the target are, whatever slot they lead to
+same_down : (above : Above) (slots : Slots) (from : ℕ → Option ℕ) (to : ℕ → ℕ → List ℕ → ℕ) (a b : ℕ) (x : DownChain above slots a (from a)) (y : DownChain above slots b (from b)) → a ≡ b
+    → moves_along slots (to x.free a x.rest) (a ∷ x.rest) ≡ moves_along slots (to y.free b y.rest) (b ∷ y.rest)
+same_down above slots from to a b x y same =
+    subst (λ o. (z : DownChain above slots o (from o)) → moves_along slots (to x.free a x.rest) (a ∷ x.rest) ≡ moves_along slots (to z.free o z.rest) (o ∷ z.rest)) same
     (λ z. let k : Some x.free ≡ Some z.free = sym x.to ∙ z.to in let free : x.free ≡ z.free = cc in
-    ap (λ f. moves_along slots f (a ∷ x.rest)) free ∙ ap (λ rest. moves_along slots z.free (a ∷ rest)) (down_one above slots a (from a) x z)) y
+    ap (λ f. moves_along slots (to f a x.rest) (a ∷ x.rest)) free ∙ ap (λ rest. moves_along slots (to z.free a rest) (a ∷ rest)) (down_one above slots a (from a) x z)) y
 
-same_up : (above : Above) (slots : Slots) (from : ℕ → Option ℕ) (a b : ℕ) (x : UpChain above slots a (from a)) (y : UpChain above slots b (from b)) → a ≡ b
-    → moves_along slots x.free (a ∷ x.rest) ≡ moves_along slots y.free (b ∷ y.rest)
-same_up above slots from a b x y same =
-    subst (λ o. (z : UpChain above slots o (from o)) → moves_along slots x.free (a ∷ x.rest) ≡ moves_along slots z.free (o ∷ z.rest)) same
+same_up : (above : Above) (slots : Slots) (from : ℕ → Option ℕ) (to : ℕ → ℕ → List ℕ → ℕ) (a b : ℕ) (x : UpChain above slots a (from a)) (y : UpChain above slots b (from b)) → a ≡ b
+    → moves_along slots (to x.free a x.rest) (a ∷ x.rest) ≡ moves_along slots (to y.free b y.rest) (b ∷ y.rest)
+same_up above slots from to a b x y same =
+    subst (λ o. (z : UpChain above slots o (from o)) → moves_along slots (to x.free a x.rest) (a ∷ x.rest) ≡ moves_along slots (to z.free o z.rest) (o ∷ z.rest)) same
     (λ z. let k : Some x.free ≡ Some z.free = sym x.to ∙ z.to in let free : x.free ≡ z.free = cc in
-    ap (λ f. moves_along slots f (a ∷ x.rest)) free ∙ ap (λ rest. moves_along slots z.free (a ∷ rest)) (up_one above slots a (from a) x z)) y
+    ap (λ f. moves_along slots (to f a x.rest) (a ∷ x.rest)) free ∙ ap (λ rest. moves_along slots (to z.free a rest) (a ∷ rest)) (up_one above slots a (from a) x z)) y
 
 -- there is one way to place an id where nothing crosses
-placing_alone : (above : Above) (aim : Aim) (id : ℕ) (slots : Slots) (a b : List Move) → IsPlacing above aim id slots a → IsPlacing above aim id slots b → a ≡ b
-placing_alone above aim id slots a b (into_gap at fits near) (into_gap at' fits' near') =
+placing_alone : (above : Above) (priority : ℕ → ℕ) (aiming : Aiming) (id : ℕ) (slots : Slots) (a b : List Move) → IsPlacing above priority aiming id slots a → IsPlacing above priority aiming id slots b → a ≡ b
+placing_alone above priority aiming id slots a b (into_gap at fits near) (into_gap at' fits' near') =
     let k : Some at ≡ Some at' = sym near ∙ near' in let same : at ≡ at' = cc in ap (λ z. Put z id ∷ []) same
-placing_alone above aim id slots a b (into_gap at fits near) (push_down lower fits' none is down shorter) = absurd (let k : Some at ≡ None = sym near ∙ none in cc)
-placing_alone above aim id slots a b (into_gap at fits near) (push_up upper fits' none is up longer) = absurd (let k : Some at ≡ None = sym near ∙ none in cc)
-placing_alone above aim id slots a b (push_down lower fits none is down shorter) (into_gap at fits' near) = absurd (let k : Some at ≡ None = sym near ∙ none in cc)
-placing_alone above aim id slots a b (push_up upper fits none is up longer) (into_gap at fits' near) = absurd (let k : Some at ≡ None = sym near ∙ none in cc)
-placing_alone above aim id slots a b (push_down lower fits none is down shorter) (push_up upper fits' none' is' up longer) =
+placing_alone above priority aiming id slots a b (into_gap at fits near) (push_down lower fits' none is down shorter) = absurd (let k : Some at ≡ None = sym near ∙ none in cc)
+placing_alone above priority aiming id slots a b (into_gap at fits near) (push_up upper fits' none is up longer) = absurd (let k : Some at ≡ None = sym near ∙ none in cc)
+placing_alone above priority aiming id slots a b (push_down lower fits none is down shorter) (into_gap at fits' near) = absurd (let k : Some at ≡ None = sym near ∙ none in cc)
+placing_alone above priority aiming id slots a b (push_up upper fits none is up longer) (into_gap at fits' near) = absurd (let k : Some at ≡ None = sym near ∙ none in cc)
+placing_alone above priority aiming id slots a b (push_down lower fits none is down shorter) (push_up upper fits' none' is' up longer) =
     absurd (let x = shorter upper is' up in let y = longer lower is down in omega arith)
-placing_alone above aim id slots a b (push_up upper fits none is up longer) (push_down lower fits' none' is' down shorter) =
+placing_alone above priority aiming id slots a b (push_up upper fits none is up longer) (push_down lower fits' none' is' down shorter) =
     absurd (let x = shorter upper is up in let y = longer lower is' down in omega arith)
-placing_alone above aim id slots a b (push_down lower fits none is down shorter) (push_down other fits' none' is' down' shorter') =
+placing_alone above priority aiming id slots a b (push_down lower fits none is down shorter) (push_down other fits' none' is' down' shorter') =
     let same : lower ≡ other = (let k : Some lower ≡ Some other = sym is ∙ is' in cc) in
-    let k = same_down above slots (next_free_above slots) lower other down down' same in
-    ap (λ z. z ++ Put lower id ∷ []) k ∙ ap (λ z. moves_along slots down'.free (other ∷ down'.rest) ++ Put z id ∷ []) same
-placing_alone above aim id slots a b (push_up upper fits none is up longer) (push_up other fits' none' is' up' longer') =
+    let k = same_down above slots (next_free_above slots) (λ free from rest. landing_down above priority aiming slots free (last_of from rest)) lower other down down' same in
+    ap (λ z. z ++ Put lower id ∷ []) k ∙ ap (λ z. moves_along slots (landing_down above priority aiming slots down'.free (last_of other down'.rest)) (other ∷ down'.rest) ++ Put z id ∷ []) same
+placing_alone above priority aiming id slots a b (push_up upper fits none is up longer) (push_up other fits' none' is' up' longer') =
     let same : upper ≡ other = (let k : Some upper ≡ Some other = sym is ∙ is' in cc) in
-    let k = same_up above slots (last_free_below slots) upper other up up' same in
-    ap (λ z. z ++ Put upper id ∷ []) k ∙ ap (λ z. moves_along slots up'.free (other ∷ up'.rest) ++ Put z id ∷ []) same
+    let k = same_up above slots (last_free_below slots) (λ free from rest. landing_up above priority aiming slots free (last_of from rest)) upper other up up' same in
+    ap (λ z. z ++ Put upper id ∷ []) k ∙ ap (λ z. moves_along slots (landing_up above priority aiming slots up'.free (last_of other up'.rest)) (other ∷ up'.rest) ++ Put z id ∷ []) same
 
 -- each id that stands is one of these
 abbrev Stand : (ℕ → Type 0) → Slots → Type 0
@@ -141,7 +140,7 @@ pass_alone above behind before cut slots a b inside (pass_up upper first up long
     absurd (let x = shorter upper first up in let y = longer lower last down in omega arith)
 pass_alone above behind before cut slots a b inside (pass_down {moves = later} lower last down shorter rest) (pass_down {moves = later'} other last' down' shorter' rest') =
     let same = last_alone behind cut slots lower other last last' in
-    let k = same_down above slots (λ from. next_free_above slots (cut - 1)) lower other down down' same in
+    let k = same_down above slots (λ from. next_free_above slots (cut - 1)) (λ free from rest. free) lower other down down' same in
     let here = moves_along slots down.free (lower ∷ down.rest) ++ Erase lower ∷ [] in
     let there = turns_alone (moves_along slots down.free (lower ∷ down.rest)) (moves_along slots down'.free (other ∷ down'.rest)) lower other [] [] k same refl in
     let size = same_size slots here in
@@ -149,7 +148,7 @@ pass_alone above behind before cut slots a b inside (pass_down {moves = later} l
     (pass_alone above behind before cut (after_moves slots here) later later' (omega arith) rest (subst (λ ms. Pass above behind before cut (after_moves slots ms) later') (sym there) rest'))
 pass_alone above behind before cut slots a b inside (pass_up {moves = later} upper first up longer rest) (pass_up {moves = later'} other first' up' longer' rest') =
     let same = first_alone before cut slots upper other first first' in
-    let k = same_up above slots (λ from. last_free_below slots cut) upper other up up' same in
+    let k = same_up above slots (λ from. last_free_below slots cut) (λ free from rest. free) upper other up up' same in
     let here = moves_along slots up.free (upper ∷ up.rest) ++ Erase upper ∷ [] in
     let there = turns_alone (moves_along slots up.free (upper ∷ up.rest)) (moves_along slots up'.free (other ∷ up'.rest)) upper other [] [] k same refl in
     let size = same_size slots here in
@@ -167,15 +166,15 @@ cut_alone above slots id behind before a b x y = elim (cases_lt a b) [
 ]
 
 -- there is one placement
-pub placement_alone : (above : Above) (aim : Aim) (id : ℕ) (slots : Slots) (a b : List Move) → IsPlacement above aim id slots a → IsPlacement above aim id slots b → a ≡ b
-placement_alone above aim id slots a b (straight_in x) (straight_in y) = placing_alone above aim id slots a b x y
-placement_alone above aim id slots a b (straight_in x) (uncross behind before cut crossed sides best pass placing) = absurd (let f = placing_fits above id slots a x in omega arith)
-placement_alone above aim id slots a b (uncross behind before cut crossed sides best pass placing) (straight_in y) = absurd (let f = placing_fits above id slots b y in omega arith)
-placement_alone above aim id slots a b (uncross {passing = p} {moves = m} behind before cut crossed sides best pass placing) (uncross {passing = p'} {moves = m'} behind' before' cut' crossed' sides' best' pass' placing') =
+pub placement_alone : (above : Above) (priority : ℕ → ℕ) (aiming : Aiming) (id : ℕ) (slots : Slots) (a b : List Move) → IsPlacement above priority aiming id slots a → IsPlacement above priority aiming id slots b → a ≡ b
+placement_alone above priority aiming id slots a b (straight_in x) (straight_in y) = placing_alone above priority aiming id slots a b x y
+placement_alone above priority aiming id slots a b (straight_in x) (uncross behind before cut crossed sides best pass placing) = absurd (let f = placing_fits above id slots a x in omega arith)
+placement_alone above priority aiming id slots a b (uncross behind before cut crossed sides best pass placing) (straight_in y) = absurd (let f = placing_fits above id slots b y in omega arith)
+placement_alone above priority aiming id slots a b (uncross {passing = p} {moves = m} behind before cut crossed sides best pass placing) (uncross {passing = p'} {moves = m'} behind' before' cut' crossed' sides' best' pass' placing') =
     let cuts = cut_alone above slots id behind before cut cut' best (same_cut above slots id cut' behind' before' behind before sides' sides best') in
     let inside : cut ≤ length slots = (let a = best.to in let b = start_inside above slots id in omega arith) in
     let t = same_tests above slots id behind' before' behind before sides' sides in
     let k = pass_alone above behind before cut slots p p' inside pass
     (pass_same above behind' before' behind before cut slots p' inside (λ at other s. (t at other s).0) (λ at other s. (t at other s).1) (subst (λ c. Pass above behind' before' c slots p') (sym cuts) pass')) in
-    let h = placing_alone above aim id (after_moves slots p) m m' placing (subst (λ z. IsPlacing above aim id (after_moves slots z) m') (sym k) placing') in
+    let h = placing_alone above priority aiming id (after_moves slots p) m m' placing (subst (λ z. IsPlacing above priority aiming id (after_moves slots z) m') (sym k) placing') in
     ap (λ z. z ++ m) k ∙ ap (λ z. p' ++ z) h

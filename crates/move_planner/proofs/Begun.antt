@@ -9,8 +9,7 @@ use Rattle.slot_moves.specs.Cuts.{holds, early, late, wrong_side, HasRoomNear}
 use Rattle.slot_moves.proofs.Tally.{one, tally, tally_same, tally_from, count_take, count_both}
 use Rattle.slot_moves.proofs.BestCut.{AreCrossed, has_cut, best_cut, take_none, drop_none, room_from_near}
 use Rattle.slot_pool.specs.Arrangement.{Slots}
-use Rattle.placement.specs.Live.{LivePieces, is_above}
-use Rattle.placement.proofs.Above.{rank_in}
+use Rattle.placement.specs.Live.{LivePieces, is_above, rank_in}
 use Rattle.move_planner.specs.declared.sides.Sides.{Sides}
 use Rattle.placement.specs.Placement.{gap_start, gap_end, AreSides, IsCut}
 use Rattle.placement.specs.Insertion.{IsLive, IsOther}

@@ -12,11 +12,10 @@ use Rattle.slot_order.proofs.Lists.{contains_head, contains_tail, in_map}
 use Rattle.slot_pool.specs.Arrangement.{Slots}
 use Rattle.rule_model.specs.Piece.{pieces_meet}
 use Rattle.placement.specs.declared.LivePiece.{LivePiece}
-use Rattle.placement.specs.Live.{LivePieces, is_above}
-use Rattle.placement.proofs.Above.{rank_in, rank_is, piece_in, piece_is, live_is, above_is}
-use Rattle.placement.specs.declared.Aim.{Aim}
+use Rattle.placement.specs.Live.{LivePieces, is_above, rank_in}
+use Rattle.placement.proofs.Above.{rank_is, piece_in, piece_is, live_is, above_is}
 use Rattle.placement.specs.declared.Move.{Move}
-use Rattle.placement.specs.Placement.{after_moves, gap_start, gap_end, span_of, AreSides, IsCut, IsInOrder, IsPlacement, straight_in}
+use Rattle.placement.specs.Placement.{Aiming, after_moves, gap_start, gap_end, span_of, AreSides, IsCut, IsInOrder, IsPlacement, straight_in}
 use Rattle.std.proofs.Math.Seq.{drop-append_seam}
 use Rattle.placement.specs.Insertion.{IsLive, IsOther, StandOnce, BoundsLiveChains, AreMade, moves_since, free_slots}
 use Rattle.placement.specs.Ready.{IsReady}
@@ -80,7 +79,7 @@ pub record IsInserted (index : LivePieces) (id : ℕ) (slots : Slots) (moves : L
   pub parted : (behind before : ℕ → Bool) → AreSides (is_above index.live) slots id behind before → gap_end (is_above index.live) slots id < gap_start (is_above index.live) slots id
       → (boundary : ℕ) × IsCut (is_above index.live) slots id behind before boundary × (wrong_side behind before boundary slots ≤ span_of (is_above index.live) slots id)
 
-pub inserted : (index : LivePieces) {aim : Aim} (id : ℕ) (slots : Slots) (moves : List Move) → IsReady index id slots → IsPlacement (is_above index.live) aim id slots moves
+pub inserted : (index : LivePieces) {priority : ℕ → ℕ} {aiming : Aiming} (id : ℕ) (slots : Slots) (moves : List Move) → IsReady index id slots → IsPlacement (is_above index.live) priority aiming id slots moves
     → IsInserted index id slots moves
 inserted index id slots moves ready placement = record { order = order; standing = standing; bound = few; cut = cut; parted = as_planned.parted }
   where
@@ -167,7 +166,7 @@ uncrossed_none index id slots plan ready clear = record {
   moves = [];
   gained = sym (append-nil plan);
   after = refl;
-  goes_on = λ aim rest p. straight_in p;
+  goes_on = λ aiming rest p. straight_in p;
   ready = ready;
   same_free = refl;
   clear = clear;
@@ -175,15 +174,15 @@ uncrossed_none index id slots plan ready clear = record {
 }
 
 -- the whole of an insertion, as the planner says it
-pub record IsWholly (index : LivePieces) (aim : Aim) (id : ℕ) (slots slots' : Slots) (plan plan' : List Move) : Type 0 where
+pub record IsWholly (index : LivePieces) (aiming : Aiming) (id : ℕ) (slots slots' : Slots) (plan plan' : List Move) : Type 0 where
   pub made : AreMade slots slots' plan plan'
-  pub placement : IsPlacement (is_above index.live) aim id slots (moves_since plan plan')
+  pub placement : IsPlacement (is_above index.live) (rank_in index.live) aiming id slots (moves_since plan plan')
   pub few : length (moves_since plan plan') ≤ (1 + most_slots) * 4098
   pub one_fewer : free_slots slots' + 1 ≡ free_slots slots
   pub inserted : IsInserted index id slots (moves_since plan plan')
 
-pub wholly : (index : LivePieces) (aim : Aim) (id : ℕ) (a b c : Slots) (p q r : List Move) → IsReady index id a → UndoesCrossing index id a b p q → IsPlaced index aim id b c q r → IsWholly index aim id a c p r
-wholly index aim id a b c p q r ready x y = record {
+pub wholly : (index : LivePieces) (aiming : Aiming) (id : ℕ) (a b c : Slots) (p q r : List Move) → IsReady index id a → UndoesCrossing index id a b p q → IsPlaced index aiming id b c q r → IsWholly index aiming id a c p r
+wholly index aiming id a b c p q r ready x y = record {
   made = made;
   placement = placement;
   few = let n = length-append x.moves y.moves in let s = x.few in let t = y.few in let e = ap length since in omega arith;
@@ -203,15 +202,15 @@ wholly index aim id a b c p q r ready x y = record {
     since : moves_since p r ≡ x.moves ++ y.moves
     since = ap (drop (length p)) gained ∙ drop-append_seam p (x.moves ++ y.moves)
 
-    placement : IsPlacement (is_above index.live) aim id a (moves_since p r)
-    placement = subst (IsPlacement (is_above index.live) aim id a) (sym since) (x.goes_on aim y.moves y.placement)
+    placement : IsPlacement (is_above index.live) (rank_in index.live) aiming id a (moves_since p r)
+    placement = subst (IsPlacement (is_above index.live) (rank_in index.live) aiming id a) (sym since) (x.goes_on aiming y.moves y.placement)
 
 -- the count of the moves
 pub record CountsMoves (index : LivePieces) (id : ℕ) (slots : Slots) (plan plan' : List Move) : Type 0 where
   pub count : length plan' - length plan ≡ length (moves_since plan plan')
   pub small : length (moves_since plan plan') < 4294967296
 
-pub counted : (index : LivePieces) {aim : Aim} (id : ℕ) (slots slots' : Slots) (plan plan' : List Move) → IsReady index id slots → IsWholly index aim id slots slots' plan plan' → CountsMoves index id slots plan plan'
+pub counted : (index : LivePieces) {aiming : Aiming} (id : ℕ) (slots slots' : Slots) (plan plan' : List Move) → IsReady index id slots → IsWholly index aiming id slots slots' plan plan' → CountsMoves index id slots plan plan'
 counted index id slots slots' plan plan' ready w = record {
   count = let e = ap length w.made.0 in let n = length-append plan (moves_since plan plan') in omega arith;
   small = let k = w.few in omega arith;

@@ -4,6 +4,7 @@ pub mod Ends
 mod Examples
 pub mod Filled
 pub mod Inserted
+pub mod Landings
 pub mod Marks
 pub mod Near
 pub mod Outcomes
@@ -11,6 +12,7 @@ pub mod Passed
 pub mod Placed
 pub mod Pushed
 pub mod Shifted
+pub mod Single
 pub mod Sought
 pub mod Tallied
 pub mod Turned

@@ -13,8 +13,7 @@ use Rattle.slot_moves.proofs.Passing.{IsPass, HasSides, Passed, ShowsDown, Shows
 use Rattle.slot_moves.proofs.Passes.{room_down, room_up}
 use Rattle.slot_pool.specs.Arrangement.{Slots, next_free_above, last_free_below}
 use Rattle.slot_pool.proofs.Scan.{next_free_is, last_free_is}
-use Rattle.placement.specs.Live.{LivePieces, is_above}
-use Rattle.placement.proofs.Above.{rank_in}
+use Rattle.placement.specs.Live.{LivePieces, is_above, rank_in}
 use Rattle.placement.specs.declared.Move.{Move}
 use Rattle.placement.specs.declared.Move.TheVariants.{Erase}
 use Rattle.move_planner.specs.declared.sides.Sides.{Sides}

@@ -1,5 +1,5 @@
 -- The last part of an insertion is a placement.
-use Rattle.std.proofs.Common.{◌≡◌, ℕ, ◌+◌, ◌≤◌, Option, None, Some, List, [], ◌∷◌, ◌++◌, length, map, inl, inr, arith, refl, sym, ◌∙◌, ap, append_assoc, length-append}
+use Rattle.std.proofs.Common.{◌≡◌, ℕ, ◌+◌, ◌≤◌, Option, None, Some, List, [], ◌∷◌, ◌++◌, length, map, inl, inr, arith, refl, sym, ◌∙◌, subst, ap, append_assoc, length-append}
 use Rattle.std.specs.Prelude.{slice_index_or}
 use Rattle.std.specs.Option.{unwrap_or}
 use Rattle.std.proofs.lemmas.List.{length-map}
@@ -7,22 +7,23 @@ use Rattle.slot_order.specs.Order.{most_slots}
 use Rattle.slot_order.proofs.Writes.{slot_inside}
 use Rattle.slot_moves.proofs.Count.{length-chain_moves}
 use Rattle.slot_pool.specs.Arrangement.{Slots, HasTwin, nearest_free}
-use Rattle.slot_pool.proofs.Scan.{IsFree, nearest_free_is, next_free_is}
-use Rattle.placement.specs.Live.{LivePieces, is_above}
-use Rattle.placement.proofs.Above.{rank_in}
+use Rattle.slot_pool.proofs.Scan.{IsFree, nearest_free_is}
+use Rattle.placement.specs.Live.{LivePieces, is_above, rank_in}
 use Rattle.placement.specs.declared.Aim.{Aim}
 use Rattle.placement.specs.declared.Move.{Move}
 use Rattle.placement.specs.declared.Move.TheVariants.{Put}
 use Rattle.move_planner.specs.declared.chains.Chain.{Chain}
-use Rattle.placement.specs.Placement.{Above, after_move, after_moves, moves_along, first_lower, last_upper, next_slot, gap_start, gap_end, aimed_at, gap_slot, into_gap, push_down, push_up}
+use Rattle.placement.specs.Placement.{Above, Aiming, last_of, landing_down, landing_up, after_move, after_moves, moves_along, first_lower, last_upper, next_slot, gap_start, gap_end, aimed_at, gap_slot, into_gap, push_down, push_up}
 use Rattle.placement.specs.Insertion.{free_slots}
 use Rattle.placement.specs.Ready.{IsReady}
-use Rattle.move_planner.specs.Steps.{IsPlaced, IsWay}
+use Rattle.move_planner.specs.Steps.{IsPlaced, IsWay, Landed}
 use Rattle.placement.proofs.Chain.{write_of, IsDown, IsUp}
 use Rattle.placement.proofs.Planner.{Related}
+use Rattle.placement.proofs.Landing.{LandsDown, LandsUp}
 use Rattle.placement.proofs.Readied.{down_size, up_size}
 use Rattle.move_planner.proofs.Shifted.{free_put, free_over, after_more}
 use Rattle.move_planner.proofs.Turned.{chain_down, chain_up, low_at, high_at}
+use Rattle.move_planner.proofs.Landings.{down_free, up_free, down_lands, up_lands}
 
 -- the slot that was chosen is the gap's
 pub chosen : (above : Above) (aim : Aim) (slots : Slots) (id start end : ℕ) (found : Option ℕ) → start ≡ gap_start above slots id → end ≡ gap_end above slots id
@@ -34,11 +35,11 @@ pub gap_free : (above : Above) (aim : Aim) (slots : Slots) (id at : ℕ) → gap
 gap_free above aim slots id at is = (nearest_free_is slots _ _ _ at is).free
 
 -- into the gap
-pub placed_in_gap : (index : LivePieces) (aim : Aim) (id : ℕ) (slots slots' : Slots) (plan plan' : List Move) (at : ℕ)
-    → gap_start (is_above index.live) slots id ≤ gap_end (is_above index.live) slots id → gap_slot (is_above index.live) aim slots id ≡ Some at
-    → plan' ≡ plan ++ Put at id ∷ [] → slots' ≡ after_move slots (Put at id) → IsPlaced index aim id slots slots' plan plan'
-placed_in_gap index aim id slots slots' plan plan' at fits is gained after =
-    let f = gap_free (is_above index.live) aim slots id at is in
+pub placed_in_gap : (index : LivePieces) (aiming : Aiming) (id : ℕ) (slots slots' : Slots) (plan plan' : List Move) (at : ℕ)
+    → gap_start (is_above index.live) slots id ≤ gap_end (is_above index.live) slots id → gap_slot (is_above index.live) aiming.aim slots id ≡ Some at
+    → plan' ≡ plan ++ Put at id ∷ [] → slots' ≡ after_move slots (Put at id) → IsPlaced index aiming id slots slots' plan plan'
+placed_in_gap index aiming id slots slots' plan plan' at fits is gained after =
+    let f = gap_free (is_above index.live) aiming.aim slots id at is in
     record {
       moves = Put at id ∷ [];
       gained = gained;
@@ -57,62 +58,67 @@ few_moves slots moves writes step n same size few =
     omega arith
 
 -- over the first slot of the way
-pub placed_by_way : (index : LivePieces) (aim : Aim) (id : ℕ) (slots between slots' : Slots) (plan middle plan' : List Move) (chain : Chain) → IsReady index id slots
-    → gap_start (is_above index.live) slots id ≤ gap_end (is_above index.live) slots id → gap_slot (is_above index.live) aim slots id ≡ None
-    → IsWay (is_above index.live) slots id chain
-    → middle ≡ plan ++ moves_along slots chain.free chain.members.items → between ≡ after_moves slots (moves_along slots chain.free chain.members.items)
-    → HasTwin between (slice_index_or chain.members.items 0 chain.free) → free_slots between + 1 ≡ free_slots slots
-    → plan' ≡ middle ++ Put (slice_index_or chain.members.items 0 chain.free) id ∷ [] → slots' ≡ after_move between (Put (slice_index_or chain.members.items 0 chain.free) id)
-    → IsPlaced index aim id slots slots' plan plan'
-placed_by_way index aim id slots between slots' plan middle plan' chain ready fits full way gained after twin fewer more then = go way
+pub placed_by_way : (index : LivePieces) (aiming : Aiming) (id : ℕ) (slots between slots' : Slots) (plan middle plan' : List Move) (chain landed : Chain) → IsReady index id slots
+    → gap_start (is_above index.live) slots id ≤ gap_end (is_above index.live) slots id → gap_slot (is_above index.live) aiming.aim slots id ≡ None
+    → IsWay (is_above index.live) slots id chain → Landed (is_above index.live) (rank_in index.live) aiming slots chain landed
+    → middle ≡ plan ++ moves_along slots landed.free landed.members.items → between ≡ after_moves slots (moves_along slots landed.free landed.members.items)
+    → HasTwin between (slice_index_or landed.members.items 0 landed.free) → free_slots between + 1 ≡ free_slots slots
+    → plan' ≡ middle ++ Put (slice_index_or landed.members.items 0 landed.free) id ∷ [] → slots' ≡ after_move between (Put (slice_index_or landed.members.items 0 landed.free) id)
+    → IsPlaced index aiming id slots slots' plan plan'
+placed_by_way index aiming id slots between slots' plan middle plan' chain landed ready fits full way is gained after twin fewer more then = go way
   where
     first : ℕ
-    first = slice_index_or chain.members.items 0 chain.free
+    first = slice_index_or landed.members.items 0 landed.free
 
     all : List Move
-    all = moves_along slots chain.free chain.members.items ++ Put first id ∷ []
+    all = moves_along slots landed.free landed.members.items ++ Put first id ∷ []
 
     gained' : plan' ≡ plan ++ all
-    gained' = more ∙ (ap (λ p. p ++ Put first id ∷ []) gained ∙ append_assoc plan (moves_along slots chain.free chain.members.items) (Put first id ∷ []))
+    gained' = more ∙ (ap (λ p. p ++ Put first id ∷ []) gained ∙ append_assoc plan (moves_along slots landed.free landed.members.items) (Put first id ∷ []))
 
     after' : slots' ≡ after_moves slots all
-    after' = then ∙ (ap (λ d. after_move d (Put first id)) after ∙ sym (after_more slots (moves_along slots chain.free chain.members.items) (Put first id)))
+    after' = then ∙ (ap (λ d. after_move d (Put first id)) after ∙ sym (after_more slots (moves_along slots landed.free landed.members.items) (Put first id)))
 
     one_fewer : free_slots slots' + 1 ≡ free_slots slots
     one_fewer = ap (λ d. free_slots d + 1) then ∙ (ap (λ n. n + 1) (free_over between first id twin.0 (slot_inside between first twin.0 twin.2) twin.2) ∙ fewer)
 
-    go : IsWay (is_above index.live) slots id chain → IsPlaced index aim id slots slots' plan plan'
+    go : IsWay (is_above index.live) slots id chain → IsPlaced index aiming id slots slots' plan plan'
     go (inl w) =
-        let listed : all ≡ moves_along slots chain.free (w.lower ∷ w.down.rest) ++ Put w.lower id ∷ [] =
-        ap (λ ms. moves_along slots chain.free ms ++ Put (slice_index_or ms 0 chain.free) id ∷ []) w.down.members in
+        let to = landing_down (is_above index.live) (rank_in index.live) aiming slots chain.free (last_of w.lower w.down.rest) in
+        let listed : all ≡ moves_along slots to (w.lower ∷ w.down.rest) ++ Put w.lower id ∷ [] =
+        ap (λ ms. moves_along slots landed.free ms ++ Put (slice_index_or ms 0 landed.free) id ∷ []) (ap (λ m. m.items) is.same ∙ w.down.members)
+        ∙ ap (λ f. moves_along slots f (w.lower ∷ w.down.rest) ++ Put w.lower id ∷ []) (down_free index aiming id slots chain landed ready is w) in
         let h = low_at index id slots w.lower ready w.low in
-        let c : IsDown (Related (is_above index.live)) (rank_in index.live) slots chain.free w.lower w.down.rest = chain_down index id slots w.lower chain.free w.down.rest ready h.lower h.stands w.down.follows in
-        let f = (next_free_is slots w.lower chain.free w.down.to).1 in
-        let s = down_size (Related (is_above index.live)) (rank_in index.live) slots chain.free w.lower w.down.rest c.chain in
-        let n = length-chain_moves slots chain.free w.lower w.down.rest in
-        let i = f.inside in let t = ready.few in
+        let l = subst (LandsDown (is_above index.live) slots w.lower w.down.rest) (down_free index aiming id slots chain landed ready is w) (down_lands index aiming id slots chain landed ready is w) in
+        let c : IsDown (Related (is_above index.live)) (rank_in index.live) slots to w.lower w.down.rest = chain_down index id slots w.lower to w.down.rest ready h.lower h.stands l.chain in
+        let s = down_size (Related (is_above index.live)) (rank_in index.live) slots to w.lower w.down.rest c.chain in
+        let n = length-chain_moves slots to w.lower w.down.rest in
+        let i = l.empty.inside in let t = ready.few in
         record {
-          moves = moves_along slots chain.free (w.lower ∷ w.down.rest) ++ Put w.lower id ∷ [];
+          moves = moves_along slots to (w.lower ∷ w.down.rest) ++ Put w.lower id ∷ [];
           gained = gained' ∙ ap (λ ms. plan ++ ms) listed;
           after = after' ∙ ap (after_moves slots) listed;
           placement = push_down w.lower fits full w.low (record { free = chain.free; rest = w.down.rest; to = w.down.to; chain = w.down.follows }) w.shortest;
-          few = few_moves slots (moves_along slots chain.free (w.lower ∷ w.down.rest)) _ (Put w.lower id) (length w.down.rest) c.moves (omega arith) (omega arith);
+          few = few_moves slots (moves_along slots to (w.lower ∷ w.down.rest)) _ (Put w.lower id) (length w.down.rest) c.moves (omega arith) (omega arith);
           one_fewer = one_fewer;
         }
     go (inr w) =
-        let listed : all ≡ moves_along slots chain.free (w.upper ∷ w.up.rest) ++ Put w.upper id ∷ [] =
-        ap (λ ms. moves_along slots chain.free ms ++ Put (slice_index_or ms 0 chain.free) id ∷ []) w.up.members in
+        let to = landing_up (is_above index.live) (rank_in index.live) aiming slots chain.free (last_of w.upper w.up.rest) in
+        let listed : all ≡ moves_along slots to (w.upper ∷ w.up.rest) ++ Put w.upper id ∷ [] =
+        ap (λ ms. moves_along slots landed.free ms ++ Put (slice_index_or ms 0 landed.free) id ∷ []) (ap (λ m. m.items) is.same ∙ w.up.members)
+        ∙ ap (λ f. moves_along slots f (w.upper ∷ w.up.rest) ++ Put w.upper id ∷ []) (up_free index aiming id slots chain landed ready is w) in
         let h = high_at index id slots w.upper ready w.high in
-        let c : IsUp (Related (is_above index.live)) (rank_in index.live) slots chain.free w.upper w.up.rest = chain_up index id slots w.upper chain.free w.up.rest ready h.upper h.stands w.up.follows in
-        let s = up_size (Related (is_above index.live)) (rank_in index.live) slots chain.free w.upper w.up.rest c.chain in
-        let n = length-chain_moves slots chain.free w.upper w.up.rest in
+        let l = subst (LandsUp (is_above index.live) slots w.upper w.up.rest) (up_free index aiming id slots chain landed ready is w) (up_lands index aiming id slots chain landed ready is w) in
+        let c : IsUp (Related (is_above index.live)) (rank_in index.live) slots to w.upper w.up.rest = chain_up index id slots w.upper to w.up.rest ready h.upper h.stands l.chain in
+        let s = up_size (Related (is_above index.live)) (rank_in index.live) slots to w.upper w.up.rest c.chain in
+        let n = length-chain_moves slots to w.upper w.up.rest in
         let i = slot_inside slots w.upper h.upper h.stands in let t = ready.few in
         record {
-          moves = moves_along slots chain.free (w.upper ∷ w.up.rest) ++ Put w.upper id ∷ [];
+          moves = moves_along slots to (w.upper ∷ w.up.rest) ++ Put w.upper id ∷ [];
           gained = gained' ∙ ap (λ ms. plan ++ ms) listed;
           after = after' ∙ ap (after_moves slots) listed;
           placement = push_up w.upper fits full w.high (record { free = chain.free; rest = w.up.rest; to = w.up.to; chain = w.up.follows }) w.shortest;
-          few = few_moves slots (moves_along slots chain.free (w.upper ∷ w.up.rest)) _ (Put w.upper id) (length w.up.rest) c.moves (omega arith) (omega arith);
+          few = few_moves slots (moves_along slots to (w.upper ∷ w.up.rest)) _ (Put w.upper id) (length w.up.rest) c.moves (omega arith) (omega arith);
           one_fewer = one_fewer;
         }
 

@@ -3,8 +3,7 @@ use Rattle.std.proofs.Common.{◌≡◌, ℕ, ◌+◌, ◌-◌, ◌<◌, ◌≤�
 use Rattle.std.proofs.lemmas.Bool.{cases_lt}
 use Rattle.slot_order.specs.Order.{slot, Ordered}
 use Rattle.slot_pool.specs.Arrangement.{Slots}
-use Rattle.placement.specs.Live.{LivePieces, is_above}
-use Rattle.placement.proofs.Above.{rank_in}
+use Rattle.placement.specs.Live.{LivePieces, is_above, rank_in}
 use Rattle.placement.specs.Placement.{Above, Leads, straight, through, gap_start, gap_end}
 use Rattle.placement.specs.Insertion.{IsLive, IsOther}
 use Rattle.placement.specs.Ready.{IsReady}

@@ -3,8 +3,7 @@ use Rattle.std.proofs.Common.{◌≡◌, ℕ, Some, List, ◌∷◌, sym, subst}
 use Rattle.slot_order.specs.Order.{slot}
 use Rattle.slot_pool.specs.Arrangement.{Slots, next_free_above, last_free_below}
 use Rattle.slot_pool.proofs.Scan.{next_free_is, last_free_is}
-use Rattle.placement.specs.Live.{LivePieces, is_above}
-use Rattle.placement.proofs.Above.{rank_in}
+use Rattle.placement.specs.Live.{LivePieces, is_above, rank_in}
 use Rattle.placement.specs.Placement.{first_lower, last_upper, IsDownChain as PlansDown, IsUpChain as PlansUp}
 use Rattle.placement.specs.Insertion.{IsOther}
 use Rattle.move_planner.specs.declared.chains.Chain.{Chain}

@@ -6,8 +6,7 @@ use Rattle.slot_moves.specs.Cuts.{holds, early, late, wrong_side}
 use Rattle.slot_order.proofs.Writes.{slot_inside}
 use Rattle.slot_moves.proofs.Tally.{take_clear, drop_clear}
 use Rattle.slot_pool.specs.Arrangement.{Slots}
-use Rattle.placement.specs.Live.{LivePieces, is_above}
-use Rattle.placement.proofs.Above.{rank_in}
+use Rattle.placement.specs.Live.{LivePieces, is_above, rank_in}
 use Rattle.placement.specs.declared.Move.{Move}
 use Rattle.move_planner.specs.declared.sides.Sides.{Sides}
 use Rattle.move_planner.specs.declared.crossings.Cut.{Cut}
@@ -111,9 +110,9 @@ uncrossed_all index id a b c p q r sides boundary cut w best x none = record {
   moves = x.moves;
   gained = none.same_plan ∙ x.gained;
   after = none.same_slots ∙ x.after;
-  goes_on = λ aim rest placing. uncross (is_behind (is_above index.live) a id) (is_before (is_above index.live) a id) boundary w.crossed (are index id a sides w) (cut_is index id a sides w boundary best)
+  goes_on = λ aiming rest placing. uncross (is_behind (is_above index.live) a id) (is_before (is_above index.live) a id) boundary w.crossed (are index id a sides w) (cut_is index id a sides w boundary best)
       (subst (Pass (is_above index.live) (is_behind (is_above index.live) a id) (is_before (is_above index.live) a id) boundary a) (append-nil x.moves) (x.goes_on [] (passed early_none late_none)))
-      (subst (λ d. IsPlacing (is_above index.live) aim id d rest) (none.same_slots ∙ x.after) placing);
+      (subst (λ d. IsPlacing (is_above index.live) (rank_in index.live) aiming id d rest) (none.same_slots ∙ x.after) placing);
   ready = subst (IsReady index id) (sym none.same_slots) x.underway.ready;
   same_free = ap free_slots none.same_slots ∙ x.same_free;
   clear = subst (λ d. gap_start (is_above index.live) d id ≤ gap_end (is_above index.live) d id) (sym none.same_slots)

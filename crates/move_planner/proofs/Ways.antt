@@ -50,7 +50,7 @@ way_shifts index id slots chain ready (inr w) =
     up_shifts index id slots w.upper w.upper h.upper chain ready h.stands w.up
 
 -- where a place passes, some place is nearest
-nearest_some : (mid : ℕ) (test : ℕ → Bool) (from size j : ℕ) → from ≤ j → j < from + size → test j ≡ true → nearest mid (filter test (range_with_len from size)) ≡ None → ⊥
+pub nearest_some : (mid : ℕ) (test : ℕ → Bool) (from size j : ℕ) → from ≤ j → j < from + size → test j ≡ true → nearest mid (filter test (range_with_len from size)) ≡ None → ⊥
 nearest_some mid test from zero j a b t e = omega arith
 nearest_some mid test from (suc size) j a b t e = elim (cases_Bool (test from)) [
   | inl hit ↦ never (nearest mid (filter test (range_with_len (from + 1) size))) (sym (ap (nearest mid) (cond-true _ _ _ hit)) ∙ e)

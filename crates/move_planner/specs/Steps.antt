@@ -3,7 +3,7 @@ use Rattle.std.specs.Prelude.{◌≡◌, ℕ, ◌+◌, ◌-◌, ◌*◌, ◌<◌
 use Rattle.slot_order.specs.Order.{slot, most_slots}
 use Rattle.slot_moves.specs.Cuts.{holds, early, late, wrong_side, free_before, free_behind, HasRoom}
 use Rattle.slot_pool.specs.Arrangement.{Slots, HasTwin, home_of, next_free_above, last_free_below}
-use Rattle.placement.specs.Live.{LivePieces, is_live, is_above}
+use Rattle.placement.specs.Live.{LivePieces, is_live, is_above, rank_in}
 use Rattle.placement.specs.declared.Aim.{Aim}
 use Rattle.placement.specs.declared.Move.{Move}
 use Rattle.placement.specs.declared.Move.TheVariants.{Put, Erase}
@@ -11,7 +11,7 @@ use Rattle.move_planner.specs.declared.chains.Chain.{Chain}
 use Rattle.move_planner.specs.declared.shorter.Ends.{Ends}
 use Rattle.move_planner.specs.declared.sides.Sides.{Sides}
 use Rattle.move_planner.specs.declared.crossings.Cut.{Cut}
-use Rattle.placement.specs.Placement.{Above, after_moves, moves_along, first_lower, last_upper, gap_start, gap_end, gap_slot, IsDownChain, IsUpChain, DownChain, UpChain, Leads, AreSides, IsLastBefore, IsFirstFrom, Pass, IsPlacing, IsPlacement}
+use Rattle.placement.specs.Placement.{Above, after_moves, moves_along, first_lower, last_upper, gap_start, gap_end, gap_slot, IsDownChain, IsUpChain, DownChain, UpChain, Leads, AreSides, IsLastBefore, IsFirstFrom, Pass, IsPlacing, IsPlacement, Aiming, last_of, landing_down, landing_up}
 use Rattle.placement.specs.Insertion.{free_slots}
 use Rattle.placement.specs.Ready.{IsTaken, IsReady}
 
@@ -274,18 +274,18 @@ pub record UndoesCrossing (index : LivePieces) (id : ℕ) (slots slots' : Slots)
   pub moves : List Move
   pub gained : plan' ≡ plan ++ moves
   pub after : slots' ≡ after_moves slots moves
-  pub goes_on : (aim : Aim) (rest : List Move) → IsPlacing (is_above index.live) aim id slots' rest → IsPlacement (is_above index.live) aim id slots (moves ++ rest)
+  pub goes_on : (aiming : Aiming) (rest : List Move) → IsPlacing (is_above index.live) (rank_in index.live) aiming id slots' rest → IsPlacement (is_above index.live) (rank_in index.live) aiming id slots (moves ++ rest)
   pub ready : IsReady index id slots'
   pub same_free : free_slots slots' ≡ free_slots slots
   pub clear : gap_start (is_above index.live) slots' id ≤ gap_end (is_above index.live) slots' id
   pub few : length moves ≤ (1 + most_slots) * (1 + most_slots)
 
 -- what the last part of an insertion leaves: a placement with an aim was planned and made
-pub record IsPlaced (index : LivePieces) (aim : Aim) (id : ℕ) (slots slots' : Slots) (plan plan' : List Move) : Type 0 where
+pub record IsPlaced (index : LivePieces) (aiming : Aiming) (id : ℕ) (slots slots' : Slots) (plan plan' : List Move) : Type 0 where
   pub moves : List Move
   pub gained : plan' ≡ plan ++ moves
   pub after : slots' ≡ after_moves slots moves
-  pub placement : IsPlacing (is_above index.live) aim id slots moves
+  pub placement : IsPlacing (is_above index.live) (rank_in index.live) aiming id slots moves
   pub few : length moves ≤ (1 + most_slots)
   pub one_fewer : free_slots slots' + 1 ≡ free_slots slots
 
@@ -305,3 +305,9 @@ pub record UpWay (above : Above) (slots : Slots) (id : ℕ) (chain : Chain) : Ty
 
 abbrev pub IsWay : Above → Slots → ℕ → Chain → Type 0
 IsWay above slots id chain = DownWay above slots id chain ⊎ UpWay above slots id chain
+
+-- a chain whose last member goes where its aim wishes
+pub record Landed (above : Above) (priority : ℕ → ℕ) (aiming : Aiming) (slots : Slots) (chain landed : Chain) : Type 0 where
+  pub same : landed.members ≡ chain.members
+  pub down : (from : ℕ) (rest : List ℕ) → chain.members.items ≡ from ∷ rest → last_of from rest < chain.free → landed.free ≡ landing_down above priority aiming slots chain.free (last_of from rest)
+  pub up : (from : ℕ) (rest : List ℕ) → chain.members.items ≡ from ∷ rest → chain.free < last_of from rest → landed.free ≡ landing_up above priority aiming slots chain.free (last_of from rest)

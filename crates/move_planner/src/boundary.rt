@@ -146,7 +146,7 @@ fn has_room(tally: Tally) -> bool
 }
 
 /// 1 for what is so.
-fn one_if(so: bool) -> u32
+pub(crate) fn one_if(so: bool) -> u32
     ensures { result ≡ one so }
 {
     if so { 1 } else { 0 }

@@ -1,5 +1,5 @@
 //! Chains of ids that make way for one another.
-ghost use Rattle.std.specs.Prelude.{◌≡◌, ◌<◌, ◌+◌, ◌++◌, ℕ, Some, OnOk, OnErr, length, slice_index_or, IsTrue, MatchOption};
+ghost use Rattle.std.specs.Prelude.{◌≡◌, ◌<◌, ◌+◌, ◌-◌, ◌++◌, ℕ, Some, OnOk, OnErr, length, slice_index_or, IsTrue, MatchOption};
 ghost use Rattle.slot_order.specs.Order.{slot as held_in};
 ghost use Rattle.slot_pool.specs.Arrangement.{HasTwin, passes};
 ghost use Rattle.placement.specs.Live.{is_above, is_live};
@@ -29,6 +29,14 @@ impl Chain {
         ensures { result ≡ slice_index_or self.now.members.items 0 self.now.free }
     {
         self.members[0]
+    }
+
+    /// The slot of the last member.
+    pub(crate) fn last(&self) -> u32
+        requires { 0 < length self.now.members.items }
+        ensures { result ≡ slice_index_or self.now.members.items (length self.now.members.items - 1) self.now.free }
+    {
+        self.members[self.members.len() - 1]
     }
 
     /// Moves the last member to the free slot, then each earlier one over the slot of the one

@@ -10,7 +10,8 @@
 //! Of the entries that overlap it, the last upper one and the first lower one bound a gap.
 //!
 //! 1. A slot of the gap is free: the entry goes into the one nearest to its aim, the lower of two. The caller says the
-//!    aim: the middle of the gap, or a slot, which may lie in the gap or not. All that is promised holds of any aim.
+//!    aim: the middle of the gap, its start or its end, or a slot, which may lie in the gap or not. All that is promised
+//!    holds of any aim.
 //! 2. None is: the first lower entry makes way downwards or the last upper one upwards, along the shorter of two
 //!    chains, and the new entry is put over the slot that this leaves.
 //! 3. The last upper entry stands past the first lower one, as it may where these two don't overlap. Then a cut is made
@@ -44,7 +45,11 @@
 //! ```
 //!
 //! Each of these moves passes only entries that don't overlap the one that moves, so the order holds after each. The
-//! up chain is the mirror. In a table of 8 slots the routes 10.0.0.0/8, 10.1.2.0/24 and 10.1.0.0/16 stand in slots 3, 1
+//! last member may as well go to any other free slot of its own gap beyond it (`landing`), for as many moves. By the
+//! middle as aim it goes to the nearest. By a slot as aim it goes to the one nearest to where it belongs by its own
+//! priority, where all entries that stand, the new one and those still to come have equal shares of the slots, so that
+//! there is room behind it when the next one comes. By an end of the gap as aim it goes as far as it may. The up chain is
+//! the mirror. In a table of 8 slots the routes 10.0.0.0/8, 10.1.2.0/24 and 10.1.0.0/16 stand in slots 3, 1
 //! and 2, and 10.1.0.0/20 has to stand behind the /24 and before the /16:
 //!
 //! ```text
@@ -79,6 +84,9 @@
 //! as many of either as the list has entries, or as there are slots to the next member or to the free slot, whichever
 //! is less. Where entries overlap much the lists are long, and the next member stands near.
 //!
+//! Where a chain's last member may choose its slot the index is asked for one list more, for the end of its gap, and by a
+//! slot as aim for the priority of every entry that stands, once, unless one slot alone is free there.
+//!
 //! # What isn't promised
 //! A least number of moves. The cut counts entries and not the moves that they take, and chains are taken one by one;
 //! we don't know a good way to look further ahead that stays simple. The idea of ordering only entries that overlap is
@@ -108,7 +116,11 @@
 //!   from one side first the longest insertion took more in most counts (1,456 for 419 in one), since slots that are
 //!   left near the boundary weren't used again. **It goes to the nearest free slot**: to leave room for those to come
 //!   saved writes in some counts and took more in others; to plan the old way too and take the better one gained up to
-//!   5 % for twice the work.
+//!   5 % for twice the work. So `landed` is for the chain of the new entry alone.
+//! - **What comes later is told by its priorities** (`coming`), since the shares are those of all entries that there are
+//!   to be. Where only those that stand were counted, half of a firewall list that was replaced in one commit took half
+//!   as many writes more. Entries of one priority, the pieces of a rule, have one place: where they were told apart the
+//!   counts were the same.
 //! - **A chain's next member is looked for along the list and along the slots at once** (`step_down`, `step_up`). Where
 //!   each entry overlaps hundreds its list lies all over the memory, and each node costs a miss of the cache. Over a
 //!   firewall list of 4,096 entries, 90 % full, planning took 818 and 941 µs in the mean by the lists alone, and 159
@@ -116,7 +128,7 @@
 #![tactic(auto)]
 
 ghost use Rattle.std.specs.Prelude.{◌≡◌, ℕ, ◌+◌, ◌*◌, ◌^◌, ◌<◌, ◌≤◌, ◌++◌, ◌∷◌, [], List, Bool, IsTrue, IfOk, OnOk, OnErr, length, take, slice_index_or};
-ghost use Rattle.placement.specs.Live.{is_live, is_above};
+ghost use Rattle.placement.specs.Live.{is_live, is_above, rank_in};
 ghost use Rattle.slot_moves.specs.Cuts.{wrong_side, HasRoomNear};
 ghost use Rattle.placement.specs.Placement.{AreSides, IsCut, IsPlacement, IsInOrder, first_lower, last_upper, gap_start, gap_end, span_of, after_move, after_moves};
 ghost use Rattle.placement.specs.Insertion.{IsLive, IsOther, StandOnce, BoundsLiveChains, AreMade, free_slots, moves_since};
@@ -126,16 +138,19 @@ ghost use Rattle.placement.specs.Ready.{IsReady};
 mod boundary;
 mod chains;
 mod crossings;
+mod landing;
 mod places;
 mod placing;
 mod shorter;
 mod sides;
 
 use crossings::uncross;
+pub use landing::rank_slot;
 use overlap_index::Index;
 use placement::{Aim, Move};
 use places::{Gap, find_gap};
 use placing::place;
+use rule_model::Rank;
 use slot_order::MOST_SLOTS;
 use slot_pool::Arrangement;
 use std::alloc::{AllocError, Global};
@@ -224,7 +239,8 @@ impl Moves {
     }
 }
 
-/// Plans the moves that place a new live id with an aim, and makes them in the arrangement.
+/// Plans the moves that place a new live id with an aim, and makes them in the arrangement. `coming` has the priorities of
+/// the entries that the same commit inserts later, 4,096 at most.
 ///
 /// `slots` has at most 4,096 slots, of which one is free. `id` is live in `index` and stands in no slot; every other
 /// live id stands in exactly one, and all in order. The plan gains the moves, each of which leaves the arrangement in
@@ -242,16 +258,18 @@ pub fn plan_insert(
     index: &Index,
     id: u32,
     aim: Aim,
+    coming: &[Rank],
     plan: &mut Moves,
 ) -> Result<Insert, AllocError>
     requires few { length slots.old ≤ MOST_SLOTS }
+    requires coming { length coming.now ≤ MOST_SLOTS }
     requires free { 0 < free_slots slots.old }
     requires live { IsTrue (is_live index.now.live id) }
     requires standing { StandOnce (IsOther index.now.live id) slots.old }
     requires order { IsInOrder (is_above index.now.live) slots.old }
     ensures plan { plan.new ≡ plan.old ++ moves_since plan.old plan.new }
     ensures slots { slots.new ≡ after_moves slots.old (moves_since plan.old plan.new) }
-    ensures placement { OnOk result (IsPlacement (is_above index.now.live) aim id slots.old (moves_since plan.old plan.new)) }
+    ensures placement { OnOk result (IsPlacement (is_above index.now.live) (rank_in index.now.live) (record { aim = aim; coming = coming.now }) id slots.old (moves_since plan.old plan.new)) }
     ensures writes { IfOk result (λ insert. insert.writes ≡ length (moves_since plan.old plan.new)) }
     ensures span { IfOk result (λ insert. insert.span ≡ span_of (is_above index.now.live) slots.old id) }
     ensures uncrossed { IfOk result (λ insert. gap_start (is_above index.now.live) slots.old id ≤ gap_end (is_above index.now.live) slots.old id → insert.span ≡ 0) }
@@ -268,14 +286,14 @@ pub fn plan_insert(
         → gap_end (is_above index.now.live) slots.old id < gap_start (is_above index.now.live) slots.old id
         → (boundary : ℕ) × IsCut (is_above index.now.live) slots.old id behind before boundary
         × (wrong_side behind before boundary slots.old ≤ insert.span)) }
-    ensures alone { OnOk result ((moves : List Move) → IsPlacement (is_above index.now.live) aim id slots.old moves → moves ≡ moves_since plan.old plan.new) }
+    ensures alone { OnOk result ((moves : List Move) → IsPlacement (is_above index.now.live) (rank_in index.now.live) (record { aim = aim; coming = coming.now }) id slots.old moves → moves ≡ moves_since plan.old plan.new) }
     ensures free { OnOk result (free_slots slots.new + 1 ≡ free_slots slots.old) }
 {
     let before = plan.len();
     let gap = find_gap(slots, index, id);
     let span = gap.span();
     let gap = clear_gap(alloc, slots, index, plan, id, gap)?;
-    place(alloc, slots, index, plan, id, aim, gap)?;
+    place(alloc, slots, index, plan, id, aim, coming, gap)?;
     let writes = (plan.len() - before) as u32;
     Ok(Insert { writes, span })
 }

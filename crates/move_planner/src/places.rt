@@ -61,7 +61,7 @@ pub(crate) fn greater(a: Option<u32>, b: Option<u32>) -> Option<u32>
 }
 
 /// The slot behind this one, or the first of all.
-fn next_slot(slot: Option<u32>) -> u32
+pub(crate) fn next_slot(slot: Option<u32>) -> u32
     requires { next_slot slot < 2 ^ 32 }
     ensures { result ≡ next_slot slot }
 {
@@ -133,5 +133,7 @@ fn aimed_at(aim: Aim, start: u32, end: u32) -> u32
     match aim {
         Aim::Middle => (start + end).saturating_sub(1) / 2,
         Aim::At(slot) => slot,
+        Aim::Start => start,
+        Aim::End => end.saturating_sub(1),
     }
 }

@@ -8,15 +8,19 @@ ghost use Rattle.move_planner.specs.Steps.{IsFull, IsPlaced, IsWay, ends_down, e
 
 use crate::Moves;
 use crate::chains::Chain;
+use crate::landing::landed;
 use crate::places::{Gap, choose};
 use crate::shorter::{Ends, shorter_chain};
 use overlap_index::Index;
 use placement::{Aim, Move};
+use rule_model::Rank;
+use slot_order::MOST_SLOTS;
 use slot_pool::Arrangement;
 use std::alloc::{AllocError, Global};
 
 /// Places a new id that nothing crosses: into its gap, or over the first slot of the shorter of two
-/// chains that moves out of its way. After a refusal the moves that the plan gained are made.
+/// chains that moves out of its way, its last member to where the aim wishes it. After a refusal the
+/// moves that the plan gained are made.
 pub(crate) fn place(
     alloc: Global,
     slots: &mut Arrangement,
@@ -24,21 +28,24 @@ pub(crate) fn place(
     plan: &mut Moves,
     id: u32,
     aim: Aim,
+    coming: &[Rank],
     gap: Gap,
 ) -> Result<(), AllocError>
     requires ready { IsReady index.now id slots.old }
+    requires coming { length coming.now ≤ MOST_SLOTS }
     requires upper { gap.upper ≡ last_upper (is_above index.now.live) slots.old id }
     requires lower { gap.lower ≡ first_lower (is_above index.now.live) slots.old id }
     requires start { gap.start ≡ gap_start (is_above index.now.live) slots.old id }
     requires end { gap.end ≡ gap_end (is_above index.now.live) slots.old id }
     requires uncrossed { gap_start (is_above index.now.live) slots.old id ≤ gap_end (is_above index.now.live) slots.old id }
-    ensures placed { OnOk result (IsPlaced index.now aim id slots.old slots.new plan.old plan.new) }
+    ensures placed { OnOk result (IsPlaced index.now (record { aim = aim; coming = coming.now }) id slots.old slots.new plan.old plan.new) }
     ensures made { OnErr result (AreMade slots.old slots.new plan.old plan.new) }
 {
     if let Some(slot) = choose(slots, gap.start, gap.end, aim) {
         return plan.make(slots, Move::Put(slot, id));
     }
     let chain = way(alloc, slots, index, id, gap)?;
+    let chain = landed(slots, index, aim, coming, chain);
     chain.shift(slots, plan)?;
     plan.make(slots, Move::Put(chain.first(), id))
 }

@@ -2,7 +2,7 @@
 //!
 //! An id is live from `add` to `remove`, with a piece of a rule and its priority. Of two live ids whose pieces overlap,
 //! as some packet key matches both, the one of higher priority is above the other. `above` and `below` name them,
-//! `is_above` says it of two, and `id_of` finds one by its piece and its priority.
+//! `is_above` says it of two, `rank_of` tells an id's priority, and `id_of` finds one by its piece and its priority.
 //!
 //! # The one hard idea
 //! Which ids overlap is found once, when an id comes, and not at each question: each pair of overlapping ids is a link
@@ -24,10 +24,10 @@
 //! In which order they came is known to contracts alone, by a history that takes no memory.
 //!
 //! # What it cost
-//! A question costs time by the number of ids that it names, and not by the number of live pieces, and `is_above` takes
-//! the same time whatever is live. `add` and `id_of` pass over the live pieces once, eight in a step; `remove` takes as
-//! many steps as there are links that go, and moves one piece. Least and greatest numbers, and not number and mask, are
-//! in the columns, since the order of numbers is all that the proof needs then.
+//! A question costs time by the number of ids that it names, and not by the number of live pieces, and `is_above` and
+//! `rank_of` take the same time whatever is live. `add` and `id_of` pass over the live pieces once, eight in a step;
+//! `remove` takes as many steps as there are links that go, and moves one piece. Least and greatest numbers, and not
+//! number and mask, are in the columns, since the order of numbers is all that the proof needs then.
 //!
 //! Only `new` and `add` take memory: 52 bytes an id beside the piece, which stands once, and 24 bytes a pair of ids
 //! that overlap, whose room doubles where it grows. The worst list, each piece over each other, has n (n - 1) / 2
@@ -51,7 +51,7 @@
 ghost use Rattle.std.specs.Prelude.{◌≡◌, ◌<◌, ◌≤◌, ◌↔◌, ℕ, [], ◌∷◌, ◌++◌, length, IsTrue, IsFalse, IsNone, IfSome, IfOk, OnOk, OnErr, Contains, nat_eq};
 ghost use Rattle.std.specs.List.{IsDistinct};
 ghost use Rattle.placement.specs.declared.LivePiece.{LivePiece};
-ghost use Rattle.placement.specs.Live.{AreApart, is_live, is_above, without_id, ids_above, ids_below};
+ghost use Rattle.placement.specs.Live.{AreApart, is_live, is_above, without_id, ids_above, ids_below, rank_in};
 ghost use Rattle.overlap_index.specs.Sides.{AreOn};
 ghost use Rattle.overlap_index.specs.declared.scan.Side.TheVariants as side;
 
@@ -213,6 +213,14 @@ impl Index {
         ensures { result ≡ is_above self.now.live upper lower }
     {
         is_over(self.piece_of(upper), self.piece_of(lower))
+    }
+
+    /// The priority of a live id.
+    pub fn rank_of(&self, id: u32) -> Rank
+        requires { IsTrue (is_live self.now.live id) }
+        ensures { result ≡ rank_in self.now.live id }
+    {
+        self.piece_of(id).rank
     }
 
     /// The live id of this piece and this priority, if there is one.

@@ -6,7 +6,7 @@ use Rattle.std.proofs.lemmas.Bool.{both_ways, cases_Bool, and_parts, and_from, l
 use Rattle.slot_order.proofs.Lists.{contains_cases, contains_none, any_is, any_from, in_map, map_in, in_filter, filter_in}
 use Rattle.rule_model.specs.Piece.{pieces_meet}
 use Rattle.placement.specs.declared.LivePiece.{LivePiece}
-use Rattle.placement.specs.Live.{is_live, is_over, with_id, ids_above, ids_below, is_above}
+use Rattle.placement.specs.Live.{rank_in, is_live, is_over, with_id, ids_above, ids_below, is_above}
 use Rattle.placement.proofs.Live.{all_apart}
 
 -- what the index's test says
@@ -82,11 +82,6 @@ ids_below_are live id other = (
       where
         lt : w.lower.rank < w.upper.rank → nat_lt w.lower.rank w.upper.rank ≡ true
         lt l = lt-ltb w.lower.rank w.upper.rank l
-
--- the rank of a live id, or 0 where it isn't live
-abbrev pub rank_in : List LivePiece → ℕ → ℕ
-rank_in [] id = 0
-rank_in (one ∷ live) id = if one.id == id then one.rank else rank_in live id
 
 rank_here : (one : LivePiece) (live : List LivePiece) (id : ℕ) → one.id ≡ id → rank_in (one ∷ live) id ≡ one.rank
 rank_here one live id same = cond-true _ _ _ (eq-eqb one.id id same)

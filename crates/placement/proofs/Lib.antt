@@ -2,6 +2,7 @@ pub mod Live
 pub mod Above
 pub mod Chain
 pub mod Cutting
+pub mod Landing
 pub mod Leading
 pub mod Orders
 pub mod Planned

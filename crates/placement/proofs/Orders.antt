@@ -5,8 +5,8 @@ use Rattle.slot_order.specs.Order.{slot}
 use Rattle.slot_pool.specs.Arrangement.{Slots}
 use Rattle.slot_pool.proofs.Places.{first_slot_is}
 use Rattle.slot_pool.proofs.Scan.{last_slot_is}
-use Rattle.placement.specs.Live.{LivePieces, AreApart, is_above}
-use Rattle.placement.proofs.Above.{rank_in, ranks_fall}
+use Rattle.placement.specs.Live.{LivePieces, AreApart, is_above, rank_in}
+use Rattle.placement.proofs.Above.{ranks_fall}
 use Rattle.placement.specs.Placement.{Above, first_lower, last_upper, lower_of_held, upper_of_held, IsInOrder}
 use Rattle.placement.specs.Ready.{IsTaken, StepsDown, StepsUp}
 use Rattle.placement.proofs.Chain.{passes_is}

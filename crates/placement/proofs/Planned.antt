@@ -15,12 +15,12 @@ use Rattle.slot_moves.proofs.BestCut.{best_cut}
 use Rattle.slot_moves.proofs.End.{IsEnd, onto_free, over_down, over_up}
 use Rattle.slot_moves.proofs.Whole.{IsWhole}
 use Rattle.slot_pool.specs.Arrangement.{Slots}
-use Rattle.placement.specs.declared.Aim.{Aim}
 use Rattle.placement.specs.declared.Move.{Move}
 use Rattle.placement.specs.declared.Move.TheVariants.{Put, Erase}
-use Rattle.placement.specs.Placement.{Above, after_moves, next_slot, gap_start, gap_end, span_of, moves_along, AreSides, IsCut, Pass, passed, pass_down, pass_up, IsPlacing, into_gap, push_down, push_up, IsPlacement, straight_in, uncross}
+use Rattle.placement.specs.Placement.{Above, Aiming, after_moves, next_slot, gap_start, gap_end, span_of, moves_along, landing_down, landing_up, last_of, AreSides, IsCut, Pass, passed, pass_down, pass_up, IsPlacing, into_gap, push_down, push_up, IsPlacement, straight_in, uncross}
 use Rattle.slot_pool.proofs.Scan.{nearest_free_is, next_free_is, last_free_is}
 use Rattle.placement.proofs.Chain.{write_of, after_moves-applied, Reads, AllKnown, lower_is, upper_is, floor_is, ceiling_is, down_is, up_is}
+use Rattle.placement.proofs.Landing.{lands_down, lands_up}
 use Rattle.placement.proofs.Leading.{has_sides}
 use Rattle.placement.proofs.Reach.{holding}
 use Rattle.placement.proofs.Cutting.{are_crossed, floor_least, ceiling_greatest, same_sides, room_same, same_cut}
@@ -118,8 +118,8 @@ pass_is over tag P Known above behind before cut slots moves reads up sides o (p
     more_passing over tag behind before cut slots turn here later (moves_along slots chain.free (upper ∷ chain.rest)) (Erase upper) refl is same there h
 
 -- the last part
-placing_ends : (over : ℕ → ℕ → Type 0) (tag : ℕ → ℕ) (P Known : ℕ → Type 0) (above : Above) {aim : Aim} (id : ℕ) (slots : Slots) (moves : List Move)
-    → Reads over tag Known above → ((a : ℕ) → P a → Known a) → Known id → Ordered over tag P slots → IsPlacing above aim id slots moves
+placing_ends : (over : ℕ → ℕ → Type 0) (tag : ℕ → ℕ) (P Known : ℕ → Type 0) (above : Above) {priority : ℕ → ℕ} {aiming : Aiming} (id : ℕ) (slots : Slots) (moves : List Move)
+    → Reads over tag Known above → ((a : ℕ) → P a → Known a) → Known id → Ordered over tag P slots → IsPlacing above priority aiming id slots moves
     → Ends over tag id slots moves
 placing_ends over tag P Known above id slots moves reads up known o (into_gap at fits near) =
     let all : AllKnown Known slots = λ place a t. up a (o.within place a t) in
@@ -131,32 +131,38 @@ placing_ends over tag P Known above id slots moves reads up known o (into_gap at
           n.low n.high n.free.inside n.free.free;
       parts = refl;
     }
-placing_ends over tag P Known above id slots moves reads up known o (push_down lower fits none is down shorter) =
+placing_ends over tag P Known above {priority} {aiming} id slots moves reads up known o (push_down lower fits none is down shorter) =
     let all : AllKnown Known slots = λ place a t. up a (o.within place a t) in
     let w = lower_is over tag Known above slots id lower reads all known is in
     let end_at : gap_end above slots id ≡ lower = ap (λ found. unwrap_or found (length slots)) is in
     let f = next_free_is slots lower down.free down.to in
-    let d = down_is over tag P Known above slots down.free lower w.lower down.rest reads up o w.stands down.chain in
+    let near = down_is over tag P Known above slots down.free lower w.lower down.rest reads up o w.stands down.chain in
+    let to = landing_down above priority aiming slots down.free (last_of lower down.rest) in
+    let l = lands_down over tag above priority aiming slots down.free lower down.rest f.1 near.chain down.chain in
+    let d = down_is over tag P Known above slots to lower w.lower down.rest reads up o w.stands l.chain in
     record {
-      front = chain_moves slots down.free lower down.rest;
+      front = chain_moves slots to lower down.rest;
       place = lower;
-      ends = over_down (gap_start above slots id) lower down.free down.rest w.lower (floor_is over tag Known above slots id reads all known)
-          (subst (IsCeiling over tag slots id) end_at (ceiling_is over tag Known above slots id reads all known)) (omega arith) w.stands w.meets w.less f.1.inside f.1.free d.chain;
-      parts = map-append write_of (moves_along slots down.free (lower ∷ down.rest)) (Put lower id ∷ []) ∙ ap (λ xs. xs ++ (lower, Some id) ∷ []) d.moves;
+      ends = over_down (gap_start above slots id) lower to down.rest w.lower (floor_is over tag Known above slots id reads all known)
+          (subst (IsCeiling over tag slots id) end_at (ceiling_is over tag Known above slots id reads all known)) (omega arith) w.stands w.meets w.less l.empty.inside l.empty.free d.chain;
+      parts = map-append write_of (moves_along slots to (lower ∷ down.rest)) (Put lower id ∷ []) ∙ ap (λ xs. xs ++ (lower, Some id) ∷ []) d.moves;
     }
-placing_ends over tag P Known above id slots moves reads up known o (push_up upper fits none is chain longer) =
+placing_ends over tag P Known above {priority} {aiming} id slots moves reads up known o (push_up upper fits none is chain longer) =
     let all : AllKnown Known slots = λ place a t. up a (o.within place a t) in
     let w = upper_is over tag Known above slots id upper reads all known is in
     let start_at : gap_start above slots id ≡ upper + 1 = ap next_slot is in
     let start : gap_start above slots id ≡ suc upper = omega arith in
     let f = last_free_is slots upper chain.free chain.to in
-    let d = up_is over tag P Known above slots chain.free upper w.upper chain.rest reads up o w.stands chain.chain in
+    let near = up_is over tag P Known above slots chain.free upper w.upper chain.rest reads up o w.stands chain.chain in
+    let to = landing_up above priority aiming slots chain.free (last_of upper chain.rest) in
+    let l = lands_up over tag above priority aiming slots chain.free upper chain.rest f.1 near.chain chain.chain in
+    let d = up_is over tag P Known above slots to upper w.upper chain.rest reads up o w.stands l.chain in
     record {
-      front = chain_moves slots chain.free upper chain.rest;
+      front = chain_moves slots to upper chain.rest;
       place = upper;
-      ends = over_up upper (gap_end above slots id) chain.free chain.rest w.upper (subst (IsFloor over tag slots id) start (floor_is over tag Known above slots id reads all known))
-          (ceiling_is over tag Known above slots id reads all known) (omega arith) w.stands w.meets w.more f.1.inside f.1.free d.chain;
-      parts = map-append write_of (moves_along slots chain.free (upper ∷ chain.rest)) (Put upper id ∷ []) ∙ ap (λ xs. xs ++ (upper, Some id) ∷ []) d.moves;
+      ends = over_up upper (gap_end above slots id) to chain.rest w.upper (subst (IsFloor over tag slots id) start (floor_is over tag Known above slots id reads all known))
+          (ceiling_is over tag Known above slots id reads all known) (omega arith) w.stands w.meets w.more l.empty.inside l.empty.free d.chain;
+      parts = map-append write_of (moves_along slots to (upper ∷ chain.rest)) (Put upper id ∷ []) ∙ ap (λ xs. xs ++ (upper, Some id) ∷ []) d.moves;
     }
 
 -- a plan in slot_order's words: no more turns than entries stand on the wrong side of any boundary of the crossed stretch that has room,
@@ -185,7 +191,7 @@ no_sides over tag P Known above reads up = record {
 }
 
 -- nothing crosses where an id is placed
-pub placing_fits : (above : Above) {aim : Aim} (id : ℕ) (slots : Slots) (moves : List Move) → IsPlacing above aim id slots moves → gap_start above slots id ≤ gap_end above slots id
+pub placing_fits : (above : Above) {priority : ℕ → ℕ} {aiming : Aiming} (id : ℕ) (slots : Slots) (moves : List Move) → IsPlacing above priority aiming id slots moves → gap_start above slots id ≤ gap_end above slots id
 placing_fits above id slots moves (into_gap at fits near) = fits
 placing_fits above id slots moves (push_down lower fits none is down shorter) = fits
 placing_fits above id slots moves (push_up upper fits none is up longer) = fits
@@ -196,8 +202,8 @@ joined : (writes : List (ℕ × Option ℕ)) (passing later : List Move) (front 
 joined writes passing later front own a b =
     map-append write_of passing later ∙ (ap (λ xs. xs ++ map write_of later) a ∙ (ap (λ xs. writes ++ xs) b ∙ sym (append_assoc writes front own)))
 
-pub planned : (over : ℕ → ℕ → Type 0) (tag : ℕ → ℕ) (P Known : ℕ → Type 0) (above : Above) {aim : Aim} (id : ℕ) (slots : Slots) (moves : List Move)
-    → Reads over tag Known above → ((a : ℕ) → P a → Known a) → Known id → Ordered over tag P slots → IsPlacement above aim id slots moves
+pub planned : (over : ℕ → ℕ → Type 0) (tag : ℕ → ℕ) (P Known : ℕ → Type 0) (above : Above) {priority : ℕ → ℕ} {aiming : Aiming} (id : ℕ) (slots : Slots) (moves : List Move)
+    → Reads over tag Known above → ((a : ℕ) → P a → Known a) → Known id → Ordered over tag P slots → IsPlacement above priority aiming id slots moves
     → IsPlanned over tag P Known above id slots moves
 planned over tag P Known above id slots moves reads up known o (straight_in placing) =
     let e = placing_ends over tag P Known above id slots moves reads up known o placing in
@@ -256,7 +262,7 @@ planned over tag P Known above id slots moves reads up known o (uncross {passing
           (cut, same_cut above slots id cut behind before behind' before' sides sides' best, omega arith);
     }
 
-pub plan : (over : ℕ → ℕ → Type 0) (tag : ℕ → ℕ) (P Known : ℕ → Type 0) (above : Above) {aim : Aim} (id : ℕ) (slots : Slots) (moves : List Move)
-    → Reads over tag Known above → ((a : ℕ) → P a → Known a) → Known id → Ordered over tag P slots → IsPlacement above aim id slots moves
+pub plan : (over : ℕ → ℕ → Type 0) (tag : ℕ → ℕ) (P Known : ℕ → Type 0) (above : Above) {priority : ℕ → ℕ} {aiming : Aiming} (id : ℕ) (slots : Slots) (moves : List Move)
+    → Reads over tag Known above → ((a : ℕ) → P a → Known a) → Known id → Ordered over tag P slots → IsPlacement above priority aiming id slots moves
     → IsWhole over tag P Known slots id (map write_of moves)
 plan over tag P Known above id slots moves reads up known o placement = (planned over tag P Known above id slots moves reads up known o placement).whole

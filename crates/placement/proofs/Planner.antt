@@ -6,11 +6,11 @@ use Rattle.placement.specs.Placement.{Above, StopsBelow, StopsAbove, IsDownChain
 use Rattle.placement.proofs.Chain.{Reads}
 
 -- the first slot of a chain is on this side of the free one
-starts_below : (above : Above) (slots : Slots) (free from : ℕ) (rest : List ℕ) → IsDownChain above slots free (from ∷ rest) → from < free
+pub starts_below : (above : Above) (slots : Slots) (free from : ℕ) (rest : List ℕ) → IsDownChain above slots free (from ∷ rest) → from < free
 starts_below above slots free from [] chain = chain.0
 starts_below above slots free from (next ∷ rest) chain = chain.0
 
-starts_above : (above : Above) (slots : Slots) (free from : ℕ) (rest : List ℕ) → IsUpChain above slots free (from ∷ rest) → free < from
+pub starts_above : (above : Above) (slots : Slots) (free from : ℕ) (rest : List ℕ) → IsUpChain above slots free (from ∷ rest) → free < from
 starts_above above slots free from [] chain = chain.0
 starts_above above slots free from (next ∷ rest) chain = chain.0
 

@@ -5,8 +5,7 @@ use Rattle.std.proofs.lemmas.Bool.{false_from_ne_true, both_ways}
 use Rattle.slot_order.specs.Order.{slot, Ordered, most_slots}
 use Rattle.slot_moves.specs.Moves.{IsDownChain, IsUpChain}
 use Rattle.slot_pool.specs.Arrangement.{Slots}
-use Rattle.placement.specs.Live.{LivePieces, AreApart, is_live, is_above}
-use Rattle.placement.proofs.Above.{rank_in}
+use Rattle.placement.specs.Live.{LivePieces, AreApart, is_live, is_above, rank_in}
 use Rattle.std.specs.Option.{unwrap_or}
 use Rattle.slot_pool.proofs.Places.{first_slot_is}
 use Rattle.slot_pool.proofs.Scan.{last_slot_is}

@@ -1,5 +1,5 @@
 -- The live ids of an overlap index, each with its piece and its priority.
-use Rattle.std.specs.Prelude.{ℕ, ◌<◌, Bool, not, ◌==◌, ◌&&◌, nat_lt, nat_eq, List, filter, map}
+use Rattle.std.specs.Prelude.{ℕ, ◌<◌, Bool, not, ◌==◌, ◌&&◌, nat_lt, nat_eq, if◌then◌else◌, List, [], ◌∷◌, filter, map}
 use Rattle.std.specs.List.{list_any, AllByRecursion, IsDistinct}
 use Rattle.rule_model.specs.Piece.{pieces_meet}
 use Rattle.placement.specs.declared.LivePiece.{LivePiece}
@@ -8,6 +8,11 @@ use Rattle.placement.specs.declared.LivePiece.{LivePiece}
 pub record LivePieces : Type 0 where
   pub slots : ℕ
   pub live : List LivePiece
+
+-- the priority of a live id, or 0 where it isn't live
+abbrev pub rank_in : List LivePiece → ℕ → ℕ
+rank_in [] id = 0
+rank_in (one ∷ live) id = if one.id == id then one.rank else rank_in live id
 
 -- the ids are below a number, and no id stands twice
 pub record AreApart (slots : ℕ) (live : List LivePiece) : Type 0 where

@@ -1,12 +1,12 @@
 -- Where a new entry goes, and which entries move to make room for it (after Shah and Gupta, "Fast Updating Algorithms
 -- for TCAMs", IEEE Micro 2001: only entries that one key can match need their order).
 -- Throughout, above a b says that the ids a and b overlap and a has the higher priority.
-use Rattle.std.specs.Prelude.{◌≡◌, ℕ, ◌+◌, ◌-◌, ◌/◌, ◌<◌, ◌≤◌, ◌↔◌, Bool, true, false, IsTrue, IsFalse, Option, Some, None, unwrap_or, List, [], ◌∷◌, ◌++◌, length, fold, slice_set}
+use Rattle.std.specs.Prelude.{◌≡◌, ℕ, ◌+◌, ◌-◌, ◌*◌, ◌/◌, ◌<◌, ◌≤◌, ◌↔◌, Bool, true, false, IsTrue, IsFalse, nat_lt, Option, Some, None, is_none, unwrap_or, List, [], ◌∷◌, ◌++◌, length, count_by, fold, slice_set}
 use Rattle.slot_order.specs.Order.{slot}
 use Rattle.slot_moves.specs.Cuts.{holds, early, late, wrong_side, HasRoomNear}
 use Rattle.slot_pool.specs.Arrangement.{Slots, first_slot, last_slot, nearest_free, next_free_above, last_free_below}
 use Rattle.placement.specs.declared.Aim.{Aim}
-use Rattle.placement.specs.declared.Aim.TheVariants.{Middle, At}
+use Rattle.placement.specs.declared.Aim.TheVariants.{Middle, At, Start, End}
 use Rattle.placement.specs.declared.Move.{Move}
 use Rattle.placement.specs.declared.Move.TheVariants.{Put, Erase}
 
@@ -44,10 +44,22 @@ gap_start above slots id = next_slot (last_upper above slots id)
 abbrev pub gap_end : Above → Slots → ℕ → ℕ
 gap_end above slots id = unwrap_or (first_lower above slots id) (length slots)
 
+-- where an entry with so many before it belongs, of so many in all, each with its share of the slots: in the middle of
+-- its share
+abbrev pub rank_slot : ℕ → ℕ → ℕ → ℕ
+rank_slot slots before all = (2 * before + 1) * slots / (2 * all)
+
+-- an aim, and the priorities of the entries that the same commit inserts later
+pub record Aiming : Type 0 where
+  pub aim : Aim
+  pub coming : List ℕ
+
 -- the slot that an entry aims at, in a gap from one slot on and before another
 abbrev pub aimed_at : Aim → ℕ → ℕ → ℕ
 aimed_at Middle start end = (start + end - 1) / 2
 aimed_at (At slot) start end = slot
+aimed_at Start start end = start
+aimed_at End start end = end - 1
 
 -- the free slot of the gap that is nearest to the aim, the lower of two
 abbrev pub gap_slot : Above → Aim → Slots → ℕ → Option ℕ
@@ -75,6 +87,46 @@ step_down above slots at = lower_of_held above slots (slot slots at)
 -- the slot that an up chain goes on to
 abbrev pub step_up : Above → Slots → ℕ → Option ℕ
 step_up above slots at = upper_of_held above slots (slot slots at)
+
+-- how many entries belong before those of a priority: the higher ones, of those that stand and of those still to come
+abbrev pub before_priority : (ℕ → ℕ) → List ℕ → Slots → ℕ → ℕ
+before_priority priority coming slots level =
+    count_by (λ held. holds (λ id. nat_lt level (priority id)) held) slots + count_by (λ later. nat_lt level later) coming
+
+-- how many entries there are to be: those that stand, the new one and those still to come
+abbrev pub entries_to_be : List ℕ → Slots → ℕ
+entries_to_be coming slots = length slots - count_by (λ held. is_none held) slots + 1 + length coming
+
+-- where the one that stands here belongs among them. The new one isn't counted before it.
+abbrev pub share_of_held : (ℕ → ℕ) → List ℕ → Slots → Option ℕ → ℕ
+share_of_held priority coming slots None = 0
+share_of_held priority coming slots (Some id) =
+    rank_slot (length slots) (before_priority priority coming slots (priority id)) (entries_to_be coming slots)
+
+-- the slot that the last member of a chain would stand in best: that where it belongs; or the far end of its gap, where the
+-- aim is an end; with the middle as aim none is
+abbrev pub wished_by : Aim → ℕ → ℕ → Option ℕ
+wished_by Middle share far = None
+wished_by (At slot) share far = Some share
+wished_by Start share far = Some far
+wished_by End share far = Some far
+
+-- of the free slots from one on and before another that which is nearest to a wish, the lower of two; with no wish this one
+abbrev pub landing_in : Slots → ℕ → ℕ → ℕ → Option ℕ → ℕ
+landing_in slots start end free None = free
+landing_in slots start end free (Some wish) = unwrap_or (nearest_free slots start end wish) free
+
+-- the slot that the last member of a down chain to a free slot goes to: one behind its own and before its first lower entry
+abbrev pub landing_down : Above → (ℕ → ℕ) → Aiming → Slots → ℕ → ℕ → ℕ
+landing_down above priority aiming slots free last =
+    landing_in slots (last + 1) (unwrap_or (step_down above slots last) (length slots)) free
+    (wished_by aiming.aim (share_of_held priority aiming.coming slots (slot slots last)) (unwrap_or (step_down above slots last) (length slots) - 1))
+
+-- likewise upwards: one behind its last upper entry and before its own
+abbrev pub landing_up : Above → (ℕ → ℕ) → Aiming → Slots → ℕ → ℕ → ℕ
+landing_up above priority aiming slots free last =
+    landing_in slots (next_slot (step_up above slots last)) last free
+    (wished_by aiming.aim (share_of_held priority aiming.coming slots (slot slots last)) (next_slot (step_up above slots last)))
 
 -- there is no slot, or it isn't below the free one
 abbrev pub StopsBelow : ℕ → Option ℕ → Type 0
@@ -112,7 +164,12 @@ moves_along slots free (at ∷ []) = put_held free (slot slots at)
 moves_along slots free (at ∷ next ∷ chain) =
     moves_along slots free (next ∷ chain) ++ put_held next (slot slots at)
 
--- a chain from a slot to the free slot that it goes to
+-- the last of a slot and some more
+abbrev pub last_of : ℕ → List ℕ → ℕ
+last_of at [] = at
+last_of at (next ∷ rest) = last_of next rest
+
+-- a chain from a slot to the nearest free slot beyond another
 pub record DownChain (above : Above) (slots : Slots) (from : ℕ) (target : Option ℕ) : Type 0 where
   pub free : ℕ
   pub rest : List ℕ
@@ -179,40 +236,41 @@ pub data Pass (above : Above) (behind before : ℕ → Bool) (cut : ℕ) : Slots
       → Pass above behind before cut slots (moves_along slots up.free (upper ∷ up.rest) ++ Erase upper ∷ moves)
 
 -- The moves that place a new id with an aim where nothing crosses:
-pub data IsPlacing (above : Above) (aim : Aim) (id : ℕ) : Slots → List Move → Type 0 where
+pub data IsPlacing (above : Above) (priority : ℕ → ℕ) (aiming : Aiming) (id : ℕ) : Slots → List Move → Type 0 where
   -- a free slot in the gap: the one nearest to the aim
   into_gap : {slots : Slots} (at : ℕ)
       → gap_start above slots id ≤ gap_end above slots id
-      → gap_slot above aim slots id ≡ Some at
-      → IsPlacing above aim id slots (Put at id ∷ [])
-  -- none there: the shorter of the two chains moves, the down chain of equal ones, and the id is put over its first slot
+      → gap_slot above aiming.aim slots id ≡ Some at
+      → IsPlacing above priority aiming id slots (Put at id ∷ [])
+  -- none there: the shorter of the two chains moves, the down chain of equal ones, and the id is put over its first slot. The
+  -- last member goes to the free slot of its own gap, on the chain's side, that is nearest to its wish.
   push_down : {slots : Slots} (lower : ℕ)
       → gap_start above slots id ≤ gap_end above slots id
-      → gap_slot above aim slots id ≡ None
+      → gap_slot above aiming.aim slots id ≡ None
       → first_lower above slots id ≡ Some lower
       → (down : DownChain above slots lower (next_free_above slots lower))
       → ((upper : ℕ) → last_upper above slots id ≡ Some upper → (up : UpChain above slots upper (last_free_below slots upper)) → length down.rest ≤ length up.rest)
-      → IsPlacing above aim id slots (moves_along slots down.free (lower ∷ down.rest) ++ Put lower id ∷ [])
+      → IsPlacing above priority aiming id slots (moves_along slots (landing_down above priority aiming slots down.free (last_of lower down.rest)) (lower ∷ down.rest) ++ Put lower id ∷ [])
   push_up : {slots : Slots} (upper : ℕ)
       → gap_start above slots id ≤ gap_end above slots id
-      → gap_slot above aim slots id ≡ None
+      → gap_slot above aiming.aim slots id ≡ None
       → last_upper above slots id ≡ Some upper
       → (up : UpChain above slots upper (last_free_below slots upper))
       → ((lower : ℕ) → first_lower above slots id ≡ Some lower → (down : DownChain above slots lower (next_free_above slots lower)) → length up.rest < length down.rest)
-      → IsPlacing above aim id slots (moves_along slots up.free (upper ∷ up.rest) ++ Put upper id ∷ [])
+      → IsPlacing above priority aiming id slots (moves_along slots (landing_up above priority aiming slots up.free (last_of upper up.rest)) (upper ∷ up.rest) ++ Put upper id ∷ [])
 
 -- The moves that place a new id with an aim:
-pub data IsPlacement (above : Above) (aim : Aim) (id : ℕ) (slots : Slots) : List Move → Type 0 where
+pub data IsPlacement (above : Above) (priority : ℕ → ℕ) (aiming : Aiming) (id : ℕ) (slots : Slots) : List Move → Type 0 where
   -- nothing crosses
-  straight_in : {moves : List Move} → IsPlacing above aim id slots moves → IsPlacement above aim id slots moves
+  straight_in : {moves : List Move} → IsPlacing above priority aiming id slots moves → IsPlacement above priority aiming id slots moves
   -- the last upper entry stands past the first lower one: first the entries on the wrong side of the best boundary pass it
   uncross : {passing moves : List Move} (behind before : ℕ → Bool) (cut : ℕ)
       → gap_end above slots id < gap_start above slots id
       → AreSides above slots id behind before
       → IsCut above slots id behind before cut
       → Pass above behind before cut slots passing
-      → IsPlacing above aim id (after_moves slots passing) moves
-      → IsPlacement above aim id slots (passing ++ moves)
+      → IsPlacing above priority aiming id (after_moves slots passing) moves
+      → IsPlacement above priority aiming id slots (passing ++ moves)
 
 -- No id stands in a later slot than one that it is above, all copies counted.
 abbrev pub IsInOrder : Above → Slots → Type 0

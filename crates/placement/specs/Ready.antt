@@ -1,5 +1,5 @@
 -- An arrangement in which an id is to be placed, and what its chains go along.
-use Rattle.std.specs.Prelude.{◌≡◌, ◌≢◌, ℕ, ◌-◌, ◌<◌, ◌≤◌, IsTrue, Option, None, Some, MatchOption, List, length, slice_index_or}
+use Rattle.std.specs.Prelude.{◌≡◌, ◌≢◌, ℕ, ◌<◌, ◌≤◌, IsTrue, Option, None, Some, MatchOption, List, length, slice_index_or}
 use Rattle.slot_order.specs.Order.{slot, most_slots}
 use Rattle.slot_pool.specs.Arrangement.{Slots}
 use Rattle.placement.specs.Live.{LivePieces, AreApart, is_live, is_above}

@@ -28,11 +28,16 @@ pub enum Move {
     Erase(u32),
 }
 
-/// Where a new id would stand best. Of the free slots that it may take it takes the one nearest to that.
+/// Where a new id would stand best. Of the free slots that it may take it takes the one nearest to that. Where it may take
+/// none, a chain of entries makes way for it, and the aim says too where the last of them goes.
 #[derive(Clone, Copy, Debug, PartialEq, Eq)]
 pub enum Aim {
-    /// The middle of the gap, as it is once nothing crosses.
+    /// The middle of the gap, as it is once nothing crosses. The last of a chain goes to the nearest free slot.
     Middle,
-    /// A slot, in the gap or not.
+    /// A slot, in the gap or not. The last of a chain goes where it belongs by its own priority, as far as it may.
     At(u32),
+    /// The start of the gap, for an id that is lower than all others. The last of a chain goes as far as it may.
+    Start,
+    /// The end of the gap, for an id that is higher than all others. The last of a chain goes as far as it may.
+    End,
 }

@@ -196,6 +196,10 @@ pub made_and_left : (slots : ℕ) (old now : SplitManaged) (events events' : Lis
 made_and_left slots old now events events' tries failures faults faults' was =
     ap (λ some. some ++ left_of slots now) was.events_are ∙ (append_assoc events was.made (left_of slots now) ∙ ap (λ some. events ++ some) (sym was.has_made.left_is))
 
+-- a step that makes nothing leaves the events
+pub still_logged : (before after made : List SplitAction) → after ≡ before ++ made → made ≡ [] → after ≡ before
+still_logged before after made logged none = logged ∙ (ap (λ some. before ++ some) none ∙ append-nil before)
+
 -- a device that was led is
 pub still_led : (slots : ℕ) (old now : SplitManaged) (events events' : List SplitAction) (tries failures faults faults' : ℕ) → Goes slots old now events events' tries failures faults faults' → events ≡ old.events → events' ≡ now.events
 still_led slots old now events events' tries failures faults faults' was on = was.events_are ∙ (ap (λ some. some ++ was.made) on ∙ sym was.has_made.events)

@@ -6,12 +6,10 @@ use Rattle.slot_moves.proofs.Whole.{IsWhole}
 use Rattle.slot_order.proofs.Inside.{AllInside}
 use Rattle.slot_moves.proofs.InsideMoves.{whole_inside}
 use Rattle.slot_pool.specs.Arrangement.{Slots}
-use Rattle.placement.specs.Live.{LivePieces, is_above}
-use Rattle.placement.proofs.Above.{rank_in}
-use Rattle.placement.specs.declared.Aim.{Aim}
+use Rattle.placement.specs.Live.{LivePieces, is_above, rank_in}
 use Rattle.placement.specs.declared.Move.{Move}
 use Rattle.placement.specs.declared.Move.TheVariants.{Put, Erase}
-use Rattle.placement.specs.Placement.{IsPlacement}
+use Rattle.placement.specs.Placement.{Aiming, IsPlacement}
 use Rattle.placement.specs.Insertion.{IsLive, IsOther}
 use Rattle.placement.specs.Ready.{IsReady}
 use Rattle.placement.proofs.Chain.{write_of, Reads}
@@ -26,7 +24,7 @@ from_writes size [] inside = tt
 from_writes size (Put at id ∷ moves) inside = (inside.0, from_writes size moves inside.1)
 from_writes size (Erase at ∷ moves) inside = (inside.0, from_writes size moves inside.1)
 
-pub moves_inside : (index : LivePieces) {aim : Aim} (id : ℕ) (slots : Slots) (moves : List Move) → IsReady index id slots → IsPlacement (is_above index.live) aim id slots moves
+pub moves_inside : (index : LivePieces) {priority : ℕ → ℕ} {aiming : Aiming} (id : ℕ) (slots : Slots) (moves : List Move) → IsReady index id slots → IsPlacement (is_above index.live) priority aiming id slots moves
     → AllByRecursion (IsInside (length slots)) moves
 moves_inside index id slots moves ready placement =
     let reads : Reads (Related (is_above index.live)) (rank_in index.live) (IsLive index.live) (is_above index.live) =

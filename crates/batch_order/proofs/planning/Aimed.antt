@@ -1,22 +1,33 @@
--- The aims of some pieces and one more, and those of the pieces that are left.
-use Rattle.std.proofs.Common.{◌≡◌, ℕ, zero, suc, ◌+◌, ◌<◌, ◌⊎◌, inl, inr, List, [], ◌∷◌, ◌++◌, drop, length, refl, ap, ◌∙◌, arith}
+-- The aims of the first pieces and one more, and those of the pieces that are left.
+use Rattle.std.proofs.Common.{◌≡◌, ℕ, zero, suc, ◌+◌, ◌<◌, ◌⊎◌, inl, inr, List, [], ◌∷◌, ◌++◌, take, drop, length, get_or, refl, ap, ◌∙◌, arith}
 use Rattle.std.proofs.lemmas.List.{length-drop}
 use Rattle.rule_model.specs.declared.Rule.{Rule}
 use Rattle.rule_store.specs.declared.Mode.{Mode}
 use Rattle.rule_store.specs.Verdict.{entries_of}
 use Rattle.rule_model.specs.Entry.{RankedPiece}
-use Rattle.placement.specs.declared.Aim.{Aim}
+use Rattle.placement.specs.Placement.{Aiming}
 use Rattle.batch_order.specs.declared.Placement.{Placement}
-use Rattle.batch_order.specs.Placing.{aim_of, aims_from, aims_of}
-
-pub aims_more : (placement : Placement) (mode : Mode) (slots : ℕ) (rules : List Rule) (all place : ℕ) (some : List RankedPiece) (one : RankedPiece)
-    → aims_from placement mode slots rules all place (some ++ one ∷ []) ≡ aims_from placement mode slots rules all place some ++ aim_of placement mode slots rules all (place + length some) one ∷ []
-aims_more placement mode slots rules all place [] one = ap (λ (n : ℕ). aim_of placement mode slots rules all n one ∷ []) (omega arith)
-aims_more placement mode slots rules all place (ranked ∷ some) one =
-    ap (λ (rest : List Aim). aim_of placement mode slots rules all place ranked ∷ rest)
-    (aims_more placement mode slots rules all (place + 1) some one ∙ ap (λ (n : ℕ). aims_from placement mode slots rules all (place + 1) some ++ aim_of placement mode slots rules all n one ∷ []) (omega arith))
+use Rattle.batch_order.specs.Placing.{aim_of, aims_from, aims_of, ranks_of}
 
 module _ (placement : Placement) (mode : Mode) (slots : ℕ) (rules : List Rule) where
+  -- the first aims and one more
+  pub aims_next : (all place : ℕ) (pieces : List RankedPiece) (n : ℕ) (one : RankedPiece) → n < length pieces → get_or pieces n one ≡ one
+      → take (suc n) (aims_from placement mode slots rules all place pieces)
+      ≡ take n (aims_from placement mode slots rules all place pieces) ++ record { aim = aim_of placement mode slots rules all (place + n) one; coming = drop (suc n) (ranks_of pieces) } ∷ []
+  aims_next all place [] n one less is = absurd (omega arith)
+  aims_next all place (first ∷ rest) zero one less is =
+      ap (λ (ranked : RankedPiece). record { aim = aim_of placement mode slots rules all place ranked; coming = ranks_of rest } ∷ []) is
+      ∙ ap (λ (at : ℕ). record { aim = aim_of placement mode slots rules all at one; coming = ranks_of rest } ∷ []) (omega arith)
+  aims_next all place (first ∷ rest) (suc n) one less is =
+      ap (λ (later : List Aiming). record { aim = aim_of placement mode slots rules all place first; coming = ranks_of rest } ∷ later) (aims_next all (place + 1) rest n one (omega arith) is)
+      ∙ ap (λ (at : ℕ). record { aim = aim_of placement mode slots rules all place first; coming = ranks_of rest }
+      ∷ (take n (aims_from placement mode slots rules all (place + 1) rest) ++ record { aim = aim_of placement mode slots rules all at one; coming = drop (suc n) (ranks_of rest) } ∷ [])) (omega arith)
+
+  -- each piece has one
+  pub length-aims : (all place : ℕ) (pieces : List RankedPiece) → length (aims_from placement mode slots rules all place pieces) ≡ length pieces
+  length-aims all place [] = refl
+  length-aims all place (one ∷ pieces) = let rest = length-aims all (place + 1) pieces in omega arith
+
   -- behind the first pieces aim the others as behind so many more
   aims_drop : (all place n : ℕ) (pieces : List RankedPiece) → aims_from placement mode slots rules all (place + n) (drop n pieces) ≡ drop n (aims_from placement mode slots rules all place pieces)
   aims_drop all place zero pieces = ap (λ (at : ℕ). aims_from placement mode slots rules all at pieces) (omega arith)

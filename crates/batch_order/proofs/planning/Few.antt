@@ -10,10 +10,10 @@ use Rattle.rule_model.specs.Piece.{pieces_meet}
 use Rattle.placement.specs.declared.LivePiece.{LivePiece}
 use Rattle.placement.specs.declared.Move.{Move}
 use Rattle.placement.specs.declared.Move.TheVariants.{Put, Erase}
-use Rattle.placement.specs.Live.{is_above}
+use Rattle.placement.specs.Live.{is_above, rank_in}
 use Rattle.placement.specs.Placement.{gap_start, span_of}
 use Rattle.placement.specs.Insertion.{IsLive, BoundsLiveChains}
-use Rattle.placement.proofs.Above.{is_live_from, rank_in, rank_is}
+use Rattle.placement.proofs.Above.{is_live_from, rank_is}
 use Rattle.placement.proofs.Readied.{start_inside}
 use Rattle.commit_writes.proofs.Fits.{standing_bound}
 use Rattle.batch_order.specs.ByParts.{moves_put}

@@ -20,9 +20,8 @@ use Rattle.range_bits.specs.LiveRanges.{LiveRanges, bit_for, word_for, newly_liv
 use Rattle.rule_model.specs.declared.words.Entry.{Entry}
 use Rattle.placement.specs.declared.LivePiece.{LivePiece}
 use Rattle.placement.proofs.Above.{live_is}
-use Rattle.placement.specs.declared.Aim.{Aim}
 use Rattle.placement.specs.declared.Move.{Move}
-use Rattle.placement.specs.Placement.{Above, first_lower, last_upper, next_slot, gap_start, IsPlacement, straight_in, uncross, into_gap, push_down, push_up}
+use Rattle.placement.specs.Placement.{Above, Aiming, first_lower, last_upper, next_slot, gap_start, IsPlacement, straight_in, uncross, into_gap, push_down, push_up}
 use Rattle.tcam_device.specs.declared.Write.{Write}
 use Rattle.tcam_device.specs.declared.Write.TheVariants.{Slot}
 use Rattle.tcam_device.specs.State.{State}
@@ -58,7 +57,7 @@ no-upper above id slots upper empty is =
     empty upper held.0 held.1
 
 -- among empty slots the moves of a placement are one
-one-move : (above : Above) {aim : Aim} (id : ℕ) (slots : Slots) (moves : List Move) → IsPlacement above aim id slots moves → IsEmpty slots → length moves ≡ 1
+one-move : (above : Above) {priority : ℕ → ℕ} {aiming : Aiming} (id : ℕ) (slots : Slots) (moves : List Move) → IsPlacement above priority aiming id slots moves → IsEmpty slots → length moves ≡ 1
 one-move above id slots moves (straight_in (into_gap at low found)) empty = refl
 one-move above id slots moves (straight_in (push_down lower low none is down shorter)) empty = absurd (no-lower above id slots lower empty is)
 one-move above id slots moves (straight_in (push_up upper low none is up shorter)) empty = absurd (no-upper above id slots upper empty is)

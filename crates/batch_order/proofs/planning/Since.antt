@@ -11,9 +11,8 @@ use Rattle.slot_pool.specs.Arrangement.{Slots}
 use Rattle.rule_model.specs.declared.words.Entry.{Entry}
 use Rattle.rule_model.specs.Entry.{RankedPiece, entry_for}
 use Rattle.placement.specs.declared.LivePiece.{LivePiece}
-use Rattle.placement.specs.Live.{is_live, is_above}
-use Rattle.placement.specs.declared.Aim.{Aim}
-use Rattle.placement.specs.Placement.{IsPlacement, after_moves, span_of}
+use Rattle.placement.specs.Live.{is_live, is_above, rank_in}
+use Rattle.placement.specs.Placement.{Aiming, IsPlacement, after_moves, span_of}
 use Rattle.commit_writes.specs.Planned.{Planned, ArePlanned, ranked_of, live_after, slots_after, entry_at}
 use Rattle.batch_order.specs.declared.plan.Plan.{Plan}
 use Rattle.batch_order.specs.declared.planned_writes.PlannedWrite.{PlannedWrite}
@@ -28,14 +27,14 @@ pub live_more : (live more : List LivePiece) (id : ℕ) → IsTrue (is_live live
 live_more live more id now = list_any-append (λ one. one.id == id) live more ∙ rw now refl
 
 -- the insertion of one piece, under an id that wasn't live
-pub planned_one : (old new : Entries) (slots slots' : Slots) (one : LivePiece) (answer : ℕ) (aim : Aim) (plan plan' : Plan)
+pub planned_one : (old new : Entries) (slots slots' : Slots) (one : LivePiece) (answer : ℕ) (aiming : Aiming) (plan plan' : Plan)
     → IsFalse (is_live old.live one.id) → new.live ≡ old.live ++ one ∷ []
     → entry_at new.entries one.id ≡ Some (entry_for (record { piece = one.piece; rank = one.rank; result = answer }))
-    → KeepEntries old.live old.entries new.entries → IsInserted new slots slots' aim one.id plan plan'
-    → ArePlannedSince old new slots slots' plan plan' (record { piece = one.piece; rank = one.rank; result = answer } ∷ []) (aim ∷ [])
-planned_one old new slots slots' one answer aim plan plan' absent live_is entry kept inserted = record {
-  planned = record { one = one; result = answer; aim = aim; moves = inserted.moves; span = span_of (is_above (old.live ++ one ∷ [])) slots one.id } ∷ [];
-  are_planned = (absent, subst (λ (l : List LivePiece). IsPlacement (is_above l) aim one.id slots inserted.moves) live_is inserted.placement, refl, tt);
+    → KeepEntries old.live old.entries new.entries → IsInserted new slots slots' aiming one.id plan plan'
+    → ArePlannedSince old new slots slots' plan plan' (record { piece = one.piece; rank = one.rank; result = answer } ∷ []) (aiming ∷ [])
+planned_one old new slots slots' one answer aiming plan plan' absent live_is entry kept inserted = record {
+  planned = record { one = one; result = answer; aiming = aiming; moves = inserted.moves; span = span_of (is_above (old.live ++ one ∷ [])) slots one.id } ∷ [];
+  are_planned = (absent, subst (λ (l : List LivePiece). IsPlacement (is_above l) (rank_in l) aiming one.id slots inserted.moves) live_is inserted.placement, refl, tt);
   pieces_are = refl;
   aims_are = refl;
   live_is = live_is;
@@ -82,7 +81,7 @@ abbrev parts : Planned → ℕ
 parts insertion = insertion_parts (moves_put insertion.moves)
 
 -- some insertions after others
-pub planned_then : (old mid new : Entries) (slots slots' slots'' : Slots) (plan plan' plan'' : Plan) (first second : List RankedPiece) (first_aims second_aims : List Aim)
+pub planned_then : (old mid new : Entries) (slots slots' slots'' : Slots) (plan plan' plan'' : Plan) (first second : List RankedPiece) (first_aims second_aims : List Aiming)
     → ArePlannedSince old mid slots slots' plan plan' first first_aims → ArePlannedSince mid new slots' slots'' plan' plan'' second second_aims
     → ArePlannedSince old new slots slots'' plan plan'' (first ++ second) (first_aims ++ second_aims)
 planned_then old mid new slots slots' slots'' plan plan' plan'' first second first_aims second_aims one two = record {
@@ -90,7 +89,7 @@ planned_then old mid new slots slots' slots'' plan plan' plan'' first second fir
   are_planned = planned_after old.live slots one.planned two.planned one.are_planned
       (subst (λ (l : List LivePiece). ArePlanned l (slots_after slots one.planned) two.planned) one.live_is (subst (λ (s : Slots). ArePlanned mid.live s two.planned) one.slots_are two.are_planned));
   pieces_are = map-append ranked_of one.planned two.planned ∙ ap₂ (λ (a b : List RankedPiece). a ++ b) one.pieces_are two.pieces_are;
-  aims_are = map-append (λ (insertion : Planned). insertion.aim) one.planned two.planned ∙ ap₂ (λ (a b : List Aim). a ++ b) one.aims_are two.aims_are;
+  aims_are = map-append (λ (insertion : Planned). insertion.aiming) one.planned two.planned ∙ ap₂ (λ (a b : List Aiming). a ++ b) one.aims_are two.aims_are;
   live_is = two.live_is
       ∙ (ap (λ (l : List LivePiece). live_after l two.planned) one.live_is
       ∙ (append_assoc old.live (map (λ (insertion : Planned). insertion.one) one.planned) (map (λ (insertion : Planned). insertion.one) two.planned)

@@ -174,7 +174,7 @@ pub record IsPlanOf (placement : Placement) (translation : Option Translation) (
   pub kept : KeepEntries old.live old.entries new.entries
   pub planned : List Planned
   pub commit : IsPlannedBatch (mode_of translation) (during_by translation rules batch) (behind_by translation rules old slots batch) rules.rules batch old.live slots new.entries planned rewrites erased
-  pub aims : map (λ insertion. insertion.aim) planned
+  pub aims : map (λ insertion. insertion.aiming) planned
       ≡ aims_of placement (mode_of translation) (length slots) rules.rules (inserted_pieces (mode_of translation) (during_by translation rules batch) rules.rules batch)
   pub live_is : new.live ≡ live_after old.live planned
   pub middle_is : middle ≡ slots_after slots planned

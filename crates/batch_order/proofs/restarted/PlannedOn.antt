@@ -15,7 +15,7 @@ use Rattle.rule_store.proofs.Counts.{count_by-append}
 use Rattle.rule_model.specs.Entry.{RankedPiece, IsEncodable}
 use Rattle.placement.specs.declared.LivePiece.{LivePiece}
 use Rattle.placement.specs.Live.{is_live}
-use Rattle.placement.specs.declared.Aim.{Aim}
+use Rattle.placement.specs.Placement.{Aiming}
 use Rattle.placement.specs.Insertion.{free_slots}
 use Rattle.tcam_device.specs.declared.Write.{Write}
 use Rattle.tcam_device.specs.Insertion.{is_table_write, table_writes}
@@ -242,7 +242,7 @@ module _ (mode : Mode) (bits : FieldBits) (rules : List Rule) (batch : List Comm
       aims_rest placement mode (length slots) rules (length old.live) put shown.inserted.items read.standing
       ∙ ap₂ (λ (n : ℕ) (some : List RankedPiece). drop n (aims_of placement mode (length slots) rules some)) stopped.found.done_number stopped.is_shown.inserted
 
-  module _ (placement : Placement) (device_slots : ℕ) (size : length state.slots ≡ device_slots) (new : Entries) (middle slots' : Slots) (plan : Plan) (aims : List Aim) (rest : Rest)
+  module _ (placement : Placement) (device_slots : ℕ) (size : length state.slots ≡ device_slots) (new : Entries) (middle slots' : Slots) (plan : Plan) (aims : List Aiming) (rest : Rest)
       (aims_are : aims ≡ aims_left placement mode bits (length slots) rules batch stopped.found.done)
       (first : AreFirstPlanned (rest_words mode bits rules batch state) shown.stage.twin plan)
       (all : AreAllPlanned old new slots middle plan rest.plan (filter_map inserted_by stopped.found.left) aims rest.left.rewrites.items rest.left.erased.items)
@@ -365,7 +365,7 @@ module _ (mode : Mode) (bits : FieldBits) (rules : List Rule) (batch : List Comm
       → slots' ≡ erased_slots middle rest.left.erased.items → coded_by rest.bits ≡ mode → during_of rest.bits ≡ bits_with mode rules batch bits
       → IsPlannedOn placement device_slots mode bits rules batch state shown old new slots slots' rest
   all_planned_on placement device_slots size new middle slots' plan rest first all adds rewrites_are erased_are arranged coded live =
-      let aims : List Aim = aims_from placement mode (length slots) rules (length old.live + length (drop put shown.inserted.items)) put (drop put shown.inserted.items) in
+      let aims : List Aiming = aims_from placement mode (length slots) rules (length old.live + length (drop put shown.inserted.items)) put (drop put shown.inserted.items) in
       planned_on placement device_slots size new middle slots' plan aims rest (aims_on placement) first
       (subst (λ (some : List RankedPiece). AreAllPlanned old new slots middle plan rest.plan some aims rest.left.rewrites.items rest.left.erased.items) (sym inserted_shown) all)
       adds rewrites_are erased_are arranged coded live

@@ -5,7 +5,7 @@ use Rattle.slot_pool.specs.Arrangement.{Slots}
 use Rattle.rule_model.specs.declared.Rule.{Rule}
 use Rattle.rule_store.specs.declared.Mode.{Mode}
 use Rattle.rule_store.specs.declared.Command.{Command}
-use Rattle.placement.specs.declared.Aim.{Aim}
+use Rattle.placement.specs.Placement.{Aiming}
 use Rattle.tcam_device.specs.declared.Write.{Write}
 use Rattle.tcam_device.specs.State.{State, IsState, state_after, on_device}
 use Rattle.commit_writes.specs.declared.Rewrite.{Rewrite}
@@ -28,7 +28,7 @@ use Rattle.batch_order.proofs.planning.Meant.{as_append, as_planned}
 use Rattle.batch_order.specs.RestPlan.{PlansRest}
 
 module _ (device_slots : ℕ) (mode : Mode) (bits : FieldBits) (rules : List Rule) (batch : List Command) (state : State) (done left : List Task) (twin : Option ℕ)
-    (old new : Entries) (slots middle : Slots) (plan plan' : Plan) (aims : List Aim) (rewrites : List Rewrite) (erased : List ℕ)
+    (old new : Entries) (slots middle : Slots) (plan plan' : Plan) (aims : List Aiming) (rewrites : List Rewrite) (erased : List ℕ)
     (all : AreAllPlanned old new slots middle plan plan' (filter_map inserted_by left) aims rewrites erased) where
   abbrev words : List Write
   words = rest_words mode bits rules batch state

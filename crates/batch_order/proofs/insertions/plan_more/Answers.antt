@@ -1,14 +1,15 @@
-use Rattle.std.proofs.Common.{rules, ◌≡◌, ◌≤◌, ◌+◌, ◌-◌, ◌++◌, [], ◌∷◌, length, take, subst, sym, ap, ◌∙◌, arith, List, ℕ, ap₂, append_assoc}
+use Rattle.std.proofs.Common.{rules, ◌≡◌, ◌≤◌, ◌+◌, ◌-◌, ◌++◌, [], ◌∷◌, length, take, drop, suc, subst, sym, ap, ◌∙◌, arith, List, ℕ, ap₂, append_assoc}
 use Rattle.std.specs.Prelude.{vec_capacity}
 use Rattle.std.proofs.lemmas.Grind.{common_steps}
-use Rattle.std.proofs.lemmas.List.{map-append, length-take-le}
+use Rattle.std.proofs.lemmas.List.{map-append, take_all}
 use Rattle.rule_model.specs.Entry.{RankedPiece}
 use Rattle.placement.specs.declared.LivePiece.{LivePiece}
 use Rattle.batch_order.specs.Entries.{Entries, AddsIds}
 use Rattle.placement.specs.declared.Aim.{Aim}
+use Rattle.placement.specs.Placement.{Aiming}
 use Rattle.batch_order.specs.Placing.{aim_of, aims_from}
 use Rattle.batch_order.specs.Planning.{ArePlannedSince, IsPlannable}
-use Rattle.batch_order.proofs.planning.Aimed.{aims_more}
+use Rattle.batch_order.proofs.planning.Aimed.{aims_next, length-aims}
 use Rattle.batch_order.proofs.planning.Since.{planned_then}
 use Rattle.commit_writes.proofs.Walked.{take_next}
 use Rattle.batch_order.proofs.insertions.plan_more.Goals as goal
@@ -32,13 +33,19 @@ loop-ranked-preserved c =
     let set = c.args.rules.now.rules in
     let slots = c.slots-slots.result in
     let all = slots - c.free_count.result + length pieces in
-    let size : c.len.result ≡ length c.loop-ranked.ids.items = first_of (search rules, grind (arith, common_steps)) in
-    let place : c.args.made + c.len.result ≡ c.args.made + length some = (let made : length some ≡ c.loop-ranked.ranked-index = length-take-le c.loop-ranked.ranked-index pieces (omega arith) in let number = was.2 in omega arith) in
-    let aims : aims_from c.args.placement c.args.mode slots set all c.args.made some ++ c.aim_of-aim.result ∷ [] ≡ aims_from c.args.placement c.args.mode slots set all c.args.made (take (c.loop-ranked.ranked-index + 1) pieces) =
-    ap (λ (aim : Aim). aims_from c.args.placement c.args.mode slots set all c.args.made some ++ aim ∷ []) (c.aim_of-aim.ensures ∙ ap (λ (n : ℕ). aim_of c.args.placement c.args.mode slots set all n one) place)
-    ∙ (sym (aims_more c.args.placement c.args.mode slots set all c.args.made some one) ∙ ap (aims_from c.args.placement c.args.mode slots set all c.args.made) (sym more)) in
+    let size : c.len-place.result ≡ length c.loop-ranked.ids.items = first_of (search rules, grind (arith, common_steps)) in
+    let place : c.args.made + c.len-place.result ≡ c.args.made + c.loop-ranked.ranked-index = (let number = was.2 in omega arith) in
+    let later : c.len-place.result + 1 ≡ suc c.loop-ranked.ranked-index = (let number = was.2 in omega arith) in
+    let all_aims = aims_from c.args.placement c.args.mode slots set all c.args.made pieces in
+    let aiming : Aiming = record { aim = c.aim_of-aim.result; coming = c.behind-coming.result.now } in
+    let aims : take c.loop-ranked.ranked-index all_aims ++ aiming ∷ [] ≡ take (c.loop-ranked.ranked-index + 1) all_aims =
+    ap₂ (λ (aim : Aim) (later : List ℕ). take c.loop-ranked.ranked-index all_aims ++ record { aim = aim; coming = later } ∷ [])
+    (c.aim_of-aim.ensures ∙ ap (λ (n : ℕ). aim_of c.args.placement c.args.mode slots set all n one) place)
+    (c.behind-coming.ensures ∙ ap₂ (λ (n : ℕ) (ranks : List ℕ). drop n ranks) later (c.deref.ensures.value ∙ c.in_ok-ranks.ensures))
+    ∙ (sym (aims_next c.args.placement c.args.mode slots set all c.args.made pieces c.loop-ranked.ranked-index one (omega arith) (sym c.ranked-item.is))
+    ∙ ap (λ (n : ℕ). take n all_aims) (let k : suc c.loop-ranked.ranked-index ≡ c.loop-ranked.ranked-index + 1 = omega arith in k)) in
     let planned = planned_then c.args.live.now c.loop-ranked.live c.plan_piece.new.live c.args.arrangement.now c.loop-ranked.arrangement c.plan_piece.new.arrangement
-    c.args.plan.now c.loop-ranked.plan c.plan_piece.new.plan some (one ∷ []) (aims_from c.args.placement c.args.mode slots set all c.args.made some) (c.aim_of-aim.result ∷ []) was.4 c.in-Ok.ensures.planned in
+    c.args.plan.now c.loop-ranked.plan c.plan_piece.new.plan some (one ∷ []) (take c.loop-ranked.ranked-index all_aims) (aiming ∷ []) was.4 c.in-Ok.ensures.planned in
     let plannable : IsPlannable c.plan_piece.new.live c.plan_piece.new.arrangement c.plan_piece.new.plan.writes = c.in-Ok.ensures.plannable in
     let items : c.push_reserved.new.self.items ≡ c.loop-ranked.ids.items ++ c.in-Ok.id ∷ [] = search rules in
     let adds : AddsIds c.args.live.now c.plan_piece.new.live c.push_reserved.new.self.items =
@@ -49,6 +56,28 @@ loop-ranked-preserved c =
       adds,
       number,
       room,
-      subst (λ (pieces : List RankedPiece). ArePlannedSince c.args.live.now c.plan_piece.new.live c.args.arrangement.now c.plan_piece.new.arrangement c.args.plan.now c.plan_piece.new.plan pieces (aims_from c.args.placement c.args.mode slots set all c.args.made (take (c.loop-ranked.ranked-index + 1) c.args.pieces.now))) (sym more)
+      subst (λ (pieces : List RankedPiece). ArePlannedSince c.args.live.now c.plan_piece.new.live c.args.arrangement.now c.plan_piece.new.arrangement c.args.plan.now c.plan_piece.new.plan pieces (take (c.loop-ranked.ranked-index + 1) all_aims)) (sym more)
           (subst (ArePlannedSince c.args.live.now c.plan_piece.new.live c.args.arrangement.now c.plan_piece.new.arrangement c.args.plan.now c.plan_piece.new.plan (some ++ one ∷ [])) aims planned),
     )
+
+pub returns-clause-planned : goal.returns-clause-planned
+returns-clause-planned c =
+    let was = c.loop-ranked.invariant in
+    let pieces = c.args.pieces.now in
+    let set = c.args.rules.now.rules in
+    let past = c.loop-ranked-test.false in
+    let slots = c.slots-slots.result in
+    let all = slots - c.free_count.result + length pieces in
+    let size = c.slots-slots.ensures.number in
+    let number : all ≡ length c.args.live.now.live + length pieces =
+    (let count = c.requires.plannable.settled.count in let same = c.requires.plannable.settled.size in let free = c.free_count.ensures in omega arith) in
+    let each = length-aims c.args.placement c.args.mode slots set all c.args.made pieces in
+    let aims : take c.loop-ranked.ranked-index (aims_from c.args.placement c.args.mode slots set all c.args.made pieces)
+    ≡ aims_from c.args.placement c.args.mode (length c.args.arrangement.now) set (length c.args.live.now.live + length pieces) c.args.made pieces =
+    take_all c.loop-ranked.ranked-index (aims_from c.args.placement c.args.mode slots set all c.args.made pieces) (omega arith)
+    ∙ (ap (λ (n : ℕ). aims_from c.args.placement c.args.mode n set all c.args.made pieces) size
+    ∙ ap (λ (n : ℕ). aims_from c.args.placement c.args.mode (length c.args.arrangement.now) set n c.args.made pieces) number) in
+    subst (λ (some : List RankedPiece). ArePlannedSince c.args.live.now c.loop-ranked.live c.args.arrangement.now c.loop-ranked.arrangement c.args.plan.now c.loop-ranked.plan some
+    (aims_from c.args.placement c.args.mode (length c.args.arrangement.now) set (length c.args.live.now.live + length pieces) c.args.made pieces))
+    (take_all c.loop-ranked.ranked-index pieces past)
+    (subst (ArePlannedSince c.args.live.now c.loop-ranked.live c.args.arrangement.now c.loop-ranked.arrangement c.args.plan.now c.loop-ranked.plan (take c.loop-ranked.ranked-index pieces)) aims was.4)

@@ -11,4 +11,4 @@ invariant-loop-ranked l = IsPlannable l.live l.arrangement l.plan.writes
     × (length l.ids.items ≡ l.ranked-index)
     × (length l.pieces ≤ vec_capacity l.ids)
     × ArePlannedSince l.fn.live l.live l.fn.arrangement l.arrangement l.fn.plan l.plan (take l.ranked-index l.pieces)
-    (aims_from l.placement l.mode l.slots l.rules.rules l.all l.made (take l.ranked-index l.pieces))
+    (take l.ranked-index (aims_from l.placement l.mode l.slots l.rules.rules l.all l.made l.pieces))

@@ -2,11 +2,10 @@ use Rattle.std.proofs.Common.{◌≡◌, ◌+◌, ◌<◌, ◌∙◌, ◌++◌, 
 use Rattle.std.specs.List.{AllByRecursion}
 use Rattle.std.proofs.lemmas.List.{length-append, take_all}
 use Rattle.slot_order.proofs.Lists.{all_append}
-use Rattle.placement.specs.Live.{is_above}
+use Rattle.placement.specs.Live.{is_above, rank_in}
 use Rattle.slot_pool.specs.Arrangement.{Slots}
-use Rattle.placement.specs.declared.Aim.{Aim}
 use Rattle.placement.specs.declared.Move.{Move}
-use Rattle.placement.specs.Placement.{IsPlacement, IsInOrder, after_moves, span_of}
+use Rattle.placement.specs.Placement.{Aiming, IsPlacement, IsInOrder, after_moves, span_of}
 use Rattle.placement.specs.Insertion.{IsLive, StandOnce, free_slots, moves_since}
 use Rattle.placement.specs.Ready.{IsReady}
 use Rattle.batch_order.specs.ByParts.{insertion_parts, moves_put}
@@ -39,8 +38,8 @@ pub plan_insert-requires-clause-free : goal.plan_insert-requires-clause-free
 plan_insert-requires-clause-free c = free_one c.args.live.now c.args.arrangement.now c.args.id c.requires.new
 
 -- its moves stay inside
-inside : (kept : Entries) (slots : Slots) (aim : Aim) (id : ℕ) (moves : List Move) → IsLastLive kept slots id → IsPlacement (is_above kept.live) aim id slots moves → AllByRecursion (IsInside kept.slots) moves
-inside kept slots aim id moves new placement =
+inside : (kept : Entries) (slots : Slots) (aiming : Aiming) (id : ℕ) (moves : List Move) → IsLastLive kept slots id → IsPlacement (is_above kept.live) (rank_in kept.live) aiming id slots moves → AllByRecursion (IsInside kept.slots) moves
+inside kept slots aiming id moves new placement =
     subst (λ n. AllByRecursion (IsInside n) moves) new.size (moves_inside (record { slots = kept.slots; live = kept.live }) id slots moves (ready kept slots id new) placement)
 
 -- its moves are few,
@@ -80,7 +79,7 @@ returns c =
     let old = c.args.plan.now.writes in
     let m = moves_since old.moves c.plan_insert.new.plan in
     let live = c.index.ensures.live in
-    let placement : IsPlacement (is_above kept.live) c.args.aim c.args.id slots m = subst (λ l. IsPlacement (is_above l) c.args.aim c.args.id slots m) live c.in_ok-insert.ensures.placement in
+    let placement : IsPlacement (is_above kept.live) (rank_in kept.live) (record { aim = c.args.aim; coming = c.args.coming.now }) c.args.id slots m = subst (λ l. IsPlacement (is_above l) (rank_in l) (record { aim = c.args.aim; coming = c.args.coming.now }) c.args.id slots m) live c.in_ok-insert.ensures.placement in
     let pushed : all_writes c.count.new.self.writes ≡ all_writes old ++ map Moved m =
     ap all_writes c.count.ensures.writes ∙ more_moved old.words.items old.moves c.plan_insert.new.plan m old.changes.items c.requires.no_changes c.plan_insert.ensures.plan in
     let after : c.plan_insert.new.slots ≡ after_moves slots m = c.plan_insert.ensures.slots in
@@ -93,7 +92,7 @@ returns c =
             (subst (λ l. StandOnce (IsLive l) c.plan_insert.new.slots) live c.in_ok-insert.ensures.standing) order c.in_ok-insert.ensures.free;
         no_changes = ap (λ (writes : PlannedWrites). writes.changes.items) c.count.ensures.writes ∙ c.requires.no_changes;
         within = subst (AllByRecursion (IsWithin kept.slots)) (sym pushed)
-            (all_append (IsWithin kept.slots) (all_writes old) (map Moved m) c.requires.within (moves_within kept.slots m (inside kept slots c.args.aim c.args.id m c.requires.new placement)));
+            (all_append (IsWithin kept.slots) (all_writes old) (map Moved m) c.requires.within (moves_within kept.slots m (inside kept slots (record { aim = c.args.aim; coming = c.args.coming.now }) c.args.id m c.requires.new placement)));
       };
       inserted = record {
         moves = m;

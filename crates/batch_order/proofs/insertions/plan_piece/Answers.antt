@@ -31,6 +31,6 @@ pub returns-in-Ok-clause-planned : goal.returns-in-Ok-clause-planned
 returns-in-Ok-clause-planned c =
     let one : LivePiece = record { id = c.in_ok-id.id; piece = c.ranked.inside.piece; rank = c.ranked.inside.rank } in
     let kept = kept_set c.args.live.now.live c.args.live.now.entries c.args.live.now.entries c.in_ok-id.id _ c.in_ok-id.ensures.absent (λ id now. refl) in
-    subst (λ (ranked : RankedPiece). ArePlannedSince c.args.live.now c.add.new.self c.args.arrangement.now c.plan_moves.new.arrangement c.args.plan.now c.plan_moves.new.plan (ranked ∷ []) (c.args.aim ∷ [])) c.ranked.view_is
-    (planned_one c.args.live.now c.add.new.self c.args.arrangement.now c.plan_moves.new.arrangement one c.ranked.inside.result c.args.aim c.args.plan.now c.plan_moves.new.plan c.in_ok-id.ensures.absent c.in_ok-id.ensures.live
+    subst (λ (ranked : RankedPiece). ArePlannedSince c.args.live.now c.add.new.self c.args.arrangement.now c.plan_moves.new.arrangement c.args.plan.now c.plan_moves.new.plan (ranked ∷ []) (record { aim = c.args.aim; coming = c.args.coming.now } ∷ [])) c.ranked.view_is
+    (planned_one c.args.live.now c.add.new.self c.args.arrangement.now c.plan_moves.new.arrangement one c.ranked.inside.result (record { aim = c.args.aim; coming = c.args.coming.now }) c.args.plan.now c.plan_moves.new.plan c.in_ok-id.ensures.absent c.in_ok-id.ensures.live
     c.in_ok-id.ensures.entry (rw c.in_ok-id.ensures.entries kept) c.in-Ok.ensures.inserted)

@@ -1,7 +1,7 @@
 use Rattle.std.proofs.Common.{◌≡◌, ◌∙◌, ◌++◌, ◌∷◌, [], append-nil, append_assoc, ap, arith, refl, sym}
 use Rattle.slot_pool.specs.Arrangement.{first_slot}
-use Rattle.placement.specs.Live.{is_above}
-use Rattle.placement.proofs.Above.{rank_in, ids_below_are}
+use Rattle.placement.specs.Live.{is_above, rank_in}
+use Rattle.placement.proofs.Above.{ids_below_are}
 use Rattle.move_planner.specs.Steps.{lesser}
 use Rattle.move_planner.proofs.Ends.{among, first_of_none, first_of_more, first_of_all, both_are}
 use Rattle.placement.proofs.Orders.{ranked}

@@ -4,6 +4,7 @@ use Rattle.placement.specs.Live.{is_above}
 use Rattle.placement.specs.Placement.{after_move}
 use Rattle.move_planner.proofs.Outcomes.{on_ok_both}
 use Rattle.placement.proofs.Readied.{end_inside}
+use Rattle.move_planner.proofs.Landings.{landed_shifts}
 use Rattle.move_planner.proofs.Ways.{way_shifts}
 use Rattle.move_planner.proofs.Placed.{chosen, no_slot, gap_free, placed_in_gap, placed_by_way}
 use Rattle.move_planner.proofs.placing.place.Goals as goal
@@ -21,18 +22,23 @@ make-requires c =
 pub returns-in-Some-clause-placed : goal.returns-in-Some-clause-placed
 returns-in-Some-clause-placed c =
     let above = is_above c.args.index.now.live in
-    on_ok_both _ _ _ c.make.result (λ gained after. placed_in_gap c.args.index.now c.args.aim c.args.id c.args.slots.now c.make.new.slots c.args.plan.now c.make.new.self c.in-Some.slot
+    on_ok_both _ _ _ c.make.result (λ gained after. placed_in_gap c.args.index.now (record { aim = c.args.aim; coming = c.args.coming.now }) c.args.id c.args.slots.now c.make.new.slots c.args.plan.now c.make.new.self c.in-Some.slot
     c.requires.uncrossed (chosen above c.args.aim c.args.slots.now c.args.id _ _ _ c.requires.start c.requires.end c.choose.ensures ∙ c.in-Some.is) gained after) c.make.ensures.plan c.make.ensures.slots
 
+pub landed-chain-requires-clause-shift : goal.landed-chain-requires-clause-shift
+landed-chain-requires-clause-shift c = way_shifts c.args.index.now c.args.id c.args.slots.now c.in_ok-chain.chain c.requires.ready c.in_ok-chain.ensures
+
 pub shift-requires : goal.shift-requires
-shift-requires c = way_shifts c.args.index.now c.args.id c.args.slots.now c.in_ok-chain.chain c.requires.ready c.in_ok-chain.ensures
+shift-requires c =
+    landed_shifts c.args.index.now (record { aim = c.args.aim; coming = c.args.coming.now }) c.args.id c.args.slots.now c.in_ok-chain.chain c.landed-chain.result c.requires.ready
+    c.landed-chain.ensures c.in_ok-chain.ensures
 
 pub returns-clause-placed : goal.returns-clause-placed
 returns-clause-placed c =
     let above = is_above c.args.index.now.live in
     let full = chosen above c.args.aim c.args.slots.now c.args.id _ _ _ c.requires.start c.requires.end c.choose.ensures ∙ no_slot c.choose.result c.in_default.not-Some in
-    on_ok_both _ _ _ c.make-2.result (λ gained after. placed_by_way c.args.index.now c.args.aim c.args.id c.args.slots.now c.shift.new.slots c.make-2.new.slots c.args.plan.now c.shift.new.plan c.make-2.new.self
-    c.in_ok-chain.chain c.requires.ready c.requires.uncrossed full c.in_ok-chain.ensures c.in_ok-shift.ensures.plan c.in_ok-shift.ensures.slots c.in_ok-shift.ensures.twin c.in_ok-shift.ensures.free
+    on_ok_both _ _ _ c.make-2.result (λ gained after. placed_by_way c.args.index.now (record { aim = c.args.aim; coming = c.args.coming.now }) c.args.id c.args.slots.now c.shift.new.slots c.make-2.new.slots c.args.plan.now c.shift.new.plan c.make-2.new.self
+    c.in_ok-chain.chain c.landed-chain.result c.requires.ready c.requires.uncrossed full c.in_ok-chain.ensures c.landed-chain.ensures c.in_ok-shift.ensures.plan c.in_ok-shift.ensures.slots c.in_ok-shift.ensures.twin c.in_ok-shift.ensures.free
     (gained ∙ ap (λ k. c.shift.new.plan ++ Put k c.args.id ∷ []) c.first.ensures) (after ∙ ap (λ k. after_move c.shift.new.slots (Put k c.args.id)) c.first.ensures)) c.make-2.ensures.plan c.make-2.ensures.slots
 
 pub way-requires-clause-full : goal.way-requires-clause-full

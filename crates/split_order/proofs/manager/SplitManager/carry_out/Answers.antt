@@ -1,4 +1,4 @@
-use Rattle.std.proofs.Common.{◌≡◌, ◌+◌, ◌-◌, ◌≤◌, ◌++◌, ◌∷◌, [], ℕ, List, length, refl, sym, ap, ap₂, subst, ◌∙◌, append-nil, arith}
+use Rattle.std.proofs.Common.{◌≡◌, ◌+◌, ◌-◌, ◌≤◌, ◌++◌, ◌∷◌, [], ℕ, List, length, refl, sym, ap, ap₂, subst, ◌∙◌, arith}
 use Rattle.commit_writes.specs.InFlight.{AreCurrent}
 use Rattle.batch_order.specs.CarriedOut.{ahead}
 use Rattle.batch_order.specs.Managed.{live_now}
@@ -13,7 +13,7 @@ use Rattle.split_order.specs.CarriedOut.{AreServed, HasMade, IsDrainNext, SplitS
 use Rattle.split_order.specs.Left.{left_of, left_of_held, since_of, state_on}
 use Rattle.split_order.specs.Managed.{SplitManaged, no_counts}
 use Rattle.split_order.specs.Steps.{Advances, IsPartNext, SplitSteps, made_by}
-use Rattle.split_order.proofs.Carrying.{drained_is, finished_is, goes_drained, goes_failed, goes_start, goes_wrote, has_finished, idle_is, made_and_left, nearer, nearer_drained, no_tries, not_drain, rests_is, same_slots, served_on, still_led, tried_all, tried_stuck, waiting_is, wrote_is}
+use Rattle.split_order.proofs.Carrying.{drained_is, finished_is, goes_drained, goes_failed, goes_start, goes_wrote, has_finished, idle_is, made_and_left, nearer, nearer_drained, no_tries, not_drain, rests_is, same_slots, served_on, still_led, still_logged, tried_all, tried_stuck, waiting_is, wrote_is}
 use Rattle.split_order.proofs.Live.{step_current}
 use Rattle.split_order.proofs.Stepped.{advances_slots}
 use Rattle.split_order.proofs.manager.SplitManager.carry_out.Goals as goal
@@ -190,9 +190,7 @@ returns-in-Ok-Finished-clause-events g c =
     let steps : SplitSteps count m flying (left_of count m) (step.Finished done) new = subst (λ (s : SplitStep). SplitSteps count m flying (left_of count m) s new) c.in-Ok-Finished.field-0-is made.stepped in
     let is = finished_is count m new flying (left_of count m) done steps in
     let nothing : left_of slots m ≡ [] = subst (λ n. left_of n m ≡ []) inv.slot_count is.0 in
-    let none : made_by c.in-Ok-Finished.field-0 ≡ [] = ap made_by c.in-Ok-Finished.field-0-is in
-    let logged : g.D.SplitDevice.events c.step.new.device ≡ g.D.SplitDevice.events c.carrying.device =
-    made.events ∙ (ap (λ some. g.D.SplitDevice.events c.carrying.device ++ some) none ∙ append-nil (g.D.SplitDevice.events c.carrying.device)) in
+    let logged : g.D.SplitDevice.events c.step.new.device ≡ g.D.SplitDevice.events c.carrying.device = still_logged _ _ _ made.events (ap made_by c.in-Ok-Finished.field-0-is) in
     let same : left_of (g.D.SplitDevice.slot_count c.step.new.device) new ≡ left_of slots m = ap (left_of (g.D.SplitDevice.slot_count c.step.new.device)) is.2 ∙ sym nothing in
     ap₂ (λ (events left : List SplitAction). events ++ left) logged same ∙ made_and_left slots old m _ _ _ _ _ _ inv.goes
 
@@ -208,9 +206,7 @@ returns-in-Ok-Idle-clause-events g c =
     let flying = flight_count (g.D.SplitDevice.flight c.carrying.device) in
     let steps : SplitSteps count m flying (left_of count m) (step.Idle) new = subst (λ (s : SplitStep). SplitSteps count m flying (left_of count m) s new) c.in-Ok-Idle.field-0-is made.stepped in
     let is = idle_is count m new flying (left_of count m) steps in
-    let none : made_by c.in-Ok-Idle.field-0 ≡ [] = ap made_by c.in-Ok-Idle.field-0-is in
-    let logged : g.D.SplitDevice.events c.step.new.device ≡ g.D.SplitDevice.events c.carrying.device =
-    made.events ∙ (ap (λ some. g.D.SplitDevice.events c.carrying.device ++ some) none ∙ append-nil (g.D.SplitDevice.events c.carrying.device)) in
+    let logged : g.D.SplitDevice.events c.step.new.device ≡ g.D.SplitDevice.events c.carrying.device = still_logged _ _ _ made.events (ap made_by c.in-Ok-Idle.field-0-is) in
     let same : left_of (g.D.SplitDevice.slot_count c.step.new.device) new ≡ left_of slots m =
     ap (left_of (g.D.SplitDevice.slot_count c.step.new.device)) is.1 ∙ ap (λ n. left_of n m) (made.slot_count ∙ inv.slot_count) in
     ap₂ (λ (events left : List SplitAction). events ++ left) logged same ∙ made_and_left slots old m _ _ _ _ _ _ inv.goes
@@ -228,9 +224,7 @@ returns-in-Ok-Waiting-clause-events g c =
     let waits : ℕ = c.in-Ok-Waiting.flying in
     let steps : SplitSteps count m flying (left_of count m) (step.Waiting waits) new = subst (λ (s : SplitStep). SplitSteps count m flying (left_of count m) s new) c.in-Ok-Waiting.field-0-is made.stepped in
     let is = waiting_is count m new flying (left_of count m) waits steps in
-    let none : made_by c.in-Ok-Waiting.field-0 ≡ [] = ap made_by c.in-Ok-Waiting.field-0-is in
-    let logged : g.D.SplitDevice.events c.step.new.device ≡ g.D.SplitDevice.events c.carrying.device =
-    made.events ∙ (ap (λ some. g.D.SplitDevice.events c.carrying.device ++ some) none ∙ append-nil (g.D.SplitDevice.events c.carrying.device)) in
+    let logged : g.D.SplitDevice.events c.step.new.device ≡ g.D.SplitDevice.events c.carrying.device = still_logged _ _ _ made.events (ap made_by c.in-Ok-Waiting.field-0-is) in
     let same : left_of (g.D.SplitDevice.slot_count c.step.new.device) new ≡ left_of slots m =
     ap (left_of (g.D.SplitDevice.slot_count c.step.new.device)) is.3 ∙ ap (λ n. left_of n m) (made.slot_count ∙ inv.slot_count) in
     ap₂ (λ (events left : List SplitAction). events ++ left) logged same ∙ made_and_left slots old m _ _ _ _ _ _ inv.goes
@@ -294,9 +288,7 @@ returns-in-Ok-Finished-clause-tried g c =
     let steps : SplitSteps count m flying (left_of count m) (step.Finished done) new = subst (λ (s : SplitStep). SplitSteps count m flying (left_of count m) s new) c.in-Ok-Finished.field-0-is made.stepped in
     let is = finished_is count m new flying (left_of count m) done steps in
     let nothing : left_of slots m ≡ [] = subst (λ n. left_of n m ≡ []) inv.slot_count is.0 in
-    let none : made_by c.in-Ok-Finished.field-0 ≡ [] = ap made_by c.in-Ok-Finished.field-0-is in
-    let logged : g.D.SplitDevice.events c.step.new.device ≡ g.D.SplitDevice.events c.carrying.device =
-    made.events ∙ (ap (λ some. g.D.SplitDevice.events c.carrying.device ++ some) none ∙ append-nil (g.D.SplitDevice.events c.carrying.device)) in
+    let logged : g.D.SplitDevice.events c.step.new.device ≡ g.D.SplitDevice.events c.carrying.device = still_logged _ _ _ made.events (ap made_by c.in-Ok-Finished.field-0-is) in
     let tries : c.carrying.failures ≡ 0 = no_tries c.carrying.failures (left_of count m) inv.due (λ part. subst IsPartNext is.0 part) in
     let faults : g.D.SplitDevice.faults c.step.new.device ≡ g.D.SplitDevice.faults c.carrying.device = made.cause.stayed in
     rw faults (tried_all slots old m _ _ _ c.args.tries c.carrying.failures _ _ _ inv.goes tries logged (λ stuck. stuck))
@@ -313,9 +305,7 @@ returns-in-Ok-Idle-clause-tried g c =
     let flying = flight_count (g.D.SplitDevice.flight c.carrying.device) in
     let steps : SplitSteps count m flying (left_of count m) (step.Idle) new = subst (λ (s : SplitStep). SplitSteps count m flying (left_of count m) s new) c.in-Ok-Idle.field-0-is made.stepped in
     let is = idle_is count m new flying (left_of count m) steps in
-    let none : made_by c.in-Ok-Idle.field-0 ≡ [] = ap made_by c.in-Ok-Idle.field-0-is in
-    let logged : g.D.SplitDevice.events c.step.new.device ≡ g.D.SplitDevice.events c.carrying.device =
-    made.events ∙ (ap (λ some. g.D.SplitDevice.events c.carrying.device ++ some) none ∙ append-nil (g.D.SplitDevice.events c.carrying.device)) in
+    let logged : g.D.SplitDevice.events c.step.new.device ≡ g.D.SplitDevice.events c.carrying.device = still_logged _ _ _ made.events (ap made_by c.in-Ok-Idle.field-0-is) in
     let nothing : left_of count m ≡ [] = ap (left_of_held (state_on count m) (since_of m) m.whole.state m.made) is.0 in
     let tries : c.carrying.failures ≡ 0 = no_tries c.carrying.failures (left_of count m) inv.due (λ part. subst IsPartNext nothing part) in
     let faults : g.D.SplitDevice.faults c.step.new.device ≡ g.D.SplitDevice.faults c.carrying.device = made.cause.stayed in
@@ -334,9 +324,7 @@ returns-in-Ok-Waiting-clause-tried g c =
     let waits : ℕ = c.in-Ok-Waiting.flying in
     let steps : SplitSteps count m flying (left_of count m) (step.Waiting waits) new = subst (λ (s : SplitStep). SplitSteps count m flying (left_of count m) s new) c.in-Ok-Waiting.field-0-is made.stepped in
     let is = waiting_is count m new flying (left_of count m) waits steps in
-    let none : made_by c.in-Ok-Waiting.field-0 ≡ [] = ap made_by c.in-Ok-Waiting.field-0-is in
-    let logged : g.D.SplitDevice.events c.step.new.device ≡ g.D.SplitDevice.events c.carrying.device =
-    made.events ∙ (ap (λ some. g.D.SplitDevice.events c.carrying.device ++ some) none ∙ append-nil (g.D.SplitDevice.events c.carrying.device)) in
+    let logged : g.D.SplitDevice.events c.step.new.device ≡ g.D.SplitDevice.events c.carrying.device = still_logged _ _ _ made.events (ap made_by c.in-Ok-Waiting.field-0-is) in
     let tries : c.carrying.failures ≡ 0 = no_tries c.carrying.failures (left_of count m) inv.due (not_drain (left_of count m) is.0) in
     let faults : g.D.SplitDevice.faults c.step.new.device ≡ g.D.SplitDevice.faults c.carrying.device = made.cause.stayed in
     rw faults (tried_all slots old m _ _ _ c.args.tries c.carrying.failures _ _ _ inv.goes tries logged (λ stuck. stuck))
@@ -386,9 +374,7 @@ returns-in-Ok-Finished-clause-hitless g c on =
     let inv = c.carrying.invariant in
     let old : SplitManaged = c.args.self.now in
     let slots = g.D.SplitDevice.slot_count c.args.device.now in
-    let none : made_by c.in-Ok-Finished.field-0 ≡ [] = ap made_by c.in-Ok-Finished.field-0-is in
-    let logged : g.D.SplitDevice.events c.step.new.device ≡ g.D.SplitDevice.events c.carrying.device =
-    made.events ∙ (ap (λ some. g.D.SplitDevice.events c.carrying.device ++ some) none ∙ append-nil (g.D.SplitDevice.events c.carrying.device)) in
+    let logged : g.D.SplitDevice.events c.step.new.device ≡ g.D.SplitDevice.events c.carrying.device = still_logged _ _ _ made.events (ap made_by c.in-Ok-Finished.field-0-is) in
     subst (λ n. AreServed n (g.D.SplitDevice.events c.args.device.now) (g.D.SplitDevice.events c.step.new.device) old.whole.rules (ahead old.whole)) (sym (made.slot_count ∙ inv.slot_count))
     (served_on slots old _ _ inv.goes.made (left_of slots c.carrying.self) on (logged ∙ inv.goes.events_are) inv.goes.has_made.left_is (c.serving.ensures.way slots c.requires.slots))
 
@@ -398,9 +384,7 @@ returns-in-Ok-Idle-clause-hitless g c on =
     let inv = c.carrying.invariant in
     let old : SplitManaged = c.args.self.now in
     let slots = g.D.SplitDevice.slot_count c.args.device.now in
-    let none : made_by c.in-Ok-Idle.field-0 ≡ [] = ap made_by c.in-Ok-Idle.field-0-is in
-    let logged : g.D.SplitDevice.events c.step.new.device ≡ g.D.SplitDevice.events c.carrying.device =
-    made.events ∙ (ap (λ some. g.D.SplitDevice.events c.carrying.device ++ some) none ∙ append-nil (g.D.SplitDevice.events c.carrying.device)) in
+    let logged : g.D.SplitDevice.events c.step.new.device ≡ g.D.SplitDevice.events c.carrying.device = still_logged _ _ _ made.events (ap made_by c.in-Ok-Idle.field-0-is) in
     subst (λ n. AreServed n (g.D.SplitDevice.events c.args.device.now) (g.D.SplitDevice.events c.step.new.device) old.whole.rules (ahead old.whole)) (sym (made.slot_count ∙ inv.slot_count))
     (served_on slots old _ _ inv.goes.made (left_of slots c.carrying.self) on (logged ∙ inv.goes.events_are) inv.goes.has_made.left_is (c.serving.ensures.way slots c.requires.slots))
 
@@ -410,9 +394,7 @@ returns-in-Ok-Waiting-clause-hitless g c on =
     let inv = c.carrying.invariant in
     let old : SplitManaged = c.args.self.now in
     let slots = g.D.SplitDevice.slot_count c.args.device.now in
-    let none : made_by c.in-Ok-Waiting.field-0 ≡ [] = ap made_by c.in-Ok-Waiting.field-0-is in
-    let logged : g.D.SplitDevice.events c.step.new.device ≡ g.D.SplitDevice.events c.carrying.device =
-    made.events ∙ (ap (λ some. g.D.SplitDevice.events c.carrying.device ++ some) none ∙ append-nil (g.D.SplitDevice.events c.carrying.device)) in
+    let logged : g.D.SplitDevice.events c.step.new.device ≡ g.D.SplitDevice.events c.carrying.device = still_logged _ _ _ made.events (ap made_by c.in-Ok-Waiting.field-0-is) in
     subst (λ n. AreServed n (g.D.SplitDevice.events c.args.device.now) (g.D.SplitDevice.events c.step.new.device) old.whole.rules (ahead old.whole)) (sym (made.slot_count ∙ inv.slot_count))
     (served_on slots old _ _ inv.goes.made (left_of slots c.carrying.self) on (logged ∙ inv.goes.events_are) inv.goes.has_made.left_is (c.serving.ensures.way slots c.requires.slots))
 
