@@ -9,6 +9,7 @@ use Rattle.replay.specs.declared.ActFault.{ActFault}
 use Rattle.replay.specs.declared.ActFault.TheVariants.{BatchFull, ProbesFull, Held, Stopped}
 use Rattle.replay.specs.declared.RunFault.TheVariants.{Sink, Device, Memory}
 use Rattle.replay.specs.Fates.{AnswersBroken}
+use Rattle.rule_model.specs.declared.IpVersion.{IpVersion}
 use Rattle.replay.specs.Running.{Running, AreLeft, ComesTo, IsToldIn, IsUntouched, LeavesWords}
 
 -- none, where no commit is unfinished
@@ -60,10 +61,10 @@ lost_behind slots old new act result events_old events_new taken_old taken_new w
     lost-where _ _ _ new.broken (rw wants at comes) (λ (same : IsUntouched old new events_old events_new taken_old taken_new). done same.events)
 
 -- a run whose report is in words takes any act
-pub told_words : (json : Bool) (act : Act) → json ≡ false → IsToldIn json act
-told_words json (Command change) words = λ is. let bad : true ≡ false = sym is ∙ words in absurd (cc)
-told_words json (Probe key) words = tt
-told_words json (Packet key) words = tt
-told_words json Commit words = tt
-told_words json (Trial most) words = words
-told_words json (Crash after) words = words
+pub told_words : (json : Bool) (version : IpVersion) (act : Act) → json ≡ false → IsToldIn json version act
+told_words json version (Command change) words = λ is. let bad : true ≡ false = sym is ∙ words in absurd (cc)
+told_words json version (Probe key) words = tt
+told_words json version (Packet key) words = tt
+told_words json version Commit words = tt
+told_words json version (Trial most) words = words
+told_words json version (Crash after) words = words

@@ -7,7 +7,7 @@ use Rattle.tcam_device.specs.State.{State, blank}
 use Rattle.tcam_device.specs.declared.Action.{Action}
 use Rattle.tcam_device.specs.Flight.{Flight}
 use Rattle.batch_order.specs.declared.Placement.{Placement}
-use Rattle.replay.specs.declared.Family.{Family}
+use Rattle.report_lines.specs.declared.Family.{Family}
 use Rattle.replay.specs.Running.{begun}
 use Rattle.resumed_runs.specs.Going.{CanGoOn}
 

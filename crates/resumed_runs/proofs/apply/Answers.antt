@@ -3,7 +3,7 @@ use Rattle.resumed_runs.proofs.Going.{told_words, whole_left, words_left, lost_b
 use Rattle.resumed_runs.proofs.apply.Goals as goal
 
 pub apply-requires-clause-told : goal.apply-requires-clause-told
-apply-requires-clause-told g c = told_words _ c.args.act.now c.requires.going.words
+apply-requires-clause-told g c = told_words _ _ c.args.act.now c.requires.going.words
 
 pub returns-clause-going : goal.returns-clause-going
 returns-clause-going g c sound memory =

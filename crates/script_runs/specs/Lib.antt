@@ -1,0 +1,6 @@
+pub mod ExitCodes
+pub mod Script
+pub mod Runs
+pub mod Outcomes
+pub mod InTime
+pub mod Rounds
