@@ -1,6 +1,6 @@
 -- Columns beside the pieces of slots: of a blank device, behind a write, and what is passed over by them.
-use Rattle.std.proofs.Common.{◌≡◌, ℕ, zero, suc, ◌-◌, ◌^◌, ◌<◌, ◌≤◌, false, IsTrue, Option, Some, None, List, length, replicate, inl, inr, sym, ◌∙◌, ap, subst, arith, length-set, get_or-set_same, get_or-set_other, le-leb, eqb-true}
-use Rattle.std.specs.Prelude.{nat_le, nat_lt, slice_index, slice_set}
+use Rattle.std.proofs.Common.{◌≡◌, ℕ, zero, suc, ◌-◌, ◌^◌, ◌<◌, ◌≤◌, false, IsTrue, Option, Some, None, List, length, replicate, inl, inr, sym, ◌∙◌, ap, subst, arith, length-set, get_or-set_same, get_or-set_other, le-leb, eq-eqb, eqb-true}
+use Rattle.std.specs.Prelude.{◌==◌, nat_le, nat_lt, slice_index, slice_set}
 use Rattle.std.proofs.lemmas.Bool.{cases_eq, cases_lt, both_ways, and_parts, and_from, cond-true, cond-false, lt-ltb, le-ltb}
 use Rattle.std.proofs.lemmas.List.{length-replicate}
 use Rattle.slot_order.specs.Order.{slot}
@@ -13,9 +13,9 @@ use Rattle.rule_model.specs.Entry.{RankedPiece, entry_for, same_match}
 use Rattle.rule_model.proofs.CommonKeys.{overlap_parts}
 use Rattle.block_windows.specs.declared.Span.{Span}
 use Rattle.block_windows.specs.Windows.{first_of, last_of, span_of, meets_at}
-use Rattle.block_windows.proofs.Blocks.{held_within, first_fits}
+use Rattle.block_windows.proofs.Blocks.{held_within}
 use Rattle.trace_check.specs.declared.placed.Cells.{Cells}
-use Rattle.trace_check.specs.Columns.{low_part, coarse_rank, just_rank, ranks_below, ranks_above, every_window, may_meet, AreCellsOf, AreColumnsOf, IsNear}
+use Rattle.trace_check.specs.Columns.{low_part, coarse_rank, ranks_below, ranks_above, may_meet, AreCellsOf, AreColumnsOf, IsNear}
 
 nothing_stands : (n at : ℕ) (x : RankedPiece) → slot (replicate n None) at ≡ Some x → ⊥
 nothing_stands zero at x held = absurd (cc)
@@ -84,6 +84,12 @@ far_piece pieces ranks firsts lasts of_ranks of_windows k x are there apart with
     (and_from (nat_le (slice_index firsts k) of_windows.last) (nat_le of_windows.first (slice_index lasts k))
     (le-leb _ _ (subst (λ (n : ℕ). n ≤ of_windows.last) (sym cells.first) near.starts)) (le-leb _ _ (subst (λ (n : ℕ). of_windows.first ≤ n) (sym cells.last) near.ends))))
 
+-- a slot whose number of the rank is another has no piece of this rank
+pub other_rank : (pieces : List (Option RankedPiece)) (ranks firsts lasts : List ℕ) (k : ℕ) (x : RankedPiece) (rank : ℕ) → AreColumnsOf pieces ranks firsts lasts → slot pieces k ≡ Some x
+    → (slice_index ranks k == coarse_rank rank) ≡ false → x.rank ≡ rank → ⊥
+other_rank pieces ranks firsts lasts k x rank are there apart same =
+    both_ways (slice_index ranks k == coarse_rank rank) apart (eq-eqb _ _ ((are.cells k x there).rank ∙ ap coarse_rank same))
+
 -- ranks in 32 bits are in the order of ranks
 part_is : (rank : ℕ) → low_of rank < 2 ^ 32 → low_part rank ≡ low_of rank
 part_is rank less = cond-true (nat_lt (low_of rank) (2 ^ 32)) _ _ (lt-ltb (low_of rank) (2 ^ 32) less)
@@ -125,7 +131,7 @@ overlap_near a b over =
     let high_b = in_b.1 in
     (omega arith, omega arith)
 
--- so a lower piece that overlaps is near, a higher one, and one of the same rank
+-- so a lower piece that overlaps is near, and a higher one
 pub lower_near : (low ranked : RankedPiece) → PiecesOverlap low.piece ranked.piece → low.rank < ranked.rank → IsNear (ranks_below ranked.rank) (span_of 0 ranked.piece.dst) low
 lower_near low ranked over less =
     let near = overlap_near low.piece ranked.piece over in
@@ -135,11 +141,6 @@ pub higher_near : (high ranked : RankedPiece) → PiecesOverlap ranked.piece hig
 higher_near high ranked over less fits =
     let near = overlap_near ranked.piece high.piece over in
     record { least = coarse_order ranked.rank high.rank (omega arith); most = omega arith; starts = near.1; ends = near.0 }
-
-pub same_near : (x : RankedPiece) (rank : ℕ) → x.rank ≡ rank → IsNear (just_rank rank) every_window x
-same_near x rank same =
-    let coarse : coarse_rank x.rank ≡ coarse_rank rank = ap coarse_rank same in
-    record { least = omega arith; most = omega arith; starts = first_fits 0 x.piece.dst; ends = omega arith }
 
 pub near_by : {ranks to windows next : Span} {x : RankedPiece} → ranks ≡ to → windows ≡ next → IsNear to next x → IsNear ranks windows x
 near_by {ranks} {to} {windows} {next} {x} same_ranks same_windows near =

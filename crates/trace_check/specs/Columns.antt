@@ -41,15 +41,9 @@ pub record IsNear (of_ranks of_windows : Span) (ranked : RankedPiece) : Type 0 w
   pub starts : first_of 0 ranked.piece.dst ≤ of_windows.last
   pub ends : of_windows.first ≤ last_of 0 ranked.piece.dst
 
--- just one rank, that rank and all below it, and that rank and all above it; and every window
-abbrev pub just_rank : ℕ → Span
-just_rank rank = record { first = coarse_rank rank; last = coarse_rank rank }
-
+-- a rank and all below it, and that rank and all above it
 abbrev pub ranks_below : ℕ → Span
 ranks_below rank = record { first = 0; last = coarse_rank rank }
 
 abbrev pub ranks_above : ℕ → Span
 ranks_above rank = record { first = coarse_rank rank; last = 2 ^ 32 - 2 }
-
-abbrev pub every_window : Span
-every_window = record { first = 0; last = 2 ^ 32 - 1 }

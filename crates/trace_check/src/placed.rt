@@ -1,6 +1,6 @@
 //! The piece of each slot, and columns beside them by which a walk passes most slots over.
 
-ghost use Rattle.std.specs.Prelude.{◌≡◌, ℕ, ◌<◌, ◌≤◌, ◌^◌, ◌-◌, false, None, Some, IfOk, length, replicate, slice_set};
+ghost use Rattle.std.specs.Prelude.{◌≡◌, ℕ, ◌+◌, ◌<◌, ◌≤◌, ◌==◌, ◌^◌, ◌-◌, false, None, Some, IfOk, length, replicate, slice_index, slice_set};
 ghost use Rattle.slot_order.specs.Order.{slot};
 ghost use Rattle.rule_model.specs.Entry.{RankedPiece};
 ghost use Rattle.trace_check.specs.Columns as columns;
@@ -9,11 +9,12 @@ ghost use Rattle.trace_check.specs.Columns.{AreCellsOf, IsNear, may_meet};
 use crate::known::Known;
 use block_windows::{Span, also_apart, apart_eight, span_of};
 use commit_writes::Ranked;
-use eight_lanes::first_zero;
+use eight_lanes::{eight, first_zero};
 use rule_model::Rank;
 use std::alloc::{AllocError, Global};
 use std::marker::Model;
 use std::mem::replace;
+use std::simd::prelude::*;
 
 /// The pieces that the slots hold. Contracts see their list.
 #[derive(Drop)]
@@ -111,6 +112,17 @@ impl Placed {
             to,
         )
     }
+
+    /// The next slot from one on, up to another, whose piece may have this rank: those that are passed over haven't it.
+    pub(crate) fn next_ranked(&self, rank: Rank, from: usize, to: usize) -> usize
+        requires from { from ≤ to }
+        requires to { to ≤ length self.now }
+        ensures from { from ≤ result }
+        ensures most { result ≤ to }
+        ensures passed { (k : ℕ) (ranked : RankedPiece) → from ≤ k → k < result → slot self.now k ≡ Some ranked → ranked.rank ≡ rank → ⊥ }
+    {
+        next_equal(&self.ranks, coarse_rank(rank), from, to)
+    }
 }
 
 /// So many slots without a piece.
@@ -152,6 +164,37 @@ fn next_meeting(
         next += 8;
     }
     next
+}
+
+/// The next place from one on, up to another, that may have a number, eight in a step; of the last seven places none is
+/// passed over.
+fn next_equal(column: &[u32], number: u32, from: usize, to: usize) -> usize
+    requires from { from ≤ to }
+    requires column { to ≤ length column.now }
+    ensures from { from ≤ result }
+    ensures most { result ≤ to }
+    ensures passed { (k : ℕ) → from ≤ k → k < result → (slice_index column.now k == number) ≡ false }
+{
+    let mut next = from;
+    while to - next >= 8 {
+        let before = first_zero(unequal_eight(column, number, next));
+        if before < 8 {
+            return next + before as usize;
+        }
+        next += 8;
+    }
+    next
+}
+
+/// Of the eight numbers of a column from a place on, 0 for each that is this one.
+fn unequal_eight(column: &[u32], number: u32, at: usize) -> u32x8
+    requires { at + 8 ≤ length column.now }
+    ensures len { length result ≡ 8 }
+    ensures equal { (k : ℕ) → k < 8 → (slice_index result k == 0) ≡ (slice_index column.now (at + k) == number) }
+{
+    eight(column, at)
+        .simd_eq(u32x8::splat(number))
+        .select(u32x8::splat(0), u32x8::splat(1))
 }
 
 /// What the columns have of a piece.
@@ -199,18 +242,7 @@ fn low_part(rank: Rank) -> u32
     }
 }
 
-/// Just one rank, as the columns have it.
-pub(crate) fn just_rank(rank: Rank) -> Span
-    ensures { result ≡ columns.just_rank rank }
-{
-    let coarse = coarse_rank(rank);
-    Span {
-        first: coarse,
-        last: coarse,
-    }
-}
-
-/// That rank and all below it.
+/// A rank and all below it.
 pub(crate) fn ranks_below(rank: Rank) -> Span
     ensures { result ≡ columns.ranks_below rank }
 {
@@ -227,15 +259,5 @@ pub(crate) fn ranks_above(rank: Rank) -> Span
     Span {
         first: coarse_rank(rank),
         last: u32::MAX - 1,
-    }
-}
-
-/// Every window.
-pub(crate) fn every_window() -> Span
-    ensures { result ≡ columns.every_window }
-{
-    Span {
-        first: 0,
-        last: u32::MAX,
     }
 }

@@ -8,7 +8,7 @@ ghost use Rattle.rule_model.specs.Entry as entries;
 ghost use Rattle.rule_model.specs.Entry.{RankedPiece, entry_for};
 
 use crate::known::{Known, same_entry, same_match};
-use crate::placed::{Placed, every_window, just_rank, ranks_above, ranks_below};
+use crate::placed::{Placed, ranks_above, ranks_below};
 use block_windows::span_of;
 use commit_writes::Ranked;
 use rule_model::{Entry, piece_overlaps};
@@ -94,14 +94,12 @@ pub(crate) fn copy_of(places: &Placed, at: usize, entry: &Entry) -> Option<usize
         → IsTrue (entries.same_match entry.now (entry_for copy)) → ⊥ }
 {
     let slots = places.len();
-    let ranks = just_rank(entry.tag);
-    let windows = every_window();
-    let mut other = places.next_near(ranks, windows, 0, slots);
+    let mut other = places.next_ranked(entry.tag, 0, slots);
     while other < slots {
         if other != at && holds_match(places.at(other), entry) {
             return Some(other);
         }
-        other = places.next_near(ranks, windows, other + 1, slots);
+        other = places.next_ranked(entry.tag, other + 1, slots);
     }
     None
 }
@@ -122,14 +120,12 @@ pub(crate) fn standing(places: &Placed, entry: &Entry) -> Option<Ranked>
     ensures none { IsNone result → (at : ℕ) (ranked : RankedPiece) → slot places.now at ≡ Some ranked → entry_for ranked ≡ entry.now → ⊥ }
 {
     let slots = places.len();
-    let ranks = just_rank(entry.tag);
-    let windows = every_window();
-    let mut place = places.next_near(ranks, windows, 0, slots);
+    let mut place = places.next_ranked(entry.tag, 0, slots);
     while place < slots {
         if let Some(ranked) = piece_with(places.at(place), entry) {
             return Some(ranked);
         }
-        place = places.next_near(ranks, windows, place + 1, slots);
+        place = places.next_ranked(entry.tag, place + 1, slots);
     }
     None
 }

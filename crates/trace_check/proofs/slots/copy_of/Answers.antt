@@ -4,14 +4,14 @@ use Rattle.slot_order.specs.Order.{slot}
 use Rattle.slot_order.proofs.Writes.{slot_inside}
 use Rattle.rule_model.specs.Entry.{RankedPiece, entry_for, same_match}
 use Rattle.readback.proofs.Pairs.{below_next}
-use Rattle.trace_check.proofs.ColumnsKept.{match_rank, near_by, same_near}
+use Rattle.trace_check.proofs.ColumnsKept.{match_rank}
 use Rattle.trace_check.proofs.slots.copy_of.Goals as goal
 use Rattle.trace_check.proofs.slots.copy_of.Goals.{else-other-at-via-then-other-at+else-holds_match, else-other-at-via-else-other-at}
 
 pub loop-other-init : goal.loop-other-init
 loop-other-init c = record {
-  most = c.next_near-other.ensures.most;
-  none = λ k copy less apart there match. c.next_near-other.ensures.passed k copy (omega arith) less there (λ fits. near_by c.just_rank-ranks.ensures c.every_window-windows.ensures (same_near copy c.args.entry.now.tag (match_rank c.args.entry.now copy match)));
+  most = c.next_ranked-other.ensures.most;
+  none = λ k copy less apart there match. c.next_ranked-other.ensures.passed k copy (omega arith) less there (match_rank c.args.entry.now copy match);
 }
 
 pub returns-then-holds_match-clause-some : goal.returns-then-holds_match-clause-some
@@ -19,11 +19,11 @@ returns-then-holds_match-clause-some c = let w = c.holds_match.ensures.0 c.if-ho
 
 pub loop-other-preserved : goal.loop-other-preserved
 loop-other-preserved c = record {
-  most = c.next_near-other-in-loop-other.ensures.most;
+  most = c.next_ranked-other-in-loop-other.ensures.most;
   none = λ k copy less apart there match. elim (cases_lt k (c.loop-other.other + 1)) [
     | inl before ↦ below_next (λ k. (one : RankedPiece) → k ≢ c.args.at → slot c.args.places.now k ≡ Some one → IsTrue (same_match c.args.entry.now (entry_for one)) → ⊥) c.loop-other.other
         (λ k earlier one apart there match. c.loop-other.invariant.none k one earlier apart there match) here k before copy apart there match
-    | inr past ↦ c.next_near-other-in-loop-other.ensures.passed k copy past less there (λ fits. near_by c.just_rank-ranks.ensures c.every_window-windows.ensures (same_near copy c.args.entry.now.tag (match_rank c.args.entry.now copy match)))
+    | inr past ↦ c.next_ranked-other-in-loop-other.ensures.passed k copy past less there (match_rank c.args.entry.now copy match)
   ];
 }
   where
