@@ -3,15 +3,13 @@ _tcam() {
     local word=${COMP_WORDS[COMP_CWORD]} before=${COMP_WORDS[COMP_CWORD - 1]} command=${COMP_WORDS[1]} words=
     case $before in
     --ranges) words="cover bits" ;;
-    --placement) words="middle rank" ;;
+    --placement) words="middle rank ends" ;;
     --slots | --depth) ;; # a number
     tcam | */tcam) words="route acl route6 acl6 gen verify --help --version" ;;
     *)
         case $command in
-        route) words="--slots --placement --trace --depth --json --help" ;;
-        route6) words="--slots --placement --trace --depth --help" ;;
-        acl) words="--slots --ranges --placement --trace --depth --json --help" ;;
-        acl6) words="--slots --ranges --placement --trace --depth --help" ;;
+        route | route6) words="--slots --placement --trace --depth --json --help" ;;
+        acl | acl6) words="--slots --ranges --placement --trace --depth --json --help" ;;
         gen) words="--slots --ranges --placement --help" ;;
         verify) words="--help" ;;
         esac

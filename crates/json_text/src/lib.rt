@@ -4,6 +4,8 @@
 //! [`JsonLine`] is made piece by piece in fixed room. `specs/JsonText` has each line as plain text, and the law
 //! [`json_lines_are_texts`] says that it is the compact text of the line's JSON value, where the text of a fault stands in
 //! JSON as it is. So `trace_file` reads a line back whose numbers are within those of a trace (`lines_are_read_back`).
+//! A rank and an address are written by the version of IP of the trace: of IPv4 as one number, and of IPv6 in words of 32
+//! bits.
 //!
 //! # Decided
 //! - **A line is printed whatever its numbers are**, also those that no trace of IPv4 has: a tag's number may have more
@@ -13,6 +15,7 @@
 //!   ([`plain_texts_stand`]). Escapes would take more room than a line has, for texts that no report has.
 #![tactic(auto)]
 
+mod ipv6_numbers;
 mod json_line;
 mod laws;
 

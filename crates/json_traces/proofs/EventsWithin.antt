@@ -1,9 +1,10 @@
--- The events of a commit of IPv4 rules have numbers as a trace has them.
+-- The events of a commit have numbers as a trace of its version of IP has them.
 use Rattle.std.proofs.Common.{◌≡◌, ℕ, suc, ◌^◌, ◌<◌, ◌≤◌, Some, None, List, [], ◌∷◌, length, take, map, Contains, inl, inr, sym, subst, arith, get_or-set_same}
 use Rattle.std.specs.List.{AllByRecursion}
 use Rattle.slot_order.specs.Order.{most_slots}
 use Rattle.slot_order.proofs.Lists.{all_append}
 use Rattle.slot_order.proofs.Writes.{slot_same}
+use Rattle.rule_model.specs.declared.IpVersion.{IpVersion}
 use Rattle.rule_model.specs.declared.Rule.{Rule}
 use Rattle.rule_model.specs.declared.Field.TheVariants.{Src, Dst}
 use Rattle.rule_model.specs.Entry.{RankedPiece}
@@ -27,10 +28,10 @@ use Rattle.commit_writes.proofs.SlotWrites.{AreToSlots}
 use Rattle.commit_writes.proofs.TableWords.{IsBitWrite, bit_writes-words}
 use Rattle.readback.specs.Tasks.{commit_pieces, known_pieces}
 use Rattle.trace_file.specs.declared.TraceLine.TheVariants.{Put, Erase, Table, Drain}
-use Rattle.trace_file.specs.Forms.{IsIpv4Entry, IsTraceLine}
+use Rattle.trace_file.specs.Forms.{IsTraceEntry, IsTraceLineOf}
 use Rattle.trace_check.specs.Orderly.{Tracing, traced_on, AllKeepOrder}
 use Rattle.trace_check.specs.Segments.{action_line, commit_lines}
-use Rattle.json_traces.proofs.Ipv4Words.{IsIpv4Ranked, entry_is}
+use Rattle.json_traces.proofs.TraceWords.{IsTraceRanked, entry_is}
 
 -- ---- words of tables
 
@@ -87,28 +88,28 @@ segment_tables mode bits rules batch state made begin segment =
 
 -- ---- all events
 
--- each piece that may stand is one of an IPv4 rule
-abbrev AreKnown : Tracing → Type 0
-AreKnown now = (x : RankedPiece) → Contains (known_pieces (commit_pieces now.mode now.bits now.rules now.batch)) x → IsIpv4Ranked x
+-- each piece that may stand is one of a rule of this version
+abbrev AreKnown : IpVersion → Tracing → Type 0
+AreKnown version now = (x : RankedPiece) → Contains (known_pieces (commit_pieces now.mode now.bits now.rules now.batch)) x → IsTraceRanked version x
 
-pub events_within : (actions : List Action) (now : Tracing) (number : ℕ) → AllKeepOrder now (commit_lines actions number) → AllByRecursion (IsInUse (length now.state.slots)) (writes_in actions)
-    → length now.state.slots ≤ most_slots → AreKnown now → AllByRecursion TableFits (writes_in actions) → AllByRecursion IsTraceLine (map action_line actions)
-events_within [] now number keeps inside few known tables = tt
-events_within (Written (write.Slot at (Some entry)) ∷ actions) now number keeps inside few known tables =
+pub events_within : (version : IpVersion) (actions : List Action) (now : Tracing) (number : ℕ) → AllKeepOrder now (commit_lines actions number) → AllByRecursion (IsInUse (length now.state.slots)) (writes_in actions)
+    → length now.state.slots ≤ most_slots → AreKnown version now → AllByRecursion TableFits (writes_in actions) → AllByRecursion (IsTraceLineOf version) (map action_line actions)
+events_within version [] now number keeps inside few known tables = tt
+events_within version (Written (write.Slot at (Some entry)) ∷ actions) now number keeps inside few known tables =
     let next : Tracing = traced_on now (Put at entry) in
     let less : at < length now.state.slots = inside.0 in
     let held = keeps.0.0.stage.2.known at entry (slot_same now.state.slots at (Some entry) less) in
     let size : length next.state.slots ≡ length now.state.slots = slots-apply now.state (write.Slot at (Some entry)) in (
-      (omega arith, subst IsIpv4Entry held.2 (entry_is held.0 (known held.0 held.1))),
-      events_within actions next number keeps.1 (in_use_after now.state (write.Slot at (Some entry)) (writes_in actions) inside.1) (omega arith) known tables.1,
+      (omega arith, subst (IsTraceEntry version) held.2 (entry_is version held.0 (known held.0 held.1))),
+      events_within version actions next number keeps.1 (in_use_after now.state (write.Slot at (Some entry)) (writes_in actions) inside.1) (omega arith) known tables.1,
     )
-events_within (Written (write.Slot at None) ∷ actions) now number keeps inside few known tables =
+events_within version (Written (write.Slot at None) ∷ actions) now number keeps inside few known tables =
     let next : Tracing = traced_on now (Erase at) in
     let less : at < length now.state.slots = inside.0 in
     let size : length next.state.slots ≡ length now.state.slots = slots-apply now.state (write.Slot at None) in
-    (omega arith, events_within actions next number keeps.1 (in_use_after now.state (write.Slot at None) (writes_in actions) inside.1) (omega arith) known tables.1)
-events_within (Written (write.Table field port word) ∷ actions) now number keeps inside few known tables =
+    (omega arith, events_within version actions next number keeps.1 (in_use_after now.state (write.Slot at None) (writes_in actions) inside.1) (omega arith) known tables.1)
+events_within version (Written (write.Table field port word) ∷ actions) now number keeps inside few known tables =
     let next : Tracing = traced_on now (Table field port word) in
     let size : length next.state.slots ≡ length now.state.slots = slots-apply now.state (write.Table field port word) in
-    (tables.0, events_within actions next number keeps.1 (in_use_after now.state (write.Table field port word) (writes_in actions) inside.1) (omega arith) known tables.1)
-events_within (Drained ∷ actions) now number keeps inside few known tables = (tt, events_within actions (traced_on now Drain) number keeps.1 inside few known tables)
+    (tables.0, events_within version actions next number keeps.1 (in_use_after now.state (write.Table field port word) (writes_in actions) inside.1) (omega arith) known tables.1)
+events_within version (Drained ∷ actions) now number keeps inside few known tables = (tt, events_within version actions (traced_on now Drain) number keeps.1 inside few known tables)

@@ -1,7 +1,5 @@
--- Each text of a fault that a script of IPv4 with a report in JSON may have is short and plain.
+-- Each text of a fault that a script with a report in JSON may have is short and plain.
 use Rattle.std.proofs.Common.{◌≡◌, ℕ, Bool, true, nat_le, Option, Some, None, Result, Ok, Err, List, [], length, codes, refl, subst, leb-true}
-use Rattle.json.specs.Print.{quoted as json_quoted}
-use Rattle.json.proofs.OnLiterals.{json_on_literals}
 use Rattle.rule_model.specs.declared.IpVersion.TheVariants.{V4, V6}
 use Rattle.script_lines.specs.Lines.{LinesEnd, EndOfInput, Faulty}
 use Rattle.script_lines.specs.declared.LineFault.TheVariants.{Read, ScriptTooLong, TooLong, BadByte}
@@ -13,47 +11,42 @@ use Rattle.line_words.specs.Notations.{notation_for}
 use Rattle.line_words.specs.Texts.{frame_fault_text, word_fault_text}
 use Rattle.route_reader.specs.Grammar.{route_line}
 use Rattle.acl_reader.specs.Grammar.{acl_line}
-use Rattle.json_text.specs.JsonText.{quoted}
+use Rattle.json_text.specs.JsonText.{IsPlainText}
 use Rattle.replay.specs.declared.Act.{Act}
 use Rattle.replay.specs.declared.Act.TheVariants.{Command, Probe, Packet, Commit, Trial, Crash}
-use Rattle.replay.specs.declared.Family.{Family}
-use Rattle.replay.specs.declared.Family.TheVariants.{Route, Acl, Route6, Acl6}
+use Rattle.report_lines.specs.declared.Family.{Family}
+use Rattle.report_lines.specs.declared.Family.TheVariants.{Route, Acl, Route6, Acl6}
 use Rattle.replay.specs.Effects.{Setting}
-use Rattle.replay.specs.Script.{byte_end}
+use Rattle.script_runs.specs.Script.{byte_end}
 use Rattle.tcam_cli.specs.Readings.{route_act, acl_act, reading, reading_of, reading_by, line_told_by, told_by}
 use Rattle.json_traces.specs.Reported.{IsPlainFault}
 use Rattle.json_traces.proofs.Fitting.{are_of_line, all_of_line}
 use Rattle.json_traces.proofs.Scripts.{EndsPlainly, IsSmallEnd}
 
 -- a text that passes the tests
-plain_text : (text : List ℕ) → json_quoted text ≡ quoted text → are_of_line text ≡ true → nat_le (length text) 32 ≡ true → IsPlainFault text
-plain_text text same plain short = record { quoted_is = same; bytes = all_of_line text plain; short = leb-true (length text) 32 short }
+plain_text : (text : List ℕ) → IsPlainText text → are_of_line text ≡ true → nat_le (length text) 32 ≡ true → IsPlainFault text
+plain_text text plain of_line short = record { plain = plain; bytes = all_of_line text of_line; short = leb-true (length text) 32 short }
 
 -- the text of no fault
 pub none_plain : IsPlainFault []
 none_plain = plain_text [] refl refl refl
 
 pub batch_plain : IsPlainFault (codes "batch full")
-unfolding json_on_literals
 batch_plain = plain_text (codes "batch full") refl refl refl
 
 pub probes_plain : IsPlainFault (codes "too many probes")
-unfolding json_on_literals
 probes_plain = plain_text (codes "too many probes") refl refl refl
 
 not_with_json : IsPlainFault (codes "not with json")
-unfolding json_on_literals
 not_with_json = plain_text (codes "not with json") refl refl refl
 
 frame_plain : (fault : FrameFault) → IsPlainFault (frame_fault_text fault)
-unfolding json_on_literals
 frame_plain Empty = plain_text (codes "empty packet") refl refl refl
 frame_plain Version = plain_text (codes "bad version") refl refl refl
 frame_plain HeaderLength = plain_text (codes "bad header length") refl refl refl
 frame_plain Short = plain_text (codes "short packet") refl refl refl
 
 word_plain : (fault : WordFault) → IsPlainFault (word_fault_text fault)
-unfolding json_on_literals
 word_plain UnknownCommand = plain_text (codes "unknown command") refl refl refl
 word_plain WordCount = plain_text (codes "word count") refl refl refl
 word_plain BadPrefix = plain_text (codes "bad prefix") refl refl refl
@@ -100,7 +93,6 @@ reading_plain setting json line text is =
 -- ---- a byte's fault
 
 pub byte_plain : (last : LinesEnd) → IsSmallEnd last → EndsPlainly (byte_end last)
-unfolding json_on_literals
 byte_plain EndOfInput small = tt
 byte_plain (Faulty (ScriptTooLong number)) small = (small, plain_text (codes "script too long") refl refl refl)
 byte_plain (Faulty (TooLong number)) small = (small, plain_text (codes "line too long") refl refl refl)

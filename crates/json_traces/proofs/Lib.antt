@@ -1,6 +1,6 @@
 pub mod Narrowed
-pub mod Ipv4Words
-pub mod Ipv4Rules
+pub mod TraceWords
+pub mod TraceRules
 pub mod EventsWithin
 pub mod Standing
 pub mod Texts

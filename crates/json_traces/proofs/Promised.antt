@@ -7,11 +7,13 @@ use Rattle.tcam_device.specs.Flight.{writes_in}
 use Rattle.trace_check.specs.Answers.{Yes, IsTraceAnswer}
 use Rattle.replay.specs.Effects.{Setting, Effect, Prints, events_in, journal_of, printed}
 use Rattle.replay.specs.Reports.{fault_told}
+use Rattle.report_lines.specs.Text.{family_version}
 use Rattle.replay.specs.Run.{Progress, Runs, ending, start}
-use Rattle.replay.specs.Script.{Script, ScriptEnd, Whole, FaultAt, script_of}
+use Rattle.script_runs.specs.Script.{ScriptEnd, Whole, FaultAt, acts_of}
+use Rattle.replay.specs.Script.{Script, script_of}
 use Rattle.replay.proofs.lines.Effects.{events-append, printed-append}
-use Rattle.tcam_cli.specs.declared.Status.{Status}
-use Rattle.tcam_cli.specs.Headline.{acts_of, closing_line, IsComplete, IsOutcome}
+use Rattle.script_runs.specs.declared.Status.{Status}
+use Rattle.tcam_cli.specs.Headline.{closing_line, IsComplete, IsOutcome}
 use Rattle.tcam_cli.specs.Readings.{reading_by}
 use Rattle.json_traces.specs.Traces.{AreTraceActs, WantsTrace, accepted_in}
 use Rattle.json_traces.specs.Promised.{IsReported, JsonReportsGetYes}
@@ -34,8 +36,8 @@ module _ (setting : Setting) (device_slots : ℕ) (wants : WantsTrace setting de
   abbrev commits : ℕ
   commits = accepted_in setting (acts_of script)
 
-  told : AreTraceActs 0 (acts_of script)
-  told = acts_told (reading_by setting) (reads_traces setting wants.json wants.family) (lines_of bytes).last (lines_of bytes).lines 0 0 (omega arith)
+  told : AreTraceActs (family_version setting.family) 0 (acts_of script)
+  told = acts_told (family_version setting.family) (reading_by setting) (reads_traces setting wants.json) (lines_of bytes).last (lines_of bytes).lines 0 0 (omega arith)
 
   plain : EndsPlainly script.last
   plain =
@@ -82,7 +84,7 @@ pub promised_yes : JsonReportsGetYes
 promised_yes words setting device_slots status old new before report events asked json wide reported few (takes, matches) =
     let asks = words_ask words setting asked in
     let most = asks.most in
-    let wants : WantsTrace setting device_slots = record { json = json; family = asks.ipv4 json; some = asks.some; most = most; device = omega arith } in
+    let wants : WantsTrace setting device_slots = record { json = json; some = asks.some; most = most; device = omega arith } in
     let w = complete_of setting device_slots _ _ status matches.effects matches.partial reported matches.outcome in
     let same : report ≡ printed matches.effects = append_cancel_left before report (printed matches.effects ++ matches.partial) matches.report_is
     ∙ ap (λ text. printed matches.effects ++ text) w.1 ∙ append-nil (printed matches.effects) in

@@ -4,6 +4,7 @@ use Rattle.std.proofs.lemmas.Grind.{flat_map-append}
 use Rattle.std.specs.List.{AllByRecursion}
 use Rattle.slot_order.specs.Order.{most_slots}
 use Rattle.slot_order.proofs.Lists.{all_append}
+use Rattle.rule_model.specs.declared.IpVersion.{IpVersion}
 use Rattle.rule_store.specs.declared.Command.{Command as Change}
 use Rattle.rule_store.specs.Batch.{most_pending, set_after}
 use Rattle.rule_store.specs.Verdict.{Verdict, Accepted, Unsound, OutOfBits, OutOfSlots, verdict}
@@ -19,7 +20,7 @@ use Rattle.commit_writes.proofs.WritesIn.{writes_of_commit}
 use Rattle.readback.specs.Laws.{HasUnused}
 use Rattle.trace_file.specs.declared.TraceLine.{TraceLine}
 use Rattle.trace_file.specs.declared.TraceLine.TheVariants as line
-use Rattle.trace_file.specs.Forms.{IsTraceLine}
+use Rattle.trace_file.specs.Forms.{IsTraceLineOf}
 use Rattle.json_text.specs.JsonText.{json_line}
 use Rattle.trace_check.specs.Hitless.{trace_writes}
 use Rattle.trace_check.specs.Orderly.{Tracing, traced_on, AllKeepOrder}
@@ -28,7 +29,8 @@ use Rattle.trace_check.specs.Segments.{action_line, commit_lines}
 use Rattle.replay.specs.declared.Act.{Act}
 use Rattle.replay.specs.declared.Act.TheVariants.{Command, Probe, Packet, Commit, Trial, Crash}
 use Rattle.replay.specs.Effects.{Setting, Effect, Prints, journal_of, printed}
-use Rattle.replay.specs.JsonLines.{behind, change_line}
+use Rattle.replay.specs.JsonLines.{behind, change_line, shared_line}
+use Rattle.report_lines.specs.Text.{family_version}
 use Rattle.replay.specs.Reports.{head_due}
 use Rattle.replay.specs.Run.{Progress, Commits, Refuses, Judged, Run, actions_for, after_refusal, after_segment, carried}
 use Rattle.replay.proofs.lines.Effects.{printed-append, written-append}
@@ -36,7 +38,7 @@ use Rattle.replay.proofs.lines.Written.{written-segment}
 use Rattle.tcam_cli.specs.AllTheWay.{Led, Stands, sets_through}
 use Rattle.json_traces.specs.Traces.{trace_text, AreTraceActs}
 use Rattle.json_traces.proofs.EventsWithin.{TableFits, segment_tables, events_within}
-use Rattle.json_traces.proofs.Ipv4Rules.{IsTraceChange, known_ranked}
+use Rattle.json_traces.proofs.TraceRules.{IsTraceChange, known_ranked}
 use Rattle.json_traces.proofs.Narrowed.{segments_on_devices}
 use Rattle.json_traces.proofs.Standing.{StandsIn, may_begin, stands_behind}
 use Rattle.json_traces.proofs.Texts.{in_json, behind_append, none_due, of_commit, of_refusal}
@@ -56,9 +58,9 @@ standing setting old state rest =
     }
 
 -- commands as a trace has them
-commands_within : (batch : List Change) → AllByRecursion IsTraceChange batch → AllByRecursion IsTraceLine (map change_line batch)
-commands_within [] told = tt
-commands_within (one ∷ batch) told = (told.0, commands_within batch told.1)
+commands_within : (version : IpVersion) (batch : List Change) → AllByRecursion (IsTraceChange version) batch → AllByRecursion (IsTraceLineOf version) (map change_line batch)
+commands_within version [] told = tt
+commands_within version (one ∷ batch) told = (told.0, commands_within version batch told.1)
 
 -- the number of the next commit
 abbrev next_number : Progress → ℕ
@@ -68,21 +70,24 @@ module _ (asked : Setting) (device_slots : ℕ) (few : asked.slots ≤ most_slot
   abbrev setting : Setting
   setting = in_json asked
 
-  -- what some acts of a run print, as commits of a trace
-  pub record ActsGo (acts : List Act) (old : Progress) (state : State) (rest : Tracing) (effects : List Effect) (new : Progress) : Type 0 where
+  -- what some acts of a run print, as commits of a trace, by what stands before them and the sets that they lead through
+  pub record GoesFrom (commits writes : ℕ) (known : Tracing) (sets : List Led) (effects : List Effect) (new : Progress) : Type 0 where
     pub parts : List Part
     pub are : AllByRecursion (IsPart setting.slots) parts
     pub text : (more : List ℕ) → printed effects ++ behind (head_due setting new.commits) more
-        ≡ behind (head_due setting old.commits) (trace_text fault (parts_lines (old.commits + 1) parts) ++ more)
-    pub keeps : AllKeepOrder (standing setting old state rest) (parts_lines (old.commits + 1) parts)
+        ≡ behind (head_due setting commits) (trace_text (family_version setting.family) fault (parts_lines (commits + 1) parts) ++ more)
+    pub keeps : AllKeepOrder known (parts_lines (commits + 1) parts)
     pub last_state : State
     pub last_rest : Tracing
-    pub comes : traced_through (standing setting old state rest) (parts_lines (old.commits + 1) parts) ≡ standing setting new last_state last_rest
-    pub made : trace_writes (parts_lines (old.commits + 1) parts) ≡ journal_of effects
-    pub accepted : length (sets_through setting [] old.rules old.batch acts) ≡ suc (done_count (parts_lines (old.commits + 1) parts))
-    pub further : old.commits ≤ new.commits
-    pub counts : new.writes ≡ old.writes + length (journal_of effects)
-    pub within : new.commits < 2 ^ 32 → AllByRecursion IsTraceLine (parts_lines (old.commits + 1) parts)
+    pub comes : traced_through known (parts_lines (commits + 1) parts) ≡ standing setting new last_state last_rest
+    pub made : trace_writes (parts_lines (commits + 1) parts) ≡ journal_of effects
+    pub accepted : length sets ≡ suc (done_count (parts_lines (commits + 1) parts))
+    pub further : commits ≤ new.commits
+    pub counts : new.writes ≡ writes + length (journal_of effects)
+    pub within : new.commits < 2 ^ 32 → AllByRecursion (IsTraceLineOf (family_version setting.family)) (parts_lines (commits + 1) parts)
+
+  abbrev pub ActsGo : List Act → Progress → State → Tracing → List Effect → Progress → Type 0
+  ActsGo acts old state rest effects new = GoesFrom old.commits old.writes (standing setting old state rest) (sets_through setting [] old.rules old.batch acts) effects new
 
   -- no act
   none : (old : Progress) (state : State) (rest : Tracing) → ActsGo [] old state rest [] old
@@ -105,12 +110,12 @@ module _ (asked : Setting) (device_slots : ℕ) (few : asked.slots ≤ most_slot
   record OneGoes (part : Part) (old : Progress) (state : State) (rest : Tracing) (front : List Effect) (mid : Progress) (mid_state : State) (mid_rest : Tracing) : Type 0 where
     is : IsPart setting.slots part
     counted : mid.commits ≡ old.commits + 1
-    text : printed front ≡ behind (head_due setting old.commits) (trace_text fault (part_lines (old.commits + 1) part))
+    text : printed front ≡ behind (head_due setting old.commits) (trace_text (family_version setting.family) fault (part_lines (old.commits + 1) part))
     keeps : AllKeepOrder (standing setting old state rest) (part_lines (old.commits + 1) part)
     comes : traced_through (standing setting old state rest) (part_lines (old.commits + 1) part) ≡ standing setting mid mid_state mid_rest
     made : trace_writes (part_lines (old.commits + 1) part) ≡ journal_of front
     counts : mid.writes ≡ old.writes + length (journal_of front)
-    within : old.commits + 1 < 2 ^ 32 → AllByRecursion IsTraceLine (part_lines (old.commits + 1) part)
+    within : old.commits + 1 < 2 ^ 32 → AllByRecursion (IsTraceLineOf (family_version setting.family)) (part_lines (old.commits + 1) part)
 
   -- the sets that acts lead through are one more where the first of them is a commit that finishes
   abbrev LeadsOn : Progress → Act → Progress → List Act → Part → Type 0
@@ -134,10 +139,10 @@ module _ (asked : Setting) (device_slots : ℕ) (few : asked.slots ≤ most_slot
             let last = behind (head_due setting new.commits) more in
             ap (λ text. text ++ last) (printed-append front back) ∙ append_assoc (printed front) (printed back) last
             ∙ ap (λ text. printed front ++ text) (later.text more)
-            ∙ ap₂ (λ head m. printed front ++ behind head (trace_text fault (parts_lines m later.parts) ++ more)) due same
-            ∙ ap (λ text. text ++ (trace_text fault there ++ more)) one.text
-            ∙ behind_append first (trace_text fault here) (trace_text fault there ++ more)
-            ∙ ap (behind first) (sym (append_assoc (trace_text fault here) (trace_text fault there) more) ∙ ap (λ text. text ++ more) (sym (flat_map-append (json_line fault) here there)));
+            ∙ ap₂ (λ head m. printed front ++ behind head (trace_text (family_version setting.family) fault (parts_lines m later.parts) ++ more)) due same
+            ∙ ap (λ text. text ++ (trace_text (family_version setting.family) fault there ++ more)) one.text
+            ∙ behind_append first (trace_text (family_version setting.family) fault here) (trace_text (family_version setting.family) fault there ++ more)
+            ∙ ap (behind first) (sym (append_assoc (trace_text (family_version setting.family) fault here) (trace_text (family_version setting.family) fault there) more) ∙ ap (λ text. text ++ more) (sym (flat_map-append (json_line (family_version setting.family) fault) here there)));
         keeps = keeps_append here there (standing setting old state rest) one.keeps
             (subst (λ (t : Tracing). AllKeepOrder t there) (sym one.comes) (subst (λ m. AllKeepOrder (standing setting mid mid_state mid_rest) (parts_lines m later.parts)) same later.keeps));
         last_state = later.last_state;
@@ -155,7 +160,7 @@ module _ (asked : Setting) (device_slots : ℕ) (few : asked.slots ≤ most_slot
         within = λ small.
             let next = one.counted in
             let more = later.further in
-            all_append IsTraceLine here there (one.within (omega arith)) (subst (λ m. AllByRecursion IsTraceLine (parts_lines m later.parts)) same (later.within small));
+            all_append (IsTraceLineOf (family_version setting.family)) here there (one.within (omega arith)) (subst (λ m. AllByRecursion (IsTraceLineOf (family_version setting.family)) (parts_lines m later.parts)) same (later.within small));
       }
 
   -- ---- an accepted commit
@@ -229,17 +234,17 @@ module _ (asked : Setting) (device_slots : ℕ) (few : asked.slots ≤ most_slot
       are_events setting.slots actions (subst (AllByRecursion (IsInUse setting.slots)) (sym written) in_use),
     )
 
-    part_within : number < 2 ^ 32 → AllByRecursion IsTraceLine (part_lines number (Work commands events))
+    part_within : number < 2 ^ 32 → AllByRecursion (IsTraceLineOf (family_version setting.family)) (part_lines number (Work commands events))
     part_within small =
         let begin = may_begin setting device_slots old state stands accepted in
         let tables : AllByRecursion TableFits (writes_in actions) = subst (AllByRecursion TableFits) (sym written) (segment_tables setting.mode old.bits old.rules old.batch old.state made begin segment) in
         let inside : AllByRecursion (IsInUse (length state.slots)) (writes_in actions) =
         subst (AllByRecursion (IsInUse (length state.slots))) (sym written) (subst (λ n. AllByRecursion (IsInUse n) made) (sym stands.size) in_use) in
         let room : length state.slots ≤ most_slots = subst (λ n. n ≤ most_slots) (sym stands.size) few in
-        let here = events_within actions in_batch number events_keep inside room (known_ranked setting.mode old.bits old.rules old.batch old.state begin stands.rules_told stands.told) tables in
-        (small, all_append IsTraceLine commands (events ++ line.Done number ∷ []) (commands_within old.batch stands.told) (all_append IsTraceLine events (line.Done number ∷ []) here (small, tt)))
+        let here = events_within (family_version setting.family) actions in_batch number events_keep inside room (known_ranked (family_version setting.family) setting.mode old.bits old.rules old.batch old.state begin stands.rules_told stands.told) tables in
+        (small, all_append (IsTraceLineOf (family_version setting.family)) commands (events ++ line.Done number ∷ []) (commands_within (family_version setting.family) old.batch stands.told) (all_append (IsTraceLineOf (family_version setting.family)) events (line.Done number ∷ []) here (small, tt)))
 
-    commit_goes : OneGoes (Work commands events) old state rest (carried setting old actions ++ Prints (json_line [] (line.Done number)) ∷ []) (after_segment setting old made) (state_after state made)
+    commit_goes : OneGoes (Work commands events) old state rest (carried setting old actions ++ Prints (shared_line [] (line.Done number)) ∷ []) (after_segment setting old made) (state_after state made)
         (record ended { accepted = ended.accepted + 1 })
     commit_goes = record {
       is = part_is;
@@ -247,8 +252,8 @@ module _ (asked : Setting) (device_slots : ℕ) (few : asked.slots ≤ most_slot
       text = of_commit asked fault old actions;
       keeps = part_keeps;
       comes = part_comes;
-      made = part_writes ∙ sym (written-segment setting old made (json_line [] (line.Done number)));
-      counts = ap (λ (ws : List Write). old.writes + length ws) (sym (written-segment setting old made (json_line [] (line.Done number))));
+      made = part_writes ∙ sym (written-segment setting old made (shared_line [] (line.Done number)));
+      counts = ap (λ (ws : List Write). old.writes + length ws) (sym (written-segment setting old made (shared_line [] (line.Done number))));
       within = part_within;
     }
 
@@ -280,13 +285,13 @@ module _ (asked : Setting) (device_slots : ℕ) (few : asked.slots ≤ most_slot
       let one : done_count (part_lines (old.commits + 1) (Work (map change_line old.batch) (map action_line actions))) ≡ 1 = done-commit old.batch actions (old.commits + 1) in
       let led : LeadsOn old Commit (after_segment setting old commits.made) acts (Work (map change_line old.batch) (map action_line actions)) = omega arith in
       subst (λ (some : List Effect). ActsGo (Commit ∷ acts) old state rest (some ++ back) new) (sym commits.effects_are)
-      (one_more old state rest (carried setting old (actions_for setting old commits.made) ++ Prints (json_line [] (line.Done (old.commits + 1))) ∷ []) (after_segment setting old commits.made) mid_state mid_rest back new Commit acts (Work (map change_line old.batch) (map action_line actions)) (commit_goes old state rest stands accepted commits.made commits.segment commits.in_use) led
+      (one_more old state rest (carried setting old (actions_for setting old commits.made) ++ Prints (shared_line [] (line.Done (old.commits + 1))) ∷ []) (after_segment setting old commits.made) mid_state mid_rest back new Commit acts (Work (map change_line old.batch) (map action_line actions)) (commit_goes old state rest stands accepted commits.made commits.segment commits.in_use) led
       (subst (λ p. Later acts p back new) commits.after later mid_state mid_rest (stands_behind setting device_slots old state commits.made stands accepted commits.segment commits.in_use)))
 
   refused_goes : (acts : List Act) (old : Progress) (state : State) (rest : Tracing) (reason : Verdict) (front : List Effect) (mid : Progress) (back : List Effect) (new : Progress) → StandsIn setting device_slots old state
       → LeadsOn old Commit (after_refusal old) acts Refusal → Refuses setting old reason front mid → Later acts mid back new → ActsGo (Commit ∷ acts) old state rest (front ++ back) new
   refused_goes acts old state rest reason front mid back new stands led refuses later =
-      let text : List Effect = Prints (behind (head_due setting old.commits) (json_line [] (line.Refused (old.commits + 1)))) ∷ [] in
+      let text : List Effect = Prints (behind (head_due setting old.commits) (shared_line [] (line.Refused (old.commits + 1)))) ∷ [] in
       subst (λ (some : List Effect). ActsGo (Commit ∷ acts) old state rest (some ++ back) new) (sym refuses.0)
       (one_more old state rest text (after_refusal old) state rest back new Commit acts Refusal
       (record {
@@ -318,7 +323,7 @@ module _ (asked : Setting) (device_slots : ℕ) (few : asked.slots ≤ most_slot
   none_pending old (OutOfSlots needed free) front mid step = ap (λ (p : Progress). p.batch) (sym step.1)
 
   pub acts_go : (acts : List Act) (old : Progress) (state : State) (rest : Tracing) (effects : List Effect) (new : Progress) → StandsIn setting device_slots old state
-      → AreTraceActs (length old.batch) acts → Run setting old acts effects new → ActsGo acts old state rest effects new
+      → AreTraceActs (family_version setting.family) (length old.batch) acts → Run setting old acts effects new → ActsGo acts old state rest effects new
   acts_go [] old state rest effects new stands told run =
       subst (λ (some : List Effect). ActsGo [] old state rest some new) (sym run.0) (subst (ActsGo [] old state rest []) (sym run.1) (none old state rest))
   acts_go (Command change ∷ acts) old state rest effects new stands told (front, mid, back, step, run, are) =
@@ -331,67 +336,25 @@ module _ (asked : Setting) (device_slots : ℕ) (few : asked.slots ≤ most_slot
         at_rest = stands.at_rest;
         unused = stands.unused;
         rules_told = stands.rules_told;
-        told = all_append IsTraceChange old.batch (change ∷ []) stands.told (told.0, tt);
+        told = all_append (IsTraceChange (family_version setting.family)) old.batch (change ∷ []) stands.told (told.0, tt);
         short = omega arith;
       })
-      (subst (λ n. AreTraceActs n acts) (sym size) told.2) (subst (λ p. Run setting p acts back new) step.1 run) in
-      subst (λ (some : List Effect). ActsGo (Command change ∷ acts) old state rest some new) (sym (are ∙ ap (λ some. some ++ back) step.0))
-      (record {
-        parts = later.parts;
-        are = later.are;
-        text = later.text;
-        keeps = later.keeps;
-        last_state = later.last_state;
-        last_rest = later.last_rest;
-        comes = later.comes;
-        made = later.made;
-        accepted = later.accepted;
-        further = later.further;
-        counts = later.counts;
-        within = later.within;
-      })
+      (subst (λ n. AreTraceActs (family_version setting.family) n acts) (sym size) told.2) (subst (λ p. Run setting p acts back new) step.1 run) in
+      subst (λ (some : List Effect). ActsGo (Command change ∷ acts) old state rest some new) (sym (are ∙ ap (λ some. some ++ back) step.0)) later
   acts_go (Probe key ∷ acts) old state rest effects new stands told (front, mid, back, step, run, are) =
       let later = acts_go acts (record old { probes = old.probes ++ key ∷ [] }) state rest back new
       (record { at = stands.at; size = stands.size; at_rest = stands.at_rest; unused = stands.unused; rules_told = stands.rules_told; told = stands.told; short = stands.short }) told
       (subst (λ p. Run setting p acts back new) step.1 run) in
-      subst (λ (some : List Effect). ActsGo (Probe key ∷ acts) old state rest some new) (sym (are ∙ ap (λ some. some ++ back) step.0))
-      (record {
-        parts = later.parts;
-        are = later.are;
-        text = later.text;
-        keeps = later.keeps;
-        last_state = later.last_state;
-        last_rest = later.last_rest;
-        comes = later.comes;
-        made = later.made;
-        accepted = later.accepted;
-        further = later.further;
-        counts = later.counts;
-        within = later.within;
-      })
+      subst (λ (some : List Effect). ActsGo (Probe key ∷ acts) old state rest some new) (sym (are ∙ ap (λ some. some ++ back) step.0)) later
   acts_go (Packet key ∷ acts) old state rest effects new stands told (front, mid, back, step, run, are) =
       let later = acts_go acts old state rest back new stands told (subst (λ p. Run setting p acts back new) step.1 run) in
-      subst (λ (some : List Effect). ActsGo (Packet key ∷ acts) old state rest some new) (sym (are ∙ ap (λ some. some ++ back) step.0))
-      (record {
-        parts = later.parts;
-        are = later.are;
-        text = later.text;
-        keeps = later.keeps;
-        last_state = later.last_state;
-        last_rest = later.last_rest;
-        comes = later.comes;
-        made = later.made;
-        accepted = later.accepted;
-        further = later.further;
-        counts = later.counts;
-        within = later.within;
-      })
+      subst (λ (some : List Effect). ActsGo (Packet key ∷ acts) old state rest some new) (sym (are ∙ ap (λ some. some ++ back) step.0)) later
   acts_go (Commit ∷ acts) old state rest effects new stands told (front, mid, back, step, run, are) =
       let is = verdict setting.slots setting.mode old.rules old.batch in
       subst (λ (some : List Effect). ActsGo (Commit ∷ acts) old state rest some new) (sym are)
       (judged_goes acts old state rest is front mid back new stands refl step
       (λ mid_state mid_rest mid_stands.
-      acts_go acts mid mid_state mid_rest back new mid_stands (subst (λ (batch : List Change). AreTraceActs (length batch) acts) (none_pending old is front mid step) told) run))
+      acts_go acts mid mid_state mid_rest back new mid_stands (subst (λ (batch : List Change). AreTraceActs (family_version setting.family) (length batch) acts) (none_pending old is front mid step) told) run))
   acts_go (Trial most ∷ acts) old state rest effects new stands told run = absurd told
   acts_go (Crash after ∷ acts) old state rest effects new stands told run = absurd told
 
@@ -403,7 +366,7 @@ judged_commits asked old (Unsound why) front mid step = ap (λ (p : Progress). p
 judged_commits asked old (OutOfBits field needed free) front mid step = ap (λ (p : Progress). p.commits) step.1
 judged_commits asked old (OutOfSlots needed free) front mid step = ap (λ (p : Progress). p.commits) step.1
 
-pub few_commits : (asked : Setting) (acts : List Act) (pending : ℕ) (old : Progress) (effects : List Effect) (new : Progress) → AreTraceActs pending acts → Run asked old acts effects new → new.commits ≤ old.commits + length acts
+pub few_commits : (asked : Setting) (acts : List Act) (pending : ℕ) (old : Progress) (effects : List Effect) (new : Progress) → AreTraceActs (family_version asked.family) pending acts → Run asked old acts effects new → new.commits ≤ old.commits + length acts
 few_commits asked [] pending old effects new told run = let same = ap (λ (p : Progress). p.commits) run.1 in omega arith
 few_commits asked (Command change ∷ acts) pending old effects new told (front, mid, back, step, run, are) =
     let same = ap (λ (p : Progress). p.commits) step.1 in let later = few_commits asked acts (pending + 1) mid back new told.2 run in omega arith

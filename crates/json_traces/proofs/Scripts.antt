@@ -1,4 +1,4 @@
--- The acts of a script of IPv4 whose report is in JSON are those of a trace, its numbers are small, and its fault has a plain text.
+-- The acts of a script whose report is in JSON are those of a trace, its numbers are small, and its fault has a plain text.
 use Rattle.std.proofs.Common.{◌≡◌, ℕ, ◌+◌, ◌^◌, ◌<◌, ◌≤◌, ◌==◌, ◌&&◌, cond, nat_le, Bool, true, false, Option, Some, None, Result, Ok, Err, List, [], ◌∷◌, ◌++◌, length, codes, refl, ◌∙◌, subst, arith}
 use Rattle.std.specs.Prelude.{not}
 use Rattle.std.specs.List.{AllByRecursion}
@@ -10,8 +10,9 @@ use Rattle.script_lines.specs.declared.LineFault.TheVariants.{Read, ScriptTooLon
 use Rattle.script_lines.proofs.FirstLines.{picks}
 use Rattle.replay.specs.declared.Act.{Act}
 use Rattle.replay.specs.declared.Act.TheVariants.{Command, Probe, Packet, Commit, Trial, Crash}
-use Rattle.replay.specs.Script.{Script, ScriptEnd, Whole, FaultAt, Reading, most_probes, stops_at, onto_acts, byte_end, pending_after, probes_after, limit_fault, acts_from}
-use Rattle.tcam_cli.specs.Headline.{acts_of}
+use Rattle.script_runs.specs.Script.{ScriptEnd, Whole, FaultAt, stops_at, onto_acts, byte_end, acts_of}
+use Rattle.replay.specs.Script.{Script, Reading, most_probes, pending_after, probes_after, limit_fault, acts_from}
+use Rattle.rule_model.specs.declared.IpVersion.{IpVersion}
 use Rattle.json_traces.specs.Traces.{AreTraceActs}
 use Rattle.json_traces.specs.Reported.{IsPlainFault}
 use Rattle.json_traces.proofs.ScriptLines.{IsTraceAct}
@@ -19,8 +20,8 @@ use Rattle.json_traces.proofs.ScriptLines.{IsTraceAct}
 -- ---- the acts
 
 -- each act that is read is one of a trace
-abbrev pub ReadsTraces : Reading → Type 0
-ReadsTraces reading = (line : List ℕ) (one : Act) → reading line ≡ Ok (Some one) → IsTraceAct one
+abbrev pub ReadsTraces : IpVersion → Reading → Type 0
+ReadsTraces version reading = (line : List ℕ) (one : Act) → reading line ≡ Ok (Some one) → IsTraceAct version one
 
 -- the acts of a first line and of those behind it, by what the line is read as and by whether there is room
 abbrev limited : ℕ → Act → Script → Option (List ℕ) → Script
@@ -47,30 +48,30 @@ full_text : (full : Bool) (text : List ℕ) → ◌≡◌ {A = Option (List ℕ)
 full_text true text none = absurd (cc)
 full_text false text none = refl
 
-onto_told : (pending probes : ℕ) (act : Act) (acts : List Act) → pending ≤ most_pending → IsTraceAct act → limit_fault act pending probes ≡ None
-    → ((most : pending_after act pending ≤ most_pending) → AreTraceActs (pending_after act pending) acts) → AreTraceActs pending (act ∷ acts)
-onto_told pending probes (Command change) acts within is free more =
+onto_told : (version : IpVersion) (pending probes : ℕ) (act : Act) (acts : List Act) → pending ≤ most_pending → IsTraceAct version act → limit_fault act pending probes ≡ None
+    → ((most : pending_after act pending ≤ most_pending) → AreTraceActs version (pending_after act pending) acts) → AreTraceActs version pending (act ∷ acts)
+onto_told version pending probes (Command change) acts within is free more =
     let less = room pending within (pending == most_pending) refl (full_text (pending == most_pending) (codes "batch full") free) in
     (is, less, more (omega arith))
-onto_told pending probes (Probe key) acts within is free more = more within
-onto_told pending probes (Packet key) acts within is free more = more within
-onto_told pending probes Commit acts within is free more = more (omega arith)
-onto_told pending probes (Trial most) acts within is free more = absurd is
-onto_told pending probes (Crash after) acts within is free more = absurd is
+onto_told version pending probes (Probe key) acts within is free more = more within
+onto_told version pending probes (Packet key) acts within is free more = more within
+onto_told version pending probes Commit acts within is free more = more (omega arith)
+onto_told version pending probes (Trial most) acts within is free more = absurd is
+onto_told version pending probes (Crash after) acts within is free more = absurd is
 
-module _ (reading : Reading) (reads : ReadsTraces reading) (last : LinesEnd) where
+module _ (version : IpVersion) (reading : Reading) (reads : ReadsTraces version reading) (last : LinesEnd) where
   -- the acts of the lines behind are those of a trace, whatever is pending
   abbrev Later : List NumberedLine → Type 0
-  Later lines = (pending probes : ℕ) → pending ≤ most_pending → AreTraceActs pending (acts_of (acts_from reading pending probes lines last))
+  Later lines = (pending probes : ℕ) → pending ≤ most_pending → AreTraceActs version pending (acts_of (acts_from reading pending probes lines last))
 
-  by_room : (line : NumberedLine) (lines : List NumberedLine) (pending probes : ℕ) (act : Act) (full : Option (List ℕ)) → limit_fault act pending probes ≡ full → pending ≤ most_pending → IsTraceAct act → Later lines
-      → AreTraceActs pending (acts_of (limited line.number act (acts_from reading (pending_after act pending) (probes_after act probes) lines last) full))
+  by_room : (line : NumberedLine) (lines : List NumberedLine) (pending probes : ℕ) (act : Act) (full : Option (List ℕ)) → limit_fault act pending probes ≡ full → pending ≤ most_pending → IsTraceAct version act → Later lines
+      → AreTraceActs version pending (acts_of (limited line.number act (acts_from reading (pending_after act pending) (probes_after act probes) lines last) full))
   by_room line lines pending probes act (Some text) tells within is later = tt
   by_room line lines pending probes act None tells within is later =
-      onto_told pending probes act (acts_of (acts_from reading (pending_after act pending) (probes_after act probes) lines last)) within is tells (λ most. later (pending_after act pending) (probes_after act probes) most)
+      onto_told version pending probes act (acts_of (acts_from reading (pending_after act pending) (probes_after act probes) lines last)) within is tells (λ most. later (pending_after act pending) (probes_after act probes) most)
 
   by_reading : (line : NumberedLine) (lines : List NumberedLine) (pending probes : ℕ) (r : Result (Option Act) (List ℕ)) → reading line.text ≡ r → pending ≤ most_pending → Later lines
-      → AreTraceActs pending (acts_of (read_as reading pending probes line.number lines last r))
+      → AreTraceActs version pending (acts_of (read_as reading pending probes line.number lines last r))
   by_reading line lines pending probes (Err text) tells within later = tt
   by_reading line lines pending probes (Ok None) tells within later = later pending probes within
   by_reading line lines pending probes (Ok (Some act)) tells within later = by_room line lines pending probes act (limit_fault act pending probes) refl within (reads line.text act tells) later

@@ -4,6 +4,7 @@ use Rattle.std.specs.List.{AllByRecursion}
 use Rattle.std.proofs.lemmas.List.{length-replicate, replicate-append-replicate}
 use Rattle.std.proofs.lemmas.Option.{none-some}
 use Rattle.slot_order.proofs.Lists.{contains_none}
+use Rattle.rule_model.specs.declared.IpVersion.{IpVersion}
 use Rattle.rule_model.specs.declared.words.Entry.{Entry}
 use Rattle.rule_store.specs.declared.Mode.{Mode}
 use Rattle.rule_store.specs.declared.Command.{Command as Change}
@@ -20,22 +21,23 @@ use Rattle.commit_writes.specs.Segments.{IsAtRest, MayBegin}
 use Rattle.commit_writes.proofs.AtRest.{commits_come_to_rest}
 use Rattle.commit_writes.proofs.ServedTables.{bits_blank}
 use Rattle.readback.specs.Laws.{HasUnused}
-use Rattle.trace_file.specs.Forms.{IsIpv4Rule}
+use Rattle.trace_file.specs.Forms.{IsTraceRule}
 use Rattle.readback.proofs.Accepted.{taken}
 use Rattle.trace_check.proofs.Ended.{segment_ended}
 use Rattle.replay.specs.Effects.{Setting}
 use Rattle.replay.specs.Run.{Progress, start, after_segment}
-use Rattle.json_traces.proofs.Ipv4Rules.{IsTraceChange, told_changes, set_told}
+use Rattle.report_lines.specs.Text.{family_version}
+use Rattle.json_traces.proofs.TraceRules.{IsTraceChange, told_changes, set_told}
 
--- The slots in use hold a state, and over a device of so many slots the run is at rest with it. Rules and changes are those of an
--- IPv4 trace, and no more changes are pending than may be.
+-- The slots in use hold a state, and over a device of so many slots the run is at rest with it. Rules and changes are those of a
+-- trace of the family's version, and no more changes are pending than may be.
 pub record StandsIn (setting : Setting) (device_slots : ℕ) (old : Progress) (state : State) : Type 0 where
   pub at : old.state ≡ on_device device_slots state
   pub size : length state.slots ≡ setting.slots
   pub at_rest : IsAtRest setting.mode old.bits old.rules old.state
   pub unused : HasUnused setting.slots old.state
-  pub rules_told : AllByRecursion IsIpv4Rule old.rules
-  pub told : AllByRecursion IsTraceChange old.batch
+  pub rules_told : AllByRecursion (IsTraceRule (family_version setting.family)) old.rules
+  pub told : AllByRecursion (IsTraceChange (family_version setting.family)) old.batch
   pub short : length old.batch ≤ most_pending
 
 -- the slots that aren't in use are blank too
@@ -78,16 +80,16 @@ stands_first setting device_slots wide = record {
 }
 
 -- what is added has right conditions
-all_changes : (batch : List Change) → AllByRecursion IsTraceChange batch → AllByRecursion ChangesRules batch
-all_changes [] told = tt
-all_changes (one ∷ batch) told = (told_changes one told.0, all_changes batch told.1)
+all_changes : (version : IpVersion) (batch : List Change) → AllByRecursion (IsTraceChange version) batch → AllByRecursion ChangesRules batch
+all_changes version [] told = tt
+all_changes version (one ∷ batch) told = (told_changes version one told.0, all_changes version batch told.1)
 
 -- an accepted batch may begin
 pub may_begin : (setting : Setting) (device_slots : ℕ) (old : Progress) (state : State) → StandsIn setting device_slots old state → verdict setting.slots setting.mode old.rules old.batch ≡ Accepted
     → MayBegin setting.mode old.bits old.rules old.batch old.state
 may_begin setting device_slots old state stands accepted =
     let fits = taken setting.slots setting.mode old.rules old.batch accepted in
-    record { at_rest = stands.at_rest; changes = all_changes old.batch stands.told; sound = fits.sound; few = fits.few }
+    record { at_rest = stands.at_rest; changes = all_changes (family_version setting.family) old.batch stands.told; sound = fits.sound; few = fits.few }
 
 -- and behind its segment the run stands again
 pub stands_behind : (setting : Setting) (device_slots : ℕ) (old : Progress) (state : State) (made : List Write) → StandsIn setting device_slots old state
@@ -101,7 +103,7 @@ stands_behind setting device_slots old state made stands accepted segment in_use
       size = slots-after state made ∙ stands.size;
       at_rest = (commits_come_to_rest setting.mode old.bits old.rules old.batch (record { state = old.state; flight = [] }) made may segment).0;
       unused = (segment_ended setting.slots setting.mode old.bits old.rules old.batch old.state made may segment stands.unused in_use).1.unused;
-      rules_told = set_told old.rules old.batch stands.rules_told stands.told;
+      rules_told = set_told (family_version setting.family) old.rules old.batch stands.rules_told stands.told;
       told = tt;
       short = omega arith;
     }

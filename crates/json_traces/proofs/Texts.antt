@@ -15,7 +15,8 @@ use Rattle.json_text.specs.JsonText.{json_line}
 use Rattle.trace_check.specs.Places.{Work, part_lines}
 use Rattle.trace_check.specs.Segments.{action_line}
 use Rattle.replay.specs.Effects.{Setting, Effect, Acts, Prints, printed, searches_of, flushed, searched_after, waiting_after, effects_of}
-use Rattle.replay.specs.JsonLines.{behind, change_line, head_line}
+use Rattle.replay.specs.JsonLines.{behind, change_line, head_line, shared_line}
+use Rattle.report_lines.specs.Text.{family_version}
 use Rattle.replay.specs.Reports.{head_due}
 use Rattle.replay.specs.Run.{Progress, carried, carried_so_far}
 use Rattle.replay.proofs.lines.Effects.{printed-append}
@@ -24,7 +25,7 @@ use Rattle.json_traces.specs.Traces.{trace_text}
 -- the head, where it is due, and two texts
 pub behind_append : (head : Option TraceLine) (a b : List ℕ) → behind head a ++ b ≡ behind head (a ++ b)
 behind_append None a b = refl
-behind_append (Some head) a b = append_assoc (json_line [] head) a b
+behind_append (Some head) a b = append_assoc (shared_line [] head) a b
 
 -- behind a commit none is due
 pub none_due : (setting : Setting) (commits : ℕ) → head_due setting (commits + 1) ≡ None
@@ -59,34 +60,34 @@ module _ (asked : Setting) (fault : List ℕ) where
   setting = in_json asked
 
   -- the commands
-  pub of_commands : (batch : List Change) → printed (map (λ one. Prints (json_line [] (change_line one))) batch) ≡ trace_text fault (map change_line batch)
+  pub of_commands : (batch : List Change) → printed (map (λ one. Prints (json_line (family_version setting.family) [] (change_line one))) batch) ≡ trace_text (family_version setting.family) fault (map change_line batch)
   of_commands [] = refl
-  of_commands (change.Add rule ∷ batch) = ap (λ text. json_line [] (line.Add rule) ++ text) (of_commands batch)
-  of_commands (change.Set priority answer ∷ batch) = ap (λ text. json_line [] (line.Set priority answer) ++ text) (of_commands batch)
-  of_commands (change.Del priority ∷ batch) = ap (λ text. json_line [] (line.Del priority) ++ text) (of_commands batch)
+  of_commands (change.Add rule ∷ batch) = ap (λ text. json_line (family_version setting.family) [] (line.Add rule) ++ text) (of_commands batch)
+  of_commands (change.Set priority answer ∷ batch) = ap (λ text. json_line (family_version setting.family) [] (line.Set priority answer) ++ text) (of_commands batch)
+  of_commands (change.Del priority ∷ batch) = ap (λ text. json_line (family_version setting.family) [] (line.Del priority) ++ text) (of_commands batch)
 
   -- the events
-  pub of_actions : (actions : List Action) (number waiting : ℕ) (state : State) → printed (effects_of setting [] number waiting state actions) ≡ trace_text fault (map action_line actions)
+  pub of_actions : (actions : List Action) (number waiting : ℕ) (state : State) → printed (effects_of setting [] number waiting state actions) ≡ trace_text (family_version setting.family) fault (map action_line actions)
   of_actions [] number waiting state = refl
   of_actions (Written (write.Slot at (Some entry)) ∷ actions) number waiting state =
       let next = apply state (write.Slot at (Some entry)) in
       let later = effects_of setting [] (number + 1) (min (waiting + 1) setting.depth) next actions in
-      ap (λ (found : List Effect). json_line [] (line.Put at entry) ++ printed (found ++ later)) (searched-none setting (number + 1) waiting next)
-      ∙ ap (λ text. json_line [] (line.Put at entry) ++ text) (of_actions actions (number + 1) (min (waiting + 1) setting.depth) next)
+      ap (λ (found : List Effect). json_line (family_version setting.family) [] (line.Put at entry) ++ printed (found ++ later)) (searched-none setting (number + 1) waiting next)
+      ∙ ap (λ text. json_line (family_version setting.family) [] (line.Put at entry) ++ text) (of_actions actions (number + 1) (min (waiting + 1) setting.depth) next)
   of_actions (Written (write.Slot at None) ∷ actions) number waiting state =
       let next = apply state (write.Slot at None) in
       let later = effects_of setting [] (number + 1) (min (waiting + 1) setting.depth) next actions in
-      ap (λ (found : List Effect). json_line [] (line.Erase at) ++ printed (found ++ later)) (searched-none setting (number + 1) waiting next)
-      ∙ ap (λ text. json_line [] (line.Erase at) ++ text) (of_actions actions (number + 1) (min (waiting + 1) setting.depth) next)
+      ap (λ (found : List Effect). json_line (family_version setting.family) [] (line.Erase at) ++ printed (found ++ later)) (searched-none setting (number + 1) waiting next)
+      ∙ ap (λ text. json_line (family_version setting.family) [] (line.Erase at) ++ text) (of_actions actions (number + 1) (min (waiting + 1) setting.depth) next)
   of_actions (Written (write.Table field port word) ∷ actions) number waiting state =
       let next = apply state (write.Table field port word) in
       let later = effects_of setting [] (number + 1) (min (waiting + 1) setting.depth) next actions in
-      ap (λ (found : List Effect). json_line [] (line.Table field port word) ++ printed (found ++ later)) (searched-none setting (number + 1) waiting next)
-      ∙ ap (λ text. json_line [] (line.Table field port word) ++ text) (of_actions actions (number + 1) (min (waiting + 1) setting.depth) next)
+      ap (λ (found : List Effect). json_line (family_version setting.family) [] (line.Table field port word) ++ printed (found ++ later)) (searched-none setting (number + 1) waiting next)
+      ∙ ap (λ text. json_line (family_version setting.family) [] (line.Table field port word) ++ text) (of_actions actions (number + 1) (min (waiting + 1) setting.depth) next)
   of_actions (Drained ∷ actions) number waiting state =
       let later = effects_of setting [] number 0 state actions in
-      ap (λ (found : List Effect). printed (found ++ Acts Drained ∷ Prints (json_line [] line.Drain) ∷ later)) (flushed-none setting number state waiting)
-      ∙ ap (λ text. json_line [] line.Drain ++ text) (of_actions actions number 0 state)
+      ap (λ (found : List Effect). printed (found ++ Acts Drained ∷ Prints (shared_line [] line.Drain) ∷ later)) (flushed-none setting number state waiting)
+      ∙ ap (λ text. shared_line [] line.Drain ++ text) (of_actions actions number 0 state)
 
   -- four texts behind the head, where it is due
   regroup : (head : Option TraceLine) (a b c d : List ℕ) → ((behind head a ++ b) ++ c) ++ d ≡ behind head (a ++ (b ++ (c ++ d)))
@@ -97,24 +98,24 @@ module _ (asked : Setting) (fault : List ℕ) where
   -- the lines of a commit, one part behind the other
   abbrev parts_text : ℕ → List Change → List Action → List ℕ
   parts_text number batch actions =
-      json_line [] (line.Commit number) ++ (trace_text fault (map change_line batch) ++ (trace_text fault (map action_line actions) ++ (json_line [] (line.Done number) ++ [])))
+      shared_line [] (line.Commit number) ++ (trace_text (family_version setting.family) fault (map change_line batch) ++ (trace_text (family_version setting.family) fault (map action_line actions) ++ (shared_line [] (line.Done number) ++ [])))
 
   parts_text-is : (number : ℕ) (batch : List Change) (actions : List Action)
-      → trace_text fault (part_lines number (Work (map change_line batch) (map action_line actions))) ≡ parts_text number batch actions
+      → trace_text (family_version setting.family) fault (part_lines number (Work (map change_line batch) (map action_line actions))) ≡ parts_text number batch actions
   parts_text-is number batch actions =
-      ap (λ text. json_line [] (line.Commit number) ++ text)
-      (flat_map-append (json_line fault) (map change_line batch) (map action_line actions ++ line.Done number ∷ [])
-      ∙ ap (λ text. trace_text fault (map change_line batch) ++ text) (flat_map-append (json_line fault) (map action_line actions) (line.Done number ∷ [])))
+      ap (λ text. shared_line [] (line.Commit number) ++ text)
+      (flat_map-append (json_line (family_version setting.family) fault) (map change_line batch) (map action_line actions ++ line.Done number ∷ [])
+      ∙ ap (λ text. trace_text (family_version setting.family) fault (map change_line batch) ++ text) (flat_map-append (json_line (family_version setting.family) fault) (map action_line actions) (line.Done number ∷ [])))
 
   -- a whole commit
   pub of_commit : (old : Progress) (actions : List Action)
-      → printed (carried setting old actions ++ Prints (json_line [] (line.Done (old.commits + 1))) ∷ [])
-      ≡ behind (head_due setting old.commits) (trace_text fault (part_lines (old.commits + 1) (Work (map change_line old.batch) (map action_line actions))))
+      → printed (carried setting old actions ++ Prints (shared_line [] (line.Done (old.commits + 1))) ∷ [])
+      ≡ behind (head_due setting old.commits) (trace_text (family_version setting.family) fault (part_lines (old.commits + 1) (Work (map change_line old.batch) (map action_line actions))))
   of_commit old actions =
       let number = old.commits + 1 in
       let due = head_due setting old.commits in
-      let last : List Effect = Prints (json_line [] (line.Done number)) ∷ [] in
-      let first : List Effect = Prints (behind due (json_line [] (line.Commit number))) ∷ map (λ one. Prints (json_line [] (change_line one))) old.batch in
+      let last : List Effect = Prints (shared_line [] (line.Done number)) ∷ [] in
+      let first : List Effect = Prints (behind due (shared_line [] (line.Commit number))) ∷ map (λ one. Prints (json_line (family_version setting.family) [] (change_line one))) old.batch in
       let made : List Effect = effects_of setting [] 0 0 old.state actions in
       let found : List Effect = flushed setting.family [] (length (writes_in actions)) (state_after old.state (writes_in actions)) (waiting_after setting.depth 0 actions) in
       printed-append (carried setting old actions) last
@@ -122,12 +123,12 @@ module _ (asked : Setting) (fault : List ℕ) where
       (printed-append (carried_so_far setting old actions) found
       ∙ ap (λ (some : List Effect). printed (carried_so_far setting old actions) ++ printed some) (flushed-none setting (length (writes_in actions)) (state_after old.state (writes_in actions)) (waiting_after setting.depth 0 actions))
       ∙ append-nil (printed (carried_so_far setting old actions)) ∙ printed-append first made)
-      ∙ ap₂ (λ a b. ((behind due (json_line [] (line.Commit number)) ++ a) ++ b) ++ printed last) (of_commands old.batch) (of_actions actions 0 0 old.state)
-      ∙ regroup due (json_line [] (line.Commit number)) (trace_text fault (map change_line old.batch)) (trace_text fault (map action_line actions)) (printed last)
+      ∙ ap₂ (λ a b. ((behind due (shared_line [] (line.Commit number)) ++ a) ++ b) ++ printed last) (of_commands old.batch) (of_actions actions 0 0 old.state)
+      ∙ regroup due (shared_line [] (line.Commit number)) (trace_text (family_version setting.family) fault (map change_line old.batch)) (trace_text (family_version setting.family) fault (map action_line actions)) (printed last)
       ∙ ap (behind due) (sym (parts_text-is number old.batch actions))
 
   -- a refused one
   pub of_refusal : (commits : ℕ)
-      → printed (Prints (behind (head_due setting commits) (json_line [] (line.Refused (commits + 1)))) ∷ [])
-      ≡ behind (head_due setting commits) (trace_text fault (line.Refused (commits + 1) ∷ []))
-  of_refusal commits = behind_append (head_due setting commits) (json_line [] (line.Refused (commits + 1))) []
+      → printed (Prints (behind (head_due setting commits) (shared_line [] (line.Refused (commits + 1)))) ∷ [])
+      ≡ behind (head_due setting commits) (trace_text (family_version setting.family) fault (line.Refused (commits + 1) ∷ []))
+  of_refusal commits = behind_append (head_due setting commits) (shared_line [] (line.Refused (commits + 1))) []

@@ -1,4 +1,4 @@
--- Words that ask for a report in JSON ask for a script of IPv4, over slots in use that the program's device has.
+-- Words that ask for a report in JSON ask for a script, over slots in use that the program's device has.
 use Rattle.std.proofs.Common.{◌≡◌, ◌⊎◌, ℕ, ◌≤◌, ◌^◌, ◌&&◌, Bool, true, false, Option, Some, None, List, [], ◌∷◌, codes, cond, inl, inr, refl, sym, ◌∙◌, subst, leb-true}
 use Rattle.std.specs.Prelude.{nat_le, nat_lt}
 use Rattle.std.specs.Str.{bytes_eq}
@@ -14,20 +14,19 @@ use Rattle.clap.specs.declared.error.kind.ErrorKind.{ErrorKind}
 use Rattle.clap.specs.declared.error.kind.ErrorKind.TheVariants as kind
 use Rattle.rule_store.specs.declared.Mode.{Mode}
 use Rattle.batch_order.specs.declared.Placement.{Placement}
-use Rattle.replay.specs.declared.Family.{Family}
-use Rattle.replay.specs.declared.Family.TheVariants.{Route, Acl, Route6, Acl6}
+use Rattle.report_lines.specs.declared.Family.{Family}
+use Rattle.report_lines.specs.declared.Family.TheVariants.{Route, Acl, Route6, Acl6}
 use Rattle.replay.specs.Effects.{Setting}
 use Rattle.tcam_cli.specs.declared.own_texts.Topic.{Topic}
 use Rattle.tcam_cli.specs.Headline.{Job, NoJob, Reads, Verifies}
-use Rattle.tcam_cli.specs.CommandLine.{is_traced, job_at, job_by_faults, job_of, job_of_fault, json_by, made_at, mode_wanted, number_in, placed_by, script_setting, tcam_app, text_of, topic_in}
+use Rattle.tcam_cli.specs.CommandLine.{is_traced, job_at, job_by_faults, job_of, job_of_fault, is_json, made_at, mode_wanted, number_in, placed_by, script_setting, tcam_app, text_of, topic_in}
 use Rattle.tcam_cli.specs.Asked.{job_by, number_given, tested_job, tested_job_of_rows, tested_made, tested_script}
 use Rattle.tcam_cli.proofs.NumbersTaken.{tested}
 
--- what a script is asked for over: slots in use that there may be, and a report in JSON of IPv4 alone
+-- what a script is asked for over: slots in use that there may be
 pub record AsksFor (setting : Setting) : Type 0 where
   pub some : 1 ≤ setting.slots
   pub most : setting.slots ≤ most_slots
-  pub ipv4 : setting.json ≡ true → (setting.family ≡ Route) ⊎ (setting.family ≡ Acl)
 
 -- a number that was asked for is one of its range
 record IsGiven (least greatest : ℕ) (job : ℕ → Job) (setting : Setting) : Type 0 where
@@ -48,26 +47,19 @@ given least greatest text job setting false tells asks = absurd (cc)
 
 -- a script over so many slots
 asked : (family : Family) (slots : ℕ) (mode : Option Mode) (placement : Option Placement) (trace : Bool) (depth : ℕ) (json : Bool) (setting : Setting) → 1 ≤ slots → slots ≤ most_slots
-    → (json ≡ true → (family ≡ Route) ⊎ (family ≡ Acl)) → job_at family slots mode placement trace depth json ≡ Reads setting → AsksFor setting
-asked family slots None placement trace depth json setting some most ipv4 asks = absurd (cc)
-asked family slots (Some mode) None trace depth json setting some most ipv4 asks = absurd (cc)
-asked family slots (Some mode) (Some placement) trace depth json setting some most ipv4 asks =
+    → job_at family slots mode placement trace depth json ≡ Reads setting → AsksFor setting
+asked family slots None placement trace depth json setting some most asks = absurd (cc)
+asked family slots (Some mode) None trace depth json setting some most asks = absurd (cc)
+asked family slots (Some mode) (Some placement) trace depth json setting some most asks =
     let same : script_setting family slots mode placement trace depth json ≡ setting = cc in
-    subst AsksFor same (record { some = some; most = most; ipv4 = ipv4 })
-
--- families of IPv6 have no report in JSON
-json_family : (family : Family) (rows : List Row) → json_by family rows ≡ true → (family ≡ Route) ⊎ (family ≡ Acl)
-json_family Route rows json = inl refl
-json_family Acl rows json = inr refl
-json_family Route6 rows json = absurd (let wrong : false ≡ true = json in cc)
-json_family Acl6 rows json = absurd (let wrong : false ≡ true = json in cc)
+    subst AsksFor same (record { some = some; most = most })
 
 script_asked : (family : Family) (rows : List Row) (setting : Setting) → tested_script family rows ≡ Reads setting → AsksFor setting
 script_asked family rows setting asks =
-    let job : ℕ → ℕ → Job = λ slots depth. job_at family slots (mode_wanted family rows) (placed_by rows) (is_traced rows) depth (json_by family rows) in
+    let job : ℕ → ℕ → Job = λ slots depth. job_at family slots (mode_wanted family rows) (placed_by rows) (is_traced rows) depth (is_json rows) in
     let slots = given 1 most_slots (text_of (codes "slots") rows) (λ slots. job_by (number_given 0 15 (codes "depth") rows) (job slots)) setting (is_unsigned_in 1 most_slots (text_of (codes "slots") rows)) refl asks in
     let depth = given 0 15 (text_of (codes "depth") rows) (job slots.number) setting (is_unsigned_in 0 15 (text_of (codes "depth") rows)) refl slots.asks in
-    asked family slots.number (mode_wanted family rows) (placed_by rows) (is_traced rows) depth.number (json_by family rows) setting slots.low slots.high (json_family family rows) depth.asks
+    asked family slots.number (mode_wanted family rows) (placed_by rows) (is_traced rows) depth.number (is_json rows) setting slots.low slots.high depth.asks
 
 -- no script is asked for by what makes commands
 made_asked : (slots : ℕ) (mode : Option Mode) (placement : Option Placement) (seed rules batches : ℕ) (setting : Setting) → made_at slots mode placement seed rules batches ≡ Reads setting → AsksFor setting

@@ -6,10 +6,11 @@ use Rattle.tcam_device.specs.Flight.{writes_in}
 use Rattle.trace_check.specs.Answers.{Yes, IsTraceAnswer}
 use Rattle.replay.specs.Effects.{Setting}
 use Rattle.replay.specs.Script.{script_of}
-use Rattle.tcam_cli.specs.declared.Status.{Status}
-use Rattle.tcam_cli.specs.declared.Status.TheVariants.{Done, Refused, Script}
+use Rattle.script_runs.specs.declared.Status.{Status}
+use Rattle.script_runs.specs.declared.Status.TheVariants.{Done, Refused, Script}
 use Rattle.tcam_cli.specs.CommandLine.{job_of}
-use Rattle.tcam_cli.specs.Headline.{acts_of, Reads, IsCarriedOut}
+use Rattle.script_runs.specs.Script.{acts_of}
+use Rattle.tcam_cli.specs.Headline.{Reads, IsCarriedOut}
 use Rattle.tcam_cli.specs.Readings.{reading_by}
 use Rattle.json_traces.specs.Traces.{accepted_in}
 

@@ -1,16 +1,15 @@
 -- What is told of the trace that a report is.
 use Rattle.std.specs.Prelude.{◌≡◌, ℕ, ◌≤◌, IsTrue, List, length}
 use Rattle.std.specs.List.{AllByRecursion}
-use Rattle.json.specs.Print.{quoted as json_quoted}
 use Rattle.script_lines.specs.Reader.{is_of_line}
 use Rattle.tcam_device.specs.declared.Write.{Write}
-use Rattle.json_text.specs.JsonText.{quoted}
+use Rattle.json_text.specs.JsonText.{IsPlainText}
 use Rattle.trace_check.specs.Answers.{Yes, IsTraceAnswer}
 use Rattle.json_traces.specs.Traces.{IsOrderlyReport}
 
--- a short text of a fault, which stands in quotation marks as it is
+-- a short text of a fault, which stands in JSON as it is, on one line
 pub record IsPlainFault (fault : List ℕ) : Type 0 where
-  pub quoted_is : json_quoted fault ≡ quoted fault
+  pub plain : IsPlainText fault
   pub bytes : AllByRecursion (λ byte. IsTrue (is_of_line byte)) fault
   pub short : length fault ≤ 32
 

@@ -1,53 +1,60 @@
 -- The trace that a report in JSON is.
-use Rattle.std.specs.Prelude.{◌≡◌, ◌⊎◌, ℕ, ◌+◌, ◌-◌, ◌^◌, ◌<◌, ◌≤◌, true, List, [], ◌∷◌, ◌++◌, length, flat_map}
+use Rattle.std.specs.Prelude.{◌≡◌, ℕ, ◌+◌, ◌-◌, ◌^◌, ◌<◌, ◌≤◌, true, List, [], ◌∷◌, ◌++◌, length, flat_map}
 use Rattle.std.specs.List.{AllByRecursion}
 use Rattle.slot_order.specs.Order.{most_slots}
+use Rattle.rule_model.specs.declared.IpVersion.{IpVersion}
+use Rattle.rule_model.specs.declared.IpVersion.TheVariants.{V4}
 use Rattle.rule_store.specs.Batch.{most_pending}
 use Rattle.tcam_device.specs.declared.Write.{Write}
 use Rattle.trace_file.specs.declared.TraceLine.{TraceLine}
-use Rattle.trace_file.specs.Forms.{IsTraceLine}
+use Rattle.trace_file.specs.declared.TraceLine.TheVariants.{Head}
+use Rattle.trace_file.specs.Forms.{IsTraceLineOf}
 use Rattle.json_text.specs.JsonText.{json_line}
 use Rattle.trace_check.specs.Hitless.{commits_of, trace_writes}
 use Rattle.trace_check.specs.Orderly.{IsTrace, IsOrderly}
 use Rattle.replay.specs.declared.Act.{Act}
 use Rattle.replay.specs.declared.Act.TheVariants.{Command, Probe, Packet, Commit, Trial, Crash}
-use Rattle.replay.specs.declared.Family.TheVariants.{Route, Acl}
 use Rattle.replay.specs.Effects.{Setting, Effect, journal_of, printed}
 use Rattle.replay.specs.JsonLines.{change_line}
 use Rattle.replay.specs.Reports.{fault_told}
+use Rattle.report_lines.specs.Text.{family_version}
 use Rattle.replay.specs.Run.{Progress, Runs, ending}
 use Rattle.tcam_cli.specs.AllTheWay.{sets_through}
 
--- the text of some lines of a trace, one behind the other; the line of a fault has this text of it
-abbrev pub trace_text : List ℕ → List TraceLine → List ℕ
-trace_text fault lines = flat_map (json_line fault) lines
+-- the text of some lines of a trace of this version, one behind the other; the line of a fault has this text of it
+abbrev pub trace_text : IpVersion → List ℕ → List TraceLine → List ℕ
+trace_text version fault lines = flat_map (json_line version fault) lines
+
+-- the version of a trace, which its head tells
+abbrev pub trace_version : List TraceLine → IpVersion
+trace_version (Head version acl bits slots ∷ lines) = version
+trace_version lines = V4
 
 -- A report is an orderly trace: it is the text of its lines, their numbers are within the limits of a trace, so many commits are
 -- accepted, and these are its device writes.
 pub record IsOrderlyReport (fault report : List ℕ) (commits : ℕ) (made : List Write) : Type 0 where
   pub lines : List TraceLine
-  pub text_is : report ≡ trace_text fault lines
-  pub within : AllByRecursion IsTraceLine lines
+  pub text_is : report ≡ trace_text (trace_version lines) fault lines
+  pub within : AllByRecursion (IsTraceLineOf (trace_version lines)) lines
   pub trace : IsTrace lines
   pub orderly : IsOrderly lines
   pub commits_are : length (commits_of lines) ≡ commits
   pub writes_are : trace_writes lines ≡ made
 
--- Acts that a report in JSON tells of, behind so many pending changes: no trial and no crash, changes of IPv4 rules, and no more
--- of them than may be pending.
-abbrev pub AreTraceActs : ℕ → List Act → Type 0
-AreTraceActs pending [] = Unit {0}
-AreTraceActs pending (Command change ∷ acts) = IsTraceLine (change_line change) × (pending < most_pending) × AreTraceActs (pending + 1) acts
-AreTraceActs pending (Probe key ∷ acts) = AreTraceActs pending acts
-AreTraceActs pending (Packet key ∷ acts) = AreTraceActs pending acts
-AreTraceActs pending (Commit ∷ acts) = AreTraceActs 0 acts
-AreTraceActs pending (Trial most ∷ acts) = ⊥
-AreTraceActs pending (Crash after ∷ acts) = ⊥
+-- Acts that a report in JSON tells of, behind so many pending changes: no trial and no crash, changes of rules of this
+-- version, and no more of them than may be pending.
+abbrev pub AreTraceActs : IpVersion → ℕ → List Act → Type 0
+AreTraceActs version pending [] = Unit {0}
+AreTraceActs version pending (Command change ∷ acts) = IsTraceLineOf version (change_line change) × (pending < most_pending) × AreTraceActs version (pending + 1) acts
+AreTraceActs version pending (Probe key ∷ acts) = AreTraceActs version pending acts
+AreTraceActs version pending (Packet key ∷ acts) = AreTraceActs version pending acts
+AreTraceActs version pending (Commit ∷ acts) = AreTraceActs version 0 acts
+AreTraceActs version pending (Trial most ∷ acts) = ⊥
+AreTraceActs version pending (Crash after ∷ acts) = ⊥
 
--- A report in JSON is wanted of a script of IPv4, over slots in use that a device has.
+-- A report in JSON is wanted, over slots in use that a device has.
 pub record WantsTrace (setting : Setting) (device_slots : ℕ) : Type 0 where
   pub json : setting.json ≡ true
-  pub family : (setting.family ≡ Route) ⊎ (setting.family ≡ Acl)
   pub some : 1 ≤ setting.slots
   pub most : setting.slots ≤ most_slots
   pub device : setting.slots ≤ device_slots
@@ -60,7 +67,7 @@ accepted_in setting acts = length (sets_through setting [] [] [] acts) - 1
 -- the end of the acts, and with one that tells of a fault.
 abbrev pub JsonRunsAreOrderly : Type 0
 JsonRunsAreOrderly =
-    (setting : Setting) (device_slots : ℕ) (acts : List Act) (body : List Effect) (last : Progress) → WantsTrace setting device_slots → AreTraceActs 0 acts
+    (setting : Setting) (device_slots : ℕ) (acts : List Act) (body : List Effect) (last : Progress) → WantsTrace setting device_slots → AreTraceActs (family_version setting.family) 0 acts
     → Runs setting device_slots acts body last → last.commits < 2 ^ 32 → length (journal_of body) < 2 ^ 64
     → IsOrderlyReport [] (printed body ++ ending setting last) (accepted_in setting acts) (journal_of body)
     × ((number : ℕ) (text : List ℕ) → number < 2 ^ 32 → IsOrderlyReport text (printed body ++ fault_told setting last.commits number text) (accepted_in setting acts) (journal_of body))

@@ -9,10 +9,12 @@ use Rattle.rule_model.specs.declared.words.Word.{Word}
 use Rattle.tcam_device.specs.declared.Write.TheVariants.{Slot, Table}
 use Rattle.rule_store.specs.declared.BatchFault.TheVariants.{Twice, Absent}
 use Rattle.rule_store.specs.Verdict.{Unsound, OutOfBits, OutOfSlots}
-use Rattle.replay.specs.declared.Family.TheVariants.{Route, Acl, Route6, Acl6}
+use Rattle.report_lines.specs.declared.Family.TheVariants.{Route, Acl, Route6, Acl6}
 use Rattle.replay.specs.declared.Act.TheVariants.{Commit}
-use Rattle.replay.specs.Script.{Reading, Whole, FaultAt, script_of}
-use Rattle.replay.specs.Text.{packet_line, probe_line, write_line, lane_text, number_text, tag_text, accepted_line, refused_line, fault_line, restarted_line, end_line, usage_line}
+use Rattle.script_runs.specs.Script.{Whole, FaultAt}
+use Rattle.replay.specs.Script.{Reading, script_of}
+use Rattle.report_lines.specs.Text.{lane_text, number_text, tag_text, fault_line, usage_line}
+use Rattle.replay.specs.Text.{packet_line, probe_line, write_line, accepted_line, refused_line, restarted_line, end_line}
 
 packet : packet_line Route (Some (ipv4_route_rank (ipv4_block 0x0a000000 8), 7)) ≡ codes "packet 10.0.0.0/8 7" ++ 10 ∷ []
 unfolding digits

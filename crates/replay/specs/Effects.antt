@@ -10,9 +10,10 @@ use Rattle.tcam_device.specs.Flight.{writes_in}
 use Rattle.batch_order.specs.declared.Placement.{Placement}
 use Rattle.trace_file.specs.declared.TraceLine.TheVariants as line
 use Rattle.json_text.specs.JsonText.{json_line}
-use Rattle.replay.specs.declared.Family.{Family}
-use Rattle.replay.specs.JsonLines.{journal_line}
+use Rattle.report_lines.specs.declared.Family.{Family}
+use Rattle.replay.specs.JsonLines.{journal_line, shared_line}
 use Rattle.replay.specs.Text.{probe_line, write_line, drain_line}
+use Rattle.report_lines.specs.Text.{family_version}
 
 -- what the words of a command line ask for: the slots in use, the encoding of ranges, where insertions aim, the family,
 -- a trace, after how many further writes a probe's word is searched, and a report in JSON
@@ -53,11 +54,11 @@ traced trace line = if trace then Prints line ∷ [] else []
 -- what is told of a write, by its number: its line of a report in JSON, and else its trace line, where a trace is wanted
 abbrev pub write_told : Bool → Bool → Family → ℕ → Write → List Effect
 write_told json trace family number write =
-    elim json [ true ↦ Prints (json_line [] (journal_line write)) ∷ [] | false ↦ traced trace (write_line family number write) ]
+    elim json [ true ↦ Prints (json_line (family_version family) [] (journal_line write)) ∷ [] | false ↦ traced trace (write_line family number write) ]
 
 -- likewise of a drain, after so many writes
 abbrev pub drain_told : Bool → Bool → ℕ → List Effect
-drain_told json trace number = elim json [ true ↦ Prints (json_line [] line.Drain) ∷ [] | false ↦ traced trace (drain_line number) ]
+drain_told json trace number = elim json [ true ↦ Prints (shared_line [] line.Drain) ∷ [] | false ↦ traced trace (drain_line number) ]
 
 -- the probes that a report tells of: in JSON none
 abbrev pub probes_told : Bool → List Key → List Key

@@ -7,7 +7,7 @@ use Rattle.tcam_device.specs.State.{State, replay, search_word, on_device}
 use Rattle.tcam_device.specs.Flight.{Flight, word_answer, writes_in}
 use Rattle.commit_writes.specs.InFlight.{AreCurrent}
 use Rattle.batch_order.specs.Managed.{Managed, live_now}
-use Rattle.replay.specs.declared.Family.{Family}
+use Rattle.report_lines.specs.declared.Family.{Family}
 use Rattle.replay.specs.Effects.{Effect, Prints}
 use Rattle.replay.specs.Text.{probe_line}
 

@@ -1,5 +1,4 @@
 pub mod Text
-pub mod Told
 pub mod JsonLines
 pub mod Effects
 pub mod Reports

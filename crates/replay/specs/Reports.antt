@@ -8,8 +8,9 @@ use Rattle.trace_file.specs.declared.TraceLine.{TraceLine}
 use Rattle.trace_file.specs.declared.TraceLine.TheVariants as line
 use Rattle.json_text.specs.JsonText.{json_line}
 use Rattle.replay.specs.Effects.{Setting, Effect, Prints}
-use Rattle.replay.specs.JsonLines.{behind, change_line, head_line}
-use Rattle.replay.specs.Text.{accepted_line, end_line, fault_line, packet_line, refused_line}
+use Rattle.replay.specs.JsonLines.{behind, change_line, head_line, shared_line}
+use Rattle.report_lines.specs.Text.{fault_line, family_version}
+use Rattle.replay.specs.Text.{accepted_line, end_line, packet_line, refused_line}
 
 -- The head of a report in JSON is due with the first line: that is the first commit's, or the last one.
 abbrev pub head_due : Setting → ℕ → Option TraceLine
@@ -24,20 +25,20 @@ abbrev pub opened : Setting → ℕ → List Change → List Effect
 opened setting commits batch =
     elim setting.json [
       | true ↦
-          Prints (behind (head_due setting commits) (json_line [] (line.Commit (commits + 1))))
-          ∷ map (λ change. Prints (json_line [] (change_line change))) batch
+          Prints (behind (head_due setting commits) (shared_line [] (line.Commit (commits + 1))))
+          ∷ map (λ change. Prints (json_line (family_version setting.family) [] (change_line change))) batch
       | false ↦ []
     ]
 
 -- the last line of a commit that finished: its numbers, or in JSON that it is done
 abbrev pub done_line : Bool → ℕ → Done → List ℕ
-done_line json commit counts = elim json [ true ↦ json_line [] (line.Done commit) | false ↦ accepted_line commit counts ]
+done_line json commit counts = elim json [ true ↦ shared_line [] (line.Done commit) | false ↦ accepted_line commit counts ]
 
 -- the line of a refused commit: the reason, and in JSON its number alone
 abbrev pub refusal_line : Setting → ℕ → Verdict → List ℕ
 refusal_line setting commits reason =
     elim setting.json [
-      | true ↦ behind (head_due setting commits) (json_line [] (line.Refused (commits + 1)))
+      | true ↦ behind (head_due setting commits) (shared_line [] (line.Refused (commits + 1)))
       | false ↦ refused_line setting.family (commits + 1) reason
     ]
 
@@ -46,7 +47,7 @@ refusal_line setting commits reason =
 abbrev pub end_told : Setting → ℕ → ℕ → ℕ → ℕ → ℕ → List ℕ
 end_told setting commits rules entries writes pending =
     elim setting.json [
-      | true ↦ behind (head_due setting commits) (json_line [] (line.End writes))
+      | true ↦ behind (head_due setting commits) (shared_line [] (line.End writes))
       | false ↦ end_line rules entries writes pending
     ]
 
@@ -54,6 +55,6 @@ end_told setting commits rules entries writes pending =
 abbrev pub fault_told : Setting → ℕ → ℕ → List ℕ → List ℕ
 fault_told setting commits number text =
     elim setting.json [
-      | true ↦ behind (head_due setting commits) (json_line text (line.Fault number))
+      | true ↦ behind (head_due setting commits) (shared_line text (line.Fault number))
       | false ↦ fault_line number text
     ]

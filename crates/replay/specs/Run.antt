@@ -20,8 +20,9 @@ use Rattle.readback.specs.Tasks.{Task}
 use Rattle.readback.specs.Stage.{IsCommitAt, IsTwinSlot}
 use Rattle.readback.specs.Going.{GoesOn, needs_drain, rest_insertions}
 use Rattle.batch_order.specs.Placing.{IsPlacedBy, IsRestPlacedBy}
-use Rattle.replay.specs.declared.Family.{Family}
-use Rattle.replay.specs.declared.Family.TheVariants.{Route, Acl, Route6, Acl6}
+use Rattle.script_runs.specs.Runs as runs
+use Rattle.report_lines.specs.declared.Family.{Family}
+use Rattle.report_lines.specs.declared.Family.TheVariants.{Route, Acl, Route6, Acl6}
 use Rattle.replay.specs.declared.Act.{Act}
 use Rattle.replay.specs.declared.Act.TheVariants.{Command, Probe, Packet, Commit, Trial, Crash}
 use Rattle.replay.specs.Effects.{Setting, Effect, Prints, effects_of, flushed, probes_told, waiting_after}
@@ -264,10 +265,7 @@ TakesMemory setting before (Crash after) effects =
 
 -- the acts one after the other
 abbrev pub Run : Setting → Progress → List Act → List Effect → Progress → Type 0
-Run setting old [] effects new = (effects ≡ []) × (new ≡ old)
-Run setting old (act ∷ acts) effects new =
-    (front : List Effect) × (mid : Progress) × (back : List Effect) × HasEffects setting old act front mid
-    × Run setting mid acts back new × (effects ≡ front ++ back)
+Run setting old acts effects new = runs.Run (HasEffects setting) old acts effects new
 
 -- all that a run does over a device of so many slots by its acts, before its last line
 abbrev pub Runs : Setting → ℕ → List Act → List Effect → Progress → Type 0

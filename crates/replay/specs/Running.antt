@@ -30,10 +30,10 @@ use Rattle.replay.specs.declared.fate.Fate.{Fate}
 use Rattle.replay.specs.declared.fate.Fate.TheVariants.{ToTheEnd, BackAfter, CrashAfter, RestartedAfter}
 use Rattle.replay.specs.declared.steps.Ended.{Ended}
 use Rattle.replay.specs.declared.steps.Ended.TheVariants as ended
-use Rattle.replay.specs.declared.Family.{Family}
-use Rattle.replay.specs.declared.Family.TheVariants.{Route, Acl, Route6, Acl6}
+use Rattle.report_lines.specs.declared.Family.{Family}
+use Rattle.report_lines.specs.declared.Family.TheVariants.{Route, Acl, Route6, Acl6}
 use Rattle.replay.specs.Effects.{Setting, Effect, effects_of, printed, probes_told, waiting_after}
-use Rattle.trace_file.specs.Forms.{IsTraceLine}
+use Rattle.trace_file.specs.Forms.{IsTraceLineOf}
 use Rattle.replay.specs.JsonLines.{change_line}
 use Rattle.replay.specs.Reports.{done_line}
 use Rattle.replay.specs.InFlight.{AreOf}
@@ -282,15 +282,15 @@ IsActOf family Commit = Unit {0}
 IsActOf family (Trial most) = Unit {0}
 IsActOf family (Crash after) = Unit {0}
 
--- An act that a report can tell. In JSON a command is one of a trace, whose numbers are within their limits, and there
+-- An act that a report can tell. In JSON a command is one of a trace of this version, whose numbers are within their limits, and there
 -- is no line for a trial and for a crash.
-abbrev pub IsToldIn : Bool → Act → Type 0
-IsToldIn json (Command change) = json ≡ true → IsTraceLine (change_line change)
-IsToldIn json (Probe key) = Unit {0}
-IsToldIn json (Packet key) = Unit {0}
-IsToldIn json Commit = Unit {0}
-IsToldIn json (Trial most) = json ≡ false
-IsToldIn json (Crash after) = json ≡ false
+abbrev pub IsToldIn : Bool → IpVersion → Act → Type 0
+IsToldIn json version (Command change) = json ≡ true → IsTraceLineOf version (change_line change)
+IsToldIn json version (Probe key) = Unit {0}
+IsToldIn json version (Packet key) = Unit {0}
+IsToldIn json version Commit = Unit {0}
+IsToldIn json version (Trial most) = json ≡ false
+IsToldIn json version (Crash after) = json ≡ false
 
 -- nothing is done, not of the run, of the device, or of the sink
 pub record IsUntouched (old new : Running) (events_old events_new : List Action) (taken_old taken_new : Option (List ℕ)) : Type 0 where

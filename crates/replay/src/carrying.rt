@@ -8,7 +8,8 @@ ghost use Rattle.batch_order.specs.Managed.{live_now};
 ghost use Rattle.replay.specs.Effects.{Effect};
 ghost use Rattle.replay.specs.Reports.{done_line, opened};
 ghost use Rattle.replay.specs.Run.{Progress};
-ghost use Rattle.replay.specs.Outside.{Leaves, WritesLine};
+ghost use Rattle.report_lines.specs.Outside.{WritesLine};
+ghost use Rattle.replay.specs.Outside.{Leaves};
 ghost use Rattle.replay.specs.Carried.{IsAt};
 ghost use Rattle.replay.specs.Fates.{IsToCrash, commit_act, crash_of};
 ghost use Rattle.replay.specs.Running.{act_outcome_of, AreLeft, LeavesWords, ended_line, progress_of, setting_of};
@@ -17,7 +18,7 @@ ghost use Rattle.replay.specs.Crashing.{ComesToCrash, HasMoreThan, IsAtCrash, Is
 
 use crate::RunFault;
 use crate::fate::Fate;
-use crate::json_report::write_json;
+use crate::json_report::write_shared;
 use crate::report::{write_aborted, write_accepted, write_restarted};
 use crate::run::Run;
 use crate::steps::{Ended, make_up_to, make_writes};
@@ -309,7 +310,7 @@ fn write_finished<K: Sink>(sink: &mut K, json: bool, commit: u32, done: &Done) -
     ensures { WritesLine K.taken K.accepted K.faults sink.old sink.new (done_line json commit done.now) result }
 {
     if json {
-        write_json(sink, &TraceLine::Done(commit))
+        write_shared(sink, &TraceLine::Done(commit))
     } else {
         write_accepted(sink, commit, done)
     }

@@ -2,13 +2,14 @@
 ghost use Rattle.std.specs.Prelude.{◌≡◌, ◌≤◌, [], length};
 ghost use Rattle.json_text.specs.JsonText.{json_line};
 ghost use Rattle.replay.specs.JsonLines as lines;
-ghost use Rattle.replay.specs.JsonLines.{behind, is_by_bits, is_list};
-ghost use Rattle.replay.specs.Outside.{WritesLine};
+ghost use Rattle.replay.specs.JsonLines.{behind, is_by_bits, is_list, shared_line};
+ghost use Rattle.report_lines.specs.Outside.{WritesLine};
 
 use crate::Family;
-use crate::report::write_text;
 use batch_order::Mode;
 use json_text::JsonLine;
+use report_lines::write_text;
+use rule_model::IpVersion;
 use rule_store::Command;
 use script_lines::{Failed, Sink};
 use tcam_device::Write;
@@ -19,6 +20,7 @@ pub(crate) fn head_line(family: Family, mode: Mode, slots: u32) -> TraceLine
     ensures { result ≡ lines.head_line family mode slots }
 {
     TraceLine::Head {
+        version: family.version(),
         acl: is_list(family),
         bits: is_by_bits(mode),
         slots,
@@ -67,14 +69,27 @@ pub(crate) fn journal_line(write: &Write) -> TraceLine
     }
 }
 
-/// Writes a line. Takes no memory. Where the sink fails, a part of the line was taken, perhaps none or all of it.
-pub(crate) fn write_json<K: Sink>(sink: &mut K, line: &TraceLine) -> Result<(), Failed>
-    ensures { WritesLine K.taken K.accepted K.faults sink.old sink.new (json_line [] line.now) result }
+/// Writes a line of a trace of this version. Takes no memory. Where the sink fails, a part of the line was taken, perhaps
+/// none or all of it.
+pub(crate) fn write_json<K: Sink>(
+    sink: &mut K,
+    version: IpVersion,
+    line: &TraceLine,
+) -> Result<(), Failed>
+    ensures { WritesLine K.taken K.accepted K.faults sink.old sink.new (json_line version [] line.now) result }
 {
-    write_text(sink, JsonLine::new(line, "").as_str())
+    write_text(sink, JsonLine::new(line, version, "").as_str())
 }
 
-/// Writes a line behind the head, where that is due, with the text of the fault of a line at fault, which has at most
+/// Writes a line without a rank, which both versions have alike. Takes no memory. Where the sink fails, a part of the line
+/// was taken, perhaps none or all of it.
+pub(crate) fn write_shared<K: Sink>(sink: &mut K, line: &TraceLine) -> Result<(), Failed>
+    ensures { WritesLine K.taken K.accepted K.faults sink.old sink.new (shared_line [] line.now) result }
+{
+    write_json(sink, IpVersion::V4, line)
+}
+
+/// Writes a line without a rank behind the head, where that is due, with the text of the fault of a line at fault, which has at most
 /// 32 bytes. Takes no memory. Where the sink fails, a part of this was taken, perhaps none or all of it.
 pub(crate) fn write_behind<K: Sink>(
     sink: &mut K,
@@ -83,13 +98,13 @@ pub(crate) fn write_behind<K: Sink>(
     fault: &str,
 ) -> Result<(), Failed>
     requires short { length fault.now ≤ 32 }
-    ensures { WritesLine K.taken K.accepted K.faults sink.old sink.new (behind head (json_line fault.now line.now)) result }
+    ensures { WritesLine K.taken K.accepted K.faults sink.old sink.new (behind head (shared_line fault.now line.now)) result }
 {
     match head {
-        None => write_text(sink, JsonLine::new(line, fault).as_str()),
+        None => write_text(sink, JsonLine::new(line, IpVersion::V4, fault).as_str()),
         Some(first) => {
-            write_json(sink, &first)?;
-            write_text(sink, JsonLine::new(line, fault).as_str())
+            write_shared(sink, &first)?;
+            write_text(sink, JsonLine::new(line, IpVersion::V4, fault).as_str())
         }
     }
 }

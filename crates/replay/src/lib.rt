@@ -15,8 +15,8 @@
 //! # How it stands
 //! `run` has the acts, `carrying` a commit from its first write to its line, `fate` what becomes of it, `steps` its
 //! loop, `watch` what is told after a write, `telling` what is told before the first write and at the end, `report` the
-//! lines, `report_line` how they are made of words, in fixed room, and `json_report` those in JSON. Each line goes to
-//! the sink, with its line feed, before the next effect. `laws` has what packets see over a crash.
+//! lines, made of the words of `report_lines`, and `json_report` those in JSON. Each line goes to the sink, with its line
+//! feed, before the next effect. `laws` has what packets see over a crash.
 //!
 //! # What it cost
 //! A line is written as soon as it is known, so a trace takes a call of the sink for each line. A failed line of a
@@ -98,18 +98,14 @@
 //!   its commands are within the limits of one (`IsToldIn`): else a line would tell of another rule than the one added.
 //! - **A trace line takes any write, of any tag.** The tag's number may have more bits than a `u128`, so its last digit
 //!   is reckoned apart. A trace of IPv6 names the rule instead, and prints all eleven lanes: the tag of a route has 136
-//!   bits, which no one looks up by hand. A line has room for 384 bytes, and the longest has 295.
+//!   bits, which no one looks up by hand.
 #![tactic(auto)]
-
-ghost use Rattle.std.specs.Prelude.{◌≡◌};
-ghost use Rattle.replay.specs.Text.{family_version};
 
 mod carrying;
 mod fate;
 mod json_report;
 mod laws;
 mod report;
-mod report_line;
 mod run;
 mod steps;
 mod telling;
@@ -117,8 +113,9 @@ mod watch;
 
 pub use batch_order::{Mode, Placement};
 pub use laws::crashed_parts_are_old_or_new;
-pub use report::{write_fault, write_no, write_text, write_yes};
-use rule_model::{IpVersion, Key};
+pub use report::{write_no, write_yes};
+pub use report_lines::{Family, write_fault, write_text};
+use rule_model::Key;
 use rule_store::Command;
 pub use run::Run;
 use std::alloc::AllocError;
@@ -127,33 +124,6 @@ use thiserror::Error;
 /// How often a device write is tried before its failure ends the run. A failure that passes, as of a busy bus, mostly
 /// has passed by then, and a lasting one is told soon.
 pub const TRIES: u32 = 4;
-
-/// What the rules of a script are, and of which version of IP. It decides how lines are read, how the report names
-/// rules, and which bounds hold: among routes nothing is crossed, and an insertion takes at most 33 writes of IPv4, 129
-/// of IPv6.
-#[derive(Clone, Copy, Debug, PartialEq, Eq)]
-pub enum Family {
-    /// Routes of IPv4, named by their prefix.
-    Route,
-    /// Rules of an access list of IPv4, named by their sequence number.
-    Acl,
-    /// Routes of IPv6, named by their prefix.
-    Route6,
-    /// Rules of an access list of IPv6, named by their sequence number.
-    Acl6,
-}
-
-impl Family {
-    /// The version of IP of its addresses, prefixes and frames.
-    pub fn version(self) -> IpVersion
-        ensures { result ≡ family_version self }
-    {
-        match self {
-            Family::Route | Family::Acl => IpVersion::V4,
-            Family::Route6 | Family::Acl6 => IpVersion::V6,
-        }
-    }
-}
 
 /// What one line of a script does.
 #[derive(Clone, Copy, Debug, PartialEq, Eq)]

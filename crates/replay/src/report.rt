@@ -1,16 +1,16 @@
 //! The lines of a report.
 //! What is said of a sink's bytes (`WritesLine`) holds of either count of them: of what it tells, and of what it
 //! accepted.
-ghost use Rattle.std.specs.Prelude.{◌≡◌, ◌<◌, ◌≤◌, [], ◌∷◌, ◌++◌, length};
-ghost use Rattle.replay.specs.Text.{packet_line, probe_line, write_line, drain_line, aborted_line, accepted_line, restarted_line, refused_line, fault_line, end_line, yes_line, no_line};
-ghost use Rattle.replay.specs.Told.{verdict_told};
-ghost use Rattle.replay.specs.Outside.{WritesLine};
+ghost use Rattle.std.specs.Prelude.{◌≡◌, ◌<◌, [], ◌∷◌, ◌++◌, length};
+ghost use Rattle.replay.specs.Text.{packet_line, probe_line, write_line, drain_line, aborted_line, accepted_line, restarted_line, refused_line, end_line, yes_line, no_line};
+ghost use Rattle.report_lines.specs.Told.{verdict_told};
+ghost use Rattle.report_lines.specs.Outside.{WritesLine};
 
 use crate::Family;
-use crate::report_line::{LINE_ROOM, ReportLine};
 use batch_order::{Done, Rejection};
+use report_lines::{LINE_ROOM, ReportLine};
 use rule_model::Rank;
-use script_lines::{Failed, Sink, write_all};
+use script_lines::{Failed, Sink};
 use tcam_device::Write;
 
 /// The numbers of a run that came to its end: rules of the set, their entries, device writes, and the changes that
@@ -194,15 +194,6 @@ pub fn write_refused<K: Sink>(
     refused(commit, family, rejection).write(sink)
 }
 
-/// Writes the line that names the fault of a script's line or a trace's, which is counted from 1. The fault's text has at most 32
-/// bytes. Takes no memory. Where the sink fails, a part of the line was taken, perhaps none or all of it.
-pub fn write_fault<K: Sink>(sink: &mut K, line: u64, fault: &str) -> Result<(), Failed>
-    requires short { length fault.now ≤ 32 }
-    ensures { WritesLine K.taken K.accepted K.faults sink.old sink.new (fault_line line fault.now) result }
-{
-    ReportLine::new("line").number(line).word(fault).write(sink)
-}
-
 /// Writes the last line of a run that came to its end. Takes no memory. Where the sink fails, a part of the line was
 /// taken, perhaps none or all of it.
 pub fn write_end<K: Sink>(sink: &mut K, totals: &Totals) -> Result<(), Failed>
@@ -230,12 +221,4 @@ pub fn write_no<K: Sink>(sink: &mut K, line: u64) -> Result<(), Failed>
     ensures { WritesLine K.taken K.accepted K.faults sink.old sink.new (no_line line) result }
 {
     ReportLine::new("no").word("line").number(line).write(sink)
-}
-
-/// Writes a text as it is, with no line feed of its own. Takes no memory. Where the sink fails, a part of the text was
-/// taken, perhaps none or all of it.
-pub fn write_text<K: Sink>(sink: &mut K, text: &str) -> Result<(), Failed>
-    ensures { WritesLine K.taken K.accepted K.faults sink.old sink.new text.now result }
-{
-    write_all(sink, text.as_bytes())
 }

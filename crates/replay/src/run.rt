@@ -6,12 +6,14 @@ ghost use Rattle.call_history.specs.Cause.{HasCause};
 ghost use Rattle.commit_writes.specs.InFlight.{AreCurrent};
 ghost use Rattle.batch_order.specs.CarriedOut.{HasRoomBothWays};
 ghost use Rattle.batch_order.specs.Managed.{live_now};
-ghost use Rattle.replay.specs.Told.{verdict_told};
+ghost use Rattle.report_lines.specs.Told.{verdict_told};
+ghost use Rattle.report_lines.specs.Text.{family_version};
 ghost use Rattle.replay.specs.Effects.{Effect};
 ghost use Rattle.replay.specs.Reports.{refusal_line};
 ghost use Rattle.replay.specs.Run.{Progress, ending};
 ghost use Rattle.replay.specs.Script.{limit_fault};
-ghost use Rattle.replay.specs.Outside.{Leaves, WritesLine};
+ghost use Rattle.report_lines.specs.Outside.{WritesLine};
+ghost use Rattle.replay.specs.Outside.{Leaves};
 ghost use Rattle.replay.specs.Carried.{IsAt};
 ghost use Rattle.replay.specs.Crashing.{memory_wanted};
 ghost use Rattle.replay.specs.Fates.{AnswersBroken, AnswersLost, IsCrash, IsFirst, IsToCrash, commit_act};
@@ -63,8 +65,8 @@ impl Run {
     /// A run before its first act, over a blank device with so many slots in use, 1 to 4,096: no rules, no probe, and
     /// no change pending. The mode says how port ranges are tested, and each insertion aims where the placement says.
     /// With a trace each write of a commit has its line. The words of the probes are searched a depth of writes after
-    /// the one that they were made behind, at most 15. In JSON, which is for families of IPv4, the report has the lines
-    /// of a trace file: its head before its first line; of each accepted commit its number, its commands, its writes and
+    /// the one that they were made behind, at most 15. In JSON the report has the lines of a trace file of the family's
+    /// version of IP: its head before its first line; of each accepted commit its number, its commands, its writes and
     /// drains, and that it is done; the number of a refused one; and a last line. Neither a trace nor a probe or packet
     /// adds to it. It fails only for want of memory.
     pub fn new(
@@ -80,7 +82,6 @@ impl Run {
         requires least { 1 ≤ slots }
         requires most { slots ≤ MOST_SLOTS }
         requires depth { depth ≤ 15 }
-        requires json { json ≡ true → (family ≡ Family.Route) ⊎ (family ≡ Family.Acl) }
         ensures { IfOk result (λ run. run ≡ begun slots mode placement family trace depth json) }
     {
         Ok(Run {
@@ -121,8 +122,9 @@ impl Run {
 
     /// Carries out an act of a script of the run's family, over a device with at least as many slots as the run uses.
     /// In a script of routes each rule that is added is one of an IPv4 prefix. A run that reports in JSON takes neither
-    /// a trial nor a crash, and of commands those whose numbers are within the limits of a trace. The device is where the run stands: it was blank before the first act, and nobody else has
-    /// written it since. The run has made fewer than 16,777,216 commits.
+    /// a trial nor a crash, and of commands those whose numbers are within the limits of a trace. The device is where the
+    /// run stands: it was blank before the first act, and nobody else has written it since. The run has made fewer than
+    /// 16,777,216 commits.
     ///
     /// A change joins the pending batch. With 4,096 changes pending the answer is `BatchFull`, and nothing has
     /// changed. A probe is looked up after each later write. With 16 probes the answer is `ProbesFull`, and nothing has
@@ -167,7 +169,7 @@ impl Run {
         requires slots { self.old.manager.slots ≤ D.slot_count device.old }
         requires none_in_flight { self.old.manager.held ≡ None → D.flight device.old ≡ [] }
         requires act { IsActOf self.old.family act.now }
-        requires told { IsToldIn self.old.json act.now }
+        requires told { IsToldIn self.old.json (family_version self.old.family) act.now }
         requires whole { self.old.broken ≡ false }
         requires stands { IsCrash act.now → IsAt (D.slot_count device.old) (D.events device.old) (progress_of (D.slot_count device.old) self.old) }
         requires commits { self.old.commits < 2 ^ 24 }
@@ -258,7 +260,7 @@ impl Run {
         requires slots { self.old.manager.slots ≤ D.slot_count device.old }
         requires none_in_flight { D.flight device.old ≡ [] }
         requires act { IsActOf self.old.family act.now }
-        requires told { IsToldIn self.old.json act.now }
+        requires told { IsToldIn self.old.json (family_version self.old.family) act.now }
         requires idle { self.old.manager.held ≡ None }
         requires whole { self.old.broken ≡ false }
         requires stands { IsCrash act.now → IsAt (D.slot_count device.old) (D.events device.old) (progress_of (D.slot_count device.old) self.old) }

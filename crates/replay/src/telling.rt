@@ -2,16 +2,18 @@
 
 ghost use Rattle.std.specs.Prelude.{ℕ, ◌≡◌, ◌<◌, ◌≤◌, ◌^◌, true, length};
 ghost use Rattle.json_text.specs.JsonText.{IsPlainText};
-ghost use Rattle.replay.specs.Told.{verdict_told};
+ghost use Rattle.report_lines.specs.Told.{verdict_told};
 ghost use Rattle.replay.specs.Reports.{fault_told, head_due, opened, refusal_line};
 ghost use Rattle.replay.specs.Run.{ending};
-ghost use Rattle.replay.specs.Outside.{WritesLine, WritesLines};
+ghost use Rattle.report_lines.specs.Outside.{WritesLine};
+ghost use Rattle.replay.specs.Outside.{WritesLines};
 ghost use Rattle.replay.specs.Running.{IsRun, progress_of, setting_of};
 
 use crate::json_report::{change_line, head_line, write_behind, write_json};
-use crate::report::{Totals, write_end, write_fault, write_refused};
+use crate::report::{Totals, write_end, write_refused};
 use crate::run::Run;
 use batch_order::Rejection;
+use report_lines::write_fault;
 use script_lines::{Failed, Sink};
 use trace_file::TraceLine;
 
@@ -37,8 +39,9 @@ impl Run {
     {
         let line = TraceLine::Commit(self.commits + 1);
         write_behind(sink, self.head_due(), &line, "")?;
+        let version = self.watch.family().version();
         for place in 0..self.pending.len() {
-            write_json(sink, &change_line(&self.pending.at(place)))?;
+            write_json(sink, version, &change_line(&self.pending.at(place)))?;
         }
         Ok(())
     }

@@ -13,7 +13,7 @@ ghost use Rattle.replay.specs.Outside.{WritesLines};
 ghost use Rattle.replay.specs.Script.{most_probes};
 
 use crate::Family;
-use crate::json_report::{journal_line, write_json};
+use crate::json_report::{journal_line, write_json, write_shared};
 use crate::report::{write_drain, write_probe, write_trace};
 use rule_model::{Key, key_fields};
 use script_lines::{Failed, Sink};
@@ -165,7 +165,7 @@ impl Watch {
         ensures { WritesLines K.taken K.accepted K.faults sink.old sink.new (write_told self.now.json self.now.trace self.now.family number write.now) result }
     {
         if self.json {
-            return write_json(sink, &journal_line(write));
+            return write_json(sink, self.family.version(), &journal_line(write));
         }
         if self.trace {
             write_trace(sink, self.family, number, write)?;
@@ -178,7 +178,7 @@ impl Watch {
         ensures { WritesLines K.taken K.accepted K.faults sink.old sink.new (drain_told self.now.json self.now.trace number) result }
     {
         if self.json {
-            return write_json(sink, &TraceLine::Drain);
+            return write_shared(sink, &TraceLine::Drain);
         }
         if self.trace {
             write_drain(sink, number)?;

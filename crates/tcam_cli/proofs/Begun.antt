@@ -5,7 +5,7 @@ use Rattle.rule_model.specs.declared.words.Entry.{Entry}
 use Rattle.rule_store.specs.declared.Mode.{Mode}
 use Rattle.tcam_device.specs.State.{blank}
 use Rattle.batch_order.specs.declared.Placement.{Placement}
-use Rattle.replay.specs.declared.Family.{Family}
+use Rattle.report_lines.specs.declared.Family.{Family}
 use Rattle.replay.specs.Run.{Progress, start}
 use Rattle.replay.specs.Running.{begun, progress_of}
 

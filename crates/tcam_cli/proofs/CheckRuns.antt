@@ -2,7 +2,7 @@
 use Rattle.std.proofs.Common.{◌≡◌, ℕ, Option, Some, List, [], refl}
 use Rattle.script_lines.specs.Given.{GivesPieces}
 use Rattle.tcam_device.specs.declared.Action.{Action}
-use Rattle.tcam_cli.specs.declared.Status.{Status}
+use Rattle.script_runs.specs.declared.Status.{Status}
 use Rattle.tcam_cli.specs.Headline.{Verifies}
 use Rattle.tcam_cli.specs.Given.{IsPromisedByGiven}
 use Rattle.tcam_cli.proofs.Checks.{ShownAlways, checked-carried, checked-ends}

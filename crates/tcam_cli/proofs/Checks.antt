@@ -11,15 +11,17 @@ use Rattle.script_lines.proofs.Turns.{may-told, may-all}
 use Rattle.tcam_device.specs.declared.Action.{Action}
 use Rattle.replay.proofs.between.Leaving.{uncounted}
 use Rattle.trace_check.specs.Answers.{TraceAnswer, Yes, No, Bad, Unread, IsTraceAnswer}
-use Rattle.trace_check.proofs.AnyMode.{yes_is_hitless}
 use Rattle.trace_verify.specs.declared.Verified.{Verified}
 use Rattle.trace_verify.specs.declared.Verified.TheVariants as verified
 use Rattle.trace_verify.specs.Verify.{IsHitlessText, VerifiesBy}
-use Rattle.tcam_cli.specs.declared.Status.{Status}
-use Rattle.tcam_cli.specs.declared.Status.TheVariants.{Done, Refused, Script as ScriptFault, ReadFault, WriteFault, DeviceFault, Memory, Usage}
-use Rattle.tcam_cli.specs.Headline.{Verifies, IsPrinted, IsToldOf, IsCarriedOut, MayEnd, told_line, told_status}
+use Rattle.trace_verify.proofs.Hitless.{yes-hitless}
+use Rattle.script_runs.specs.declared.Status.{Status}
+use Rattle.script_runs.specs.declared.Status.TheVariants.{Done, Refused, Script as ScriptFault, ReadFault, WriteFault, DeviceFault, Memory, Usage}
+use Rattle.script_runs.specs.Outcomes.{IsPrinted}
+use Rattle.tcam_cli.specs.Headline.{Verifies, IsToldOf, IsCarriedOut, MayEnd, told_line, told_status}
 use Rattle.tcam_cli.specs.Given.{ReadsInTime}
-use Rattle.tcam_cli.specs.Rounds.{Closes, ClosesReport, Reports}
+use Rattle.script_runs.specs.Rounds.{Closes}
+use Rattle.tcam_cli.specs.Rounds.{ClosesReport, Reports}
 
 -- ---- what the status says
 
@@ -30,7 +32,7 @@ not-done line last status report other (inr (inr printed)) done = let bad : Memo
 
 -- what a yes says
 pub told-hitless : (text : List ℕ) (status : Status) (report : List ℕ) → IsToldOf text status report → status ≡ Done → (commits : ℕ) × (writes : ℕ) × IsHitlessText text commits writes
-told-hitless text status report (inl (Yes commits writes, is, printed)) done = (commits, writes, yes_is_hitless text commits writes is)
+told-hitless text status report (inl (Yes commits writes, is, printed)) done = (commits, writes, yes-hitless text commits writes is)
 told-hitless text status report (inl (No line, is, printed)) done = absurd (not-done (told_line (No line)) Refused status report (λ e. absurd (cc)) printed done)
 told-hitless text status report (inl (Bad line, is, printed)) done = absurd (not-done (told_line (Bad line)) ScriptFault status report (λ e. absurd (cc)) printed done)
 told-hitless text status report (inl (Unread fault, is, printed)) done = absurd (not-done (told_line (Unread fault)) ScriptFault status report (λ e. absurd (cc)) printed done)

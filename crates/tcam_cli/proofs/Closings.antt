@@ -1,11 +1,11 @@
 -- A line that is written whole or in part closes a report.
 use Rattle.std.proofs.Common.{◌≡◌, ◌≢◌, inl, inr, ap, true, false, ℕ, Option, List, Result, Ok, Err, refl, sym, ◌∙◌, subst}
 use Rattle.std.specs.Prelude.{MatchResult}
-use Rattle.replay.specs.Outside.{WritesLine}
+use Rattle.report_lines.specs.Outside.{WritesLine}
 use Rattle.replay.specs.Run.{Progress}
-use Rattle.replay.specs.Script.{Whole}
-use Rattle.tcam_cli.specs.declared.Status.{Status}
-use Rattle.tcam_cli.specs.declared.Status.TheVariants.{Done, Refused, WriteFault}
+use Rattle.script_runs.specs.Script.{Whole}
+use Rattle.script_runs.specs.declared.Status.{Status}
+use Rattle.script_runs.specs.declared.Status.TheVariants.{Done, Refused, WriteFault}
 use Rattle.tcam_cli.specs.Headline.{status_of}
 use Rattle.tcam_cli.specs.Rounds.{ClosesReport}
 

@@ -5,7 +5,7 @@ use Rattle.slot_order.specs.Order.{most_slots}
 use Rattle.clap.proofs.OnLiterals.{clap_on_literals}
 use Rattle.rule_store.specs.declared.Mode.TheVariants.{Cover, Bits}
 use Rattle.batch_order.specs.declared.Placement.TheVariants.{Middle, Rank}
-use Rattle.replay.specs.declared.Family.TheVariants.{Route, Acl, Route6, Acl6}
+use Rattle.report_lines.specs.declared.Family.TheVariants.{Route, Acl, Route6, Acl6}
 use Rattle.tcam_cli.specs.CommandLine.{acl_app, depth_option, gen_app, job_of, number_position, placement_option, ranges_option, route_app, script_setting, slots_option, tcam_app, tcam_top, trace_flag, json_flag, verify_app}
 use Rattle.tcam_cli.specs.Headline.{NoJob, Tells, Reads, Makes, Verifies}
 use Rattle.tcam_cli.specs.OwnTexts.{acl_help, acl6_help, gen_help, help_text, route_help, verify_help, version_text}
@@ -127,9 +127,9 @@ lists-in-json : job_of (codes "tcam" ∷ codes "acl" ∷ codes "--json" ∷ code
 unfolding the_declaration
 lists-in-json = refl
 
-no-json-of-six : job_of (codes "tcam" ∷ codes "route6" ∷ codes "--json" ∷ []) ≡ NoJob
+json-of-six : job_of (codes "tcam" ∷ codes "route6" ∷ codes "--json" ∷ []) ≡ Reads (script_setting Route6 most_slots Cover Middle false 0 true)
 unfolding the_declaration
-no-json-of-six = refl
+json-of-six = refl
 
 traced-by-a-value : job_of (codes "tcam" ∷ codes "route" ∷ codes "--trace=true" ∷ []) ≡ NoJob
 unfolding the_declaration

@@ -1,8 +1,9 @@
 -- Corners of where a script ends.
 use Rattle.std.proofs.Common.{◌≡◌, ℕ, zero, suc, List, [], ◌∷◌, ◌++◌, replicate, length, refl}
 use Rattle.std.specs.Prelude.{codes}
-use Rattle.replay.specs.declared.Family.TheVariants.{Route, Acl}
-use Rattle.replay.specs.Script.{ScriptEnd, Whole, FaultAt, script_of}
+use Rattle.report_lines.specs.declared.Family.TheVariants.{Route, Acl}
+use Rattle.script_runs.specs.Script.{ScriptEnd, Whole, FaultAt}
+use Rattle.replay.specs.Script.{script_of}
 use Rattle.tcam_cli.specs.Readings.{reading}
 use Rattle.tcam_cli.specs.Headline.{script_so_far}
 

@@ -5,18 +5,20 @@ use Rattle.std.specs.List.{IsDistinct}
 use Rattle.std.specs.Fmt.{digits}
 use Rattle.rule_store.specs.declared.Mode.TheVariants.{Cover}
 use Rattle.rule_store.specs.Verdict.{OutOfSlots}
-use Rattle.replay.specs.declared.Family.TheVariants.{Route, Acl}
+use Rattle.report_lines.specs.declared.Family.TheVariants.{Route, Acl}
 use Rattle.replay.specs.declared.Act.{Act}
 use Rattle.replay.specs.declared.Act.TheVariants.{Command, Commit}
 use Rattle.rule_store.specs.declared.Command.TheVariants.{Add, Set, Del}
 use Rattle.rule_model.specs.AddressBlock.{ipv4_block}
 use Rattle.rule_model.specs.Rank.{ipv4_route_rank, list_rank}
 use Rattle.rule_model.specs.Rule.{route_rule}
-use Rattle.replay.specs.Script.{Whole, script_of}
-use Rattle.replay.specs.Text.{accepted_line, refused_line, fault_line}
+use Rattle.script_runs.specs.Script.{Whole}
+use Rattle.replay.specs.Script.{script_of}
+use Rattle.replay.specs.Text.{accepted_line, refused_line}
+use Rattle.report_lines.specs.Text.{fault_line}
 use Rattle.replay.specs.Effects.{Setting, Prints}
 use Rattle.replay.specs.Run.{Progress, start, ending, after_refusal, after_segment}
-use Rattle.tcam_cli.specs.declared.Status.TheVariants.{Done, Refused, Script as ScriptFault, Usage}
+use Rattle.script_runs.specs.declared.Status.TheVariants.{Done, Refused, Script as ScriptFault, Usage}
 use Rattle.std.proofs.lemmas.Option.{none-some}
 use Rattle.std.proofs.Math.Seq.{take-nil}
 use Rattle.slot_order.proofs.Lists.{contains_none}

@@ -8,8 +8,8 @@ use Rattle.replay.specs.declared.RunFault.{RunFault}
 use Rattle.replay.specs.declared.RunFault.TheVariants as fault
 use Rattle.replay.specs.Outside.{Leaves}
 use Rattle.replay.proofs.between.Leaving.{leaves-as, leaves-line, leaves-then}
-use Rattle.tcam_cli.specs.declared.Status.{Status}
-use Rattle.tcam_cli.specs.declared.Status.TheVariants.{WriteFault, DeviceFault}
+use Rattle.script_runs.specs.declared.Status.{Status}
+use Rattle.script_runs.specs.declared.Status.TheVariants.{WriteFault, DeviceFault}
 use Rattle.tcam_cli.specs.Rounds.{ClosesReport, status_of_fault}
 
 sink-fault : (why : RunFault) → status_of_fault why ≡ WriteFault → why ≡ fault.Sink

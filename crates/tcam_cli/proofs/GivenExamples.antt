@@ -6,10 +6,10 @@ use Rattle.script_lines.specs.Given.{HasEnd, MayGive}
 use Rattle.tcam_device.specs.declared.Action.{Action}
 use Rattle.rule_store.specs.declared.Mode.TheVariants.{Cover}
 use Rattle.batch_order.specs.declared.Placement.TheVariants.{Middle}
-use Rattle.replay.specs.declared.Family.TheVariants.{Route}
+use Rattle.report_lines.specs.declared.Family.TheVariants.{Route}
 use Rattle.replay.specs.Effects.{Setting}
-use Rattle.tcam_cli.specs.declared.Status.{Status}
-use Rattle.tcam_cli.specs.declared.Status.TheVariants.{Done, Refused, Script as ScriptFault}
+use Rattle.script_runs.specs.declared.Status.{Status}
+use Rattle.script_runs.specs.declared.Status.TheVariants.{Done, Refused, Script as ScriptFault}
 use Rattle.tcam_cli.specs.CommandLine.{script_setting}
 use Rattle.tcam_cli.specs.Headline.{Reads, MayEnd}
 use Rattle.tcam_cli.specs.Given.{IsPromisedByGiven}

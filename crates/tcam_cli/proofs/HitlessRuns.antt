@@ -10,25 +10,28 @@ use Rattle.tcam_device.specs.State.{State, apply, blank, state_after}
 use Rattle.rule_model.specs.RuleSet.{answer}
 use Rattle.replay.specs.declared.Act.{Act}
 use Rattle.replay.specs.declared.Act.TheVariants.{Command, Probe, Packet, Commit, Trial, Crash}
-use Rattle.replay.specs.Script.{Script, Whole, script_of}
+use Rattle.script_runs.specs.Script.{Whole, acts_of}
+use Rattle.replay.specs.Script.{Script, script_kind, script_of}
 use Rattle.replay.specs.Effects.{Setting, Effect, Acts, Prints, journal_of, traced, drain_told, write_told, searches_of, flushed, searched_after, waiting_after, effects_of}
 use Rattle.replay.specs.Fates.{IsCrash}
 use Rattle.replay.specs.Run.{Progress, start, Commits, Tries, Crashes, actions_back, actions_before, actions_for, actions_over, carried, IsCutBeforeCrash, IsCutInStep, IsCutStep, Judged, HasEffects, Runs, TakesMemory}
 use Rattle.replay.specs.Text.{aborted_line, drain_line, restarted_line, write_line}
 use Rattle.replay.specs.Reports.{done_line, packet_told}
-use Rattle.tcam_cli.specs.declared.Status.{Status}
-use Rattle.tcam_cli.specs.declared.Status.TheVariants.{Done, Refused, Script as ScriptFault, ReadFault, WriteFault, DeviceFault, Memory, Usage}
+use Rattle.script_runs.specs.declared.Status.{Status}
+use Rattle.script_runs.specs.declared.Status.TheVariants.{Done, Refused, Script as ScriptFault, ReadFault, WriteFault, DeviceFault, Memory, Usage}
 use Rattle.tcam_cli.proofs.Checks.{told-hitless}
-use Rattle.tcam_cli.specs.Headline.{Job, NoJob, Tells, Reads, Makes, Verifies, acts_of, script_so_far, IsAtAct, IsComplete, IsEffectDue, IsOutcome, IsOutOfMemory, IsOutOfMemoryAtAct, IsCarriedOut}
+use Rattle.script_runs.specs.Outcomes.{IsAtAct, IsEffectDue, IsOutOfMemory, IsOutOfMemoryAtAct}
+use Rattle.tcam_cli.specs.Headline.{Job, NoJob, Tells, Reads, Makes, Verifies, run_kind, script_so_far, IsComplete, IsOutcome, IsCarriedOut}
 use Rattle.tcam_cli.specs.MadeScript.{made_script}
 use Rattle.tcam_cli.specs.Readings.{reading_by}
 use Rattle.tcam_cli.specs.AllTheWay.{sets_through, sets_of, AnswersAllTheWay, EndsAtLast, EndsAfter, CrashesNowhere, EndsAfterSome, IsNoProbe, TellsNoWrite, IsHitlessRun, IsHitlessJob}
 use Rattle.replay.proofs.lines.Effects.{written-append}
 use Rattle.replay.proofs.lines.Opened.{carried-words, so_far-words}
 use Rattle.tcam_cli.proofs.OneMore.{run-more, none-probed}
-use Rattle.tcam_cli.proofs.AllTheWay.{RunGoes, cut-answers, more-sets, run-goes, same-sets, wider}
+use Rattle.tcam_cli.proofs.LedSets.{more-sets, same-sets}
+use Rattle.tcam_cli.proofs.AllTheWay.{RunGoes, cut-answers, run-goes, wider}
 use Rattle.tcam_cli.proofs.CutCrash.{AsCommit, cut-as_commit, stops-as_commit}
-use Rattle.tcam_cli.proofs.FirstActs.{AreFirstActs, first-acts}
+use Rattle.script_runs.proofs.FirstActs.{AreFirstActs, first-acts}
 
 -- with some trials taken back
 abbrev AnswersSome : Setting → ℕ → Script → List Write → Type 0
@@ -43,15 +46,15 @@ complete setting slots script status effects is =
     (goes.0, both.0, both.1)
 
 -- a run that is cut in the middle of an act, by all that this would have done
-abbrev WholeAct : (setting : Setting) (slots : ℕ) (script : Script) (effects : List Effect) (due : Effect) (at : IsAtAct setting slots script effects due) → IsCutInStep setting at.before at.act at.front due → Type 0
+abbrev WholeAct : (setting : Setting) (slots : ℕ) (script : Script) (effects : List Effect) (due : Effect) (at : IsAtAct (run_kind setting slots) script effects due) → IsCutInStep setting at.before at.act at.front due → Type 0
 WholeAct setting slots script effects due at cut = (backs : List Bool) × RunGoes setting slots backs (at.done ++ at.act ∷ []) (at.body ++ (at.front ++ due ∷ cut.back))
 
-whole-act : (setting : Setting) (slots : ℕ) (script : Script) (effects : List Effect) (due : Effect) (at : IsAtAct setting slots script effects due) (cut : IsCutInStep setting at.before at.act at.front due) → WholeAct setting slots script effects due at cut
+whole-act : (setting : Setting) (slots : ℕ) (script : Script) (effects : List Effect) (due : Effect) (at : IsAtAct (run_kind setting slots) script effects due) (cut : IsCutInStep setting at.before at.act at.front due) → WholeAct setting slots script effects due at cut
 whole-act setting slots script effects due at cut =
     run-goes setting slots (at.done ++ at.act ∷ []) (at.body ++ (at.front ++ due ∷ cut.back)) cut.after
     (run-more setting slots at.done at.body at.before at.act (at.front ++ due ∷ cut.back) cut.after at.run cut.step)
 
-in-step : (setting : Setting) (slots : ℕ) (script : Script) (effects : List Effect) (due : Effect) (at : IsAtAct setting slots script effects due) (cut : IsCutInStep setting at.before at.act at.front due) (whole : WholeAct setting slots script effects due at cut)
+in-step : (setting : Setting) (slots : ℕ) (script : Script) (effects : List Effect) (due : Effect) (at : IsAtAct (run_kind setting slots) script effects due) (cut : IsCutInStep setting at.before at.act at.front due) (whole : WholeAct setting slots script effects due at cut)
     → AnswersAllTheWay (blank slots) (sets_of setting whole.0 script) (journal_of effects)
 in-step setting slots script effects due at cut whole =
     subst (λ effects. AnswersAllTheWay (blank slots) (sets_of setting whole.0 script) (journal_of effects)) (sym at.effects_are)
@@ -69,7 +72,7 @@ as-commits setting slots script done after later body front before acts run whol
     )
 
 -- the writes before a crash
-before-crash : (setting : Setting) (slots : ℕ) (script : Script) (effects : List Effect) (due : Effect) (at : IsAtAct setting slots script effects due) → IsCutBeforeCrash setting at.before at.act at.front due
+before-crash : (setting : Setting) (slots : ℕ) (script : Script) (effects : List Effect) (due : Effect) (at : IsAtAct (run_kind setting slots) script effects due) → IsCutBeforeCrash setting at.before at.act at.front due
     → AnswersSome setting slots script (journal_of effects)
 before-crash setting slots script effects due at cut =
     let whole = cut-as_commit setting at.before at.act at.front due cut in
@@ -82,14 +85,14 @@ before-crash setting slots script effects due at cut =
     subst (λ effects. AnswersSome setting slots script (journal_of effects)) (sym at.effects_are)
     (as-commits setting slots script at.done cut.after at.later at.body at.front at.before acts at.run first)
 
-at-act : (setting : Setting) (slots : ℕ) (script : Script) (effects : List Effect) (due : Effect) (at : IsAtAct setting slots script effects due) → AnswersSome setting slots script (journal_of effects)
+at-act : (setting : Setting) (slots : ℕ) (script : Script) (effects : List Effect) (due : Effect) (at : IsAtAct (run_kind setting slots) script effects due) → AnswersSome setting slots script (journal_of effects)
 at-act setting slots script effects due at = go at.cut
   where
     go : IsCutStep setting at.before at.act at.front due → AnswersSome setting slots script (journal_of effects)
     go (inl cut) = let whole = whole-act setting slots script effects due at cut in (whole.0, in-step setting slots script effects due at cut whole)
     go (inr cut) = before-crash setting slots script effects due at cut
 
-at-due : (setting : Setting) (slots : ℕ) (script : Script) (effects : List Effect) (due : Effect) → IsEffectDue setting slots script effects due → AnswersSome setting slots script (journal_of effects)
+at-due : (setting : Setting) (slots : ℕ) (script : Script) (effects : List Effect) (due : Effect) → IsEffectDue (run_kind setting slots) script effects due → AnswersSome setting slots script (journal_of effects)
 at-due setting slots script effects due (inl at) = at-act setting slots script effects due at
 at-due setting slots script effects due (inr end) = let goes = run-goes setting slots (acts_of script) effects end.last end.run in (goes.0, goes.1.0)
 
@@ -136,7 +139,7 @@ has-crash : (done : List Act) (after : ℕ) (later : List Act) → AllByRecursio
 has-crash [] after later nowhere = nowhere.0 tt
 has-crash (act ∷ done) after later nowhere = has-crash done after later nowhere.1
 
-wants-at : (setting : Setting) (slots : ℕ) (script : Script) (effects : List Effect) (at : IsOutOfMemoryAtAct setting slots script effects) → WantsMemory setting slots script (journal_of effects)
+wants-at : (setting : Setting) (slots : ℕ) (script : Script) (effects : List Effect) (at : IsOutOfMemoryAtAct (run_kind setting slots) script effects) → WantsMemory setting slots script (journal_of effects)
 wants-at setting slots script effects at = subst (λ effects. WantsMemory setting slots script (journal_of effects)) (sym at.effects_are) (by at.act at.acts at.front at.needs)
   where
     nothing : (act : Act) → acts_of script ≡ at.done ++ act ∷ at.later → (front : List Effect) → front ≡ [] → WantsMemory setting slots script (journal_of (at.body ++ front))
@@ -155,7 +158,7 @@ wants-at setting slots script effects at = subst (λ effects. WantsMemory settin
         let some = as-commits setting slots script at.done after at.later at.body front at.before acts at.run (stops-as_commit setting at.before after front accepted stops) in
         (some.0, some.1, λ nowhere. absurd (has-crash at.done after at.later (subst (AllByRecursion (λ act. IsCrash act → ⊥)) acts nowhere)))
 
-for-memory : (setting : Setting) (slots : ℕ) (script : Script) (effects : List Effect) → IsOutOfMemory setting slots script effects → WantsMemory setting slots script (journal_of effects)
+for-memory : (setting : Setting) (slots : ℕ) (script : Script) (effects : List Effect) → IsOutOfMemory (run_kind setting slots) script effects → WantsMemory setting slots script (journal_of effects)
 for-memory setting slots script effects (inl none) = wants-none setting slots script [] (acts_of script) effects (start slots) refl (none, refl)
 for-memory setting slots script effects (inr at) = wants-at setting slots script effects at
 
@@ -272,7 +275,7 @@ abbrev LineFails : Setting → ℕ → Script → List Write → Type 0
 LineFails setting slots script writes =
     (backs : List Bool) × AnswersAllTheWay (blank slots) (sets_of setting backs script) writes × (TellsNoWrite setting script → EndsAfterSome (blank slots) setting backs script writes)
 
-at-line : (setting : Setting) (slots : ℕ) (script : Script) (effects : List Effect) (line : List ℕ) → IsEffectDue setting slots script effects (Prints line) → LineFails setting slots script (journal_of effects)
+at-line : (setting : Setting) (slots : ℕ) (script : Script) (effects : List Effect) (line : List ℕ) → IsEffectDue (run_kind setting slots) script effects (Prints line) → LineFails setting slots script (journal_of effects)
 at-line setting slots script effects line (inl at) = go at.cut
   where
     probes-none : TellsNoWrite setting script → at.before.probes ≡ []
@@ -349,7 +352,7 @@ hitless-job (Reads setting) slots status (Some old) (Some new) taken_old taken_n
     let n = length old - length new in
     let came : Script = script_so_far (reading_by setting) (take n old) in
     let first : came.last ≡ Whole → AreFirstActs (acts_of came) (acts_of (script_of (reading_by setting) old)) =
-    λ sound. subst (λ bytes. AreFirstActs (acts_of came) (acts_of (script_of (reading_by setting) bytes))) (take-append-drop n old) (first-acts (reading_by setting) (take n old) (drop n old) sound) in
+    λ sound. subst (λ bytes. AreFirstActs (acts_of came) (acts_of (script_of (reading_by setting) bytes))) (take-append-drop n old) (first-acts (script_kind (reading_by setting)) (take n old) (drop n old) sound) in
     subst (λ writes. IsHitlessRun setting slots (script_of (reading_by setting) old) came status writes) (sym (ap writes_in is.1.events_is))
     (outcome_answers setting slots (script_of (reading_by setting) old) came status is.1.effects is.1.partial first is.1.outcome)
 hitless-job (Makes setting seed rules batches) slots status left_old left_new taken_old taken_new events is =

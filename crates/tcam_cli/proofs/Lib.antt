@@ -5,13 +5,13 @@ mod ArgumentRows
 mod TakenRows
 pub mod NumbersTaken
 mod Words
-mod WholeLines
 mod RouteLines
+mod Ipv6Lines
 mod TracedLines
 pub mod ToldLines
+mod Kind
 mod OneMore
 mod Decided
-mod Endings
 mod Outcomes
 mod MadeRuns
 mod FaultCounts
@@ -24,9 +24,9 @@ mod Corners
 mod Examples
 mod Wrong
 mod Padded
+mod LedSets
 mod AllTheWay
 mod CutCrash
-mod FirstActs
 mod Checks
 mod HitlessRuns
 mod CheckRuns

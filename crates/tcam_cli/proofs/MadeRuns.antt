@@ -14,20 +14,25 @@ use Rattle.replay.specs.declared.ActFault.{ActFault}
 use Rattle.replay.specs.declared.RunFault.{RunFault}
 use Rattle.replay.specs.declared.RunFault.TheVariants as run_fault
 use Rattle.rule_store.specs.Batch.{most_pending}
-use Rattle.replay.specs.Script.{Whole, limit_fault, pending_after}
+use Rattle.script_runs.specs.Script.{Whole, acts_of}
+use Rattle.replay.specs.Script.{limit_fault, pending_after}
 use Rattle.replay.specs.Effects.{Setting, Effect, events_in, printed}
 use Rattle.replay.specs.Run.{Progress, Runs, ending, start}
 use Rattle.replay.specs.Carried.{IsAt, Carries}
 use Rattle.replay.specs.Fates.{IsCrash}
 use Rattle.replay.specs.Running.{limit_text}
-use Rattle.tcam_cli.specs.declared.Status.{Status}
-use Rattle.tcam_cli.specs.declared.Status.TheVariants.{Done, Refused, Script as ScriptFault, ReadFault, WriteFault, DeviceFault, Memory, Usage}
-use Rattle.tcam_cli.specs.Headline.{IsCarriedOut, Makes, MayEnd, acts_of, status_of}
+use Rattle.script_runs.specs.declared.Status.{Status}
+use Rattle.script_runs.specs.declared.Status.TheVariants.{Done, Refused, Script as ScriptFault, ReadFault, WriteFault, DeviceFault, Memory, Usage}
+use Rattle.tcam_cli.specs.Headline.{IsCarriedOut, Makes, MayEnd, run_kind, status_of}
 use Rattle.tcam_cli.specs.MadeScript.{made_act, made_numbered, made_script}
-use Rattle.tcam_cli.specs.Rounds.{Closes, status_of_fault}
+use Rattle.script_runs.specs.Rounds.{Closes}
+use Rattle.tcam_cli.specs.Rounds.{status_of_fault}
 use Rattle.tcam_cli.proofs.Decided.{complete-decided}
-use Rattle.tcam_cli.proofs.OneMore.{run-at, run-more, does-events, does-report}
-use Rattle.tcam_cli.proofs.Outcomes.{Stops, closed-outcome, stopped-outcome}
+use Rattle.script_runs.proofs.Joined.{does-events, does-report}
+use Rattle.script_runs.proofs.Endings.{closed-outcome}
+use Rattle.tcam_cli.proofs.Kind.{joins, does-of}
+use Rattle.tcam_cli.proofs.OneMore.{run-at, run-more}
+use Rattle.tcam_cli.proofs.Outcomes.{Stops, stopped-outcome}
 
 map_append : (done left : List Made) → map made_act (done ++ left) ≡ map made_act done ++ map made_act left
 map_append [] left = refl
@@ -93,16 +98,17 @@ made-at setting slots all left progress events taken_old taken_new s = run-at se
 pub made-more : (setting : Setting) (slots : ℕ) (all left : List Made) (command : Made) (progress next : Progress) (events events_new : List Action) (start taken after : Option (List ℕ))
     → MadeSoFar setting slots all (command ∷ left) progress events start taken → Carries setting progress (made_act command) next events events_new taken after
     → MadeSoFar setting slots all left next events_new start after
-made-more setting slots all left command progress next events events_new start taken after s carried = record {
-  done = s.done ++ command ∷ [];
-  parts = s.parts ∙ sym (append_assoc s.done (command ∷ []) left);
-  effects = s.effects ++ carried.effects;
-  run = subst (λ acts. Runs setting slots acts (s.effects ++ carried.effects) next) (sym (map_append s.done (command ∷ [])))
-      (run-more setting slots (map made_act s.done) s.effects progress (made_act command) carried.effects next s.run carried.step);
-  events_is = does-events s.effects carried.effects [] events events_new taken after carried.does s.events_is;
-  report = subst (Appends start after) (append-nil (printed (s.effects ++ carried.effects)))
-      (does-report s.effects carried.effects [] events events_new start taken after carried.does s.report);
-}
+made-more setting slots all left command progress next events events_new start taken after s carried =
+    let does = does-of setting slots carried.effects [] events events_new taken after carried.does in record {
+      done = s.done ++ command ∷ [];
+      parts = s.parts ∙ sym (append_assoc s.done (command ∷ []) left);
+      effects = s.effects ++ carried.effects;
+      run = subst (λ acts. Runs setting slots acts (s.effects ++ carried.effects) next) (sym (map_append s.done (command ∷ [])))
+          (run-more setting slots (map made_act s.done) s.effects progress (made_act command) carried.effects next s.run carried.step);
+      events_is = does-events (run_kind setting slots) joins s.effects carried.effects [] events events_new taken after does s.events_is;
+      report = subst (Appends start after) (append-nil (printed (s.effects ++ carried.effects)))
+          (does-report (run_kind setting slots) joins s.effects carried.effects [] events events_new start taken after does s.report);
+    }
 
 -- ---- the ends
 
@@ -117,7 +123,7 @@ made-ended setting own slots seed rules batches left last events start before af
       refl,
       (
         other,
-        closed-outcome setting slots script script (map made_act s.done) s.effects last events start before s.run s.events_is s.report after result whole
+        closed-outcome (run_kind setting slots) joins script script (map made_act s.done) s.effects last events start before s.run s.events_is s.report after result whole
             (subst (λ own. Closes (ending own last) (status_of last Whole) result before after) same closes),
       ),
     )

@@ -10,9 +10,9 @@ use Rattle.clap.specs.Takes.{is_given}
 use Rattle.clap.specs.Walk.{Row, Rule, Text, nothing_held, rows_after, with_default}
 use Rattle.clap.specs.Simple.{Shape, argument_words, built, filled, help_rule, subcommand_of}
 use Rattle.clap.specs.Faults.{fault_of, level_fault}
-use Rattle.replay.specs.declared.Family.{Family}
-use Rattle.replay.specs.declared.Family.TheVariants.{Route, Acl, Route6, Acl6}
-use Rattle.tcam_cli.specs.CommandLine.{acl_app, depth_option, gen_app, is_traced, json_by, job_at, job_of_rows, job_of_subcommand, made_at, mode_wanted, number_of, number_position, placed_by, placement_option, ranges_option, route_app, script_by, slots_option, tcam_app, tcam_top, text_of, trace_flag, json_flag, verify_app}
+use Rattle.report_lines.specs.declared.Family.{Family}
+use Rattle.report_lines.specs.declared.Family.TheVariants.{Route, Acl, Route6, Acl6}
+use Rattle.tcam_cli.specs.CommandLine.{acl_app, depth_option, gen_app, is_traced, job_at, job_of_rows, job_of_subcommand, made_at, mode_wanted, number_of, number_position, placed_by, placement_option, ranges_option, route_app, script_by, slots_option, tcam_app, tcam_top, text_of, trace_flag, json_flag, verify_app, is_json}
 use Rattle.tcam_cli.specs.Asked.{job_by, tested_job, tested_job_of_rows, tested_made, tested_script}
 use Rattle.tcam_cli.specs.Headline.{Job}
 use Rattle.tcam_cli.proofs.ArgumentRows.{AllKeep, Good, HasNumber, apart-keeps, depth-default, depth-keep, depth_id, has-apart, number-given, or_no, position, position-keeps, slots-default, slots-keep, slots_id}
@@ -24,7 +24,7 @@ use Rattle.tcam_cli.proofs.TakenRows.{IsTaken, built-gives, level-taken}
 abbrev read_by : Family → List Row → Bool → Bool → Job
 read_by family rows slots depth =
     job_by (cond slots (Some (number_of slots_id rows)) None) (λ s.
-    job_by (cond depth (Some (number_of depth_id rows)) None) (λ d. job_at family s (mode_wanted family rows) (placed_by rows) (is_traced rows) d (json_by family rows)))
+    job_by (cond depth (Some (number_of depth_id rows)) None) (λ d. job_at family s (mode_wanted family rows) (placed_by rows) (is_traced rows) d (is_json rows)))
 
 script-tested : (family : Family) (rows : List Row) → HasNumber slots_id 1 most_slots rows → HasNumber depth_id 0 15 rows → script_by family rows ≡ tested_script family rows
 script-tested family rows slots depth =
@@ -78,24 +78,14 @@ has-still id low high (a ∷ rest) others rows has =
 
 -- what stands behind --slots
 abbrev route_rest : List Rule
-route_rest = filled placement_option ∷ filled trace_flag ∷ filled depth_option ∷ filled help_rule ∷ []
+route_rest = filled placement_option ∷ filled trace_flag ∷ filled depth_option ∷ filled json_flag ∷ filled help_rule ∷ []
 
 abbrev list_rest : List Rule
-list_rest = filled ranges_option ∷ filled placement_option ∷ filled trace_flag ∷ filled depth_option ∷ filled help_rule ∷ []
-
--- where a report may be in JSON
-abbrev route_rest_json : List Rule
-route_rest_json = filled placement_option ∷ filled trace_flag ∷ filled depth_option ∷ filled json_flag ∷ filled help_rule ∷ []
-
-abbrev list_rest_json : List Rule
-list_rest_json = filled ranges_option ∷ filled placement_option ∷ filled trace_flag ∷ filled depth_option ∷ filled json_flag ∷ filled help_rule ∷ []
+list_rest = filled ranges_option ∷ filled placement_option ∷ filled trace_flag ∷ filled depth_option ∷ filled json_flag ∷ filled help_rule ∷ []
 
 -- what stands behind --depth
-abbrev back_plain : List Rule
-back_plain = filled help_rule ∷ []
-
-abbrev back_json : List Rule
-back_json = filled json_flag ∷ filled help_rule ∷ []
+abbrev script_back : List Rule
+script_back = filled json_flag ∷ filled help_rule ∷ []
 
 -- what stands before --depth
 abbrev route_front : List Rule
@@ -223,13 +213,13 @@ unfolding tcam_app tcam_top route_app acl_app gen_app slots_option ranges_option
 tested words none None are = refl
 tested words none (Some (name, rows)) are =
     built-gives (λ name rows. job_of_rows name rows ≡ tested_job_of_rows name rows) (built tcam_app) (
-      λ words none. script-tested Route (rows_after (filled slots_option ∷ route_rest_json) [] words) (script-slots _ route_rest_json refl refl refl words none) (script-depth _ route_front back_json refl refl refl refl words none),
+      λ words none. script-tested Route (rows_after (filled slots_option ∷ route_rest) [] words) (script-slots _ route_rest refl refl refl words none) (script-depth _ route_front script_back refl refl refl refl words none),
       (
-        λ words none. script-tested Acl (rows_after (filled slots_option ∷ list_rest_json) [] words) (script-slots _ list_rest_json refl refl refl words none) (script-depth _ list_front back_json refl refl refl refl words none),
+        λ words none. script-tested Acl (rows_after (filled slots_option ∷ list_rest) [] words) (script-slots _ list_rest refl refl refl words none) (script-depth _ list_front script_back refl refl refl refl words none),
         (
-          λ words none. script-tested Route6 (rows_after (filled slots_option ∷ route_rest) [] words) (script-slots _ route_rest refl refl refl words none) (script-depth _ route_front back_plain refl refl refl refl words none),
+          λ words none. script-tested Route6 (rows_after (filled slots_option ∷ route_rest) [] words) (script-slots _ route_rest refl refl refl words none) (script-depth _ route_front script_back refl refl refl refl words none),
           (
-            λ words none. script-tested Acl6 (rows_after (filled slots_option ∷ list_rest) [] words) (script-slots _ list_rest refl refl refl words none) (script-depth _ list_front back_plain refl refl refl refl words none),
+            λ words none. script-tested Acl6 (rows_after (filled slots_option ∷ list_rest) [] words) (script-slots _ list_rest refl refl refl words none) (script-depth _ list_front script_back refl refl refl refl words none),
             (λ words none. gen-made _ refl refl words none, (λ words none. refl, tt)),
           ),
         ),

@@ -1,7 +1,6 @@
 -- One act more.
-use Rattle.std.proofs.Common.{Bool, true, false, ◌≡◌, ℕ, inl, inr, Option, List, [], ◌∷◌, ◌++◌, length, take, refl, ap, sym, ◌∙◌, subst, append_assoc, append-nil, length-append}
-use Rattle.std.specs.Io.KnownBytes.{Appends}
-use Rattle.std.proofs.KnownBytes.{Appends-trans}
+use Rattle.std.proofs.Common.{Bool, true, false, ◌≡◌, ℕ, inl, inr, List, [], ◌∷◌, ◌++◌, length, take, refl, ap, sym, ◌∙◌, length-append}
+use Rattle.script_runs.proofs.Joined.{run-more as step-more}
 use Rattle.rule_model.specs.RuleSet.{Answer, answer}
 use Rattle.rule_store.specs.Verdict.{Verdict, Accepted, Unsound, OutOfBits, OutOfSlots, verdict}
 use Rattle.tcam_device.specs.declared.Action.{Action}
@@ -10,16 +9,17 @@ use Rattle.tcam_device.specs.State.{state_after, replay}
 use Rattle.replay.specs.declared.Act.{Act}
 use Rattle.replay.specs.declared.Act.TheVariants.{Command, Probe, Packet, Commit, Trial, Crash}
 use Rattle.replay.specs.Script.{pending_after, probes_after}
-use Rattle.replay.specs.Effects.{Setting, Effect, events_in, journal_of, printed}
+use Rattle.replay.specs.Effects.{Setting, Effect, events_in, journal_of}
 use Rattle.replay.specs.Reports.{packet_told}
 use Rattle.replay.specs.Run.{Progress, start, Commits, Tries, Crashes, Judged, HasEffects, Run, Runs}
-use Rattle.replay.specs.Carried.{IsAt, Does}
+use Rattle.replay.specs.Carried.{IsAt}
 use Rattle.tcam_device.proofs.Spans.{state_after-append}
-use Rattle.replay.proofs.lines.Effects.{events-append, written-append, printed-append}
+use Rattle.replay.proofs.lines.Effects.{written-append}
 use Rattle.replay.proofs.crash.Crashed.{written-restarts}
 use Rattle.replay.proofs.lines.Written.{written-return, written-segment}
 use Rattle.commit_writes.proofs.Undone.{undo_ends}
 use Rattle.std.specs.List.{AllByRecursion}
+use Rattle.tcam_cli.specs.Headline.{run_kind}
 use Rattle.tcam_cli.specs.AllTheWay.{IsNoProbe}
 
 judged-state : (setting : Setting) (old : Progress) (v : Verdict) (effects : List Effect) (new : Progress) → Judged Commits setting old v effects new → new.state ≡ state_after old.state (journal_of effects)
@@ -80,17 +80,9 @@ pub run-at : (setting : Setting) (slots : ℕ) (acts : List Act) (effects : List
 run-at setting slots acts effects last events run told = run-state setting slots acts effects last run ∙ ap (λ actions. replay slots (writes_in actions)) (sym told)
 
 -- one act more
-run-more-from : (setting : Setting) (old : Progress) (acts : List Act) (effects : List Effect) (mid : Progress) (act : Act) (front : List Effect) (new : Progress)
-    → Run setting old acts effects mid → HasEffects setting mid act front new → Run setting old (acts ++ act ∷ []) (effects ++ front) new
-run-more-from setting old [] effects mid act front new run step =
-    let P : Progress → Type 0 = λ p. HasEffects setting p act front new in
-    (front, new, [], subst P run.1 step, (refl, refl), ap (λ e. e ++ front) run.0 ∙ sym (append-nil front))
-run-more-from setting old (first ∷ acts) effects mid act front new (e, p, back, s, rest, whole) step =
-    (e, p, back ++ front, s, run-more-from setting p acts back mid act front new rest step, ap (λ x. x ++ front) whole ∙ append_assoc e back front)
-
 pub run-more : (setting : Setting) (slots : ℕ) (acts : List Act) (effects : List Effect) (mid : Progress) (act : Act) (front : List Effect) (new : Progress)
     → Runs setting slots acts effects mid → HasEffects setting mid act front new → Runs setting slots (acts ++ act ∷ []) (effects ++ front) new
-run-more setting slots acts effects mid act front new run step = run-more-from setting (start slots) acts effects mid act front new run step
+run-more setting slots acts effects mid act front new run step = step-more (HasEffects setting) (start slots) acts effects mid act front new run step
 
 -- what is pending after an act
 judged-batch : (setting : Setting) (old : Progress) (v : Verdict) (effects : List Effect) (new : Progress) → Judged Commits setting old v effects new → length new.batch ≡ 0
@@ -163,16 +155,10 @@ none-probed setting old (Trial most ∷ acts) effects new none (front, mid, back
 none-probed setting old (Crash after ∷ acts) effects new none (front, mid, back, step, rest, whole) =
     none-probed setting mid acts back new none.1 rest ∙ crashed-probes after setting old (verdict setting.slots setting.mode old.rules old.batch) front mid step
 
--- device and report after more effects
-pub does-events : (effects more : List Effect) (partial : List ℕ) (events_old events_new : List Action) (taken_old taken_new : Option (List ℕ))
-    → Does more partial events_old events_new taken_old taken_new → events_old ≡ events_in effects → events_new ≡ events_in (effects ++ more)
-does-events effects more partial events_old events_new taken_old taken_new does was =
-    rw does.events (ap (λ actions. actions ++ events_in more) was ∙ sym (events-append effects more))
-
-pub does-report : (effects more : List Effect) (partial : List ℕ) (events_old events_new : List Action) (start taken_old taken_new : Option (List ℕ))
-    → Does more partial events_old events_new taken_old taken_new → Appends start taken_old (printed effects)
-    → Appends start taken_new (printed (effects ++ more) ++ partial)
-does-report effects more partial events_old events_new start taken_old taken_new does was =
-    let same : printed effects ++ (printed more ++ partial) ≡ printed (effects ++ more) ++ partial =
-    sym (append_assoc (printed effects) (printed more) partial) ∙ ap (λ p. p ++ partial) (sym (printed-append effects more)) in
-    subst (Appends start taken_new) same (Appends-trans start taken_old taken_new (printed effects) (printed more ++ partial) was does.report)
+-- what is counted after an act
+pub step-counted : (setting : Setting) (slots : ℕ) (old : Progress) (act : Act) (effects : List Effect) (new : Progress) → HasEffects setting old act effects new
+    → (run_kind setting slots).counted new ≡ (run_kind setting slots).scripts.counted_after act ((run_kind setting slots).counted old)
+step-counted setting slots old act effects new step =
+    let counted : ℕ → ℕ → ℕ × ℕ = λ pending probes. (pending, probes) in
+    ap (λ pending. counted pending (length new.probes)) (step-pending setting old act effects new step)
+    ∙ ap (λ probes. counted (pending_after act (length old.batch)) probes) (step-probes setting old act effects new step)

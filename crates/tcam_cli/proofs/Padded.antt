@@ -15,12 +15,12 @@ use Rattle.commit_writes.specs.Bits.{no_bits}
 use Rattle.batch_order.proofs.planning.Padded.{one-write}
 use Rattle.rule_store.specs.declared.Mode.TheVariants.{Cover}
 use Rattle.batch_order.specs.declared.Placement.TheVariants.{Middle}
-use Rattle.replay.specs.declared.Family.TheVariants.{Route}
+use Rattle.report_lines.specs.declared.Family.TheVariants.{Route}
 use Rattle.replay.specs.Effects.{Setting, Effect, Prints, journal_of}
 use Rattle.replay.specs.Run.{Progress, Commits, Judged, start, used_slots}
 use Rattle.replay.proofs.lines.Effects.{written-append}
 use Rattle.replay.proofs.lines.Written.{written-segment}
-use Rattle.tcam_cli.specs.declared.Status.TheVariants.{Done}
+use Rattle.script_runs.specs.declared.Status.TheVariants.{Done}
 use Rattle.tcam_cli.specs.CommandLine.{script_setting}
 use Rattle.tcam_cli.specs.Headline.{Reads, IsCarriedOut}
 

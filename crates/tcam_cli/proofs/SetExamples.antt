@@ -7,7 +7,7 @@ use Rattle.tcam_device.specs.declared.Write.{Write}
 use Rattle.tcam_device.specs.State.{State, Shows, state_after}
 use Rattle.tcam_device.specs.Hitless.{ShowsOldOrNew}
 use Rattle.batch_order.specs.declared.Placement.TheVariants.{Middle}
-use Rattle.replay.specs.declared.Family.TheVariants.{Route, Acl}
+use Rattle.report_lines.specs.declared.Family.TheVariants.{Route, Acl}
 use Rattle.replay.specs.Script.{script_of}
 use Rattle.tcam_cli.specs.Readings.{reading}
 use Rattle.tcam_cli.specs.AllTheWay.{Led, Stands, TakenBack, rules_in, sets_of, ShowsSetOrNext, AnswersAllTheWay}

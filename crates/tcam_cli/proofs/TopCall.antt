@@ -4,10 +4,11 @@ use Rattle.std.proofs.KnownBytes.{Appends-nil}
 use Rattle.tcam_device.specs.declared.Action.{Action}
 use Rattle.replay.specs.Script.{Script}
 use Rattle.replay.specs.Effects.{Setting}
-use Rattle.tcam_cli.specs.declared.Status.{Status}
-use Rattle.tcam_cli.specs.declared.Status.TheVariants.{Done, Memory, Usage}
-use Rattle.tcam_cli.specs.Headline.{Job, NoJob, Tells, Reads, Makes, Verifies, IsPrinted, IsToldAlone, IsCarriedOut, MatchesOutcome}
-use Rattle.tcam_cli.specs.Rounds.{Closes}
+use Rattle.script_runs.specs.declared.Status.{Status}
+use Rattle.script_runs.specs.declared.Status.TheVariants.{Done, Memory, Usage}
+use Rattle.script_runs.specs.Outcomes.{IsPrinted}
+use Rattle.tcam_cli.specs.Headline.{Job, NoJob, Tells, Reads, Makes, Verifies, IsToldAlone, IsCarriedOut, MatchesOutcome}
+use Rattle.script_runs.specs.Rounds.{Closes}
 
 nothing-told : (text : List ℕ) (last : Status) (taken : Option (List ℕ)) → IfSome taken (λ before. IfSome taken (λ after. (report : List ℕ) × (after ≡ before ++ report) × IsPrinted text last Memory report))
 nothing-told text last None = tt

@@ -1,19 +1,22 @@
--- What a line of IPv4 adds, changes or removes has its numbers within the limits of a trace.
+-- What a line adds, changes or removes has its numbers within the limits of a trace of its version of IP.
 use Rattle.std.proofs.Common.{◌≡◌, ℕ, ◌+◌, ◌-◌, ◌*◌, ◌%◌, ◌^◌, ◌<◌, ◌≤◌, ◌==◌, false, nat_le, cond, inl, inr, List, [], ◌∷◌, codes, Option, Some, None, IfSome, option_and_then, option_map, Result, Ok, Err, ok_or, refl, subst, arith}
 use Rattle.std.specs.List.{AllByRecursion}
 use Rattle.std.specs.Str.{bytes_eq}
 use Rattle.std.proofs.lemmas.Bool.{cases_Bool, eqb-true, leb-true}
 use Rattle.std.proofs.lemmas.Bool.Decides.{nat_tests}
+use Rattle.rule_model.specs.declared.IpVersion.{IpVersion}
+use Rattle.rule_model.specs.declared.IpVersion.TheVariants.{V4, V6}
 use Rattle.rule_model.specs.declared.Rule.{Rule}
 use Rattle.rule_model.specs.AddressBlock.{AddressBlock, IsAddressBlock, IsIpv4Block, any_address, ipv4_block}
 use Rattle.rule_model.specs.PortRange.{PortRange, IsPortRange, any_port}
-use Rattle.rule_model.specs.Rank.{ipv4_route_rank, list_rank}
+use Rattle.rule_model.specs.Rank.{list_rank}
 use Rattle.rule_model.specs.Rule.{route_rule}
 use Rattle.line_words.specs.declared.WordFault.{WordFault}
 use Rattle.line_words.specs.declared.WordFault.TheVariants.{BadPrefix, BadResult, BadSequence, BadProtocol, BadPorts}
 use Rattle.line_words.specs.declared.commands.CommonCommand.{CommonCommand}
 use Rattle.line_words.specs.Words.{◌>>=◌, words_of}
-use Rattle.line_words.specs.Kinds.{ipv4_notation, ipv4_number, ipv4_prefix, four_bytes, numbers_up_to, number_up_to, nonzero, block_of, parts_at, side_of, result_of, sequence_of, action_of, proto_of, proto_choice, port_of, port_parts, ports_of}
+use Rattle.line_words.specs.Kinds.{ipv4_number, ipv4_prefix, four_bytes, numbers_up_to, number_up_to, nonzero, block_of, parts_at, side_of, result_of, sequence_of, action_of, proto_of, proto_choice, port_of, port_parts, ports_of}
+use Rattle.line_words.specs.Notations.{notation_for}
 use Rattle.line_words.specs.Commands.{common_command}
 use Rattle.route_reader.specs.declared.RouteCommand.{RouteCommand}
 use Rattle.route_reader.specs.declared.RouteCommand.TheVariants as route
@@ -21,8 +24,10 @@ use Rattle.route_reader.specs.Grammar as routes
 use Rattle.acl_reader.specs.declared.AclCommand.{AclCommand}
 use Rattle.acl_reader.specs.declared.AclCommand.TheVariants as acl
 use Rattle.acl_reader.specs.Grammar as lists
-use Rattle.trace_file.specs.Forms.{IsIpv4Rank, IsIpv4Rule}
+use Rattle.trace_file.specs.Forms.{IsTraceRank, IsTraceRule}
+use Rattle.tcam_cli.specs.Readings.{route_rank}
 use Rattle.tcam_cli.proofs.RouteLines.{line-command, within}
+use Rattle.tcam_cli.proofs.Ipv6Lines.{prefix-right as ipv6-prefix-right}
 
 -- ---- addresses
 
@@ -100,13 +105,26 @@ prefix-right (address ∷ len ∷ []) block is =
     parts-right (ipv4_number address) (number_up_to 32 len) block (λ value some. address-fits address value some) (λ value some. within len 32 value some) is
 prefix-right (address ∷ len ∷ more ∷ parts) block is = absurd (cc)
 
-side-right : (word : List ℕ) (block : AddressBlock) → side_of ipv4_notation word ≡ Ok block → IsIpv4Prefix block
-side-right word block is = elim (cases_Bool (bytes_eq word (codes "any"))) [
+-- a prefix of a version of IP
+abbrev pub IsPrefixOf : IpVersion → AddressBlock → Type 0
+IsPrefixOf V4 block = IsIpv4Prefix block
+IsPrefixOf V6 block = IsAddressBlock block
+
+any-of : (version : IpVersion) → IsPrefixOf version any_address
+any-of V4 = any-right
+any-of V6 = any-right.right
+
+block-of : (version : IpVersion) (word : List ℕ) (block : AddressBlock) → (notation_for version).block word ≡ Ok block → IsPrefixOf version block
+block-of V4 word block is = prefix-right (parts_at 47 word) block is
+block-of V6 word block is = ipv6-prefix-right (parts_at 47 word) block is
+
+side-right : (version : IpVersion) (word : List ℕ) (block : AddressBlock) → side_of (notation_for version) word ≡ Ok block → IsPrefixOf version block
+side-right version word block is = elim (cases_Bool (bytes_eq word (codes "any"))) [
   | inl any ↦
       let some = rw any at is in
       let same : any_address ≡ block = cc in
-      subst IsIpv4Prefix same any-right
-  | inr other ↦ prefix-right (parts_at 47 word) block (rw other at is)
+      subst (IsPrefixOf version) same (any-of version)
+  | inr other ↦ block-of version word block (rw other at is)
 ]
 
 -- ---- numbers
@@ -236,23 +254,45 @@ ports-right word range is = elim (cases_Bool (bytes_eq word (codes "any"))) [
 
 -- ---- ranks
 
-route-rank-fits : (block : AddressBlock) → IsIpv4Prefix block → IsIpv4Rank (ipv4_route_rank block)
-route-rank-fits block is =
+route-rank-fits : (version : IpVersion) (block : AddressBlock) → IsPrefixOf version block → IsTraceRank version (route_rank version block)
+route-rank-fits V4 block is =
     let few : block.len ≤ 32 = is.of_ipv4.length in
     let fits : block.addr < 2 ^ 128 = is.right.fits in
     record { high = omega arith; low = omega arith }
+route-rank-fits V6 block is =
+    let few : block.len ≤ 128 = is.length in
+    let fits : block.addr < 2 ^ 128 = is.fits in
+    record { high = omega arith }
 
-list-rank-fits : (sequence : ℕ) → 1 ≤ sequence → IsIpv4Rank (list_rank sequence)
-list-rank-fits sequence some = record { high = omega arith; low = omega arith }
+list-rank-fits : (version : IpVersion) (sequence : ℕ) → 1 ≤ sequence → IsTraceRank version (list_rank sequence)
+list-rank-fits V4 sequence some = record { high = omega arith; low = omega arith }
+list-rank-fits V6 sequence some = record { high = omega arith }
+
+-- ---- rules
+
+rule-fits : (version : IpVersion) (rule : Rule) → IsTraceRank version rule.priority → IsPrefixOf version rule.src → IsPrefixOf version rule.dst → IfSome rule.proto (λ number. number < 2 ^ 8)
+    → IsPortRange rule.sport → IsPortRange rule.dport → rule.result < 2 ^ 32 → IsTraceRule version rule
+rule-fits V4 rule rank src dst proto sport dport answer = record {
+  priority = rank;
+  right = record { src_right = src.right; dst_right = dst.right; proto_right = proto; sport_right = sport; dport_right = dport };
+  src = src.of_ipv4;
+  dst = dst.of_ipv4;
+  result = answer;
+}
+rule-fits V6 rule rank src dst proto sport dport answer = record {
+  priority = rank;
+  right = record { src_right = src; dst_right = dst; proto_right = proto; sport_right = sport; dport_right = dport };
+  result = answer;
+}
 
 -- ---- commands of an access list
 
 -- the numbers of a command are within their limits
-abbrev pub IsListWithin : AclCommand → Type 0
-IsListWithin (acl.Add rule) = IsIpv4Rule rule
-IsListWithin (acl.Set sequence answer) = IsIpv4Rank (list_rank sequence) × (answer < 2 ^ 32)
-IsListWithin (acl.Del sequence) = IsIpv4Rank (list_rank sequence)
-IsListWithin (acl.Common command) = Unit {0}
+abbrev pub IsListWithin : IpVersion → AclCommand → Type 0
+IsListWithin version (acl.Add rule) = IsTraceRule version rule
+IsListWithin version (acl.Set sequence answer) = IsTraceRank version (list_rank sequence) × (answer < 2 ^ 32)
+IsListWithin version (acl.Del sequence) = IsTraceRank version (list_rank sequence)
+IsListWithin version (acl.Common command) = Unit {0}
 
 abbrev rule_of : ℕ → ℕ → AddressBlock → AddressBlock → Option ℕ → PortRange → PortRange → Rule
 rule_of number answer from to protocol source destination = record {
@@ -265,174 +305,161 @@ rule_of number answer from to protocol source destination = record {
   result = answer;
 }
 
-list-added : (number answer : Result ℕ WordFault) (from to : Result AddressBlock WordFault) (protocol : Result (Option ℕ) WordFault) (source destination : Result PortRange WordFault) (command : AclCommand)
-    → ((n : ℕ) → number ≡ Ok n → 1 ≤ n) → ((n : ℕ) → answer ≡ Ok n → n < 2 ^ 32) → ((b : AddressBlock) → from ≡ Ok b → IsIpv4Prefix b) → ((b : AddressBlock) → to ≡ Ok b → IsIpv4Prefix b)
+list-added : (version : IpVersion) (number answer : Result ℕ WordFault) (from to : Result AddressBlock WordFault) (protocol : Result (Option ℕ) WordFault) (source destination : Result PortRange WordFault) (command : AclCommand)
+    → ((n : ℕ) → number ≡ Ok n → 1 ≤ n) → ((n : ℕ) → answer ≡ Ok n → n < 2 ^ 32) → ((b : AddressBlock) → from ≡ Ok b → IsPrefixOf version b) → ((b : AddressBlock) → to ≡ Ok b → IsPrefixOf version b)
     → ((p : Option ℕ) → protocol ≡ Ok p → IfSome p (λ number. number < 2 ^ 8)) → ((r : PortRange) → source ≡ Ok r → IsPortRange r) → ((r : PortRange) → destination ≡ Ok r → IsPortRange r)
-    → (number >>= λ n. answer >>= λ a. from >>= λ f. to >>= λ t. protocol >>= λ p. source >>= λ s. destination >>= λ d. Ok (acl.Add (rule_of n a f t p s d))) ≡ Ok command → IsListWithin command
-list-added (Ok n) (Ok a) (Ok f) (Ok t) (Ok p) (Ok s) (Ok d) command some_n fits_a right_f right_t right_p right_s right_d is =
+    → (number >>= λ n. answer >>= λ a. from >>= λ f. to >>= λ t. protocol >>= λ p. source >>= λ s. destination >>= λ d. Ok (acl.Add (rule_of n a f t p s d))) ≡ Ok command → IsListWithin version command
+list-added version (Ok n) (Ok a) (Ok f) (Ok t) (Ok p) (Ok s) (Ok d) command some_n fits_a right_f right_t right_p right_s right_d is =
     let same : acl.Add (rule_of n a f t p s d) ≡ command = cc in
-    let src = right_f f refl in
-    let dst = right_t t refl in
-    subst IsListWithin same (record {
-      priority = list-rank-fits n (some_n n refl);
-      right = record { src_right = src.right; dst_right = dst.right; proto_right = right_p p refl; sport_right = right_s s refl; dport_right = right_d d refl };
-      src = src.of_ipv4;
-      dst = dst.of_ipv4;
-      result = fits_a a refl;
-    })
-list-added (Ok n) (Ok a) (Ok f) (Ok t) (Ok p) (Ok s) (Err e) command some_n fits_a right_f right_t right_p right_s right_d is = absurd (cc)
-list-added (Ok n) (Ok a) (Ok f) (Ok t) (Ok p) (Err e) destination command some_n fits_a right_f right_t right_p right_s right_d is = absurd (cc)
-list-added (Ok n) (Ok a) (Ok f) (Ok t) (Err e) source destination command some_n fits_a right_f right_t right_p right_s right_d is = absurd (cc)
-list-added (Ok n) (Ok a) (Ok f) (Err e) protocol source destination command some_n fits_a right_f right_t right_p right_s right_d is = absurd (cc)
-list-added (Ok n) (Ok a) (Err e) to protocol source destination command some_n fits_a right_f right_t right_p right_s right_d is = absurd (cc)
-list-added (Ok n) (Err e) from to protocol source destination command some_n fits_a right_f right_t right_p right_s right_d is = absurd (cc)
-list-added (Err e) answer from to protocol source destination command some_n fits_a right_f right_t right_p right_s right_d is = absurd (cc)
+    subst (IsListWithin version) same
+    (rule-fits version (rule_of n a f t p s d) (list-rank-fits version n (some_n n refl)) (right_f f refl) (right_t t refl) (right_p p refl) (right_s s refl) (right_d d refl) (fits_a a refl))
+list-added version (Ok n) (Ok a) (Ok f) (Ok t) (Ok p) (Ok s) (Err e) command some_n fits_a right_f right_t right_p right_s right_d is = absurd (cc)
+list-added version (Ok n) (Ok a) (Ok f) (Ok t) (Ok p) (Err e) destination command some_n fits_a right_f right_t right_p right_s right_d is = absurd (cc)
+list-added version (Ok n) (Ok a) (Ok f) (Ok t) (Err e) source destination command some_n fits_a right_f right_t right_p right_s right_d is = absurd (cc)
+list-added version (Ok n) (Ok a) (Ok f) (Err e) protocol source destination command some_n fits_a right_f right_t right_p right_s right_d is = absurd (cc)
+list-added version (Ok n) (Ok a) (Err e) to protocol source destination command some_n fits_a right_f right_t right_p right_s right_d is = absurd (cc)
+list-added version (Ok n) (Err e) from to protocol source destination command some_n fits_a right_f right_t right_p right_s right_d is = absurd (cc)
+list-added version (Err e) answer from to protocol source destination command some_n fits_a right_f right_t right_p right_s right_d is = absurd (cc)
 
-list-addition : (words : List (List ℕ)) (command : AclCommand) → lists.addition ipv4_notation words ≡ Ok command → IsListWithin command
-list-addition [] command is = absurd (cc)
-list-addition (a ∷ []) command is = absurd (cc)
-list-addition (a ∷ b ∷ []) command is = absurd (cc)
-list-addition (a ∷ b ∷ c ∷ []) command is = absurd (cc)
-list-addition (a ∷ b ∷ c ∷ d ∷ []) command is = absurd (cc)
-list-addition (a ∷ b ∷ c ∷ d ∷ e ∷ []) command is = absurd (cc)
-list-addition (a ∷ b ∷ c ∷ d ∷ e ∷ f ∷ []) command is = absurd (cc)
-list-addition (a ∷ b ∷ c ∷ d ∷ e ∷ f ∷ g ∷ []) command is =
-    list-added (sequence_of a) (action_of b) (side_of ipv4_notation c) (side_of ipv4_notation d) (proto_choice e) (ports_of f) (ports_of g) command
-    (sequence-some a) (action-fits b) (side-right c) (side-right d) (proto-right e) (ports-right f) (ports-right g) is
-list-addition (a ∷ b ∷ c ∷ d ∷ e ∷ f ∷ g ∷ h ∷ rest) command is = absurd (cc)
+list-addition : (version : IpVersion) (words : List (List ℕ)) (command : AclCommand) → lists.addition (notation_for version) words ≡ Ok command → IsListWithin version command
+list-addition version [] command is = absurd (cc)
+list-addition version (a ∷ []) command is = absurd (cc)
+list-addition version (a ∷ b ∷ []) command is = absurd (cc)
+list-addition version (a ∷ b ∷ c ∷ []) command is = absurd (cc)
+list-addition version (a ∷ b ∷ c ∷ d ∷ []) command is = absurd (cc)
+list-addition version (a ∷ b ∷ c ∷ d ∷ e ∷ []) command is = absurd (cc)
+list-addition version (a ∷ b ∷ c ∷ d ∷ e ∷ f ∷ []) command is = absurd (cc)
+list-addition version (a ∷ b ∷ c ∷ d ∷ e ∷ f ∷ g ∷ []) command is =
+    list-added version (sequence_of a) (action_of b) (side_of (notation_for version) c) (side_of (notation_for version) d) (proto_choice e) (ports_of f) (ports_of g) command
+    (sequence-some a) (action-fits b) (side-right version c) (side-right version d) (proto-right e) (ports-right f) (ports-right g) is
+list-addition version (a ∷ b ∷ c ∷ d ∷ e ∷ f ∷ g ∷ h ∷ rest) command is = absurd (cc)
 
-list-set : (number answer : Result ℕ WordFault) (command : AclCommand) → ((n : ℕ) → number ≡ Ok n → 1 ≤ n) → ((n : ℕ) → answer ≡ Ok n → n < 2 ^ 32)
-    → (number >>= λ n. answer >>= λ a. Ok (acl.Set n a)) ≡ Ok command → IsListWithin command
-list-set (Ok n) (Ok a) command some fits is =
+list-set : (version : IpVersion) (number answer : Result ℕ WordFault) (command : AclCommand) → ((n : ℕ) → number ≡ Ok n → 1 ≤ n) → ((n : ℕ) → answer ≡ Ok n → n < 2 ^ 32)
+    → (number >>= λ n. answer >>= λ a. Ok (acl.Set n a)) ≡ Ok command → IsListWithin version command
+list-set version (Ok n) (Ok a) command some fits is =
     let same : acl.Set n a ≡ command = cc in
-    subst IsListWithin same (list-rank-fits n (some n refl), fits a refl)
-list-set (Ok n) (Err e) command some fits is = absurd (cc)
-list-set (Err e) answer command some fits is = absurd (cc)
+    subst (IsListWithin version) same (list-rank-fits version n (some n refl), fits a refl)
+list-set version (Ok n) (Err e) command some fits is = absurd (cc)
+list-set version (Err e) answer command some fits is = absurd (cc)
 
-list-change : (words : List (List ℕ)) (command : AclCommand) → lists.change words ≡ Ok command → IsListWithin command
-list-change [] command is = absurd (cc)
-list-change (sequence ∷ []) command is = absurd (cc)
-list-change (sequence ∷ action ∷ []) command is = list-set (sequence_of sequence) (action_of action) command (sequence-some sequence) (action-fits action) is
-list-change (sequence ∷ action ∷ more ∷ words) command is = absurd (cc)
+list-change : (version : IpVersion) (words : List (List ℕ)) (command : AclCommand) → lists.change words ≡ Ok command → IsListWithin version command
+list-change version [] command is = absurd (cc)
+list-change version (sequence ∷ []) command is = absurd (cc)
+list-change version (sequence ∷ action ∷ []) command is = list-set version (sequence_of sequence) (action_of action) command (sequence-some sequence) (action-fits action) is
+list-change version (sequence ∷ action ∷ more ∷ words) command is = absurd (cc)
 
-list-deleted : (number : Result ℕ WordFault) (command : AclCommand) → ((n : ℕ) → number ≡ Ok n → 1 ≤ n) → (number >>= λ n. Ok (acl.Del n)) ≡ Ok command → IsListWithin command
-list-deleted (Ok n) command some is =
+list-deleted : (version : IpVersion) (number : Result ℕ WordFault) (command : AclCommand) → ((n : ℕ) → number ≡ Ok n → 1 ≤ n) → (number >>= λ n. Ok (acl.Del n)) ≡ Ok command → IsListWithin version command
+list-deleted version (Ok n) command some is =
     let same : acl.Del n ≡ command = cc in
-    subst IsListWithin same (list-rank-fits n (some n refl))
-list-deleted (Err e) command some is = absurd (cc)
+    subst (IsListWithin version) same (list-rank-fits version n (some n refl))
+list-deleted version (Err e) command some is = absurd (cc)
 
-list-removal : (words : List (List ℕ)) (command : AclCommand) → lists.removal words ≡ Ok command → IsListWithin command
-list-removal [] command is = absurd (cc)
-list-removal (sequence ∷ []) command is = list-deleted (sequence_of sequence) command (sequence-some sequence) is
-list-removal (sequence ∷ more ∷ words) command is = absurd (cc)
+list-removal : (version : IpVersion) (words : List (List ℕ)) (command : AclCommand) → lists.removal words ≡ Ok command → IsListWithin version command
+list-removal version [] command is = absurd (cc)
+list-removal version (sequence ∷ []) command is = list-deleted version (sequence_of sequence) command (sequence-some sequence) is
+list-removal version (sequence ∷ more ∷ words) command is = absurd (cc)
 
-list-words : (words : List (List ℕ)) (command : AclCommand) → lists.acl_words ipv4_notation words ≡ Ok command → IsListWithin command
-list-words [] command is = absurd (cc)
-list-words (verb ∷ rest) command is = elim (cases_Bool (bytes_eq verb (codes "add"))) [
-  | inl adds ↦ list-addition rest command (rw adds at is)
+list-words : (version : IpVersion) (words : List (List ℕ)) (command : AclCommand) → lists.acl_words (notation_for version) words ≡ Ok command → IsListWithin version command
+list-words version [] command is = absurd (cc)
+list-words version (verb ∷ rest) command is = elim (cases_Bool (bytes_eq verb (codes "add"))) [
+  | inl adds ↦ list-addition version rest command (rw adds at is)
   | inr other ↦ elim (cases_Bool (bytes_eq verb (codes "set"))) [
-    | inl sets ↦ list-change rest command (rw (other, sets) at is)
+    | inl sets ↦ list-change version rest command (rw (other, sets) at is)
     | inr also ↦ elim (cases_Bool (bytes_eq verb (codes "del"))) [
-      | inl dels ↦ list-removal rest command (rw (other, also, dels) at is)
+      | inl dels ↦ list-removal version rest command (rw (other, also, dels) at is)
       | inr neither ↦ let bad = rw (other, also, neither) at is in absurd (cc)
     ]
   ]
 ]
 
-list-common : (read : Result CommonCommand WordFault) (command : AclCommand) → (read >>= λ found. Ok (acl.Common found)) ≡ Ok command → IsListWithin command
-list-common (Ok found) command is = let same : acl.Common found ≡ command = cc in subst IsListWithin same tt
-list-common (Err e) command is = absurd (cc)
+list-common : (version : IpVersion) (read : Result CommonCommand WordFault) (command : AclCommand) → (read >>= λ found. Ok (acl.Common found)) ≡ Ok command → IsListWithin version command
+list-common version (Ok found) command is = let same : acl.Common found ≡ command = cc in subst (IsListWithin version) same tt
+list-common version (Err e) command is = absurd (cc)
 
-list-command : (words : List (List ℕ)) (command : AclCommand) → lists.acl_command ipv4_notation words ≡ Ok command → IsListWithin command
-list-command [] command is = absurd (cc)
-list-command (first ∷ rest) command is = elim (cases_Bool (bytes_eq first (codes "acl"))) [
-  | inl list ↦ list-words rest command (rw list at is)
-  | inr other ↦ list-common (common_command ipv4_notation first rest) command (rw other at is)
+list-command : (version : IpVersion) (words : List (List ℕ)) (command : AclCommand) → lists.acl_command (notation_for version) words ≡ Ok command → IsListWithin version command
+list-command version [] command is = absurd (cc)
+list-command version (first ∷ rest) command is = elim (cases_Bool (bytes_eq first (codes "acl"))) [
+  | inl list ↦ list-words version rest command (rw list at is)
+  | inr other ↦ list-common version (common_command (notation_for version) first rest) command (rw other at is)
 ]
 
-pub list-line : (text : List ℕ) (command : AclCommand) → lists.acl_line ipv4_notation text ≡ Ok (Some command) → IsListWithin command
-list-line text command is = list-command (words_of text) command (line-command (words_of text) (lists.acl_command ipv4_notation (words_of text)) command is)
+pub list-line : (version : IpVersion) (text : List ℕ) (command : AclCommand) → lists.acl_line (notation_for version) text ≡ Ok (Some command) → IsListWithin version command
+list-line version text command is = list-command version (words_of text) command (line-command (words_of text) (lists.acl_command (notation_for version) (words_of text)) command is)
 
 -- ---- commands of routes
 
-abbrev pub IsRouteWithin : RouteCommand → Type 0
-IsRouteWithin (route.Add block answer) = IsIpv4Rule (route_rule (ipv4_route_rank block) block answer)
-IsRouteWithin (route.Set block answer) = IsIpv4Rank (ipv4_route_rank block) × (answer < 2 ^ 32)
-IsRouteWithin (route.Del block) = IsIpv4Rank (ipv4_route_rank block)
-IsRouteWithin (route.Common command) = Unit {0}
+abbrev pub IsRouteWithin : IpVersion → RouteCommand → Type 0
+IsRouteWithin version (route.Add block answer) = IsTraceRule version (route_rule (route_rank version block) block answer)
+IsRouteWithin version (route.Set block answer) = IsTraceRank version (route_rank version block) × (answer < 2 ^ 32)
+IsRouteWithin version (route.Del block) = IsTraceRank version (route_rank version block)
+IsRouteWithin version (route.Common command) = Unit {0}
 
-route-added : (block : Result AddressBlock WordFault) (answer : Result ℕ WordFault) (command : RouteCommand) → ((b : AddressBlock) → block ≡ Ok b → IsIpv4Prefix b) → ((n : ℕ) → answer ≡ Ok n → n < 2 ^ 32)
-    → (block >>= λ b. answer >>= λ a. Ok (route.Add b a)) ≡ Ok command → IsRouteWithin command
-route-added (Ok b) (Ok a) command right fits is =
+route-added : (version : IpVersion) (block : Result AddressBlock WordFault) (answer : Result ℕ WordFault) (command : RouteCommand) → ((b : AddressBlock) → block ≡ Ok b → IsPrefixOf version b) → ((n : ℕ) → answer ≡ Ok n → n < 2 ^ 32)
+    → (block >>= λ b. answer >>= λ a. Ok (route.Add b a)) ≡ Ok command → IsRouteWithin version command
+route-added version (Ok b) (Ok a) command right fits is =
     let same : route.Add b a ≡ command = cc in
-    let dst = right b refl in
-    subst IsRouteWithin same (record {
-      priority = route-rank-fits b dst;
-      right = record { src_right = any-right.right; dst_right = dst.right; proto_right = tt; sport_right = any; dport_right = any };
-      src = any-right.of_ipv4;
-      dst = dst.of_ipv4;
-      result = fits a refl;
-    })
+    subst (IsRouteWithin version) same
+    (rule-fits version (route_rule (route_rank version b) b a) (route-rank-fits version b (right b refl)) (any-of version) (right b refl) tt any any (fits a refl))
   where
     any : IsPortRange any_port
     any = record { ordered = omega arith; fits = omega arith }
-route-added (Ok b) (Err e) command right fits is = absurd (cc)
-route-added (Err e) answer command right fits is = absurd (cc)
+route-added version (Ok b) (Err e) command right fits is = absurd (cc)
+route-added version (Err e) answer command right fits is = absurd (cc)
 
-route-addition : (words : List (List ℕ)) (command : RouteCommand) → routes.addition ipv4_notation words ≡ Ok command → IsRouteWithin command
-route-addition [] command is = absurd (cc)
-route-addition (prefix ∷ []) command is = absurd (cc)
-route-addition (prefix ∷ answer ∷ []) command is = route-added (ipv4_prefix (parts_at 47 prefix)) (result_of answer) command (prefix-right (parts_at 47 prefix)) (result-fits answer) is
-route-addition (prefix ∷ answer ∷ more ∷ words) command is = absurd (cc)
+route-addition : (version : IpVersion) (words : List (List ℕ)) (command : RouteCommand) → routes.addition (notation_for version) words ≡ Ok command → IsRouteWithin version command
+route-addition version [] command is = absurd (cc)
+route-addition version (prefix ∷ []) command is = absurd (cc)
+route-addition version (prefix ∷ answer ∷ []) command is = route-added version ((notation_for version).block prefix) (result_of answer) command (block-of version prefix) (result-fits answer) is
+route-addition version (prefix ∷ answer ∷ more ∷ words) command is = absurd (cc)
 
-route-set : (block : Result AddressBlock WordFault) (answer : Result ℕ WordFault) (command : RouteCommand) → ((b : AddressBlock) → block ≡ Ok b → IsIpv4Prefix b) → ((n : ℕ) → answer ≡ Ok n → n < 2 ^ 32)
-    → (block >>= λ b. answer >>= λ a. Ok (route.Set b a)) ≡ Ok command → IsRouteWithin command
-route-set (Ok b) (Ok a) command right fits is =
+route-set : (version : IpVersion) (block : Result AddressBlock WordFault) (answer : Result ℕ WordFault) (command : RouteCommand) → ((b : AddressBlock) → block ≡ Ok b → IsPrefixOf version b) → ((n : ℕ) → answer ≡ Ok n → n < 2 ^ 32)
+    → (block >>= λ b. answer >>= λ a. Ok (route.Set b a)) ≡ Ok command → IsRouteWithin version command
+route-set version (Ok b) (Ok a) command right fits is =
     let same : route.Set b a ≡ command = cc in
-    subst IsRouteWithin same (route-rank-fits b (right b refl), fits a refl)
-route-set (Ok b) (Err e) command right fits is = absurd (cc)
-route-set (Err e) answer command right fits is = absurd (cc)
+    subst (IsRouteWithin version) same (route-rank-fits version b (right b refl), fits a refl)
+route-set version (Ok b) (Err e) command right fits is = absurd (cc)
+route-set version (Err e) answer command right fits is = absurd (cc)
 
-route-change : (words : List (List ℕ)) (command : RouteCommand) → routes.change ipv4_notation words ≡ Ok command → IsRouteWithin command
-route-change [] command is = absurd (cc)
-route-change (prefix ∷ []) command is = absurd (cc)
-route-change (prefix ∷ answer ∷ []) command is = route-set (ipv4_prefix (parts_at 47 prefix)) (result_of answer) command (prefix-right (parts_at 47 prefix)) (result-fits answer) is
-route-change (prefix ∷ answer ∷ more ∷ words) command is = absurd (cc)
+route-change : (version : IpVersion) (words : List (List ℕ)) (command : RouteCommand) → routes.change (notation_for version) words ≡ Ok command → IsRouteWithin version command
+route-change version [] command is = absurd (cc)
+route-change version (prefix ∷ []) command is = absurd (cc)
+route-change version (prefix ∷ answer ∷ []) command is = route-set version ((notation_for version).block prefix) (result_of answer) command (block-of version prefix) (result-fits answer) is
+route-change version (prefix ∷ answer ∷ more ∷ words) command is = absurd (cc)
 
-route-deleted : (block : Result AddressBlock WordFault) (command : RouteCommand) → ((b : AddressBlock) → block ≡ Ok b → IsIpv4Prefix b) → (block >>= λ b. Ok (route.Del b)) ≡ Ok command → IsRouteWithin command
-route-deleted (Ok b) command right is =
+route-deleted : (version : IpVersion) (block : Result AddressBlock WordFault) (command : RouteCommand) → ((b : AddressBlock) → block ≡ Ok b → IsPrefixOf version b) → (block >>= λ b. Ok (route.Del b)) ≡ Ok command → IsRouteWithin version command
+route-deleted version (Ok b) command right is =
     let same : route.Del b ≡ command = cc in
-    subst IsRouteWithin same (route-rank-fits b (right b refl))
-route-deleted (Err e) command right is = absurd (cc)
+    subst (IsRouteWithin version) same (route-rank-fits version b (right b refl))
+route-deleted version (Err e) command right is = absurd (cc)
 
-route-removal : (words : List (List ℕ)) (command : RouteCommand) → routes.removal ipv4_notation words ≡ Ok command → IsRouteWithin command
-route-removal [] command is = absurd (cc)
-route-removal (prefix ∷ []) command is = route-deleted (ipv4_prefix (parts_at 47 prefix)) command (prefix-right (parts_at 47 prefix)) is
-route-removal (prefix ∷ more ∷ words) command is = absurd (cc)
+route-removal : (version : IpVersion) (words : List (List ℕ)) (command : RouteCommand) → routes.removal (notation_for version) words ≡ Ok command → IsRouteWithin version command
+route-removal version [] command is = absurd (cc)
+route-removal version (prefix ∷ []) command is = route-deleted version ((notation_for version).block prefix) command (block-of version prefix) is
+route-removal version (prefix ∷ more ∷ words) command is = absurd (cc)
 
-route-words : (words : List (List ℕ)) (command : RouteCommand) → routes.route_words ipv4_notation words ≡ Ok command → IsRouteWithin command
-route-words [] command is = absurd (cc)
-route-words (verb ∷ rest) command is = elim (cases_Bool (bytes_eq verb (codes "add"))) [
-  | inl adds ↦ route-addition rest command (rw adds at is)
+route-words : (version : IpVersion) (words : List (List ℕ)) (command : RouteCommand) → routes.route_words (notation_for version) words ≡ Ok command → IsRouteWithin version command
+route-words version [] command is = absurd (cc)
+route-words version (verb ∷ rest) command is = elim (cases_Bool (bytes_eq verb (codes "add"))) [
+  | inl adds ↦ route-addition version rest command (rw adds at is)
   | inr other ↦ elim (cases_Bool (bytes_eq verb (codes "set"))) [
-    | inl sets ↦ route-change rest command (rw (other, sets) at is)
+    | inl sets ↦ route-change version rest command (rw (other, sets) at is)
     | inr also ↦ elim (cases_Bool (bytes_eq verb (codes "del"))) [
-      | inl dels ↦ route-removal rest command (rw (other, also, dels) at is)
+      | inl dels ↦ route-removal version rest command (rw (other, also, dels) at is)
       | inr neither ↦ let bad = rw (other, also, neither) at is in absurd (cc)
     ]
   ]
 ]
 
-route-common : (read : Result CommonCommand WordFault) (command : RouteCommand) → (read >>= λ found. Ok (route.Common found)) ≡ Ok command → IsRouteWithin command
-route-common (Ok found) command is = let same : route.Common found ≡ command = cc in subst IsRouteWithin same tt
-route-common (Err e) command is = absurd (cc)
+route-common : (version : IpVersion) (read : Result CommonCommand WordFault) (command : RouteCommand) → (read >>= λ found. Ok (route.Common found)) ≡ Ok command → IsRouteWithin version command
+route-common version (Ok found) command is = let same : route.Common found ≡ command = cc in subst (IsRouteWithin version) same tt
+route-common version (Err e) command is = absurd (cc)
 
-route-command : (words : List (List ℕ)) (command : RouteCommand) → routes.route_command ipv4_notation words ≡ Ok command → IsRouteWithin command
-route-command [] command is = absurd (cc)
-route-command (first ∷ rest) command is = elim (cases_Bool (bytes_eq first (codes "route"))) [
-  | inl is_route ↦ route-words rest command (rw is_route at is)
-  | inr other ↦ route-common (common_command ipv4_notation first rest) command (rw other at is)
+route-command : (version : IpVersion) (words : List (List ℕ)) (command : RouteCommand) → routes.route_command (notation_for version) words ≡ Ok command → IsRouteWithin version command
+route-command version [] command is = absurd (cc)
+route-command version (first ∷ rest) command is = elim (cases_Bool (bytes_eq first (codes "route"))) [
+  | inl is_route ↦ route-words version rest command (rw is_route at is)
+  | inr other ↦ route-common version (common_command (notation_for version) first rest) command (rw other at is)
 ]
 
-pub route-line : (text : List ℕ) (command : RouteCommand) → routes.route_line ipv4_notation text ≡ Ok (Some command) → IsRouteWithin command
-route-line text command is = route-command (words_of text) command (line-command (words_of text) (routes.route_command ipv4_notation (words_of text)) command is)
+pub route-line : (version : IpVersion) (text : List ℕ) (command : RouteCommand) → routes.route_line (notation_for version) text ≡ Ok (Some command) → IsRouteWithin version command
+route-line version text command is = route-command version (words_of text) command (line-command (words_of text) (routes.route_command (notation_for version) (words_of text)) command is)

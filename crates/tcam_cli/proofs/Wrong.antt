@@ -3,11 +3,11 @@ use Rattle.std.proofs.Common.{◌≡◌, false, List, [], ◌∷◌, ◌++◌, S
 use Rattle.std.specs.Prelude.{codes}
 use Rattle.rule_store.specs.declared.Mode.TheVariants.{Cover}
 use Rattle.batch_order.specs.declared.Placement.TheVariants.{Middle}
-use Rattle.replay.specs.declared.Family.TheVariants.{Route, Acl}
+use Rattle.report_lines.specs.declared.Family.TheVariants.{Route, Acl}
 use Rattle.tcam_device.specs.declared.Action.{Action}
 use Rattle.replay.specs.declared.Act.{Act}
 use Rattle.replay.specs.Effects.{Setting, events_in}
-use Rattle.tcam_cli.specs.declared.Status.TheVariants.{Done, Refused, Script as ScriptFault, ReadFault, WriteFault, DeviceFault, Usage}
+use Rattle.script_runs.specs.declared.Status.TheVariants.{Done, Refused, Script as ScriptFault, ReadFault, WriteFault, DeviceFault, Usage}
 use Rattle.tcam_cli.specs.Headline.{NoJob, Reads, Makes, IsCarriedOut, MayEnd}
 
 abbrev setting : Setting

@@ -14,10 +14,11 @@ use Rattle.replay.specs.declared.Act.TheVariants.{Command, Probe, Packet, Commit
 use Rattle.replay.specs.Fates.{IsCrash}
 use Rattle.replay.specs.Script.{Script, script_of}
 use Rattle.replay.specs.Effects.{Setting}
-use Rattle.tcam_cli.specs.declared.Status.{Status}
-use Rattle.tcam_cli.specs.declared.Status.TheVariants.{Done, Refused, Script as ScriptFault, ReadFault, WriteFault, DeviceFault, Memory, Usage}
+use Rattle.script_runs.specs.declared.Status.{Status}
+use Rattle.script_runs.specs.declared.Status.TheVariants.{Done, Refused, Script as ScriptFault, ReadFault, WriteFault, DeviceFault, Memory, Usage}
 use Rattle.trace_verify.specs.Verify.{IsHitlessText}
-use Rattle.tcam_cli.specs.Headline.{Job, NoJob, Tells, Reads, Makes, Verifies, acts_of, is_back, script_so_far}
+use Rattle.script_runs.specs.Script.{acts_of}
+use Rattle.tcam_cli.specs.Headline.{Job, NoJob, Tells, Reads, Makes, Verifies, is_back, script_so_far}
 use Rattle.tcam_cli.specs.MadeScript.{made_script}
 use Rattle.tcam_cli.specs.Readings.{reading_by}
 
@@ -159,7 +160,7 @@ pub record IsHitlessRun (setting : Setting) (device_slots : ℕ) (script came : 
 
 -- What packets see of a job over a device that was blank, where the source is told; of one that foretells nothing
 -- specs/Given.antt speaks, and made commands need none. A job without a script writes
--- nothing; and where the check of a trace ends well, each commit of the trace is hitless.
+-- nothing; and where the check of a trace ends well, each commit of the trace is hitless, for look-ups of two events too.
 abbrev pub IsHitlessJob : Job → ℕ → Status → Option (List ℕ) → Option (List ℕ) → List Write → Type 0
 IsHitlessJob NoJob device_slots status left_old left_new journal = journal ≡ []
 IsHitlessJob (Tells text) device_slots status left_old left_new journal = journal ≡ []

@@ -1,14 +1,14 @@
 -- What the calls that read a command line answer: words that only their contracts need.
-use Rattle.std.specs.Prelude.{ℕ, ◌≡◌, ◌⊎◌, ◌≤◌, Option, Some, None, List, true, false, codes, if◌then◌else◌}
+use Rattle.std.specs.Prelude.{ℕ, ◌≡◌, ◌≤◌, Option, Some, None, List, true, false, codes, if◌then◌else◌}
 use Rattle.std.specs.Str.{bytes_eq}
 use Rattle.slot_order.specs.Order.{most_slots}
 use Rattle.clap.specs.Walk.{Row, Text}
 use Rattle.clap.specs.ValueTests.{is_unsigned_in}
-use Rattle.replay.specs.declared.Family.{Family}
-use Rattle.replay.specs.declared.Family.TheVariants.{Route, Acl, Route6, Acl6}
+use Rattle.report_lines.specs.declared.Family.{Family}
+use Rattle.report_lines.specs.declared.Family.TheVariants.{Route, Acl, Route6, Acl6}
 use Rattle.tcam_cli.specs.declared.command_line.Asked.{Asked}
 use Rattle.tcam_cli.specs.declared.command_line.Asked.TheVariants as asked
-use Rattle.tcam_cli.specs.CommandLine.{is_traced, job_at, json_by, made_at, mode_wanted, number_in, placed_by, script_setting, text_of}
+use Rattle.tcam_cli.specs.CommandLine.{is_json, is_traced, job_at, made_at, mode_wanted, number_in, placed_by, script_setting, text_of}
 use Rattle.tcam_cli.specs.OwnTexts.{help_on, version_text}
 use Rattle.tcam_cli.specs.Headline.{Job, NoJob, Tells, Reads, Makes, Verifies}
 
@@ -30,7 +30,7 @@ number_given least greatest id rows = number_within least greatest (text_of id r
 abbrev pub tested_script : Family → List Row → Job
 tested_script family rows =
     job_by (number_given 1 most_slots (codes "slots") rows) (λ slots.
-    job_by (number_given 0 15 (codes "depth") rows) (λ depth. job_at family slots (mode_wanted family rows) (placed_by rows) (is_traced rows) depth (json_by family rows)))
+    job_by (number_given 0 15 (codes "depth") rows) (λ depth. job_at family slots (mode_wanted family rows) (placed_by rows) (is_traced rows) depth (is_json rows)))
 
 abbrev pub tested_made : List Row → Job
 tested_made rows =
@@ -75,7 +75,7 @@ pub record AreMadeNumbers (slots seed rules batches : ℕ) : Type 0 where
 -- the numbers of an answer are in their ranges
 abbrev pub IsInRange : Asked → Type 0
 IsInRange (asked.Script family slots mode placement trace depth json) =
-    (1 ≤ slots) × (slots ≤ most_slots) × (depth ≤ 15) × (json ≡ true → (family ≡ Route) ⊎ (family ≡ Acl))
+    (1 ≤ slots) × (slots ≤ most_slots) × (depth ≤ 15)
 IsInRange (asked.Made slots mode placement seed rules batches) = AreMadeNumbers slots seed rules batches
 IsInRange asked.Verify = Unit {0}
 IsInRange (asked.Help topic) = Unit {0}

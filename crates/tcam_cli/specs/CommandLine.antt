@@ -14,9 +14,9 @@ use Rattle.clap.specs.declared.builder.value_parser.ValueParser.TheVariants.{Uns
 use Rattle.rule_store.specs.declared.Mode.{Mode}
 use Rattle.rule_store.specs.declared.Mode.TheVariants.{Cover, Bits}
 use Rattle.batch_order.specs.declared.Placement.{Placement}
-use Rattle.batch_order.specs.declared.Placement.TheVariants.{Middle, Rank}
-use Rattle.replay.specs.declared.Family.{Family}
-use Rattle.replay.specs.declared.Family.TheVariants.{Route, Acl, Route6, Acl6}
+use Rattle.batch_order.specs.declared.Placement.TheVariants.{Middle, Rank, Ends}
+use Rattle.report_lines.specs.declared.Family.{Family}
+use Rattle.report_lines.specs.declared.Family.TheVariants.{Route, Acl, Route6, Acl6}
 use Rattle.replay.specs.Effects.{Setting}
 use Rattle.tcam_cli.specs.declared.own_texts.Topic.{Topic}
 use Rattle.tcam_cli.specs.declared.own_texts.Topic.TheVariants as about
@@ -75,13 +75,13 @@ json_flag = record (new_rule (codes "json")) { long = Some (codes "json"); actio
 -- a subcommand for route scripts, by its name
 unfoldable pub route_app : Text → App
 route_app name =
-    with_rule (with_rule (with_rule (with_rule (new_app name) slots_option) placement_option) trace_flag) depth_option
+    with_rule (with_rule (with_rule (with_rule (with_rule (new_app name) slots_option) placement_option) trace_flag) depth_option) json_flag
 
 -- a subcommand for access-list scripts, by its name
 unfoldable pub acl_app : Text → App
 acl_app name =
-    with_rule (with_rule (with_rule (with_rule (with_rule (new_app name) slots_option) ranges_option) placement_option) trace_flag)
-    depth_option
+    with_rule (with_rule (with_rule (with_rule (with_rule (with_rule (new_app name) slots_option) ranges_option) placement_option) trace_flag)
+    depth_option) json_flag
 
 -- a required number of a range, which stands behind the subcommand in its order
 unfoldable pub number_position : Text → ℕ → ℕ → Rule
@@ -112,8 +112,8 @@ tcam_top = on_top (λ top. record top {
 -- and with its subcommands
 unfoldable pub tcam_app : App
 tcam_app =
-    with_subcommand (with_subcommand (with_subcommand (with_subcommand (with_subcommand (with_subcommand tcam_top (with_rule (route_app (codes "route")) json_flag).top)
-    (with_rule (acl_app (codes "acl")) json_flag).top) (route_app (codes "route6")).top) (acl_app (codes "acl6")).top) gen_app.top) verify_app.top
+    with_subcommand (with_subcommand (with_subcommand (with_subcommand (with_subcommand (with_subcommand tcam_top (route_app (codes "route")).top)
+    (acl_app (codes "acl")).top) (route_app (codes "route6")).top) (acl_app (codes "acl6")).top) gen_app.top) verify_app.top
 
 -- the text that an argument was given, or has by default
 abbrev pub text_of : Text → List Row → Text
@@ -135,12 +135,9 @@ has_text id text rows = bytes_eq (text_of id rows) text
 abbrev pub is_traced : List Row → Bool
 is_traced rows = has_text (codes "trace") (codes "true") rows
 
--- whether a report in JSON is wanted, which scripts of IPv4 have
-abbrev pub json_by : Family → List Row → Bool
-json_by Route rows = has_text (codes "json") (codes "true") rows
-json_by Acl rows = has_text (codes "json") (codes "true") rows
-json_by Route6 rows = false
-json_by Acl6 rows = false
+-- whether a report in JSON is wanted
+abbrev pub is_json : List Row → Bool
+is_json rows = has_text (codes "json") (codes "true") rows
 
 -- the mode that a word names
 abbrev pub mode_in : Text → Option Mode
@@ -157,7 +154,10 @@ mode_wanted Acl6 rows = mode_in (text_of (codes "ranges") rows)
 -- the placement that a word names
 abbrev pub placement_in : Text → Option Placement
 placement_in text =
-    if bytes_eq text (codes "middle") then Some Middle else if bytes_eq text (codes "rank") then Some Rank else None
+    if bytes_eq text (codes "middle") then Some Middle
+    else if bytes_eq text (codes "rank") then Some Rank
+    else if bytes_eq text (codes "ends") then Some Ends
+    else None
 
 -- the placement that is wanted
 abbrev pub placed_by : List Row → Option Placement
@@ -179,7 +179,7 @@ made_at slots (Some mode) (Some placement) seed rules batches = Makes (script_se
 abbrev pub script_by : Family → List Row → Job
 script_by family rows =
     job_at family (number_of (codes "slots") rows) (mode_wanted family rows) (placed_by rows) (is_traced rows) (number_of (codes "depth") rows)
-    (json_by family rows)
+    (is_json rows)
 
 -- what a subcommand and its arguments ask for: a script of its family over so many slots, made commands, or the check of a
 -- trace

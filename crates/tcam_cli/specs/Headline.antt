@@ -3,12 +3,16 @@
 -- a commit that finishes the new one, of a trial that is taken back the old one; a refused commit writes nothing; and an
 -- insertion takes at most 1 + 2 m (1 + c) writes. Writes, drains and lines come in one order: a probe's line stands a
 -- depth of writes behind its write, or before a drain or the commit's end, and a drain only where a commit gives new bits.
-use Rattle.std.specs.Prelude.{◌≡◌, ◌≢◌, ℕ, ◌-◌, ◌==◌, true, false, Bool, Option, Some, None, option_map, IfSome, List, [], ◌∷◌, ◌++◌, length, take, drop, map, codes, ◌⊎◌}
+use Rattle.std.specs.Prelude.{◌≡◌, ◌≢◌, ℕ, ◌-◌, true, false, Bool, Option, Some, None, option_map, IfSome, List, [], ◌∷◌, ◌++◌, length, take, drop, codes, ◌⊎◌}
 use Rattle.std.specs.Io.KnownBytes.{Appends}
 use Rattle.call_history.specs.Cause.{IsCounted}
-use Rattle.script_lines.specs.declared.LineFault.{LineFault}
 use Rattle.script_lines.specs.declared.LineFault.TheVariants as line_fault
-use Rattle.script_lines.specs.Lines.{line_feed, lines_of}
+use Rattle.script_runs.specs.declared.Status.{Status}
+use Rattle.script_runs.specs.declared.Status.TheVariants.{Done, Refused, Script as ScriptFault, ReadFault, WriteFault, DeviceFault, Memory, Usage}
+use Rattle.script_runs.specs.Script as scripts
+use Rattle.script_runs.specs.Script.{ScriptEnd, Whole, FaultAt, acts_of}
+use Rattle.script_runs.specs.Outcomes as outcomes
+use Rattle.script_runs.specs.Outcomes.{RunKind, IsPrinted, TakesFrom, status_at}
 use Rattle.rule_model.specs.declared.Rule.{Rule}
 use Rattle.rule_store.specs.declared.Command.{Command as Change}
 use Rattle.rule_store.specs.Batch.{set_after}
@@ -19,14 +23,13 @@ use Rattle.tcam_device.specs.declared.Action.TheVariants.{Written}
 use Rattle.batch_order.specs.CarriedOut.{IsTried}
 use Rattle.replay.specs.declared.Act.{Act}
 use Rattle.replay.specs.declared.Act.TheVariants.{Command, Probe, Packet, Commit, Trial, Crash}
-use Rattle.replay.specs.Script.{Script, ScriptEnd, Whole, FaultAt, Reading, acts_from, script_of}
-use Rattle.replay.specs.Text.{usage_line, fault_line, yes_line, no_line}
+use Rattle.replay.specs.Script.{Script, Reading, script_kind, script_of}
+use Rattle.report_lines.specs.Text.{usage_line, fault_line}
+use Rattle.replay.specs.Text.{yes_line, no_line}
 use Rattle.replay.specs.Effects.{Setting, Effect, Acts, Prints, events_in, printed}
 use Rattle.replay.specs.Reports.{fault_told}
-use Rattle.replay.specs.Run.{Progress, IsCutStep, TakesMemory, Runs, ending}
+use Rattle.replay.specs.Run.{Progress, HasEffects, IsCutStep, TakesMemory, start, ending}
 use Rattle.trace_check.specs.Answers.{TraceAnswer, Yes, No, Bad, Unread, IsTraceAnswer}
-use Rattle.tcam_cli.specs.declared.Status.{Status}
-use Rattle.tcam_cli.specs.declared.Status.TheVariants.{Done, Refused, Script as ScriptFault, ReadFault, WriteFault, DeviceFault, Memory, Usage}
 use Rattle.tcam_cli.specs.Readings.{reading_by}
 use Rattle.tcam_cli.specs.MadeScript.{made_script}
 
@@ -39,10 +42,6 @@ pub data Job : Type 0 where
   Makes : (setting : Setting) (seed rules batches : ℕ) → Job
   Verifies : Job
 
--- the acts of a script without the numbers of their lines
-abbrev pub acts_of : Script → List Act
-acts_of script = map (λ numbered. numbered.act) script.acts
-
 -- The last line that a script's end gives: the end line, or the line that names the fault.
 abbrev pub closing_line : Setting → Progress → ScriptEnd → List ℕ
 closing_line setting progress Whole = ending setting progress
@@ -50,110 +49,38 @@ closing_line setting progress (FaultAt line text) = fault_told setting progress.
 
 -- the status of a script that was carried out to its end
 abbrev pub status_of : Progress → ScriptEnd → Status
-status_of progress Whole = elim progress.refused [ true ↦ Refused | false ↦ Done ]
-status_of progress (FaultAt line text) = ScriptFault
+status_of progress end = status_at progress.refused end
+
+-- The runs of a setting over a device of so many slots, of which script_runs says how they end.
+abbrev pub run_kind : Setting → ℕ → RunKind Act (ℕ × ℕ) Progress Effect Write (List Action)
+run_kind setting device_slots =
+    record {
+      scripts = script_kind (reading_by setting);
+      counted = λ progress. (length progress.batch, length progress.probes);
+      start = start device_slots;
+      Step = HasEffects setting;
+      IsCutStep = IsCutStep setting;
+      TakesMemory = TakesMemory setting;
+      closing_line = closing_line setting;
+      refused = λ progress. progress.refused;
+      line = Prints;
+      write = λ write. Acts (Written write);
+      printed = printed;
+      events_in = events_in;
+      joined = λ first second. first ++ second;
+    }
 
 -- The whole script was carried out: these are its effects, and this is the status.
-pub record IsComplete (setting : Setting) (device_slots : ℕ) (script : Script) (status : Status) (effects : List Effect) : Type 0 where
-  pub body : List Effect
-  pub last : Progress
-  pub run : Runs setting device_slots (acts_of script) body last
-  pub status_is : status ≡ status_of last script.last
-  pub effects_are : effects ≡ body ++ Prints (closing_line setting last script.last) ∷ []
-
--- The script was carried out up to an effect that is due next: in the middle of an act,
-pub record IsAtAct (setting : Setting) (device_slots : ℕ) (script : Script) (effects : List Effect) (due : Effect) : Type 0 where
-  pub done : List Act
-  pub act : Act
-  pub later : List Act
-  pub acts : acts_of script ≡ done ++ act ∷ later
-  pub body : List Effect
-  pub before : Progress
-  pub run : Runs setting device_slots done body before
-  pub front : List Effect
-  pub cut : IsCutStep setting before act front due
-  pub effects_are : effects ≡ body ++ front
-
--- or at the last line
-pub record IsAtEnd (setting : Setting) (device_slots : ℕ) (script : Script) (effects : List Effect) (due : Effect) : Type 0 where
-  pub last : Progress
-  pub run : Runs setting device_slots (acts_of script) effects last
-  pub due_is : due ≡ Prints (closing_line setting last script.last)
-
--- either of the two
-abbrev pub IsEffectDue : Setting → ℕ → Script → List Effect → Effect → Type 0
-IsEffectDue setting device_slots script effects due =
-    IsAtAct setting device_slots script effects due ⊎ IsAtEnd setting device_slots script effects due
-
--- A line could not be written: the effects before it, and the part of it that the sink took.
-pub record IsCutAtLine (setting : Setting) (device_slots : ℕ) (script : Script) (effects : List Effect) (partial : List ℕ) : Type 0 where
-  pub line : List ℕ
-  pub rest : List ℕ
-  pub due : IsEffectDue setting device_slots script effects (Prints line)
-  pub part : line ≡ partial ++ rest
-
--- A device write failed, each time it was tried: the effects before it.
-pub record IsCutAtWrite (setting : Setting) (device_slots : ℕ) (script : Script) (effects : List Effect) : Type 0 where
-  pub write : Write
-  pub due : IsEffectDue setting device_slots script effects (Acts (Written write))
-
--- Memory was wanting at an act: the effects of those before it, and those that it had by then.
-pub record IsOutOfMemoryAtAct (setting : Setting) (device_slots : ℕ) (script : Script) (effects : List Effect) : Type 0 where
-  pub done : List Act
-  pub act : Act
-  pub later : List Act
-  pub acts : acts_of script ≡ done ++ act ∷ later
-  pub body : List Effect
-  pub before : Progress
-  pub run : Runs setting device_slots done body before
-  pub front : List Effect
-  pub needs : TakesMemory setting before act front
-  pub effects_are : effects ≡ body ++ front
-
--- or before the first
-abbrev pub IsOutOfMemory : Setting → ℕ → Script → List Effect → Type 0
-IsOutOfMemory setting device_slots script effects = (effects ≡ []) ⊎ IsOutOfMemoryAtAct setting device_slots script effects
-
--- a read failed: the effects of the whole lines taken before; no line and no byte that was taken is at fault
-pub record IsCutAtRead (setting : Setting) (device_slots : ℕ) (came : Script) (effects : List Effect) : Type 0 where
-  pub sound : came.last ≡ Whole
-  pub last : Progress
-  pub run : Runs setting device_slots (acts_of came) effects last
-
--- the bytes up to the last line feed, with it
-abbrev pub whole_lines_from : List ℕ → List ℕ → List ℕ
-whole_lines_from line [] = []
-whole_lines_from line (byte ∷ bytes) =
-    elim (byte == line_feed) [
-      | true ↦ line ++ byte ∷ whole_lines_from [] bytes
-      | false ↦ whole_lines_from (line ++ byte ∷ []) bytes
-    ]
-
--- the lines of some bytes that a line feed ends
-abbrev pub whole_lines : List ℕ → List ℕ
-whole_lines bytes = whole_lines_from [] bytes
+abbrev pub IsComplete : Setting → ℕ → Script → Status → List Effect → Type 0
+IsComplete setting device_slots script status effects = outcomes.IsComplete (run_kind setting device_slots) script status effects
 
 -- what some first bytes of a script are so far: the acts of their whole lines, and a fault where they have one
 abbrev pub script_so_far : Reading → List ℕ → Script
-script_so_far reading bytes = acts_from reading 0 0 (lines_of (whole_lines bytes)).lines (lines_of bytes).last
+script_so_far reading bytes = scripts.script_so_far (script_kind reading) bytes
 
 -- what a run did by its status: its effects and part of a further line; came is what the bytes taken are of the script
 abbrev pub IsOutcome : Setting → ℕ → Script → Script → Status → List Effect → List ℕ → Type 0
-IsOutcome setting device_slots script came Done effects partial = IsComplete setting device_slots script Done effects × (partial ≡ [])
-IsOutcome setting device_slots script came Refused effects partial = IsComplete setting device_slots script Refused effects × (partial ≡ [])
-IsOutcome setting device_slots script came ScriptFault effects partial = IsComplete setting device_slots script ScriptFault effects × (partial ≡ [])
-IsOutcome setting device_slots script came ReadFault effects partial = IsCutAtRead setting device_slots came effects × (partial ≡ [])
-IsOutcome setting device_slots script came WriteFault effects partial = IsCutAtLine setting device_slots script effects partial
-IsOutcome setting device_slots script came DeviceFault effects partial = IsCutAtWrite setting device_slots script effects × (partial ≡ [])
-IsOutcome setting device_slots script came Memory effects partial = IsOutOfMemory setting device_slots script effects × (partial ≡ [])
-IsOutcome setting device_slots script came Usage effects partial = ⊥
-
--- one text was printed, or a part of it where the sink failed, or nothing for want of memory
-abbrev pub IsPrinted : List ℕ → Status → Status → List ℕ → Type 0
-IsPrinted text last status report =
-    ((status ≡ last) × (report ≡ text))
-    ⊎ (((status ≡ WriteFault) × ((rest : List ℕ) × (text ≡ report ++ rest)))
-    ⊎ ((status ≡ Memory) × (report ≡ [])))
+IsOutcome setting device_slots script came status effects partial = outcomes.IsOutcome (run_kind setting device_slots) script came status effects partial
 
 -- the line that a check prints of a trace
 abbrev pub told_line : TraceAnswer → List ℕ
@@ -189,23 +116,14 @@ pub record IsChecked (status : Status) (old new : List ℕ) (taken_old taken_new
   pub report_is : Appends taken_old taken_new report
 
 -- The writes and drains of the device, and the report where it is told, are those of an outcome.
-pub record MatchesOutcome (setting : Setting) (device_slots : ℕ) (script came : Script) (status : Status) (events : List Action) (taken_old taken_new : Option (List ℕ)) : Type 0 where
-  pub effects : List Effect
-  pub partial : List ℕ
-  pub outcome : IsOutcome setting device_slots script came status effects partial
-  pub events_is : events ≡ events_in effects
-  pub report_is : Appends taken_old taken_new (printed effects ++ partial)
+abbrev pub MatchesOutcome : Setting → ℕ → Script → Script → Status → List Action → Option (List ℕ) → Option (List ℕ) → Type 0
+MatchesOutcome setting device_slots script came status events taken_old taken_new =
+    outcomes.MatchesOutcome (run_kind setting device_slots) script came status events taken_old taken_new
 
 -- The same of a script that isn't read: no read of it fails, so that no part of it is all that came.
 abbrev pub MatchesMade : Setting → ℕ → Script → Status → List Action → Option (List ℕ) → Option (List ℕ) → Type 0
 MatchesMade setting device_slots script status events taken_old taken_new =
     (status ≢ ReadFault) × MatchesOutcome setting device_slots script script status events taken_old taken_new
-
--- what was taken of the source is the beginning of what was left, and all of it at the end of the input
-pub record TakesFrom (status : Status) (old new : List ℕ) : Type 0 where
-  pub taken : List ℕ
-  pub parts : old ≡ taken ++ new
-  pub all : (status ≡ Done) ⊎ (status ≡ Refused) → new ≡ []
 
 -- A job that touches neither source nor device, and prints one text.
 abbrev pub IsToldAlone : List ℕ → Status → Status → Option (List ℕ) → Option (List ℕ) → Option (List ℕ) → Option (List ℕ) → List Action → Type 0

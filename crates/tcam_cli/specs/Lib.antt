@@ -4,7 +4,6 @@ pub mod OwnTexts
 pub mod CommandLine
 pub mod Asked
 pub mod Rounds
-pub mod ExitCodes
 pub mod AllTheWay
 pub mod Given
 pub mod MadeScript

@@ -5,7 +5,8 @@ use Rattle.rule_gen.specs.declared.Made.TheVariants as made
 use Rattle.rule_gen.specs.Made.{made_commands}
 use Rattle.replay.specs.declared.Act.{Act}
 use Rattle.replay.specs.declared.Act.TheVariants.{Command, Commit}
-use Rattle.replay.specs.Script.{NumberedAct, Script, Whole}
+use Rattle.script_runs.specs.Script.{Whole}
+use Rattle.replay.specs.Script.{NumberedAct, Script}
 
 -- a made command as an act
 abbrev pub made_act : Made → Act

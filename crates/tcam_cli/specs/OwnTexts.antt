@@ -15,7 +15,7 @@ help_text = codes "tcam: the table manager of a ternary content-addressable memo
     ++ 10 ∷ codes "    tcam acl6 [OPTIONS] < FILE     a script of an IPv6 access list"
     ++ 10 ∷ codes "    tcam gen SEED RULES BATCHES [OPTIONS]"
     ++ 10 ∷ codes "                                   changes of an access list, made from SEED"
-    ++ 10 ∷ codes "    tcam verify < FILE             whether each write of a trace is hitless"
+    ++ 10 ∷ codes "    tcam verify < FILE             a check of a trace of device writes"
     ++ 10 ∷ codes "    tcam route --help              the commands of a script of routes"
     ++ 10 ∷ codes "    tcam acl --help                the commands of a script of an access list"
     ++ 10 ∷ codes "    tcam route6 --help             those of a script of IPv6 routes"
@@ -33,10 +33,12 @@ help_text = codes "tcam: the table manager of a ternary content-addressable memo
     ++ 10 ∷ codes "                     words of a table are written when one comes"
     ++ 10 ∷ codes "    --placement P    where a new entry aims: middle, of the gap between the"
     ++ 10 ∷ codes "                     entries that it must stand between, which is the default;"
-    ++ 10 ∷ codes "                     or rank, its place among all entries, for a table that is"
-    ++ 10 ∷ codes "                     loaded in one commit, or a list in its order"
+    ++ 10 ∷ codes "                     rank, its place among all entries, for a table that is"
+    ++ 10 ∷ codes "                     loaded in one commit; or ends, for a list that grows: by"
+    ++ 10 ∷ codes "                     rank, but what is lower than all goes right behind what it"
+    ++ 10 ∷ codes "                     must stand behind, and what is higher right before it"
     ++ 10 ∷ codes "    --trace          a line for each device write and drain; not for gen"
-    ++ 10 ∷ codes "    --json           of route and acl, a report in JSON: a value a line for each"
+    ++ 10 ∷ codes "    --json           of scripts, a report in JSON: a value a line for each"
     ++ 10 ∷ codes "                     command, device write and drain of a commit"
     ++ 10 ∷ codes "    --depth K        of scripts, after how many further writes the words of the"
     ++ 10 ∷ codes "                     probes are searched: 0 to 15, by default 0, at once"
@@ -54,8 +56,7 @@ help_text = codes "tcam: the table manager of a ternary content-addressable memo
     ++ 10 ∷ 10 ∷ codes "The manual is docs/SCRIPT.md."
     ++ 10 ∷ []
 
--- what the helps of a version of IP name: itself, prefixes, an address, and the addresses of two packets; and the option
--- that only scripts of IPv4 have, as a word and as a line
+-- what the helps of a version of IP name: itself, prefixes, an address, and the addresses of two packets
 pub record Named : Type 0 where
   pub version : List ℕ
   pub prefix : List ℕ
@@ -63,8 +64,6 @@ pub record Named : Type 0 where
   pub address : List ℕ
   pub to_route : List ℕ
   pub to_list : List ℕ
-  pub json_word : List ℕ
-  pub json_option : List ℕ
 
 unfoldable pub ipv4_named : Named
 ipv4_named = record {
@@ -74,8 +73,6 @@ ipv4_named = record {
   address = codes "10.1.2.3";
   to_route = codes "0.0.0.0 10.1.2.3";
   to_list = codes "192.0.2.1 10.1.2.3";
-  json_word = codes " [--json]";
-  json_option = 10 ∷ codes "    --json           a report in JSON, a value a line; no trial, no crash";
 }
 
 unfoldable pub ipv6_named : Named
@@ -86,8 +83,6 @@ ipv6_named = record {
   address = codes "2001:db8::1";
   to_route = codes ":: 2001:db8::1";
   to_list = codes "2001:db8:1::1 2001:db8::1";
-  json_word = [];
-  json_option = [];
 }
 
 -- the commands that all scripts have, as their helps list them
@@ -105,13 +100,16 @@ unfoldable pub slots_line : List ℕ
 slots_line = codes "    --slots N        N slots in use, 1 to 4096, by default 4096"
 
 unfoldable pub placement_line : List ℕ
-placement_line = codes "    --placement P    where a new entry aims: middle, the default, or rank"
+placement_line = codes "    --placement P    where a new entry aims: middle, the default, rank or ends"
 
 unfoldable pub trace_option : List ℕ
 trace_option = codes "    --trace          a line for each device write and drain"
 
 unfoldable pub depth_line : List ℕ
 depth_line = codes "    --depth K        probes are searched K writes later, 0 to 15, by default 0"
+
+unfoldable pub json_option : List ℕ
+json_option = codes "    --json           a report in JSON, a value a line; no trial, no crash"
 
 -- those of an access list, from a script or made
 unfoldable pub list_options : List ℕ
@@ -122,7 +120,7 @@ list_options = slots_line
 -- the help of a script of routes, by its subcommand: its commands, their words, options and an example
 unfoldable pub route_help_of : List ℕ → List ℕ → Named → List ℕ
 route_help_of command rules named = codes "tcam " ++ command ++ codes ": carries out a script of " ++ rules ++ codes ", and writes a report."
-    ++ 10 ∷ 10 ∷ codes "    tcam " ++ command ++ codes " [--slots N] [--placement P] [--trace] [--depth K]" ++ named.json_word ++ codes " < FILE"
+    ++ 10 ∷ 10 ∷ codes "    tcam " ++ command ++ codes " [--slots N] [--placement P] [--trace] [--depth K] [--json] < FILE"
     ++ 10 ∷ 10 ∷ codes "Commands of a script, one a line:"
     ++ 10 ∷ codes "    route add PREFIX RESULT    a new route: packets to the prefix get RESULT,"
     ++ 10 ∷ codes "                               unless a route of a longer prefix holds"
@@ -138,7 +136,8 @@ route_help_of command rules named = codes "tcam " ++ command ++ codes ": carries
     ++ 10 ∷ slots_line
     ++ 10 ∷ placement_line
     ++ 10 ∷ trace_option
-    ++ 10 ∷ depth_line ++ named.json_option
+    ++ 10 ∷ depth_line
+    ++ 10 ∷ json_option
     ++ 10 ∷ 10 ∷ codes "Example of a script, whose packet gets the answer " ++ named.prefix ++ codes " 7:"
     ++ 10 ∷ codes "    route add " ++ named.prefix ++ codes " 7"
     ++ 10 ∷ codes "    commit"
@@ -155,7 +154,7 @@ route6_help = route_help_of (codes "route6") (codes "IPv6 routes") ipv6_named
 -- the help of a script of an access list, likewise
 unfoldable pub acl_help_of : List ℕ → List ℕ → Named → List ℕ
 acl_help_of command rules named = codes "tcam " ++ command ++ codes ": carries out a script of " ++ rules ++ codes ", and writes a report."
-    ++ 10 ∷ 10 ∷ codes "    tcam " ++ command ++ codes " [--slots N] [--ranges R] [--placement P] [--trace] [--depth K]" ++ named.json_word ++ codes " < FILE"
+    ++ 10 ∷ 10 ∷ codes "    tcam " ++ command ++ codes " [--slots N] [--ranges R] [--placement P] [--trace] [--depth K] [--json] < FILE"
     ++ 10 ∷ 10 ∷ codes "Commands of a script, one a line, with the source's side and ports first:"
     ++ 10 ∷ codes "    acl add SEQ ACTION SIDE SIDE PROTOSPEC PORTSPEC PORTSPEC"
     ++ 10 ∷ codes "                               a new rule: packets that meet its conditions"
@@ -173,7 +172,8 @@ acl_help_of command rules named = codes "tcam " ++ command ++ codes ": carries o
     ++ 10 ∷ 10 ∷ codes "Options, of which tcam --help says more:"
     ++ 10 ∷ list_options
     ++ 10 ∷ trace_option
-    ++ 10 ∷ depth_line ++ named.json_option
+    ++ 10 ∷ depth_line
+    ++ 10 ∷ json_option
     ++ 10 ∷ 10 ∷ codes "Example of a script, whose packet gets the answer 10 permit:"
     ++ 10 ∷ codes "    acl add 10 permit any " ++ named.prefix ++ codes " tcp any 443"
     ++ 10 ∷ codes "    commit"
@@ -206,12 +206,14 @@ gen_help = codes "tcam gen: carries out changes of an access list that it makes 
 
 -- the help of the check of a trace
 unfoldable pub verify_help : List ℕ
-verify_help = codes "tcam verify: tells whether each write of a trace is hitless, that is, whether"
-    ++ 10 ∷ codes "each packet gets the answer of the rules before its commit or of those after it."
+verify_help = codes "tcam verify: checks a trace of device writes. Where it says yes, each write is"
+    ++ 10 ∷ codes "hitless: each packet gets the answer of the rules before its commit or of those"
+    ++ 10 ∷ codes "after it. A no says that a line breaks tcam's own order, be it hitless or not."
     ++ 10 ∷ 10 ∷ codes "    tcam verify < FILE"
-    ++ 10 ∷ 10 ∷ codes "A trace has a JSON value a line, as tcam route --json and tcam acl --json print:"
+    ++ 10 ∷ 10 ∷ codes "A trace has a JSON value a line, as tcam route --json and its like print:"
     ++ 10 ∷ codes "    {\"family\":F,\"mode\":M,\"slots\":N}"
-    ++ 10 ∷ codes "                         first: route or acl, cover or bits, the slots in use"
+    ++ 10 ∷ codes "                         first: route, acl, route6 or acl6; cover or bits; the"
+    ++ 10 ∷ codes "                         slots in use"
     ++ 10 ∷ codes "    {\"commit\":N}         commit N begins, counted from 1"
     ++ 10 ∷ codes "    {\"add\":[P,SA,SL,DA,DL,PR,A,B,C,D,R]}"
     ++ 10 ∷ codes "                         it adds a rule of priority P"
@@ -228,6 +230,9 @@ verify_help = codes "tcam verify: tells whether each write of a trace is hitless
     ++ 10 ∷ codes "    {\"end\":W}            last: the trace has W writes"
     ++ 10 ∷ codes "    {\"fault\":TEXT,\"line\":N}"
     ++ 10 ∷ codes "                         or last: line N of a script was at fault"
+    ++ 10 ∷ 10 ∷ codes "Of route6 and acl6 a P stands for five numbers, its high part and four words of"
+    ++ 10 ∷ codes "32 bits, the highest first; in a del they are an array. SA and DA are four words"
+    ++ 10 ∷ codes "each, and a put has 11 values and 11 masks."
     ++ 10 ∷ 10 ∷ codes "Spaces and the order of members are free, blank lines are skipped, and a line"
     ++ 10 ∷ codes "has at most 512 bytes."
     ++ 10 ∷ 10 ∷ codes "What is told, and the exit status:"
@@ -250,4 +255,4 @@ help_on (Some about.Verify) = verify_help
 
 -- the name and the version
 unfoldable pub version_text : List ℕ
-version_text = codes "tcam 0.1.0" ++ 10 ∷ []
+version_text = codes "tcam 0.2.0" ++ 10 ∷ []

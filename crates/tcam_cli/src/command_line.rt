@@ -1,9 +1,9 @@
 //! The words of the command line, as `clap` takes them.
 
-ghost use Rattle.std.specs.Prelude.{◌≡◌, ◌⊎◌, ◌≤◌, codes, Err, IfOk, IsErrOf, IfSome, IsNone, None, false, true, map, string_bytes};
-ghost use Rattle.clap.specs.Words.{app_of, with_rule, rule_of, rows_of, found_of, subcommand_rows_of, kind_of};
+ghost use Rattle.std.specs.Prelude.{◌≡◌, ◌≤◌, codes, Err, IfOk, IsErrOf, IfSome, IsNone, None, false, true, map, string_bytes};
+ghost use Rattle.clap.specs.Words.{app_of, rule_of, rows_of, found_of, subcommand_rows_of, kind_of};
 ghost use Rattle.clap.specs.declared.builder.command.Command.TheViews.{out-Command};
-ghost use Rattle.tcam_cli.specs.CommandLine.{job_of, job_of_fault, mode_wanted, mode_in, placement_in, topic_in, topic_named, verify_app, acl_app, depth_option, gen_app, json_by, json_flag, number_position, placement_option, ranges_option, route_app, slots_option, tcam_app, text_of as text_in, trace_flag};
+ghost use Rattle.tcam_cli.specs.CommandLine.{job_of, job_of_fault, mode_wanted, mode_in, placement_in, topic_in, topic_named, verify_app, acl_app, depth_option, gen_app, json_flag, number_position, placement_option, ranges_option, route_app, slots_option, tcam_app, text_of as text_in, trace_flag};
 ghost use Rattle.tcam_cli.specs.Asked.{IsInRange, asked_by, number_within, tested_job, tested_made, tested_script};
 ghost use Rattle.tcam_cli.specs.Headline.{NoJob};
 
@@ -20,8 +20,7 @@ use std::alloc::{AllocError, Global};
 pub enum Asked {
     /// A script of this family from the source, with so many slots in use, 1 to 4,096, where port ranges are tested as
     /// the mode says and each insertion aims as the placement says, with a trace or without, with the words of probes
-    /// searched after so many further writes, at most 15, and with a report in JSON or without, which families of IPv4
-    /// have.
+    /// searched after so many further writes, at most 15, and with a report in JSON or without.
     Script {
         family: Family,
         slots: u32,
@@ -134,7 +133,8 @@ fn route_command<'a>(alloc: Global, name: &'a str) -> Result<Command<'a>, AllocE
             .arg(slots_arg(alloc))?
             .arg(placement_arg(alloc))?
             .arg(trace_arg(alloc))?
-            .arg(depth_arg(alloc))?,
+            .arg(depth_arg(alloc))?
+            .arg(json_arg(alloc))?,
     )
 }
 
@@ -149,17 +149,9 @@ fn acl_command<'a>(alloc: Global, name: &'a str) -> Result<Command<'a>, AllocErr
             .arg(ranges_arg(alloc))?
             .arg(placement_arg(alloc))?
             .arg(trace_arg(alloc))?
-            .arg(depth_arg(alloc))?,
+            .arg(depth_arg(alloc))?
+            .arg(json_arg(alloc))?,
     )
-}
-
-/// A subcommand whose report may be in JSON.
-fn with_json<'a>(alloc: Global, command: Command<'a>) -> Result<Command<'a>, AllocError>
-    requires local { (out-Command command).has_globals ≡ false }
-    ensures app { IfOk result (λ c. app_of c ≡ with_rule (app_of command.entry) json_flag) }
-    ensures local { IfOk result (λ c. (out-Command c).has_globals ≡ false) }
-{
-    Ok(command.arg(json_arg(alloc))?)
 }
 
 /// A required number in a range, which stands behind the subcommand in its order.
@@ -203,11 +195,11 @@ fn tcam_command<'a>(alloc: Global) -> Result<Command<'a>, AllocError>
 {
     Ok(
         Command::new(alloc, "tcam")
-            .version("0.1.0")
+            .version("0.2.0")
             .subcommand_required(true)
             .disable_help_subcommand(true)
-            .subcommand(with_json(alloc, route_command(alloc, "route")?)?)?
-            .subcommand(with_json(alloc, acl_command(alloc, "acl")?)?)?
+            .subcommand(route_command(alloc, "route")?)?
+            .subcommand(acl_command(alloc, "acl")?)?
             .subcommand(route_command(alloc, "route6")?)?
             .subcommand(acl_command(alloc, "acl6")?)?
             .subcommand(gen_command(alloc)?)?
@@ -266,7 +258,7 @@ fn job_of_script(family: Family, found: &ArgMatches) -> Option<Asked>
         placement: placement_of(text_of(found, "placement"))?,
         trace: text_of(found, "trace") == "true",
         depth: number_of(text_of(found, "depth"), 0, 15)?,
-        json: json_of(family, found),
+        json: text_of(found, "json") == "true",
     })
 }
 
@@ -303,17 +295,6 @@ fn mode_of(family: Family, found: &ArgMatches) -> Option<Mode>
     }
 }
 
-/// Whether a report in JSON is wanted, which scripts of IPv4 have.
-fn json_of(family: Family, found: &ArgMatches) -> bool
-    ensures asked { result ≡ json_by family (rows_of (found_of found.now)) }
-    ensures ipv4 { result ≡ true → (family ≡ Family.Route) ⊎ (family ≡ Family.Acl) }
-{
-    match family {
-        Family::Route | Family::Acl => text_of(found, "json") == "true",
-        Family::Route6 | Family::Acl6 => false,
-    }
-}
-
 /// A mode from its word.
 fn mode_named(text: &str) -> Option<Mode>
     ensures { result ≡ mode_in text.now }
@@ -332,6 +313,7 @@ fn placement_of(text: &str) -> Option<Placement>
     match text {
         "middle" => Some(Placement::Middle),
         "rank" => Some(Placement::Rank),
+        "ends" => Some(Placement::Ends),
         _ => None,
     }
 }

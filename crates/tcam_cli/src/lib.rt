@@ -9,7 +9,8 @@
 //! # How it stands
 //! `command_line` says what `clap` is to take and what its answer asks for, `own_texts` what the program says about
 //! itself; `top` is the loop of lines, acts and the last line, and that of made commands; `traces` prints what is told of
-//! a trace.
+//! a trace. How a run may end is said by `script_runs` over any kind of acts, and `run_kind` of `specs/Headline` says at
+//! which step it is ours.
 //!
 //! # What it cost
 //! Lines are carried out before the next read, so a source that gives one line a read is read once a line. A device
@@ -49,7 +50,7 @@
 //! - **The check of a trace is a job beside the others** (`Verifies` of `Job`), with the statuses 0, 1 and 2 of its three
 //!   answers. It has no setting and no acts, so the definitions of a run's outcome don't speak of it: what is told of the
 //!   text is `trace_check`'s, its line is printed or cut as a text of the product is (`IsPrinted`), and that no input is
-//!   taken in vain is said by what the bytes before a read leave open (`IsUnsettled` of `trace_verify`). The status is no
+//!   taken in vain is said by what the bytes before a read leave open (`LeavesOpen` of `trace_verify`). The status is no
 //!   function of the text (`IsDecided`), since an orderly trace is said by relations; `answers_are_one` of `trace_check` says
 //!   that there is only one.
 //! - **`--help`, `-h` and `--version` print the product's own text** to the report's sink with status 0, the one answer
@@ -58,7 +59,7 @@
 //! - **Each subcommand's `--help` lists what it takes** (`help_on`, `Asked::Help`, `Topic`). `clap`'s error has a kind
 //!   and names no subcommand, so the word behind the program's name says whose help it is (`topic_in`), which is
 //!   enough: `tcam` itself has no option that may stand before a subcommand, but those that print a text. The texts are
-//!   in the contract to the letter (`specs/OwnTexts`); the price is that these are 172 lines to be believed. `--trace`
+//!   in the contract to the letter (`specs/OwnTexts`); the price is that these are 218 lines to be believed. `--trace`
 //!   is said to have a line for each write and each drain also in the helps of routes, of which no commit drains: one
 //!   line serves all.
 //! - **`--placement` and `--ranges` are parts of a run's setting** (`script_setting`, `Asked::Script`, `placement_in`,
@@ -69,61 +70,18 @@
 //!   are names: a list of names in `clap`'s declaration is a reference, and no definition can name the place in memory
 //!   that it refers to. The price is one corner: behind a wrong word of these, `--help` still prints the help, where
 //!   behind a wrong number of `--slots` the words are no command line.
-//! - **`--json` is an option of `route` and `acl` alone**, since no line of a trace file has an IPv6 address. With it a
-//!   line of a trial or a crash is at fault (`reading_by`), behind any fault of its words: the reader of the family reads
-//!   it first.
+//! - **With `--json` a line of a trial or a crash is at fault** (`reading_by`), behind any fault of its words: the reader
+//!   of the family reads it first. A report in JSON is a trace of the family's version of IP.
 //! - **`clap` takes a plus and leading zeros before a number of the command line** (`--slots +8`), and so do we;
 //!   numbers of scripts have neither. **Each number is read again, in its range** (`number_of`), where `clap` has
 //!   tested it. That the second test never fails where the first passed is proved (`tested`), over any argument that
 //!   keeps a property of the rows (`Keeps`), so one more number is a few lines.
 #![tactic(auto)]
 
-ghost use Rattle.std.specs.Prelude.{◌≡◌};
-ghost use Rattle.tcam_cli.specs.ExitCodes.{exit_code};
-
 mod command_line;
 mod own_texts;
 mod top;
 mod traces;
 
+pub use script_runs::Status;
 pub use top::run;
-
-/// How a run ends.
-#[derive(Clone, Copy, Debug, PartialEq, Eq)]
-pub enum Status {
-    /// The input was read, or made, to its end, and no commit was refused; or it is a trace whose writes are hitless.
-    Done,
-    /// The input was read, or made, to its end, and some commit was refused; or it is a trace, and a line of it breaks
-    /// the order.
-    Refused,
-    /// A line of the script is at fault, or of the trace.
-    Script,
-    /// The source failed.
-    ReadFault,
-    /// The sink failed.
-    WriteFault,
-    /// The device failed, at each try of one write.
-    DeviceFault,
-    /// Want of memory.
-    Memory,
-    /// The words are no command line.
-    Usage,
-}
-
-impl Status {
-    /// The exit code of the process.
-    pub fn code(self) -> u8
-        ensures { result ≡ exit_code self }
-    {
-        match self {
-            Status::Done => 0,
-            Status::Refused => 1,
-            Status::Script => 2,
-            Status::ReadFault => 3,
-            Status::WriteFault => 4,
-            Status::DeviceFault => 5,
-            Status::Memory => 6,
-            Status::Usage => 64,
-        }
-    }
-}

@@ -33,7 +33,7 @@ output. Or it checks a trace of writes, its own or another driver's.
     tcam acl6 [OPTIONS] < FILE     a script of an IPv6 access list
     tcam gen SEED RULES BATCHES [OPTIONS]
                                    changes of an access list, made from SEED
-    tcam verify < FILE             whether each write of a trace is hitless
+    tcam verify < FILE             a check of a trace of device writes
     tcam route --help              the commands of a script of routes
     tcam acl --help                the commands of a script of an access list
     tcam route6 --help             those of a script of IPv6 routes
@@ -52,10 +52,12 @@ Options:
                      words of a table are written when one comes
     --placement P    where a new entry aims: middle, of the gap between the
                      entries that it must stand between, which is the default;
-                     or rank, its place among all entries, for a table that is
-                     loaded in one commit, or a list in its order
+                     rank, its place among all entries, for a table that is
+                     loaded in one commit; or ends, for a list that grows: by
+                     rank, but what is lower than all goes right behind what it
+                     must stand behind, and what is higher right before it
     --trace          a line for each device write and drain; not for gen
-    --json           of route and acl, a report in JSON: a value a line for each
+    --json           of scripts, a report in JSON: a value a line for each
                      command, device write and drain of a commit
     --depth K        of scripts, after how many further writes the words of the
                      probes are searched: 0 to 15, by default 0, at once
@@ -102,7 +104,7 @@ Commands of a script, one a line:
 
 Options, of which tcam --help says more:
     --slots N        N slots in use, 1 to 4096, by default 4096
-    --placement P    where a new entry aims: middle, the default, or rank
+    --placement P    where a new entry aims: middle, the default, rank or ends
     --trace          a line for each device write and drain
     --depth K        probes are searched K writes later, 0 to 15, by default 0
     --json           a report in JSON, a value a line; no trial, no crash
@@ -146,7 +148,7 @@ Commands of a script, one a line, with the source's side and ports first:
 Options, of which tcam --help says more:
     --slots N        N slots in use, 1 to 4096, by default 4096
     --ranges R       how port ranges are tested: cover, the default, or bits
-    --placement P    where a new entry aims: middle, the default, or rank
+    --placement P    where a new entry aims: middle, the default, rank or ends
     --trace          a line for each device write and drain
     --depth K        probes are searched K writes later, 0 to 15, by default 0
     --json           a report in JSON, a value a line; no trial, no crash
@@ -163,7 +165,7 @@ The manual is docs/SCRIPT.md.
 const ROUTE6_HELP: &str = "\
 tcam route6: carries out a script of IPv6 routes, and writes a report.
 
-    tcam route6 [--slots N] [--placement P] [--trace] [--depth K] < FILE
+    tcam route6 [--slots N] [--placement P] [--trace] [--depth K] [--json] < FILE
 
 Commands of a script, one a line:
     route add PREFIX RESULT    a new route: packets to the prefix get RESULT,
@@ -186,9 +188,10 @@ Commands of a script, one a line:
 
 Options, of which tcam --help says more:
     --slots N        N slots in use, 1 to 4096, by default 4096
-    --placement P    where a new entry aims: middle, the default, or rank
+    --placement P    where a new entry aims: middle, the default, rank or ends
     --trace          a line for each device write and drain
     --depth K        probes are searched K writes later, 0 to 15, by default 0
+    --json           a report in JSON, a value a line; no trial, no crash
 
 Example of a script, whose packet gets the answer 2001:db8::/32 7:
     route add 2001:db8::/32 7
@@ -202,7 +205,7 @@ The manual is docs/SCRIPT.md.
 const ACL6_HELP: &str = "\
 tcam acl6: carries out a script of an IPv6 access list, and writes a report.
 
-    tcam acl6 [--slots N] [--ranges R] [--placement P] [--trace] [--depth K] < FILE
+    tcam acl6 [--slots N] [--ranges R] [--placement P] [--trace] [--depth K] [--json] < FILE
 
 Commands of a script, one a line, with the source's side and ports first:
     acl add SEQ ACTION SIDE SIDE PROTOSPEC PORTSPEC PORTSPEC
@@ -229,9 +232,10 @@ Commands of a script, one a line, with the source's side and ports first:
 Options, of which tcam --help says more:
     --slots N        N slots in use, 1 to 4096, by default 4096
     --ranges R       how port ranges are tested: cover, the default, or bits
-    --placement P    where a new entry aims: middle, the default, or rank
+    --placement P    where a new entry aims: middle, the default, rank or ends
     --trace          a line for each device write and drain
     --depth K        probes are searched K writes later, 0 to 15, by default 0
+    --json           a report in JSON, a value a line; no trial, no crash
 
 Example of a script, whose packet gets the answer 10 permit:
     acl add 10 permit any 2001:db8::/32 tcp any 443
@@ -258,7 +262,7 @@ ended by a commit. The report has a line for each commit, and the last line.
 Options, of which tcam --help says more:
     --slots N        N slots in use, 1 to 4096, by default 4096
     --ranges R       how port ranges are tested: cover, the default, or bits
-    --placement P    where a new entry aims: middle, the default, or rank
+    --placement P    where a new entry aims: middle, the default, rank or ends
 
 Example, of two commits of one rule each:
     tcam gen 1 1 2
@@ -268,14 +272,16 @@ The manual is docs/SCRIPT.md.
 
 /// The help of the check of a trace.
 const VERIFY_HELP: &str = "\
-tcam verify: tells whether each write of a trace is hitless, that is, whether
-each packet gets the answer of the rules before its commit or of those after it.
+tcam verify: checks a trace of device writes. Where it says yes, each write is
+hitless: each packet gets the answer of the rules before its commit or of those
+after it. A no says that a line breaks tcam's own order, be it hitless or not.
 
     tcam verify < FILE
 
-A trace has a JSON value a line, as tcam route --json and tcam acl --json print:
+A trace has a JSON value a line, as tcam route --json and its like print:
     {\"family\":F,\"mode\":M,\"slots\":N}
-                         first: route or acl, cover or bits, the slots in use
+                         first: route, acl, route6 or acl6; cover or bits; the
+                         slots in use
     {\"commit\":N}         commit N begins, counted from 1
     {\"add\":[P,SA,SL,DA,DL,PR,A,B,C,D,R]}
                          it adds a rule of priority P
@@ -293,6 +299,10 @@ A trace has a JSON value a line, as tcam route --json and tcam acl --json print:
     {\"fault\":TEXT,\"line\":N}
                          or last: line N of a script was at fault
 
+Of route6 and acl6 a P stands for five numbers, its high part and four words of
+32 bits, the highest first; in a del they are an array. SA and DA are four words
+each, and a put has 11 values and 11 masks.
+
 Spaces and the order of members are free, blank lines are skipped, and a line
 has at most 512 bytes.
 
@@ -306,7 +316,7 @@ The manual is docs/SCRIPT.md.
 ";
 
 /// What `--version` prints.
-pub const VERSION: &str = "tcam 0.1.0\n";
+pub const VERSION: &str = "tcam 0.2.0\n";
 
 /// The help of a subcommand, or of the program where none is named.
 pub fn help_of(topic: Option<Topic>) -> &'static str

@@ -14,14 +14,16 @@ ghost use Rattle.replay.specs.Run.{start, ending};
 ghost use Rattle.replay.specs.Carried.{IsAt};
 ghost use Rattle.replay.specs.Outside.{Leaves};
 ghost use Rattle.replay.specs.Running.{progress_of, setting_of, routes_of, IsActOf, IsToldIn};
-ghost use Rattle.replay.specs.Script.{Whole};
+ghost use Rattle.script_runs.specs.Script.{Whole};
+ghost use Rattle.report_lines.specs.Text.{family_version};
 ghost use Rattle.replay.specs.Reports.{fault_told};
 ghost use Rattle.tcam_cli.specs.AllTheWay.{IsHitlessJob};
 ghost use Rattle.tcam_cli.specs.CommandLine.{job_of};
-ghost use Rattle.tcam_cli.specs.Headline.{IsCarriedOut, HasCauses, Makes, Reads, status_of};
+ghost use Rattle.tcam_cli.specs.Headline.{IsCarriedOut, HasCauses, Makes, Reads, run_kind, status_of};
 ghost use Rattle.tcam_cli.specs.MadeScript.{made_act};
 ghost use Rattle.tcam_cli.specs.Readings.{acl_act, acl_reading, common_act, reading, reading_by, route_act, route_rank, route_reading, told_by};
-ghost use Rattle.tcam_cli.specs.Rounds.{ClosesReport, IsBetweenLines, IsBlockOf, IsCommandOf, IsJsonOfIpv4, RoundsBy, status_of_fault};
+ghost use Rattle.script_runs.specs.Rounds.{RoundsBy};
+ghost use Rattle.tcam_cli.specs.Rounds.{ClosesReport, IsBetweenLines, IsBlockOf, IsCommandOf, status_of_fault};
 
 use crate::Status;
 use crate::command_line::{Asked, WordsFault, read_words};
@@ -70,6 +72,11 @@ use tcam_device::ReadBack;
 /// of an act are handed to the sink before the next act is carried out. No input is taken in vain: of the lines that
 /// were whole before the last read none is at fault or wants memory, journal and accepted report begin with their
 /// effects, and no read before it was the end of the input.
+///
+/// Of a trace one line is printed: the answer is `Done` where it is orderly, and then each write of it is hitless and the
+/// input was read to its end; `Refused` where a line of it is the first that breaks the order; `Script` where one is the
+/// first that is none of a trace or may not stand there, where the last one is missing, or where a byte is at fault. The
+/// device is neither written nor drained, and nothing is read where the bytes before leave only one answer.
 pub fn run<S: Source, K: Sink, D: ReadBack>(
     alloc: Global,
     words: &[String],
@@ -140,7 +147,6 @@ fn run_script<S: Source, K: Sink, D: ReadBack>(
     requires slots { run.old.manager.slots ≤ D.slot_count device.old }
     requires idle { run.old.manager.held ≡ None }
     requires whole { run.old.broken ≡ false }
-    requires json { IsJsonOfIpv4 (setting_of run.old) }
     requires begun { progress_of (D.slot_count device.old) run.old ≡ start (D.slot_count device.old) }
     requires blank { D.events device.old ≡ [] }
     requires none_in_flight { D.flight device.old ≡ [] }
@@ -176,14 +182,13 @@ fn round<S: Source, K: Sink, D: ReadBack>(
 ) -> Option<Status>
     requires slots { run.old.manager.slots ≤ D.slot_count device.old }
     requires none_in_flight { D.flight device.old ≡ [] }
-    requires json { IsJsonOfIpv4 (setting_of run.old) }
     requires stands { IsBetweenLines lines.old run.old }
     requires at { IsAt (D.slot_count device.old) (D.events device.old) (progress_of (D.slot_count device.old) run.old) }
     ensures goes { IfNone result ((lines.old.before < lines.new.before) × IsBetweenLines lines.new run.new) }
     ensures at { IfNone result (IsAt (D.slot_count device.new) (D.events device.new) (progress_of (D.slot_count device.new) run.new)) }
     ensures setting { setting_of run.new ≡ setting_of run.old }
     ensures gives { (pieces : List (List ℕ)) × GivesPieces (S.given source.old) (S.given source.new) (S.left source.old) (S.left source.new) pieces
-        × ((which : Bool) → RoundsBy (setting_of run.old) (D.slot_count device.old) lines.old (progress_of (D.slot_count device.old) run.old) pieces result
+        × ((which : Bool) → RoundsBy (run_kind (setting_of run.old) (D.slot_count device.old)) lines.old (progress_of (D.slot_count device.old) run.old) pieces result
         lines.new (progress_of (D.slot_count device.old) run.new) (D.events device.old) (D.events device.new) (counted which (K.taken sink.old) (K.accepted sink.old)) (counted which (K.taken sink.new) (K.accepted sink.new))) }
     ensures rests { lines.old.over ≢ Going → (S.left source.new ≡ S.left source.old) × (lines.new ≡ lines.old) }
     ensures no_usage { result ≢ Some Status.Usage }
@@ -264,7 +269,7 @@ fn run_made<K: Sink, D: ReadBack>(
 fn act_of_made(made: &Made) -> Act
     ensures act { result ≡ made_act made.now }
     ensures list { IsActOf Family.Acl result }
-    ensures told { IsToldIn false result }
+    ensures told { (version : IpVersion) → IsToldIn false version result }
 {
     match made {
         Made::Change(command) => Act::Command(*command),
@@ -288,11 +293,10 @@ fn status_of_fault(fault: &RunFault) -> Status
 /// are faults.
 fn read_act(run: &Run, line: &Line) -> Result<Option<Act>, &'static str>
     requires len { line.now.len ≤ 512 }
-    requires json { IsJsonOfIpv4 (setting_of run.now) }
     ensures ok { IfOk result (λ found. reading_by (setting_of run.now) (numbered line.now).text ≡ Ok found) }
     ensures err { IfErr result (λ text. reading_by (setting_of run.now) (numbered line.now).text ≡ Err text.now) }
     ensures act { IfOk result (λ found. IfSome found (IsActOf run.now.family)) }
-    ensures told { IfOk result (λ found. IfSome found (IsToldIn run.now.json)) }
+    ensures told { IfOk result (λ found. IfSome found (IsToldIn run.now.json (family_version run.now.family))) }
     ensures short { IfErr result (λ text. length text.now ≤ 32) }
     ensures plain { IfErr result (λ text. IsPlainText text.now) }
 {

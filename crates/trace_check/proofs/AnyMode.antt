@@ -15,14 +15,14 @@ use Rattle.trace_check.proofs.Maps.{no_maps}
 use Rattle.trace_check.proofs.Yes.{yes_is_orderly}
 
 pub orderly_hitless : OrderlyTracesAreHitless
-orderly_hitless (Head acl bits slots ∷ lines) are follow keeps =
+orderly_hitless (Head version acl bits slots ∷ lines) are follow keeps =
     let mode : Mode = if bits then Bits else Cover in
-    hitless_in mode lines (first_tracing slots mode) (Between 0) AtEnd
+    hitless_in mode lines (first_tracing version slots mode) (Between 0) AtEnd
     (record {
       set = record { of_mode = refl; is_set = tt; right = tt; kept = no_maps mode; sized = IsState-blank slots };
       shows = blank_shows slots;
     })
-    are.1 (subst (λ p. Follow (first_tracing slots mode) p lines AtEnd) (let same : follow.0 ≡ Between 0 = cc in same) follow.2) keeps.1
+    are.1 (subst (λ p. Follow (first_tracing version slots mode) p lines AtEnd) (let same : follow.0 ≡ Between 0 = cc in same) follow.2) keeps.1
 orderly_hitless [] are follow keeps = absurd (let same = follow in cc)
 orderly_hitless (Commit n ∷ lines) are follow keeps = absurd (let there = follow.1 in cc)
 orderly_hitless (Add rule ∷ lines) are follow keeps = absurd (let there = follow.1 in cc)

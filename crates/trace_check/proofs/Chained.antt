@@ -142,7 +142,7 @@ batched now later place next is begun state made stands =
 
 goes_on : (lines : List TraceLine) (now : Tracing) (place : Place) → Follow now place lines AtEnd → Stands place now → Goes place now lines
 goes_on [] now place follow stands = subst (λ p. Goes p now []) (sym follow) (record { chain = tt; writes = refl })
-goes_on (Head acl bits slots ∷ lines) now place follow stands = absurd (no_head place stands follow.1)
+goes_on (Head version acl bits slots ∷ lines) now place follow stands = absurd (no_head place stands follow.1)
   where
     no_head : (p : Place) → Stands p now → place_by now.slots p Heads ≡ Some follow.0 → ⊥
     no_head AtStart stands there = stands
@@ -212,8 +212,8 @@ goes_on (Fault line ∷ lines) now place follow stands =
     idle place follow.0 now lines (Fault line ∷ lines) is refl refl (goes_on lines now follow.0 follow.2 is.stands)
 
 pub traces_are_commits : TracesAreCommits
-traces_are_commits acl bits slots lines trace =
-    let later = traced_on untraced (Head acl bits slots) in
+traces_are_commits version acl bits slots lines trace =
+    let later = traced_on untraced (Head version acl bits slots) in
     let is : trace.0 ≡ Between 0 = (let e = trace.1 in cc) in
     let g = goes_on lines later (Between 0) (subst (λ p. Follow later p lines AtEnd) is trace.2) tt in
     record { chain = g.chain; writes = g.writes }

@@ -272,7 +272,7 @@ module _ (mode : Mode) where
   pub hitless_in : (lines : List TraceLine) (now : Tracing) (place end : Place) → Known place now → AllByRecursion IsTraceLine lines → Follow now place lines end → AllKeepOrder now lines
       → AreHitless (commits_in now lines)
   hitless_in [] now place end known are follow keeps = tt
-  hitless_in (Head acl bits slots ∷ lines) now place end known are follow keeps = absurd (no_head place known follow.1)
+  hitless_in (Head version acl bits slots ∷ lines) now place end known are follow keeps = absurd (no_head place known follow.1)
     where
       no_head : (p : Place) → Known p now → place_by now.slots p Heads ≡ Some follow.0 → ⊥
       no_head AtStart known there = known

@@ -17,6 +17,8 @@ use Rattle.tcam_device.proofs.States.{IsState-blank}
 use Rattle.commit_writes.specs.Bits.{FieldBits, no_bits}
 use Rattle.commit_writes.specs.Segments.{IsAtRest}
 use Rattle.readback.specs.Stage.{IsStage}
+use Rattle.rule_model.specs.declared.IpVersion.{IpVersion}
+use Rattle.rule_model.specs.declared.IpVersion.TheVariants.{V4}
 use Rattle.trace_file.specs.declared.TraceLine.{TraceLine}
 use Rattle.trace_file.specs.declared.TraceLine.TheVariants.{Head, Commit, Add, Set, Del, Refused, End, Fault}
 use Rattle.trace_check.specs.declared.CheckFault.{CheckFault}
@@ -153,18 +155,18 @@ pub memory_breaks : (before : Trace) (line : TraceLine) (fault : CheckFault) →
 memory_breaks before line fault is = subst (λ f. Breaks before line f) (sym is) tt
 
 -- The head: a blank device of so many slots.
-pub head_takes : (before : Trace) (acl bits : Bool) (slots : ℕ) (device : Device) (mode : Mode) → MayBeJudged before (Head acl bits slots) → device_state device ≡ blank slots
-    → mode ≡ (if bits then Bits else Cover) → TakesLine before (Head acl bits slots) (record before { device = device; slots = slots; mode = mode })
-head_takes before acl bits slots device mode may blank_is mode_is = record { keeps = tt; knows = knows; sound = sound }
+pub head_takes : (before : Trace) (version : IpVersion) (acl bits : Bool) (slots : ℕ) (device : Device) (mode : Mode) → MayBeJudged before (Head version acl bits slots) → device_state device ≡ blank slots
+    → mode ≡ (if bits then Bits else Cover) → TakesLine before (Head version acl bits slots) (record before { device = device; version = version; slots = slots; mode = mode })
+head_takes before version acl bits slots device mode may blank_is mode_is = record { keeps = tt; knows = knows; sound = sound }
   where
     start : now_of before ≡ without_made untraced
     start = let n = some_place (place_by before.slots before.place Heads) may.stands in (head_at before.slots before.place n.0 before n.1 may.sound.right).1
 
-    knows : now_of (record before { device = device; slots = slots; mode = mode }) ≡ without_made (traced_on (now_of before) (Head acl bits slots))
+    knows : now_of (record before { device = device; version = version; slots = slots; mode = mode }) ≡ without_made (traced_on (now_of before) (Head version acl bits slots))
     knows =
-        ap (λ (t : Tracing). let u : Tracing = record t { slots = slots; mode = mode; state = device_state device; begun = device_state device } in u) start
-        ∙ (ap (λ (s : State). let u : Tracing = record (without_made untraced) { slots = slots; mode = mode; state = s; begun = s } in u) blank_is
-        ∙ ap (λ (m : Mode). let u : Tracing = record (without_made untraced) { slots = slots; mode = m; state = blank slots; begun = blank slots } in u) mode_is)
+        ap (λ (t : Tracing). let u : Tracing = record t { version = version; slots = slots; mode = mode; state = device_state device; begun = device_state device } in u) start
+        ∙ (ap (λ (s : State). let u : Tracing = record (without_made untraced) { version = version; slots = slots; mode = mode; state = s; begun = s } in u) blank_is
+        ∙ ap (λ (m : Mode). let u : Tracing = record (without_made untraced) { version = version; slots = slots; mode = m; state = blank slots; begun = blank slots } in u) mode_is)
 
     no_rules : before.rules.rules ≡ []
     no_rules = ap (λ (t : Tracing). t.rules) start
@@ -172,7 +174,7 @@ head_takes before acl bits slots device mode may blank_is mode_is = record { kee
     no_live : before.bits ≡ no_bits
     no_live = ap (λ (t : Tracing). t.bits) start
 
-    rests : Rests (record before { device = device; slots = slots; mode = mode })
+    rests : Rests (record before { device = device; version = version; slots = slots; mode = mode })
     rests = record {
       at_rest = subst (λ b. IsAtRest mode b before.rules.rules (device_state device)) (sym no_live)
           (subst (λ r. IsAtRest mode no_bits r (device_state device)) (sym no_rules) (subst (λ s. IsAtRest mode no_bits [] s) (sym blank_is) (blank_rests mode slots)));
@@ -181,10 +183,10 @@ head_takes before acl bits slots device mode may blank_is mode_is = record { kee
       alone = subst (λ (s : State). IsPair s.slots None) (sym blank_is) (blank_alone slots);
     }
 
-    sound : (next : Place) → place_after before.slots before.place (Head acl bits slots) ≡ Some next → IsSoundTrace next (record before { device = device; slots = slots; mode = mode })
+    sound : (next : Place) → place_after before.slots before.place (Head version acl bits slots) ≡ Some next → IsSoundTrace next (record before { device = device; version = version; slots = slots; mode = mode })
     sound next there = record {
       sized = subst (IsState slots) (sym blank_is) (IsState-blank slots);
-      right = subst (λ p. IsRightAt p (record before { device = device; slots = slots; mode = mode })) (sym (head_at before.slots before.place next before there may.sound.right).0) rests;
+      right = subst (λ p. IsRightAt p (record before { device = device; version = version; slots = slots; mode = mode })) (sym (head_at before.slots before.place next before there may.sound.right).0) rests;
     }
 
 -- A commit begins.
@@ -250,6 +252,7 @@ end_takes before writes may same = record {
 -- Before the first line nothing is known.
 pub start_of : (rules : List Rule) (bits : FieldBits) (batch : List Command) (state : State) → rules ≡ [] → bits ≡ no_bits → batch ≡ [] → state ≡ blank 0
     → ◌≡◌ {A = Tracing} (record {
+      version = V4;
       slots = 0;
       mode = Cover;
       rules = rules;

@@ -24,7 +24,7 @@ module _ (lines : List NumberedLine) (last : LinesEnd) (a b : TraceAnswer) (late
   one_line : (check : Checking) (line : NumberedLine) (blank : Bool)
       → TellsLine check line (λ next. Tells next lines last a) a blank → TellsLine check line (λ next. Tells next lines last b) b blank → a ≡ b
   one_line check line true x y = later (past check line.number) x y
-  one_line check line false x y = one_read check line.number (trace_line line.text) x y
+  one_line check line false x y = one_read check line.number (trace_line check.now.version line.text) x y
 
 -- from where a check stands
 pub one_told : (last : LinesEnd) (lines : List NumberedLine) (check : Checking) (a b : TraceAnswer) → Tells check lines last a → Tells check lines last b → a ≡ b

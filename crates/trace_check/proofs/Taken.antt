@@ -15,7 +15,7 @@ use Rattle.trace_check.proofs.Yes.{IsCounted, counted, more_on}
 
 -- a line is judged by what is known without the writes of the commit under way
 pub keeps_on : (now : Tracing) (line : TraceLine) → Keeps (without_made now) line → Keeps now line
-keeps_on now (Head acl bits slots) k = tt
+keeps_on now (Head version acl bits slots) k = tt
 keeps_on now (Commit n) k = tt
 keeps_on now (Add rule) k = tt
 keeps_on now (Set priority answer) k = tt
@@ -30,7 +30,7 @@ keeps_on now (End writes) k = k
 keeps_on now (Fault line) k = tt
 
 pub keeps_back : (now : Tracing) (line : TraceLine) → Keeps now line → Keeps (without_made now) line
-keeps_back now (Head acl bits slots) k = tt
+keeps_back now (Head version acl bits slots) k = tt
 keeps_back now (Commit n) k = tt
 keeps_back now (Add rule) k = tt
 keeps_back now (Set priority answer) k = tt
@@ -46,7 +46,7 @@ keeps_back now (Fault line) k = tt
 
 -- and so is the next one
 pub same_on : (now : Tracing) (line : TraceLine) → without_made (traced_on (without_made now) line) ≡ without_made (traced_on now line)
-same_on now (Head acl bits slots) = refl
+same_on now (Head version acl bits slots) = refl
 same_on now (Commit n) = refl
 same_on now (Add rule) = refl
 same_on now (Set priority answer) = refl

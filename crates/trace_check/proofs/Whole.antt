@@ -5,6 +5,7 @@ use Rattle.std.specs.List.{AllByRecursion}
 use Rattle.std.proofs.lemmas.Bool.{ltb-true}
 use Rattle.slot_order.proofs.Lists.{all_append}
 use Rattle.rule_store.specs.Batch.{most_pending}
+use Rattle.rule_model.specs.declared.IpVersion.{IpVersion}
 use Rattle.trace_file.specs.declared.TraceLine.{TraceLine}
 use Rattle.trace_file.specs.declared.TraceLine.TheVariants.{Head, Commit, Add, Set, Del, Put, Erase, Table, Drain, Done, Refused, End, Fault}
 use Rattle.trace_check.specs.declared.places.Place.{Place}
@@ -91,14 +92,16 @@ to_place slots before place line leads may =
 
 -- what stands before a place, in words
 record AreParts (slots n : ℕ) (before : List TraceLine) : Type 0 where
+  version : IpVersion
   acl : Bool
   bits : Bool
   parts : List Part
   are : AllByRecursion (IsPart slots) parts
   count : length parts ≡ n
-  lines_are : before ≡ Head acl bits slots ∷ parts_lines 1 parts
+  lines_are : before ≡ Head version acl bits slots ∷ parts_lines 1 parts
 
 record IsOpen (slots n k : ℕ) (before : List TraceLine) : Type 0 where
+  version : IpVersion
   acl : Bool
   bits : Bool
   parts : List Part
@@ -110,7 +113,7 @@ record IsOpen (slots n k : ℕ) (before : List TraceLine) : Type 0 where
   many : length commands ≡ k
   few : k ≤ most_pending
   happen : AllByRecursion (IsEvent slots) events
-  lines_are : before ≡ Head acl bits slots ∷ (parts_lines 1 parts ++ Commit n ∷ (commands ++ events))
+  lines_are : before ≡ Head version acl bits slots ∷ (parts_lines 1 parts ++ Commit n ∷ (commands ++ events))
 
 abbrev Shape : ℕ → Place → List TraceLine → Type 0
 Shape slots AtStart before = before ≡ []
@@ -129,24 +132,26 @@ parts_more n (first ∷ parts) part =
 
 with_part : (slots n : ℕ) (before more : List TraceLine) (part : Part) → AreParts slots n before → IsPart slots part → more ≡ part_lines (n + 1) part → AreParts slots (n + 1) (before ++ more)
 with_part slots n before more part is right are = record {
+  version = is.version;
   acl = is.acl;
   bits = is.bits;
   parts = is.parts ++ part ∷ [];
   are = all_append (IsPart slots) is.parts (part ∷ []) is.are (right, tt);
   count = length-append is.parts (part ∷ []) ∙ ap (λ m. m + 1) is.count;
-  lines_are = ap₂ (λ a b. a ++ b) is.lines_are are ∙ ap (λ rest. Head is.acl is.bits slots ∷ rest)
+  lines_are = ap₂ (λ a b. a ++ b) is.lines_are are ∙ ap (λ rest. Head is.version is.acl is.bits slots ∷ rest)
       (ap (λ m. parts_lines 1 is.parts ++ part_lines m part) (let c = is.count in let e : n + 1 ≡ 1 + length is.parts = omega arith in e) ∙ sym (parts_more 1 is.parts part));
 }
 
 -- an open commit is one more when it is done
 closed : (slots n k : ℕ) (before : List TraceLine) → IsOpen slots n k before → AreParts slots n (before ++ Done n ∷ [])
 closed slots n k before is = record {
+  version = is.version;
   acl = is.acl;
   bits = is.bits;
   parts = is.parts ++ Work is.commands is.events ∷ [];
   are = all_append (IsPart slots) is.parts (Work is.commands is.events ∷ []) is.are ((let few = is.few in let many = is.many in omega arith, is.changes, is.happen), tt);
   count = length-append is.parts (Work is.commands is.events ∷ []) ∙ is.count;
-  lines_are = ap (λ some. some ++ Done n ∷ []) is.lines_are ∙ ap (λ rest. Head is.acl is.bits slots ∷ rest)
+  lines_are = ap (λ some. some ++ Done n ∷ []) is.lines_are ∙ ap (λ rest. Head is.version is.acl is.bits slots ∷ rest)
       (append_assoc (parts_lines 1 is.parts) (Commit n ∷ (is.commands ++ is.events)) (Done n ∷ [])
       ∙ (ap (λ rest. parts_lines 1 is.parts ++ Commit n ∷ rest) (append_assoc is.commands is.events (Done n ∷ []))
       ∙ (ap (λ m. parts_lines 1 is.parts ++ part_lines m (Work is.commands is.events)) (let c = is.count in let e : n ≡ 1 + length is.parts = omega arith in e)
@@ -155,6 +160,7 @@ closed slots n k before is = record {
 
 opened : (slots n : ℕ) (before : List TraceLine) → AreParts slots n before → IsOpen slots (n + 1) 0 (before ++ Commit (n + 1) ∷ [])
 opened slots n before is = record {
+  version = is.version;
   acl = is.acl;
   bits = is.bits;
   parts = is.parts;
@@ -173,6 +179,7 @@ with_command : (slots n k : ℕ) (before : List TraceLine) (line : TraceLine) �
     → (open_part : IsOpen slots n (k + 1) (before ++ line ∷ [])) × (open_part.events ≡ [])
 with_command slots n k before line (is, none) kind room = (
   record {
+    version = is.version;
     acl = is.acl;
     bits = is.bits;
     parts = is.parts;
@@ -184,7 +191,7 @@ with_command slots n k before line (is, none) kind room = (
     many = length-append is.commands (line ∷ []) ∙ ap (λ m. m + 1) is.many;
     few = let less : k < most_pending = ltb-true k most_pending room in omega arith;
     happen = tt;
-    lines_are = ap (λ some. some ++ line ∷ []) is.lines_are ∙ ap (λ rest. Head is.acl is.bits slots ∷ rest)
+    lines_are = ap (λ some. some ++ line ∷ []) is.lines_are ∙ ap (λ rest. Head is.version is.acl is.bits slots ∷ rest)
         (append_assoc (parts_lines 1 is.parts) (Commit n ∷ (is.commands ++ is.events)) (line ∷ [])
         ∙ ap (λ rest. parts_lines 1 is.parts ++ Commit n ∷ rest)
         (ap (λ events. (is.commands ++ events) ++ line ∷ []) none ∙ (ap (λ some. some ++ line ∷ []) (append-nil is.commands) ∙ sym (append-nil (is.commands ++ line ∷ [])))));
@@ -197,6 +204,7 @@ with_event : (slots n k : ℕ) (before : List TraceLine) (line : TraceLine) (slo
 with_event slots n k before line slot is kind used = (
   k,
   record {
+    version = is.version;
     acl = is.acl;
     bits = is.bits;
     parts = is.parts;
@@ -208,14 +216,14 @@ with_event slots n k before line slot is kind used = (
     many = is.many;
     few = is.few;
     happen = all_append (IsEvent slots) is.events (line ∷ []) is.happen ((slot, kind, used), tt);
-    lines_are = ap (λ some. some ++ line ∷ []) is.lines_are ∙ ap (λ rest. Head is.acl is.bits slots ∷ rest)
+    lines_are = ap (λ some. some ++ line ∷ []) is.lines_are ∙ ap (λ rest. Head is.version is.acl is.bits slots ∷ rest)
         (append_assoc (parts_lines 1 is.parts) (Commit n ∷ (is.commands ++ is.events)) (line ∷ [])
         ∙ ap (λ rest. parts_lines 1 is.parts ++ Commit n ∷ rest) (append_assoc is.commands is.events (line ∷ [])));
   },
 )
 
 ended : (slots n : ℕ) (before : List TraceLine) (line : TraceLine) → AreParts slots n before → kind_of line ≡ Ends → IsWholeTrace slots (before ++ line ∷ [])
-ended slots n before line is kind = record { acl = is.acl; bits = is.bits; parts = is.parts; last = line; are_parts = is.are; is_last = kind; lines_are = ap (λ some. some ++ line ∷ []) is.lines_are }
+ended slots n before line is kind = record { version = is.version; acl = is.acl; bits = is.bits; parts = is.parts; last = line; are_parts = is.are; is_last = kind; lines_are = ap (λ some. some ++ line ∷ []) is.lines_are }
 
 -- one line more of each kind
 command_step : (slots : ℕ) (place next : Place) (before : List TraceLine) (line : TraceLine) → kind_of line ≡ Changes → Shape slots place before → place_by slots place Changes ≡ Some next → Shape slots next (before ++ line ∷ [])
@@ -258,14 +266,14 @@ refuse_step slots (Between m) next before n shape there =
     (with_part slots m before (Refused (m + 1) ∷ []) Refusal shape tt refl))
 refuse_step slots place next before n shape there = absurd (cc)
 
-head_step : (slots : ℕ) (place next : Place) (before : List TraceLine) (acl bits : Bool) (n : ℕ) → Shape slots place before → place_by slots place Heads ≡ Some next → n ≡ slots → Shape slots next (before ++ Head acl bits n ∷ [])
-head_step slots AtStart next before acl bits n shape there same =
-    subst (λ p. Shape slots p (before ++ Head acl bits n ∷ [])) (let e : Between 0 ≡ next = cc in e)
-    (record { acl = acl; bits = bits; parts = []; are = tt; count = refl; lines_are = ap₂ (λ some m. some ++ Head acl bits m ∷ []) shape same })
-head_step slots place next before acl bits n shape there same = absurd (cc)
+head_step : (slots : ℕ) (place next : Place) (before : List TraceLine) (version : IpVersion) (acl bits : Bool) (n : ℕ) → Shape slots place before → place_by slots place Heads ≡ Some next → n ≡ slots → Shape slots next (before ++ Head version acl bits n ∷ [])
+head_step slots AtStart next before version acl bits n shape there same =
+    subst (λ p. Shape slots p (before ++ Head version acl bits n ∷ [])) (let e : Between 0 ≡ next = cc in e)
+    (record { version = version; acl = acl; bits = bits; parts = []; are = tt; count = refl; lines_are = ap₂ (λ some m. some ++ Head version acl bits m ∷ []) shape same })
+head_step slots place next before version acl bits n shape there same = absurd (cc)
 
 step : (slots : ℕ) (place next : Place) (before : List TraceLine) (line : TraceLine) → IsHeadOf slots line → Shape slots place before → place_after slots place line ≡ Some next → Shape slots next (before ++ line ∷ [])
-step slots place next before (Head acl bits n) head shape there = head_step slots place next before acl bits n shape there head
+step slots place next before (Head version acl bits n) head shape there = head_step slots place next before version acl bits n shape there head
 step slots place next before (Commit n) head shape there = begin_step slots place next before n shape there
 step slots place next before (Add rule) head shape there = command_step slots place next before (Add rule) refl shape there
 step slots place next before (Set priority answer) head shape there = command_step slots place next before (Set priority answer) refl shape there
@@ -294,7 +302,7 @@ past_start slots place next kind there at = cc
 
 -- a head stands at the start alone
 first_head : (slots : ℕ) (place next : Place) (line : TraceLine) → (place ≡ AtStart → IsHeadOf slots line) → place_after slots place line ≡ Some next → IsHeadOf slots line
-first_head slots place next (Head acl bits n) head there = head (at_start place there)
+first_head slots place next (Head version acl bits n) head there = head (at_start place there)
   where
     at_start : (p : Place) → place_by slots p Heads ≡ Some next → p ≡ AtStart
     at_start AtStart there = refl

@@ -2,23 +2,25 @@
 use Rattle.std.proofs.Common.{◌≡◌, ℕ, ◌+◌, Bool, true, false, List, [], ◌∷◌, length, Option, Some, None, inl, inr, refl, ◌∙◌, subst, arith}
 use Rattle.std.specs.List.{AllByRecursion}
 use Rattle.script_lines.specs.Lines.{NumberedLine, LinesEnd, EndOfInput, Faulty, text_lines}
+use Rattle.rule_model.specs.declared.IpVersion.{IpVersion}
 use Rattle.trace_file.specs.declared.TraceLine.{TraceLine}
 use Rattle.trace_file.specs.declared.TraceLine.TheVariants.{Head, Commit, Add, Set, Del, Put, Erase, Table, Drain, Done, Refused, End, Fault}
 use Rattle.trace_file.specs.Forms.{IsTraceLine}
 use Rattle.trace_file.specs.Lines.{trace_line}
 use Rattle.trace_file.proofs.LineLimits.{trace_line-is}
+use Rattle.trace_file.proofs.EitherVersion.{either_version}
 use Rattle.trace_check.specs.declared.places.Place.{Place}
 use Rattle.trace_check.specs.declared.places.Place.TheVariants.{AtStart, Between, InBatch, InEvents, AtEnd}
 use Rattle.trace_check.specs.Places.{LineKind, Heads, Begins, Changes, Happens, Finishes, Refuses, Ends, kind_of, only_if, place_by, place_after}
 use Rattle.trace_check.specs.Orderly.{Tracing, traced_on, Keeps, AllKeepOrder, Follow}
 use Rattle.trace_check.specs.Hitless.{commits_in, trace_writes}
-use Rattle.trace_check.specs.Answers.{Yes, Checking, unchecked, is_blank_line, past, taken, answer_at_end, TellsPlaced, TellsRead, TellsLine, Tells, trace_lines, YesIsOrderly}
+use Rattle.trace_check.specs.Answers.{Yes, Checking, unchecked, is_blank_line, past, taken, answer_at_end, TellsPlaced, TellsRead, TellsLine, Tells, version_after, trace_lines, YesIsOrderly}
 
 -- what a yes says from where a check stands
 record IsYes (check : Checking) (lines : List NumberedLine) (last : LinesEnd) (commits writes : ℕ) : Type 0 where
   found : List TraceLine
   whole : last ≡ EndOfInput
-  read : trace_lines lines ≡ Some found
+  read : trace_lines check.now.version lines ≡ Some found
   within : AllByRecursion IsTraceLine found
   follow : Follow check.now check.place found AtEnd
   keeps : AllKeepOrder check.now found
@@ -72,7 +74,7 @@ pub record AreMore (now : Tracing) (line : TraceLine) (lines : List TraceLine) :
   pub writes_more : length (trace_writes (line ∷ lines)) + now.writes ≡ length (trace_writes lines) + (traced_on now line).writes
 
 pub more_on : (now : Tracing) (line : TraceLine) (lines : List TraceLine) (place next : Place) → IsCounted place now → place_after now.slots place line ≡ Some next → AreMore now line lines
-more_on now (Head acl bits slots) lines place next is there =
+more_on now (Head version acl bits slots) lines place next is there =
     let zero_counts = subst (λ p. IsCounted p now) (head_place now.slots place next there) is in
     let none = zero_counts.0 in let none_written = zero_counts.1 in
     record { commits_more = omega arith; writes_more = omega arith }
@@ -89,9 +91,25 @@ more_on now (Refused n) lines place next is there = record { commits_more = refl
 more_on now (End writes) lines place next is there = record { commits_more = refl; writes_more = refl }
 more_on now (Fault line) lines place next is there = record { commits_more = refl; writes_more = refl }
 
-one_read : (line : NumberedLine) (lines : List NumberedLine) (found : TraceLine) (rest : List TraceLine) → is_blank_line line.text ≡ false → trace_line line.text ≡ Some found → trace_lines lines ≡ Some rest
-    → trace_lines (line ∷ lines) ≡ Some (found ∷ rest)
-one_read line lines found rest is first later = rw (is, first, later) refl
+-- the version is the one that a line leaves
+pub version_on : (now : Tracing) (line : TraceLine) → (traced_on now line).version ≡ version_after now.version line
+version_on now (Head version acl bits slots) = refl
+version_on now (Commit n) = refl
+version_on now (Add rule) = refl
+version_on now (Set priority answer) = refl
+version_on now (Del priority) = refl
+version_on now (Put slot entry) = refl
+version_on now (Erase slot) = refl
+version_on now (Table field port word) = refl
+version_on now Drain = refl
+version_on now (Done n) = refl
+version_on now (Refused n) = refl
+version_on now (End writes) = refl
+version_on now (Fault line) = refl
+
+one_read : (version : IpVersion) (line : NumberedLine) (lines : List NumberedLine) (found : TraceLine) (rest : List TraceLine) → is_blank_line line.text ≡ false
+    → trace_line version line.text ≡ Some found → trace_lines (version_after version found) lines ≡ Some rest → trace_lines version (line ∷ lines) ≡ Some (found ∷ rest)
+one_read version line lines found rest is first later = rw (is, first, later) refl
 
 module _ (last : LinesEnd) (commits writes : ℕ) where
   abbrev More : List NumberedLine → Checking → Type 0
@@ -116,7 +134,7 @@ module _ (last : LinesEnd) (commits writes : ℕ) where
       let y = rest (past check line.number) start told in
       record { found = y.found; whole = y.whole; read = rw is y.read; within = y.within; follow = y.follow; keeps = y.keeps; commits_are = y.commits_are; writes_are = y.writes_are }
   yes_line check line lines false start rest is told =
-      let f = found_in check line.number lines (trace_line line.text) told in
+      let f = found_in check line.number lines (trace_line check.now.version line.text) told in
       let p = placed check line.number f.0 lines (place_after check.now.slots check.place f.0) refl f.2 in
       let y = rest (taken check line.number f.0 p.0) (counted check.now.slots (kind_of f.0) check.place p.0 (traced_on check.now f.0) p.1) p.3 in
       let more = more_on check.now f.0 y.found check.place p.0 start p.1 in
@@ -127,8 +145,8 @@ module _ (last : LinesEnd) (commits writes : ℕ) where
       record {
         found = f.0 ∷ y.found;
         whole = y.whole;
-        read = one_read line lines f.0 y.found is f.1 y.read;
-        within = (trace_line-is line.text f.0 f.1, y.within);
+        read = one_read check.now.version line lines f.0 y.found is f.1 (subst (λ v. trace_lines v lines ≡ Some y.found) (version_on check.now f.0) y.read);
+        within = (either_version check.now.version f.0 (trace_line-is check.now.version line.text f.0 f.1), y.within);
         follow = (p.0, p.1, y.follow);
         keeps = (p.2, y.keeps);
         commits_are = omega arith;

@@ -3,7 +3,10 @@ use Rattle.std.specs.Prelude.{◌≡◌, ℕ, ◌+◌, ◌⊎◌, Bool, true, fa
 use Rattle.std.specs.List.{list_all, AllByRecursion}
 use Rattle.script_lines.specs.Lines.{NumberedLine, LinesEnd, EndOfInput, Faulty, text_lines}
 use Rattle.script_lines.specs.declared.LineFault.{LineFault}
+use Rattle.rule_model.specs.declared.IpVersion.{IpVersion}
+use Rattle.rule_model.specs.declared.IpVersion.TheVariants.{V4}
 use Rattle.trace_file.specs.declared.TraceLine.{TraceLine}
+use Rattle.trace_file.specs.declared.TraceLine.TheVariants.{Head}
 use Rattle.trace_file.specs.Lines.{trace_line}
 use Rattle.trace_check.specs.declared.places.Place.{Place}
 use Rattle.trace_check.specs.declared.places.Place.TheVariants.{AtStart, AtEnd}
@@ -65,7 +68,7 @@ TellsRead check number More answer (Some line) =
 -- a line is skipped, or read
 abbrev pub TellsLine : Checking → NumberedLine → (Checking → Type 0) → TraceAnswer → Bool → Type 0
 TellsLine check line More answer true = More (past check line.number)
-TellsLine check line More answer false = TellsRead check line.number More answer (trace_line line.text)
+TellsLine check line More answer false = TellsRead check line.number More answer (trace_line check.now.version line.text)
 
 -- What is told, from where a check stands, by the lines still to come and how they end.
 abbrev pub Tells : Checking → List NumberedLine → LinesEnd → TraceAnswer → Type 0
@@ -78,18 +81,28 @@ Tells check (line ∷ lines) last answer =
 abbrev pub IsTraceAnswer : List ℕ → TraceAnswer → Type 0
 IsTraceAnswer bytes answer = Tells unchecked (text_lines bytes).lines (text_lines bytes).last answer
 
--- the lines of a trace in some lines of text, those with blanks alone left out; None where one is no line of a trace
-abbrev pub trace_lines : List NumberedLine → Option (List TraceLine)
-trace_lines [] = Some []
-trace_lines (line ∷ lines) =
-    if is_blank_line line.text then trace_lines lines
-    else option_and_then (λ found. option_map (λ rest. found ∷ rest) (trace_lines lines)) (trace_line line.text)
+-- the version by which the lines behind a line are read: a head tells it, and all others keep it
+abbrev pub version_after : IpVersion → TraceLine → IpVersion
+version_after version (Head family acl bits slots) = family
+version_after version line = version
+
+-- the lines of a trace of this version in some lines of text, those with blanks alone left out; None where one is no line
+-- of such a trace
+abbrev pub trace_lines : IpVersion → List NumberedLine → Option (List TraceLine)
+trace_lines version [] = Some []
+trace_lines version (line ∷ lines) =
+    if is_blank_line line.text then trace_lines version lines
+    else option_and_then (λ found. option_map (λ rest. found ∷ rest) (trace_lines (version_after version found) lines)) (trace_line version line.text)
+
+-- The lines of a whole trace: its first one is a head, which has one form in either version.
+abbrev pub whole_lines : List NumberedLine → Option (List TraceLine)
+whole_lines lines = trace_lines V4 lines
 
 -- What a yes says: the input was read to its end, its lines are a trace, and orderly, with so many commits and writes.
 pub record IsOrderlyText (bytes : List ℕ) (commits writes : ℕ) : Type 0 where
   pub lines : List TraceLine
   pub whole : (text_lines bytes).last ≡ EndOfInput
-  pub read : trace_lines (text_lines bytes).lines ≡ Some lines
+  pub read : whole_lines (text_lines bytes).lines ≡ Some lines
   pub within : AllByRecursion IsTraceLine lines
   pub trace : IsTrace lines
   pub orderly : IsOrderly lines
@@ -113,5 +126,5 @@ YesIsHitless =
 -- and an orderly trace gets yes, by whatever numbers its lines have
 abbrev pub OrderlyTracesGetYes : Type 0
 OrderlyTracesGetYes =
-    (texts : List NumberedLine) (lines : List TraceLine) → trace_lines texts ≡ Some lines → IsTrace lines → IsOrderly lines
+    (texts : List NumberedLine) (lines : List TraceLine) → whole_lines texts ≡ Some lines → IsTrace lines → IsOrderly lines
     → Tells unchecked texts EndOfInput (Yes (length (commits_of lines)) (length (trace_writes lines)))

@@ -1,6 +1,7 @@
 -- What an orderly trace says: every write of it is hitless, commit by commit.
 use Rattle.std.specs.Prelude.{◌≡◌, ℕ, Bool, Some, None, List, [], ◌∷◌, flat_map}
 use Rattle.std.specs.List.{AllByRecursion}
+use Rattle.rule_model.specs.declared.IpVersion.{IpVersion}
 use Rattle.rule_model.specs.declared.Rule.{Rule}
 use Rattle.rule_store.specs.declared.Command.{Command}
 use Rattle.rule_store.specs.Batch.{set_after}
@@ -57,7 +58,8 @@ pub record AreCommitsOf (slots : ℕ) (lines : List TraceLine) : Type 0 where
 -- of each whole trace
 abbrev pub TracesAreCommits : Type 0
 TracesAreCommits =
-    (acl bits : Bool) (slots : ℕ) (lines : List TraceLine) → IsTrace (Head acl bits slots ∷ lines) → AreCommitsOf slots (Head acl bits slots ∷ lines)
+    (version : IpVersion) (acl bits : Bool) (slots : ℕ) (lines : List TraceLine) → IsTrace (Head version acl bits slots ∷ lines)
+    → AreCommitsOf slots (Head version acl bits slots ∷ lines)
 
 -- Whole traces, by covers and by bits: where every line keeps the order, each commit is hitless.
 abbrev pub OrderlyTracesAreHitless : Type 0

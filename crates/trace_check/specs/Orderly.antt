@@ -1,5 +1,7 @@
 -- Orderly traces: each commit is one that is accepted, and after each of its events it may have been stopped.
 use Rattle.std.specs.Prelude.{◌≡◌, ℕ, ◌+◌, Bool, true, false, IsTrue, Some, None, List, [], ◌∷◌, ◌++◌, if◌then◌else◌}
+use Rattle.rule_model.specs.declared.IpVersion.{IpVersion}
+use Rattle.rule_model.specs.declared.IpVersion.TheVariants.{V4}
 use Rattle.rule_model.specs.declared.Rule.{Rule}
 use Rattle.rule_store.specs.declared.Mode.{Mode}
 use Rattle.rule_store.specs.declared.Mode.TheVariants.{Cover, Bits}
@@ -22,6 +24,8 @@ use Rattle.readback.specs.Stage.{IsStage, IsCommitAt, IsTwinSlot}
 
 -- what is known behind some lines of a trace
 pub record Tracing : Type 0 where
+  -- the version of IP of its rules
+  pub version : IpVersion
   pub slots : ℕ
   pub mode : Mode
   -- the set, its live ranges, and the commands of the commit under way
@@ -41,9 +45,10 @@ pub record Tracing : Type 0 where
   pub drained : Bool
 
 -- before the first commit, over so many slots
-abbrev pub first_tracing : ℕ → Mode → Tracing
-first_tracing slots mode =
+abbrev pub first_tracing : IpVersion → ℕ → Mode → Tracing
+first_tracing version slots mode =
     record {
+      version = version;
       slots = slots;
       mode = mode;
       rules = [];
@@ -69,7 +74,7 @@ with_write now made = record now { state = apply now.state made; writes = now.wr
 
 -- what is known behind one line more
 abbrev pub traced_on : Tracing → TraceLine → Tracing
-traced_on now (Head acl bits slots) = first_tracing slots (if bits then Bits else Cover)
+traced_on now (Head version acl bits slots) = first_tracing version slots (if bits then Bits else Cover)
 traced_on now (Commit n) =
     record now { batch = []; begun = now.state; made = []; moved = false; has_put = false; drained = false }
 traced_on now (Add rule) = with_command now (change.Add rule)
@@ -113,7 +118,7 @@ IsDrained now = now.has_put ≡ false → IsTrue (gives_bit now.mode now.bits no
 -- behind its commands on; its done line asks for a stage too, which after an event it has, and without one it has from the
 -- commit before.
 abbrev pub Keeps : Tracing → TraceLine → Type 0
-Keeps now (Head acl bits slots) = Unit {0}
+Keeps now (Head version acl bits slots) = Unit {0}
 Keeps now (Commit n) = Unit {0}
 Keeps now (Add rule) = Unit {0}
 Keeps now (Set priority answer) = Unit {0}
@@ -138,9 +143,9 @@ Follow now place [] end = place ≡ end
 Follow now place (line ∷ lines) end =
     (next : Place) × (place_after now.slots place line ≡ Some next) × Follow (traced_on now line) next lines end
 
--- what is known before the first line, which says what the others are judged by
+-- what is known before the first line, which says what the others are judged by; it has one form in either version
 abbrev pub untraced : Tracing
-untraced = first_tracing 0 Cover
+untraced = first_tracing V4 0 Cover
 
 -- The lines are a trace, from the first one to the last.
 abbrev pub IsTrace : List TraceLine → Type 0

@@ -1,6 +1,7 @@
 -- Which lines a trace may have where: the family first, then commit after commit by their numbers, and a last line.
 use Rattle.std.specs.Prelude.{◌≡◌, ◌↔◌, ℕ, ◌+◌, ◌≤◌, Bool, true, nat_lt, nat_eq, IsTrue, Option, Some, None, List, [], ◌∷◌, ◌++◌, length, if◌then◌else◌}
 use Rattle.std.specs.List.{AllByRecursion}
+use Rattle.rule_model.specs.declared.IpVersion.{IpVersion}
 use Rattle.rule_store.specs.Batch.{most_pending}
 use Rattle.trace_check.specs.declared.places.Place.{Place}
 use Rattle.trace_check.specs.declared.places.Place.TheVariants.{AtStart, Between, InBatch, InEvents, AtEnd}
@@ -20,7 +21,7 @@ pub data LineKind : Type 0 where
 
 -- the kind of a line
 abbrev pub kind_of : TraceLine → LineKind
-kind_of (Head acl bits slots) = Heads
+kind_of (Head version acl bits slots) = Heads
 kind_of (Commit n) = Begins n
 kind_of (Add rule) = Changes
 kind_of (Set priority answer) = Changes
@@ -92,13 +93,14 @@ IsPart slots (Work commands events) =
 
 -- a whole trace over so many slots: its head, its commits from 1 on, and its last line
 pub record IsWholeTrace (slots : ℕ) (lines : List TraceLine) : Type 0 where
+  pub version : IpVersion
   pub acl : Bool
   pub bits : Bool
   pub parts : List Part
   pub last : TraceLine
   pub are_parts : AllByRecursion (IsPart slots) parts
   pub is_last : kind_of last ≡ Ends
-  pub lines_are : lines ≡ Head acl bits slots ∷ (parts_lines 1 parts ++ last ∷ [])
+  pub lines_are : lines ≡ Head version acl bits slots ∷ (parts_lines 1 parts ++ last ∷ [])
 
 -- a line may stand behind some where a whole trace begins with them and it
 abbrev pub MayStand : ℕ → List TraceLine → TraceLine → Type 0
@@ -106,7 +108,7 @@ MayStand slots before line = (later : List TraceLine) × IsWholeTrace slots (bef
 
 -- a line is a head over so many slots, where it is a head
 abbrev pub IsHeadOf : ℕ → TraceLine → Type 0
-IsHeadOf slots (Head acl bits n) = n ≡ slots
+IsHeadOf slots (Head version acl bits n) = n ≡ slots
 IsHeadOf slots line = Unit {0}
 
 -- and so is the first of some lines, with one more behind them

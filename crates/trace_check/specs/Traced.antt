@@ -25,6 +25,7 @@ use Rattle.trace_check.specs.Places.{place_after}
 abbrev pub now_of : Trace → Tracing
 now_of trace =
     record {
+      version = trace.version;
       slots = trace.slots;
       mode = trace.mode;
       rules = trace.rules.rules;

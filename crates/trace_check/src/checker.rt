@@ -6,6 +6,7 @@ ghost use Rattle.trace_check.specs.Checked.{RefusesLine, Takes, nothing_checked}
 use crate::CheckFault;
 use crate::places::Place;
 use crate::trace::Trace;
+use rule_model::IpVersion;
 use std::alloc::{AllocError, Global};
 use std::marker::Model;
 use trace_file::TraceLine;
@@ -61,6 +62,13 @@ impl Checker {
             }
             Err(fault) => Err(fault),
         }
+    }
+
+    /// The version of IP by which the next line is to be read: the head tells it, and before it either one does.
+    pub fn version(&self) -> IpVersion
+        ensures { result ≡ self.now.now.version }
+    {
+        self.trace.version
     }
 
     /// How many commits and writes the trace has, where it is whole: None before its last line.

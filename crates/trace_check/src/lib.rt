@@ -1,5 +1,5 @@
-//! Checks of traces: whether every write of a trace is one after which each packet has the answer of the set before its
-//! commit or of the set after it, judged from the trace alone.
+//! Checks of traces, judged from the trace alone: where the answer is yes, every write of the trace is one after which each
+//! packet has the answer of the set before its commit or of the set after it.
 //!
 //! A [`Checker`] takes a trace line by line. `specs/Places` says which lines a trace may have next, `specs/Orderly` what
 //! an orderly trace is, by the stages of `readback`, `specs/Hitless` what it says, `specs/Answers` what is told of one,

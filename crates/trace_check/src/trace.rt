@@ -15,17 +15,18 @@ use crate::commit::{Commit, Device, begin_commit, blank_device};
 use crate::places::Place;
 use crate::words::is_right;
 use commit_writes::FieldBits;
-use rule_model::{Entry, Field, Rank, Rule};
+use rule_model::{Entry, Field, IpVersion, Rank, Rule};
 use rule_store::{Batch, Command, Mode, Store};
 use std::alloc::{AllocError, Global};
 use trace_file::TraceLine;
 
-/// What is known of a trace: where it stands, the set and its live ranges, the commands of the commit under way, what
+/// What is known of a trace: where it stands, the version of IP of its rules, the set and its live ranges, the commands of the commit under way, what
 /// the device holds, and how many commits and writes there were.
 #[derive(Drop)]
 pub(crate) struct Trace {
     pub(crate) alloc: Global,
     pub(crate) place: Place,
+    pub(crate) version: IpVersion,
     pub(crate) slots: u32,
     pub(crate) mode: Mode,
     pub(crate) rules: Store,
@@ -52,6 +53,7 @@ impl Trace {
         Ok(Trace {
             alloc,
             place: Place::AtStart,
+            version: IpVersion::V4,
             slots: 0,
             mode: Mode::Cover,
             rules: Store::new(alloc),
@@ -76,7 +78,12 @@ impl Trace {
         ensures broken { IfErr result (Breaks self.old line.now) }
     {
         match line {
-            TraceLine::Head { acl, bits, slots } => self.begin(*acl, *bits, *slots),
+            TraceLine::Head {
+                version,
+                acl,
+                bits,
+                slots,
+            } => self.begin(*version, *acl, *bits, *slots),
             TraceLine::Commit(n) => {
                 self.begin_batch(*n);
                 Ok(())
@@ -96,14 +103,21 @@ impl Trace {
     }
 
     /// The head: a blank device of so many slots, without rules.
-    fn begin(&mut self, acl: bool, bits: bool, slots: u32) -> Result<(), CheckFault>
-        requires { MayBeJudged self.old (lines.Head acl bits slots) }
-        ensures taken { OnOk result (TakesLine self.old (lines.Head acl bits slots) self.new) }
-        ensures broken { IfErr result (Breaks self.old (lines.Head acl bits slots)) }
+    fn begin(
+        &mut self,
+        version: IpVersion,
+        acl: bool,
+        bits: bool,
+        slots: u32,
+    ) -> Result<(), CheckFault>
+        requires { MayBeJudged self.old (lines.Head version acl bits slots) }
+        ensures taken { OnOk result (TakesLine self.old (lines.Head version acl bits slots) self.new) }
+        ensures broken { IfErr result (Breaks self.old (lines.Head version acl bits slots)) }
     {
         match blank_device(self.alloc, slots) {
             Ok(device) => {
                 self.device = device;
+                self.version = version;
                 self.slots = slots;
                 self.mode = mode_of(bits);
                 Ok(())

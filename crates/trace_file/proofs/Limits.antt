@@ -74,7 +74,7 @@ block-is address len block same =
       ipv4 = record { length = short; upper = omega arith };
     })
 
-proto-is : (value : Data) (proto : Option ℕ) → proto_in value ≡ Some proto → IfSome proto (λ n. n < 2 ^ 8)
+pub proto-is : (value : Data) (proto : Option ℕ) → proto_in value ≡ Some proto → IfSome proto (λ n. n < 2 ^ 8)
 proto-is value proto same = elim (either (is_some (as_null value)) _ _ proto same) [
   | inl none ↦ subst (λ p. IfSome p (λ n. n < 2 ^ 8)) (let e : None ≡ proto = cc in e) tt
   | inr some ↦
@@ -83,7 +83,7 @@ proto-is value proto same = elim (either (is_some (as_null value)) _ _ proto sam
       subst (λ p. IfSome p (λ n. n < 2 ^ 8)) w.2 small
 ]
 
-ports-is : (lo hi : Data) (range : PortRange) → ports_in lo hi ≡ Some range → IsPortRange range
+pub ports-is : (lo hi : Data) (range : PortRange) → ports_in lo hi ≡ Some range → IsPortRange range
 ports-is lo hi range same =
     let w = first_step (number_to (most 16) lo) (λ first. number_to (most 16) hi >>= λ last. ports_from first last) range same in
     let v = first_step (number_to (most 16) hi) (λ last. ports_from w.0 last) range w.2 in
@@ -120,7 +120,7 @@ rule_of-is p sa sl da dl pr a b c d r rule same =
     })
 
 -- each element of a list, and what stands past its end
-All-from : (P : ℕ → Type 0) → P 0 → (xs : List ℕ) → AllByRecursion P xs → (k : ℕ) → P (slice_index xs k)
+pub All-from : (P : ℕ → Type 0) → P 0 → (xs : List ℕ) → AllByRecursion P xs → (k : ℕ) → P (slice_index xs k)
 All-from P none [] all k = none
 All-from P none (x ∷ xs) all zero = all.0
 All-from P none (x ∷ xs) all (suc k) = All-from P none xs all.1 k

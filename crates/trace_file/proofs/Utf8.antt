@@ -1,5 +1,5 @@
 -- What is written for a line is UTF-8, where the text of its fault is.
-use Rattle.std.proofs.Common.{◌≡◌, ℕ, ◌+◌, ◌%◌, ◌^◌, ◌<◌, Bool, true, false, List, [], ◌∷◌, IsUtf8, refl, arith, cond}
+use Rattle.std.proofs.Common.{◌≡◌, ℕ, ◌+◌, ◌%◌, ◌^◌, ◌<◌, Bool, true, false, List, [], ◌∷◌, ◌++◌, IsUtf8, refl, arith, cond}
 use Rattle.std.specs.Prelude.{⊤, codes, decimal}
 use Rattle.std.proofs.lemmas.Fmt.{decimal_by_steps}
 use Rattle.std.proofs.lemmas.Str.{IsUtf8-append, IsUtf8-nil, IsUtf8-from_ascii}
@@ -8,13 +8,15 @@ use Rattle.json.specs.Print.{quoted}
 use Rattle.json.proofs.Printed.Utf8.{are_ascii, IsUtf8-are_ascii, IsUtf8-quoted, IsUtf8-boolean}
 use Rattle.serde_json.specs.Data.{Data, null, boolean, number, string, array, object, unsigned, negative, float, Items, no_items, item, Members, no_members, member}
 use Rattle.serde_json.specs.Written.{compact_text, comma_if, items_text, members_text}
+use Rattle.rule_model.specs.declared.IpVersion.{IpVersion}
+use Rattle.rule_model.specs.declared.IpVersion.TheVariants.{V4, V6}
 use Rattle.rule_model.specs.declared.Field.{Field}
 use Rattle.rule_model.specs.declared.Field.TheVariants.{Src, Dst}
 use Rattle.trace_file.specs.declared.TraceLine.{TraceLine}
 use Rattle.trace_file.specs.declared.TraceLine.TheVariants.{Head, Commit, Add, Set, Del, Put, Erase, Table, Drain, Done, Refused, End, Fault}
-use Rattle.trace_file.specs.Forms.{numeral, field_form, rank_number, items_form, rule_form, entry_form, form_of, IsTraceLine}
+use Rattle.trace_file.specs.Forms.{numeral, field_form, family_name, rank_number, rank_form, items_form, rule_form, entry_form, removed_form, form_of, IsTraceRank, IsTraceLineOf}
 use Rattle.trace_file.proofs.Written.{IsNumeral, AreNumerals}
-use Rattle.trace_file.proofs.TraceText.{rank_small, rule_small, entry_small}
+use Rattle.trace_file.proofs.TraceText.{numerals_append, rank_small, removed_small, rule_small, entry_small}
 
 -- the text of a value is UTF-8
 record IsWritten (value : Data) : Type 0 where
@@ -38,13 +40,18 @@ choice-utf8 : (second : Bool) (a b : List ℕ) → IsUtf8 a → IsUtf8 b → IsW
 choice-utf8 true a b first other = string-utf8 a first
 choice-utf8 false a b first other = string-utf8 b other
 
+-- the name of a family
+family-utf8 : (version : IpVersion) (acl : Bool) → IsWritten (string (family_name version acl))
+family-utf8 V4 acl = choice-utf8 acl (codes "acl") (codes "route") (IsUtf8-are_ascii (codes "acl") refl) (IsUtf8-are_ascii (codes "route") refl)
+family-utf8 V6 acl = choice-utf8 acl (codes "acl6") (codes "route6") (IsUtf8-are_ascii (codes "acl6") refl) (IsUtf8-are_ascii (codes "route6") refl)
+
 field-utf8 : (field : Field) → IsWritten (field_form field)
 field-utf8 Src = string-utf8 (codes "src") (IsUtf8-are_ascii (codes "src") refl)
 field-utf8 Dst = string-utf8 (codes "dst") (IsUtf8-are_ascii (codes "dst") refl)
 
 numeral-utf8 : (d : Data) → IsNumeral d → IsUtf8 (compact_text d)
 numeral-utf8 null is = IsUtf8-are_ascii _ refl
-numeral-utf8 (number (unsigned n)) is = decimal-utf8 n is
+numeral-utf8 (number (unsigned n)) is = decimal-utf8 n (omega arith)
 numeral-utf8 (number (negative z)) is = absurd is
 numeral-utf8 (number (float x)) is = absurd is
 numeral-utf8 (boolean b) is = absurd is
@@ -63,6 +70,11 @@ items-utf8 later (item d ds) are =
 
 array-utf8 : (ds : Items) → AreNumerals ds → IsWritten (array ds)
 array-utf8 ds are = record { utf8 = IsUtf8-append (91 ∷ []) _ (IsUtf8-are_ascii (91 ∷ []) refl) (items-utf8 false ds are) }
+
+-- the priority of a rule that is removed
+removed-utf8 : (version : IpVersion) (priority : ℕ) → IsTraceRank version priority → IsWritten (removed_form version priority)
+removed-utf8 V4 priority is = number-utf8 (rank_number priority) (removed_small V4 priority is)
+removed-utf8 V6 priority is = array-utf8 (items_form (rank_form V6 priority)) (removed_small V6 priority is)
 
 -- names and values are
 abbrev AreWritten : Members → Type 0
@@ -99,35 +111,34 @@ three-utf8 first value second other third last named is named' is' named'' is'' 
     object-utf8 (member first value (member second other (member third last no_members)))
     (IsUtf8-are_ascii first named, (is, (IsUtf8-are_ascii second named', (is', (IsUtf8-are_ascii third named'', (is'', tt))))))
 
-form-written : (text : List ℕ) (line : TraceLine) → IsUtf8 text → IsTraceLine line → IsWritten (form_of text line)
-form-written text (Head acl bits slots) utf8 is =
+form-written : (version : IpVersion) (text : List ℕ) (line : TraceLine) → IsUtf8 text → IsTraceLineOf version line → IsWritten (form_of version text line)
+form-written version text (Head family acl bits slots) utf8 is =
     let few : slots < 2 ^ 64 = (let most = is.1 in omega arith) in
-    let family = choice-utf8 acl (codes "acl") (codes "route") (IsUtf8-are_ascii (codes "acl") refl) (IsUtf8-are_ascii (codes "route") refl) in
     let mode = choice-utf8 bits (codes "bits") (codes "cover") (IsUtf8-are_ascii (codes "bits") refl) (IsUtf8-are_ascii (codes "cover") refl) in
-    three-utf8 (codes "family") _ (codes "mode") _ (codes "slots") _ refl family refl mode refl (number-utf8 slots few)
-form-written text (Commit n) utf8 is = one-utf8 (codes "commit") _ refl (number-utf8 n (omega arith))
-form-written text (Add rule) utf8 is = one-utf8 (codes "add") _ refl (array-utf8 (items_form (rule_form rule)) (rule_small rule is))
-form-written text (Set priority answer) utf8 is =
-    let fits : answer < 2 ^ 64 = (let small = is.1 in omega arith) in
-    let both = items_form (numeral (rank_number priority) ∷ numeral answer ∷ []) in
-    one-utf8 (codes "set") _ refl (array-utf8 both (rank_small priority is.0, (fits, tt)))
-form-written text (Del priority) utf8 is = one-utf8 (codes "del") _ refl (number-utf8 (rank_number priority) (rank_small priority is))
-form-written text (Put slot entry) utf8 is =
+    three-utf8 (codes "family") _ (codes "mode") _ (codes "slots") _ refl (family-utf8 family acl) refl mode refl (number-utf8 slots few)
+form-written version text (Commit n) utf8 is = one-utf8 (codes "commit") _ refl (number-utf8 n (omega arith))
+form-written version text (Add rule) utf8 is = one-utf8 (codes "add") _ refl (array-utf8 (items_form (rule_form version rule)) (rule_small version rule is))
+form-written version text (Set priority answer) utf8 is =
+    let fits : answer < 2 ^ 40 = (let small = is.1 in omega arith) in
+    one-utf8 (codes "set") _ refl (array-utf8 (items_form (rank_form version priority ++ numeral answer ∷ []))
+    (numerals_append (rank_form version priority) (numeral answer ∷ []) (rank_small version priority is.0) (fits, tt)))
+form-written version text (Del priority) utf8 is = one-utf8 (codes "del") _ refl (removed-utf8 version priority is)
+form-written version text (Put slot entry) utf8 is =
     let fits : slot < 2 ^ 64 = (let small = is.0 in omega arith) in
-    two-utf8 (codes "put") _ (codes "slot") _ refl (array-utf8 (items_form (entry_form entry)) (entry_small entry is.1)) refl (number-utf8 slot fits)
-form-written text (Erase slot) utf8 is = one-utf8 (codes "erase") _ refl (number-utf8 slot (omega arith))
-form-written text (Table field port word) utf8 is =
+    two-utf8 (codes "put") _ (codes "slot") _ refl (array-utf8 (items_form (entry_form version entry)) (entry_small version entry is.1)) refl (number-utf8 slot fits)
+form-written version text (Erase slot) utf8 is = one-utf8 (codes "erase") _ refl (number-utf8 slot (omega arith))
+form-written version text (Table field port word) utf8 is =
     let at : port < 2 ^ 64 = (let small = is.0 in omega arith) in
     let fits : word < 2 ^ 64 = (let small = is.1 in omega arith) in
     three-utf8 (codes "port") _ (codes "table") _ (codes "word") _ refl (number-utf8 port at) refl (field-utf8 field) refl (number-utf8 word fits)
-form-written text Drain utf8 is = one-utf8 (codes "drain") (boolean true) refl (record { utf8 = IsUtf8-boolean true })
-form-written text (Done n) utf8 is = one-utf8 (codes "done") _ refl (number-utf8 n (omega arith))
-form-written text (Refused n) utf8 is = one-utf8 (codes "refused") _ refl (number-utf8 n (omega arith))
-form-written text (End writes) utf8 is = one-utf8 (codes "end") _ refl (number-utf8 writes is)
-form-written text (Fault line) utf8 is =
+form-written version text Drain utf8 is = one-utf8 (codes "drain") (boolean true) refl (record { utf8 = IsUtf8-boolean true })
+form-written version text (Done n) utf8 is = one-utf8 (codes "done") _ refl (number-utf8 n (omega arith))
+form-written version text (Refused n) utf8 is = one-utf8 (codes "refused") _ refl (number-utf8 n (omega arith))
+form-written version text (End writes) utf8 is = one-utf8 (codes "end") _ refl (number-utf8 writes is)
+form-written version text (Fault line) utf8 is =
     let fits : line < 2 ^ 64 = omega arith in
     two-utf8 (codes "fault") _ (codes "line") _ refl (string-utf8 text utf8) refl (number-utf8 line fits)
 
 -- the text of a line's value
-pub line-utf8 : (text : List ℕ) (line : TraceLine) → IsUtf8 text → IsTraceLine line → IsUtf8 (compact_text (form_of text line))
-line-utf8 text line utf8 is = (form-written text line utf8 is).utf8
+pub line-utf8 : (version : IpVersion) (text : List ℕ) (line : TraceLine) → IsUtf8 text → IsTraceLineOf version line → IsUtf8 (compact_text (form_of version text line))
+line-utf8 version text line utf8 is = (form-written version text line utf8 is).utf8

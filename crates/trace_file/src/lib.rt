@@ -17,15 +17,29 @@
 //!     {"end":WRITES}
 //!     {"fault":TEXT,"line":NUMBER}
 //!
-//! `specs/Values` and `Lines` say which line a JSON value is, and `Forms` which value a line is written as. A line's value
-//! is made whole, walked once, and given back before the next line is read: so time goes by the bytes read, and memory by
-//! those of one line, at most 512. No clause says that.
+//! A trace is of one version of IP, which its head's family tells: `route` and `acl` are IPv4, `route6` and `acl6` IPv6.
+//! These are the lines of IPv4. In a trace of IPv6 a RANK stands as five numbers, its high part and the four words of 32
+//! bits of its low part, and an address as its four words, the highest first; all other lines are the same.
+//!
+//!     {"add":[5 of RANK,4 of SRC,LENGTH,4 of DST,LENGTH,PROTOCOL,FIRST,LAST,FIRST,LAST,RESULT]}
+//!     {"set":[5 of RANK,RESULT]}
+//!     {"del":[5 of RANK]}
+//!     {"put":[11 values,11 masks,5 of RANK,RESULT],"slot":SLOT}
+//!
+//! `specs/Values`, `Ipv6Values` and `Lines` say which line a JSON value is, and `Forms` which value a line is written as.
+//! A line's value is made whole, walked once, and given back before the next line is read: so time goes by the bytes read,
+//! and memory by those of one line, at most 512. No clause says that.
 //!
 //! # Decided
 //! - **A line is judged by its JSON value** (RFC 8259), so spaces, the order of members and escapes are free, and of
 //!   members of one name the last counts, as `serde_json` takes them. A text that nests deeper than 127 has no value.
 //! - **Numbers are whole, and written so**: `-0`, `1.0` and `1e0` are none, since they are floats to `serde_json`.
-//! - **An addition has what `Prefix::v4` and `Ports::new` take**, and an entry any five lanes: whether it stands for a
+//! - **A line is read by the version of its trace**, which who reads it knows from the head: a line of one version is
+//!   none of the other where it has a rank or an address, since it has another number of values. So no trace of IPv4 is
+//!   taken for one of IPv6, nor the other way round.
+//! - **A number of IPv6 stands in words of 32 bits**, as the lanes of an entry do, since a whole number of JSON that
+//!   readers take has 64 bits at most.
+//! - **An addition has what `Prefix::v4` or `v6` and `Ports::new` take**, and an entry any lanes: whether it stands for a
 //!   piece of a rule is judged where the trace is, and not here.
 //! - **The text of a fault is any string, and isn't kept**, so a [`TraceLine`] is `Copy` and takes no memory.
 //! - **Bytes that are no UTF-8 are no line**, so a caller needn't test them (`IsLineOf`).
@@ -34,13 +48,14 @@
 ghost use Rattle.std.specs.Prelude.{◌≡◌, ◌≤◌, IfOk, take};
 ghost use Rattle.trace_file.specs.Lines.{IsLineOf};
 
+mod ipv6_values;
 mod laws;
 mod lines;
 mod values;
 
-pub use laws::{lines_are_read_back, lines_are_utf8, lines_are_within};
+pub use laws::{lines_are_read_back, lines_are_utf8, lines_are_within, versions_are_apart};
 use lines::line_of;
-use rule_model::{Entry, Field, Rank, Rule};
+use rule_model::{Entry, Field, IpVersion, Rank, Rule};
 use script_lines::{LINE_BYTES, Line};
 use serde_json::Value;
 use std::alloc::Global;
@@ -49,8 +64,14 @@ use thiserror::Error;
 /// One line of a trace.
 #[derive(Clone, Copy, Debug, PartialEq, Eq)]
 pub enum TraceLine {
-    /// The family of the rules, how port ranges are encoded, and the slots in use.
-    Head { acl: bool, bits: bool, slots: u32 },
+    /// The family of the rules, which is a version and whether they are an access list, how port ranges are encoded, and
+    /// the slots in use.
+    Head {
+        version: IpVersion,
+        acl: bool,
+        bits: bool,
+        slots: u32,
+    },
     /// A commit that is accepted begins, by its number.
     Commit(u32),
     /// The commit adds a rule.
@@ -87,15 +108,15 @@ pub enum TraceFault {
     Memory,
 }
 
-/// Reads one line of a trace, from memory that it gives back. Bad comes only where the text is no line of one; Memory may
-/// come of any text.
-pub fn read_line(alloc: Global, line: &Line) -> Result<TraceLine, TraceFault>
+/// Reads one line of a trace of this version, from memory that it gives back; a head is read by either version. Bad comes
+/// only where the text is no line of such a trace; Memory may come of any text.
+pub fn read_line(alloc: Global, line: &Line, version: IpVersion) -> Result<TraceLine, TraceFault>
     requires { line.now.len ≤ LINE_BYTES }
-    ensures line { IfOk result (IsLineOf (take line.now.len line.now.bytes)) }
-    ensures bad { result ≡ Err TraceFault.Bad → (found : TraceLine) → ¬ IsLineOf (take line.now.len line.now.bytes) found }
+    ensures line { IfOk result (IsLineOf version (take line.now.len line.now.bytes)) }
+    ensures bad { result ≡ Err TraceFault.Bad → (found : TraceLine) → ¬ IsLineOf version (take line.now.len line.now.bytes) found }
 {
     match Value::from_slice(alloc, &line.bytes[..usize::from(line.len)]) {
-        Ok(value) => line_of(&value).ok_or(TraceFault::Bad),
+        Ok(value) => line_of(version, &value).ok_or(TraceFault::Bad),
         Err(fault) if fault.is_memory() => Err(TraceFault::Memory),
         Err(_) => Err(TraceFault::Bad),
     }

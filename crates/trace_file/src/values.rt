@@ -1,4 +1,4 @@
-//! What the values in a line stand for: numbers, prefixes, ranges of ports, rules and entries.
+//! What the values in a line stand for: numbers, ranges of ports, and the prefixes, rules and entries of IPv4.
 
 ghost use Rattle.std.specs.Prelude.{◌≡◌};
 ghost use Rattle.serde_json.specs.View.{view};
@@ -8,7 +8,7 @@ use rule_model::{Entry, Ports, Prefix, Rank, Rule, Word};
 use serde_json::Value;
 
 /// A whole number of 8 bits.
-fn number_of_8_bits(value: &Value) -> Option<u8>
+pub(crate) fn number_of_8_bits(value: &Value) -> Option<u8>
     ensures { result ≡ number_to (most 8) (view value.now) }
 {
     u8::try_from(value.as_u64()?).ok()
@@ -55,7 +55,7 @@ fn prefix_of(address: &Value, len: &Value) -> Option<Prefix>
 }
 
 /// A protocol, or null for any.
-fn protocol_of(value: &Value) -> Option<Option<u8>>
+pub(crate) fn protocol_of(value: &Value) -> Option<Option<u8>>
     ensures { result ≡ proto_in (view value.now) }
 {
     if value.is_null() {
@@ -65,7 +65,7 @@ fn protocol_of(value: &Value) -> Option<Option<u8>>
 }
 
 /// The ports from the first to the last.
-fn ports_of(first: &Value, last: &Value) -> Option<Ports>
+pub(crate) fn ports_of(first: &Value, last: &Value) -> Option<Ports>
     ensures { result ≡ ports_in (view first.now) (view last.now) }
 {
     Ports::new(number_of_16_bits(first)?, number_of_16_bits(last)?)

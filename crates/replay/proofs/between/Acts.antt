@@ -9,7 +9,7 @@ use Rattle.rule_store.specs.Verdict.{Verdict, Accepted, Unsound, OutOfBits, OutO
 use Rattle.tcam_device.specs.declared.Action.{Action}
 use Rattle.tcam_device.specs.Flight.{writes_in}
 use Rattle.tcam_device.specs.State.{lookup, replay, on_device}
-use Rattle.replay.specs.declared.Family.{Family}
+use Rattle.report_lines.specs.declared.Family.{Family}
 use Rattle.replay.specs.declared.Act.{Act}
 use Rattle.replay.specs.declared.Act.TheVariants.{Command, Probe, Packet}
 use Rattle.replay.specs.declared.ActFault.{ActFault}
@@ -22,7 +22,7 @@ use Rattle.replay.specs.Fates.{commit_act}
 use Rattle.replay.specs.Run.{Progress, Commits, Tries, Crashes, Refuses, Judged, HasEffects, TakesMemory}
 use Rattle.replay.specs.Reports.{packet_told, refusal_line}
 use Rattle.replay.specs.Text.{packet_line}
-use Rattle.replay.specs.Outside.{AppendsPart}
+use Rattle.report_lines.specs.Outside.{AppendsPart}
 use Rattle.replay.specs.Running.{Running, IsUntouched, ShowsRules, ComesTo, setting_of, progress_of, verdict_of}
 use Rattle.replay.proofs.lines.Effects.{does-line, does-part, does-nothing}
 

@@ -34,8 +34,9 @@ use Rattle.batch_order.specs.Steps.{ServesNow}
 use Rattle.replay.specs.InFlight.{AreOf, IsSeen, found_all}
 use Rattle.replay.specs.Run.{Progress, HasEffects, IsCutStep, TakesMemory}
 use Rattle.replay.specs.Crashing.{memory_wanted}
-use Rattle.replay.specs.Told.{verdict_told}
-use Rattle.replay.specs.Outside.{AppendsPart, CutsLines}
+use Rattle.report_lines.specs.Told.{verdict_told}
+use Rattle.report_lines.specs.Outside.{AppendsPart}
+use Rattle.replay.specs.Outside.{CutsLines}
 use Rattle.replay.specs.Carried.{IsAt}
 use Rattle.replay.specs.Running.{Running, Watching, HasCome, IsRun, IsHalfway, IsMidCommit, ComesTo, Makes, MakesAll, MakesSome, ShowsRules, TellsActions, act_outcome_of, sink_failed, ended_line, watching, setting_of, progress_of, routes_of, verdict_of}
 use Rattle.replay.specs.declared.fate.Fate.{Fate}

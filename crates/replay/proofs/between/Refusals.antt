@@ -6,7 +6,7 @@ use Rattle.readback.specs.declared.Rejection.TheVariants as rejection
 use Rattle.readback.specs.Judged.{judgement}
 use Rattle.batch_order.specs.declared.Refusal.TheVariants as refusal
 use Rattle.batch_order.specs.Managed.{Answers}
-use Rattle.replay.specs.Told.{verdict_told}
+use Rattle.report_lines.specs.Told.{verdict_told}
 
 -- it tells the verdict
 pub told-verdict : (verdict : Verdict) (reason : Rejection) → Answers (judgement verdict) (Err (refusal.Rejected reason)) → verdict_told reason ≡ verdict

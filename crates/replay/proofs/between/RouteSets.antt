@@ -12,7 +12,7 @@ use Rattle.rule_store.proofs.Sound.{additions-append}
 use Rattle.commit_writes.specs.Routes.{IsRoute}
 use Rattle.commit_writes.proofs.Filters.{all_members}
 use Rattle.batch_order.specs.Managed.{OnlyChangesRoutes}
-use Rattle.replay.specs.declared.Family.{Family}
+use Rattle.report_lines.specs.declared.Family.{Family}
 use Rattle.replay.specs.Running.{IsChangeOf, routes_of}
 
 -- a route with another result is one

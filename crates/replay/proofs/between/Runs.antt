@@ -16,8 +16,8 @@ use Rattle.commit_writes.specs.declared.Done.{Done}
 use Rattle.tcam_device.specs.declared.Write.{Write}
 use Rattle.batch_order.specs.Managed.{HeldCommit, Holds, OnlyChangesRoutes}
 use Rattle.batch_order.specs.Placing.{IsPlacedBy}
-use Rattle.replay.specs.declared.Family.{Family}
-use Rattle.replay.specs.declared.Family.TheVariants.{Route, Acl, Route6, Acl6}
+use Rattle.report_lines.specs.declared.Family.{Family}
+use Rattle.report_lines.specs.declared.Family.TheVariants.{Route, Acl, Route6, Acl6}
 use Rattle.replay.specs.Effects.{Setting, Effect, Prints}
 use Rattle.replay.specs.Run.{Progress, Commits, Returns, OfFamily, actions_back, actions_for, carried, used_slots, after_segment}
 use Rattle.replay.specs.Reports.{done_line}

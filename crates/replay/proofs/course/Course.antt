@@ -18,7 +18,8 @@ use Rattle.replay.specs.declared.Act.{Act}
 use Rattle.replay.specs.declared.watch.Count.{Count}
 use Rattle.replay.specs.Effects.{Setting, Effect, Acts, Prints, events_in, printed, probes_told, write_told, searched_after, flushed, waiting_after, effects_of}
 use Rattle.replay.specs.Run.{Progress, HasEffects, IsCutStep, carried, carried_so_far}
-use Rattle.replay.specs.Outside.{AppendsPart, CutsLines}
+use Rattle.report_lines.specs.Outside.{AppendsPart}
+use Rattle.replay.specs.Outside.{CutsLines}
 use Rattle.replay.specs.Carried.{CutsEffects, Does, IsAt}
 use Rattle.replay.specs.Fates.{commit_act}
 use Rattle.replay.specs.Running.{Running, TellsActions, effects_on, watching, setting_of, progress_of}

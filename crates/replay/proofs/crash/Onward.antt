@@ -29,8 +29,8 @@ use Rattle.batch_order.specs.declared.Placement.{Placement}
 use Rattle.batch_order.specs.Placing.{IsPlacedBy, IsRestPlacedBy}
 use Rattle.batch_order.specs.Managed.{HeldCommit, Holds, Managed, OnlyChangesRoutes}
 use Rattle.batch_order.specs.Restart.{ArePartsOf, Resumes, in_use, rest_of}
-use Rattle.replay.specs.declared.Family.{Family}
-use Rattle.replay.specs.declared.Family.TheVariants.{Route, Acl, Route6, Acl6}
+use Rattle.report_lines.specs.declared.Family.{Family}
+use Rattle.report_lines.specs.declared.Family.TheVariants.{Route, Acl, Route6, Acl6}
 use Rattle.replay.specs.declared.fate.Fate.TheVariants as fates
 use Rattle.replay.specs.Effects.{Setting, Effect, Prints}
 use Rattle.replay.specs.Run.{Progress, Crashes, Judged, HasEffects, OfFamily, RestOfFamily, Restarts, actions_over, after_segment, carried, carried_so_far}

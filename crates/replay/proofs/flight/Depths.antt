@@ -17,7 +17,7 @@ use Rattle.tcam_device.specs.declared.Action.TheVariants.{Written, Drained}
 use Rattle.tcam_device.specs.Flight.{writes_in}
 use Rattle.tcam_device.specs.State.{State, state_after}
 use Rattle.batch_order.specs.declared.Placement.TheVariants.{Middle}
-use Rattle.replay.specs.declared.Family.TheVariants.{Route, Acl}
+use Rattle.report_lines.specs.declared.Family.TheVariants.{Route, Acl}
 use Rattle.replay.specs.Effects.{Setting, Effect, Acts, Prints, effects_of, flushed, waiting_after}
 
 -- a list of one slot whose tables have words for three ports, and a line of destination ports 1-2 that tests bit 0

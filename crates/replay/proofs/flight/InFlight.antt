@@ -13,7 +13,7 @@ use Rattle.tcam_device.specs.Flight.{Flight, with_word, word_answer}
 use Rattle.commit_writes.specs.Bits.{FieldBits}
 use Rattle.commit_writes.specs.InFlight.{IsCurrent, AreCurrent, ServesLive}
 use Rattle.commit_writes.proofs.Current.{current_answers, translated_current}
-use Rattle.replay.specs.declared.Family.{Family}
+use Rattle.report_lines.specs.declared.Family.{Family}
 use Rattle.replay.specs.Effects.{Effect, Prints, flushed, searches_of, probes_told}
 use Rattle.replay.specs.InFlight.{AreOf, repeated, probe_words, found_lines, found_all, found_after, flight_left}
 use Rattle.replay.specs.Running.{Watching}

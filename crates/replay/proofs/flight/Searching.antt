@@ -8,11 +8,12 @@ use Rattle.rule_model.specs.RuleSet.{Answer}
 use Rattle.rule_model.specs.declared.words.Word.{Word}
 use Rattle.tcam_device.specs.State.{State}
 use Rattle.tcam_device.specs.Flight.{Flight, search_answer, word_answer}
-use Rattle.replay.specs.declared.Family.{Family}
+use Rattle.report_lines.specs.declared.Family.{Family}
 use Rattle.replay.specs.Text.{probe_line}
 use Rattle.replay.specs.Effects.{Effect, Prints, printed}
 use Rattle.replay.specs.InFlight.{found_lines}
-use Rattle.replay.specs.Outside.{AppendsPart, CutsLines}
+use Rattle.report_lines.specs.Outside.{AppendsPart}
+use Rattle.replay.specs.Outside.{CutsLines}
 use Rattle.replay.proofs.lines.Effects.{printed-append}
 
 -- the word that is searched next, behind those that were

@@ -10,7 +10,7 @@ use Rattle.tcam_device.specs.declared.Action.TheVariants.{Written, Drained}
 use Rattle.tcam_device.specs.Flight.{writes_in}
 use Rattle.tcam_device.specs.State.{State, apply, state_after}
 use Rattle.commit_writes.proofs.WritesIn.{writes_in-append}
-use Rattle.replay.specs.declared.Family.{Family}
+use Rattle.report_lines.specs.declared.Family.{Family}
 use Rattle.replay.specs.Effects.{Setting, Effect, Acts, Prints, events_in, journal_of, printed, traced, write_told, drain_told, searches_of, flushed, searched_after, waiting_after, effects_of}
 use Rattle.replay.specs.Text.{write_line, drain_line}
 use Rattle.replay.specs.Carried.{Does}

@@ -4,10 +4,11 @@ use Rattle.std.specs.Io.KnownBytes.{Appends}
 use Rattle.std.proofs.KnownBytes.{Appends-trans}
 use Rattle.script_lines.specs.Given.{counted}
 use Rattle.tcam_device.specs.declared.Write.{Write}
-use Rattle.replay.specs.declared.Family.{Family}
+use Rattle.report_lines.specs.declared.Family.{Family}
 use Rattle.replay.specs.Text.{write_line}
 use Rattle.replay.specs.Effects.{Effect, Prints, printed}
-use Rattle.replay.specs.Outside.{WritesLine, WritesLines, CutsLines}
+use Rattle.report_lines.specs.Outside.{WritesLine}
+use Rattle.replay.specs.Outside.{WritesLines, CutsLines}
 use Rattle.replay.proofs.lines.Effects.{printed-append}
 
 -- the line is cut

@@ -1,8 +1,8 @@
 -- The words of the reason stand behind the three that each such line has.
 use Rattle.std.proofs.Common.{◌∷◌, codes, decimal}
-use Rattle.replay.specs.Text.{reason_words}
-use Rattle.replay.specs.Told.{verdict_told}
-use Rattle.replay.proofs.lines.Lines.{with_words-line}
+use Rattle.report_lines.specs.Text.{reason_words}
+use Rattle.report_lines.specs.Told.{verdict_told}
+use Rattle.report_lines.proofs.Lines.{with_words-line}
 use Rattle.replay.proofs.report.refused.Goals as goal
 
 pub returns-clause-text : goal.returns-clause-text

@@ -1,7 +1,7 @@
 -- The word and the number stand behind the first word.
 use Rattle.std.proofs.Common.{◌≡◌, [], ◌∷◌, ◌++◌, codes, decimal}
 use Rattle.replay.specs.Text.{no_line}
-use Rattle.replay.proofs.lines.Lines.{with_words-line}
+use Rattle.report_lines.proofs.Lines.{with_words-line}
 use Rattle.replay.proofs.report.write_no.Goals as goal
 
 pub returns : goal.returns

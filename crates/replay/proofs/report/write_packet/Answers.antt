@@ -1,7 +1,8 @@
 -- The words of the answer stand behind the first word.
 use Rattle.std.proofs.Common.{◌≡◌, [], ◌∷◌, ◌++◌, codes}
-use Rattle.replay.specs.Text.{packet_line, answer_words}
-use Rattle.replay.proofs.lines.Lines.{with_words-line}
+use Rattle.report_lines.specs.Text.{answer_words}
+use Rattle.replay.specs.Text.{packet_line}
+use Rattle.report_lines.proofs.Lines.{with_words-line}
 use Rattle.replay.proofs.report.write_packet.Goals as goal
 
 pub returns : goal.returns

@@ -1,7 +1,8 @@
 -- The number and the words of the write stand behind the first word.
 use Rattle.std.proofs.Common.{◌≡◌, [], ◌∷◌, ◌++◌, codes, decimal}
-use Rattle.replay.specs.Text.{write_line, write_words}
-use Rattle.replay.proofs.lines.Lines.{with_words-line}
+use Rattle.report_lines.specs.Text.{write_words}
+use Rattle.replay.specs.Text.{write_line}
+use Rattle.report_lines.proofs.Lines.{with_words-line}
 use Rattle.replay.proofs.report.write_trace.Goals as goal
 
 pub returns : goal.returns

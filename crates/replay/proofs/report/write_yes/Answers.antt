@@ -1,7 +1,7 @@
 -- The words and numbers stand behind the first word.
 use Rattle.std.proofs.Common.{◌≡◌, [], ◌∷◌, ◌++◌, codes, decimal}
 use Rattle.replay.specs.Text.{yes_line}
-use Rattle.replay.proofs.lines.Lines.{with_words-line}
+use Rattle.report_lines.proofs.Lines.{with_words-line}
 use Rattle.replay.proofs.report.write_yes.Goals as goal
 
 pub returns : goal.returns

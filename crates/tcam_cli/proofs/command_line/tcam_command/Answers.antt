@@ -1,7 +1,7 @@
 use Rattle.std.proofs.Common.{◌≡◌, ◌∙◌, ap, ap₂, true, codes}
-use Rattle.clap.specs.Words.{App, app_of, with_rule, with_subcommand, new_app}
+use Rattle.clap.specs.Words.{App, app_of, with_subcommand, new_app}
 use Rattle.clap.specs.Simple.{app_of_fields, on_top}
-use Rattle.tcam_cli.specs.CommandLine.{json_flag, route_app, tcam_app, tcam_top}
+use Rattle.tcam_cli.specs.CommandLine.{route_app, tcam_app, tcam_top}
 use Rattle.tcam_cli.proofs.command_line.tcam_command.Goals as goal
 
 abbrev versioned : App → App
@@ -22,13 +22,11 @@ returns c =
     ap app_of_fields c.subcommand_required.ensures ∙ ap wanting version in
     let no_help : app_of c.disable_help_subcommand.result ≡ unhelped (wanting (versioned (new_app (codes "tcam")))) =
     ap app_of_fields c.disable_help_subcommand.ensures ∙ ap unhelped required in
-    let told = c.in_ok-with_json.ensures.app ∙ ap (λ (a : App). with_rule a json_flag) c.in_ok-route_command.ensures.app in
-    let routes : app_of c.in_ok-subcommand.field-0 ≡ with_subcommand (unhelped (wanting (versioned (new_app (codes "tcam"))))) (with_rule (route_app (codes "route")) json_flag).top =
-    c.in_ok-subcommand.ensures.shape c.in_ok-with_json.ensures.local
-    ∙ ap₂ with_subcommand no_help (ap (λ (a : App). a.top) told) in
-    let told_list = c.in_ok-with_json-2.ensures.app ∙ ap (λ (a : App). with_rule a json_flag) c.in_ok-acl_command.ensures.app in
-    let lists = c.in_ok-subcommand-2.ensures.shape c.in_ok-with_json-2.ensures.local
-    ∙ ap₂ with_subcommand routes (ap (λ (a : App). a.top) told_list) in
+    let routes : app_of c.in_ok-subcommand.field-0 ≡ with_subcommand (unhelped (wanting (versioned (new_app (codes "tcam"))))) (route_app (codes "route")).top =
+    c.in_ok-subcommand.ensures.shape c.in_ok-route_command.ensures.local
+    ∙ ap₂ with_subcommand no_help (ap (λ (a : App). a.top) c.in_ok-route_command.ensures.app) in
+    let lists = c.in_ok-subcommand-2.ensures.shape c.in_ok-acl_command.ensures.local
+    ∙ ap₂ with_subcommand routes (ap (λ (a : App). a.top) c.in_ok-acl_command.ensures.app) in
     let routes6 = c.in_ok-subcommand-3.ensures.shape c.in_ok-route_command-2.ensures.local
     ∙ ap₂ with_subcommand lists (ap (λ (a : App). a.top) c.in_ok-route_command-2.ensures.app) in
     let lists6 = c.in_ok-subcommand-4.ensures.shape c.in_ok-acl_command-2.ensures.local

@@ -29,7 +29,7 @@ returns-in-Ok-Some-clause-act c =
 pub returns-in-Ok-Some-clause-told : goal.returns-in-Ok-Some-clause-told
 returns-in-Ok-Some-clause-told c =
     let is : reading c.args.run.now.family (numbered c.args.line.now).text ≡ Ok (Some c.in-Ok-Some.act) = rw c.family.ensures at (c.in-Ok-Some.ensures.ok ∙ ap Ok c.in-Ok-Some.field-0-is) in
-    told-result (setting_of c.args.run.now) (numbered c.args.line.now).text c.told_act.result c.requires.json (rw (is, ← c.is_json.ensures) c.told_act.ensures.ok)
+    told-result (setting_of c.args.run.now) (numbered c.args.line.now).text c.told_act.result (rw (is, ← c.is_json.ensures) c.told_act.ensures.ok)
 
 pub returns-in-Ok-Some-clause-plain : goal.returns-in-Ok-Some-clause-plain
 returns-in-Ok-Some-clause-plain c =

@@ -1,9 +1,15 @@
 use Rattle.std.proofs.Common.{Err, ap, codes, sym, ◌∙◌, Ok, refl}
+use Rattle.replay.specs.Running.{setting_of}
+use Rattle.tcam_cli.specs.Headline.{run_kind}
 use Rattle.tcam_cli.proofs.FaultCounts.{closed-leaves, closes-leaves, some-leaves, stopped-leaves}
 use Rattle.tcam_cli.proofs.Outcomes.{stops, stops-grows, stops-memory}
-use Rattle.tcam_cli.proofs.Exits.{exit-bytes, exit-end, exit-read, goes-none, exit-word, closes-by, exit-full, goes-on, exit-stopped, wants-next}
-use Rattle.tcam_cli.proofs.InTime.{does-grows, same-grows, closes-grows, so-far-at}
-use Rattle.tcam_cli.proofs.GivenRuns.{rounds-some, rounds-stopped, rounds-none, rests-same}
+use Rattle.script_runs.proofs.Joined.{same-grows, closes-grows}
+use Rattle.script_runs.proofs.Exits.{exit-bytes, exit-end, exit-read, goes-none, exit-word, exit-full}
+use Rattle.script_runs.proofs.Rounds.{rounds-other, rounds-none, rests-same}
+use Rattle.tcam_cli.proofs.Kind.{joins, grows-of}
+use Rattle.tcam_cli.proofs.Exits.{closes-by, goes-on, exit-stopped, wants-next}
+use Rattle.tcam_cli.proofs.InTime.{so-far-at}
+use Rattle.tcam_cli.proofs.GivenRuns.{rounds-stopped}
 use Rattle.tcam_cli.proofs.top.round.Goals as goal
 
 pub returns-in-Err-Read-clause-gives : goal.returns-in-Err-Read-clause-gives
@@ -11,9 +17,9 @@ returns-in-Err-Read-clause-gives g c =
     let h = c.in-Err-Read in (
       h.ensures.gives.0,
       h.ensures.gives.1,
-      λ which. rounds-some _ _ _ _ _ _ _ _ _ _ _ _ _ _ h.ensures.gives.2 (λ e. cc) (λ bytes left now start may s. same-grows _ _)
+      λ which. rounds-other _ _ _ _ _ _ _ _ _ _ _ _ _ h.ensures.gives.2 (λ e. cc) (λ bytes left now start may s. same-grows joins _ _)
           (λ bytes taken begun now start may parts s.
-          exit-read _ _ bytes _ begun _ _ start _ s c.next.new.self taken now (rw h.field-0-is at h.ensures.again) (λ going. rw h.field-0-is at (h.ensures.gives.2.hands going begun now may)) parts),
+          exit-read _ joins bytes _ begun _ _ start _ s c.next.new.self taken now (rw h.field-0-is at h.ensures.again) (λ going. rw h.field-0-is at (h.ensures.gives.2.hands going begun now may)) parts),
     )
 
 pub returns-in-Err-ScriptTooLong-clause-gives : goal.returns-in-Err-ScriptTooLong-clause-gives
@@ -21,9 +27,9 @@ returns-in-Err-ScriptTooLong-clause-gives g c =
     let h = c.in-Err-ScriptTooLong in (
       h.ensures.gives.0,
       h.ensures.gives.1,
-      λ which. rounds-some _ _ _ _ _ _ _ _ _ _ _ _ _ _ h.ensures.gives.2 c.fault.ensures.kind.3 (λ bytes left now start may s. closes-grows _ _ _ _ _ _ (c.fault.ensures.closes.closes which))
+      λ which. rounds-other _ _ _ _ _ _ _ _ _ _ _ _ _ h.ensures.gives.2 c.fault.ensures.kind.3 (λ bytes left now start may s. closes-grows joins _ _ _ _ _ _ (c.fault.ensures.closes.closes which))
           (λ bytes taken begun now start may parts s.
-          exit-bytes _ _ bytes _ begun _ _ start _ s taken now _ _ _ _ _ refl (rw h.field-0-is at h.ensures.again) (λ going. rw h.field-0-is at (h.ensures.gives.2.hands going begun now may)) (c.fault.ensures.closes.closes which)),
+          exit-bytes _ joins bytes _ begun _ _ start _ s taken now _ _ _ _ _ refl (rw h.field-0-is at h.ensures.again) (λ going. rw h.field-0-is at (h.ensures.gives.2.hands going begun now may)) (c.fault.ensures.closes.closes which)),
     )
 
 pub returns-in-Err-TooLong-clause-gives : goal.returns-in-Err-TooLong-clause-gives
@@ -31,9 +37,9 @@ returns-in-Err-TooLong-clause-gives g c =
     let h = c.in-Err-TooLong in (
       h.ensures.gives.0,
       h.ensures.gives.1,
-      λ which. rounds-some _ _ _ _ _ _ _ _ _ _ _ _ _ _ h.ensures.gives.2 c.fault-in-Err-TooLong.ensures.kind.3 (λ bytes left now start may s. closes-grows _ _ _ _ _ _ (c.fault-in-Err-TooLong.ensures.closes.closes which))
+      λ which. rounds-other _ _ _ _ _ _ _ _ _ _ _ _ _ h.ensures.gives.2 c.fault-in-Err-TooLong.ensures.kind.3 (λ bytes left now start may s. closes-grows joins _ _ _ _ _ _ (c.fault-in-Err-TooLong.ensures.closes.closes which))
           (λ bytes taken begun now start may parts s.
-          exit-bytes _ _ bytes _ begun _ _ start _ s taken now _ _ _ _ _ refl (rw h.field-0-is at h.ensures.again) (λ going. rw h.field-0-is at (h.ensures.gives.2.hands going begun now may)) (c.fault-in-Err-TooLong.ensures.closes.closes which)),
+          exit-bytes _ joins bytes _ begun _ _ start _ s taken now _ _ _ _ _ refl (rw h.field-0-is at h.ensures.again) (λ going. rw h.field-0-is at (h.ensures.gives.2.hands going begun now may)) (c.fault-in-Err-TooLong.ensures.closes.closes which)),
     )
 
 pub returns-in-Err-BadByte-clause-gives : goal.returns-in-Err-BadByte-clause-gives
@@ -41,9 +47,9 @@ returns-in-Err-BadByte-clause-gives g c =
     let h = c.in-Err-BadByte in (
       h.ensures.gives.0,
       h.ensures.gives.1,
-      λ which. rounds-some _ _ _ _ _ _ _ _ _ _ _ _ _ _ h.ensures.gives.2 c.fault-in-Err-BadByte.ensures.kind.3 (λ bytes left now start may s. closes-grows _ _ _ _ _ _ (c.fault-in-Err-BadByte.ensures.closes.closes which))
+      λ which. rounds-other _ _ _ _ _ _ _ _ _ _ _ _ _ h.ensures.gives.2 c.fault-in-Err-BadByte.ensures.kind.3 (λ bytes left now start may s. closes-grows joins _ _ _ _ _ _ (c.fault-in-Err-BadByte.ensures.closes.closes which))
           (λ bytes taken begun now start may parts s.
-          exit-bytes _ _ bytes _ begun _ _ start _ s taken now _ _ _ _ _ refl (rw h.field-0-is at h.ensures.again) (λ going. rw h.field-0-is at (h.ensures.gives.2.hands going begun now may)) (c.fault-in-Err-BadByte.ensures.closes.closes which)),
+          exit-bytes _ joins bytes _ begun _ _ start _ s taken now _ _ _ _ _ refl (rw h.field-0-is at h.ensures.again) (λ going. rw h.field-0-is at (h.ensures.gives.2.hands going begun now may)) (c.fault-in-Err-BadByte.ensures.closes.closes which)),
     )
 
 pub returns-in-Ok-None-clause-gives : goal.returns-in-Ok-None-clause-gives
@@ -51,9 +57,9 @@ returns-in-Ok-None-clause-gives g c =
     let h = c.in-Ok-None in (
       h.ensures.gives.0,
       h.ensures.gives.1,
-      λ which. rounds-some _ _ _ _ _ _ _ _ _ _ _ _ _ _ h.ensures.gives.2 c.finish.ensures.kind.3 (λ bytes left now start may s. closes-grows _ _ _ _ _ _ ((c.finish.ensures.closes (g.D.Writable.slot_count c.args.device.now)).closes which))
+      λ which. rounds-other _ _ _ _ _ _ _ _ _ _ _ _ _ h.ensures.gives.2 c.finish.ensures.kind.3 (λ bytes left now start may s. closes-grows joins _ _ _ _ _ _ ((c.finish.ensures.closes (g.D.Writable.slot_count c.args.device.now)).closes which))
           (λ bytes taken begun now start may parts s.
-          exit-end _ _ bytes _ begun _ _ start _ s c.next.new.self taken now _ _ (λ going. rw h.field-0-is at (h.ensures.gives.2.hands going begun now may))
+          exit-end _ joins bytes _ begun _ _ start _ s c.next.new.self taken now _ _ (λ going. rw h.field-0-is at (h.ensures.gives.2.hands going begun now may))
           (λ other. rests-same _ _ _ _ begun now h.ensures.gives.2 may other) ((c.finish.ensures.closes (g.D.Writable.slot_count c.args.device.now)).closes which)),
     )
 
@@ -62,9 +68,9 @@ returns-in-Err-clause-gives g c =
     let h = c.in-Ok-Some in (
       h.ensures.gives.0,
       h.ensures.gives.1,
-      λ which. rounds-some _ _ _ _ _ _ _ _ _ _ _ _ _ _ h.ensures.gives.2 c.fault-in-Err.ensures.kind.3 (λ bytes left now start may s. closes-grows _ _ _ _ _ _ (c.fault-in-Err.ensures.closes.closes which))
+      λ which. rounds-other _ _ _ _ _ _ _ _ _ _ _ _ _ h.ensures.gives.2 c.fault-in-Err.ensures.kind.3 (λ bytes left now start may s. closes-grows joins _ _ _ _ _ _ (c.fault-in-Err.ensures.closes.closes which))
           (λ bytes taken begun now start may parts s.
-          exit-word _ _ bytes _ begun _ _ start _ s h.line c.next.new.self now (rw h.field-0-is at h.ensures.again) (λ going. rw h.field-0-is at (h.ensures.gives.2.hands going begun now may))
+          exit-word _ joins bytes _ begun _ _ start _ s h.line c.next.new.self now (rw h.field-0-is at h.ensures.again) (λ going. rw h.field-0-is at (h.ensures.gives.2.hands going begun now may))
           taken _ _ _ c.in-Err.ensures.err (c.fault-in-Err.ensures.closes.closes which)),
     )
 
@@ -73,20 +79,22 @@ returns-in-Ok-None-read_act-clause-gives g c =
     let h = c.in-Ok-Some in (
       h.ensures.gives.0,
       h.ensures.gives.1,
-      λ which. rounds-none _ _ _ _ _ _ _ _ _ _ _ _ h.ensures.gives.2 (λ bytes left now start may s. same-grows _ _)
+      λ which. rounds-none _ _ _ _ _ _ _ _ _ _ _ h.ensures.gives.2 (λ bytes left now start may s. same-grows joins _ _)
           (λ bytes begun now start may s.
-          goes-none _ _ bytes _ begun _ _ start _ s h.line c.next.new.self now (rw h.field-0-is at h.ensures.again) (λ going. rw h.field-0-is at (h.ensures.gives.2.hands going begun now may))
+          goes-none _ joins bytes _ begun _ _ start _ s h.line c.next.new.self now (rw h.field-0-is at h.ensures.again) (λ going. rw h.field-0-is at (h.ensures.gives.2.hands going begun now may))
           (c.in-Ok-None-read_act.ensures.ok ∙ ap Ok c.in-Ok-None-read_act.field-0-is)),
     )
 
 pub returns-in-Ok-clause-gives : goal.returns-in-Ok-clause-gives
 returns-in-Ok-clause-gives g c =
-    let h = c.in-Ok-Some in (
+    let h = c.in-Ok-Some in
+    let setting = setting_of c.args.run.now in
+    let slots = g.D.Writable.slot_count c.args.device.now in (
       h.ensures.gives.0,
       h.ensures.gives.1,
-      λ which. rounds-none _ _ _ _ _ _ _ _ _ _ _ _ h.ensures.gives.2 (λ bytes left now start may s. does-grows _ _ _ _ _ _ (c.in-Ok.ensures.acts which (so-far-at _ _ _ _ _ _ _ _ _ s)).does)
+      λ which. rounds-none (run_kind setting slots) _ _ _ _ _ _ _ _ _ _ h.ensures.gives.2 (λ bytes left now start may s. grows-of setting slots _ _ _ _ _ _ (c.in-Ok.ensures.acts which (so-far-at setting slots _ _ _ _ _ _ _ s)).does)
           (λ bytes begun now start may s.
-          goes-on _ _ bytes _ begun _ _ start _ s h.line c.next.new.self now (rw h.field-0-is at h.ensures.again) (λ going. rw h.field-0-is at (h.ensures.gives.2.hands going begun now may))
+          goes-on setting slots bytes _ begun _ _ start _ s h.line c.next.new.self now (rw h.field-0-is at h.ensures.again) (λ going. rw h.field-0-is at (h.ensures.gives.2.hands going begun now may))
           _ (c.in-Ok-Some-read_act.ensures.ok ∙ ap Ok c.in-Ok-Some-read_act.field-0-is) (sym (c.in-Ok.ensures.limit c.requires.stands.idle)) _ _ _ (c.in-Ok.ensures.acts which)),
     )
 
@@ -95,12 +103,12 @@ returns-in-Err-BatchFull-clause-gives g c =
     let h = c.in-Ok-Some in (
       h.ensures.gives.0,
       h.ensures.gives.1,
-      λ which. rounds-some _ _ _ _ _ _ _ _ _ _ _ _ _ _ h.ensures.gives.2 c.fault-in-Err-BatchFull.ensures.kind.3 (λ bytes left now start may s.
+      λ which. rounds-other _ _ _ _ _ _ _ _ _ _ _ _ _ h.ensures.gives.2 c.fault-in-Err-BatchFull.ensures.kind.3 (λ bytes left now start may s.
           let same = rw c.in-Err-BatchFull.field-0-is at (c.in-Err-BatchFull.ensures.acts which) in
-          rw same.events (closes-grows _ _ _ _ _ _ (rw same.report at (c.fault-in-Err-BatchFull.ensures.closes.closes which))))
+          rw same.events (closes-grows joins _ _ _ _ _ _ (rw same.report at (c.fault-in-Err-BatchFull.ensures.closes.closes which))))
           (λ bytes taken begun now start may parts s.
           let same = rw c.in-Err-BatchFull.field-0-is at (c.in-Err-BatchFull.ensures.acts which) in
-          rw same.events (exit-full _ _ bytes _ begun _ _ start _ s h.line c.next.new.self now (rw h.field-0-is at h.ensures.again) (λ going. rw h.field-0-is at (h.ensures.gives.2.hands going begun now may))
+          rw same.events (exit-full _ joins bytes _ begun _ _ start _ s h.line c.next.new.self now (rw h.field-0-is at h.ensures.again) (λ going. rw h.field-0-is at (h.ensures.gives.2.hands going begun now may))
           taken _ _ _ _ (c.in-Ok-Some-read_act.ensures.ok ∙ ap Ok c.in-Ok-Some-read_act.field-0-is) (sym (rw c.in-Err-BatchFull.field-0-is at (c.in-Err-BatchFull.ensures.limit c.requires.stands.idle))) (closes-by c.args.run.now c.apply.new.self h.line.number (codes "batch full") _ _ _ same.run (rw same.report at (c.fault-in-Err-BatchFull.ensures.closes.closes which))))),
     )
 
@@ -109,12 +117,12 @@ returns-in-Err-ProbesFull-clause-gives g c =
     let h = c.in-Ok-Some in (
       h.ensures.gives.0,
       h.ensures.gives.1,
-      λ which. rounds-some _ _ _ _ _ _ _ _ _ _ _ _ _ _ h.ensures.gives.2 c.fault-in-Err-ProbesFull.ensures.kind.3 (λ bytes left now start may s.
+      λ which. rounds-other _ _ _ _ _ _ _ _ _ _ _ _ _ h.ensures.gives.2 c.fault-in-Err-ProbesFull.ensures.kind.3 (λ bytes left now start may s.
           let same = rw c.in-Err-ProbesFull.field-0-is at (c.in-Err-ProbesFull.ensures.acts which) in
-          rw same.events (closes-grows _ _ _ _ _ _ (rw same.report at (c.fault-in-Err-ProbesFull.ensures.closes.closes which))))
+          rw same.events (closes-grows joins _ _ _ _ _ _ (rw same.report at (c.fault-in-Err-ProbesFull.ensures.closes.closes which))))
           (λ bytes taken begun now start may parts s.
           let same = rw c.in-Err-ProbesFull.field-0-is at (c.in-Err-ProbesFull.ensures.acts which) in
-          rw same.events (exit-full _ _ bytes _ begun _ _ start _ s h.line c.next.new.self now (rw h.field-0-is at h.ensures.again) (λ going. rw h.field-0-is at (h.ensures.gives.2.hands going begun now may))
+          rw same.events (exit-full _ joins bytes _ begun _ _ start _ s h.line c.next.new.self now (rw h.field-0-is at h.ensures.again) (λ going. rw h.field-0-is at (h.ensures.gives.2.hands going begun now may))
           taken _ _ _ _ (c.in-Ok-Some-read_act.ensures.ok ∙ ap Ok c.in-Ok-Some-read_act.field-0-is) (sym (rw c.in-Err-ProbesFull.field-0-is at (c.in-Err-ProbesFull.ensures.limit c.requires.stands.idle))) (closes-by c.args.run.now c.apply.new.self h.line.number (codes "too many probes") _ _ _ same.run (rw same.report at (c.fault-in-Err-ProbesFull.ensures.closes.closes which))))),
     )
 

@@ -1,17 +1,16 @@
 use Rattle.std.proofs.Common.{true, false, ◌≤◌, refl, ap, sym, ◌∙◌, subst, Err, arith}
-use Rattle.tcam_cli.specs.declared.Status.TheVariants.{Done, Usage}
+use Rattle.script_runs.specs.declared.Status.TheVariants.{Done, Usage}
 use Rattle.replay.specs.Running.{Running, progress_of, setting_of}
-use Rattle.replay.specs.Text.{usage_line}
+use Rattle.report_lines.specs.Text.{usage_line}
 use Rattle.tcam_cli.specs.OwnTexts.{version_text}
-use Rattle.replay.specs.declared.Family.TheVariants.{Acl}
+use Rattle.report_lines.specs.declared.Family.TheVariants.{Acl}
 use Rattle.tcam_cli.specs.Headline.{Makes, Reads, Tells, Verifies}
-use Rattle.tcam_cli.specs.Rounds.{IsJsonOfIpv4}
 use Rattle.tcam_cli.proofs.Begun.{begins}
 use Rattle.replay.proofs.between.Leaving.{uncounted, leaves-line}
 use Rattle.tcam_device.specs.Flight.{writes_in}
 use Rattle.tcam_cli.proofs.FaultCounts.{made-tried}
 use Rattle.std.specs.List.{concat}
-use Rattle.tcam_cli.proofs.WholeRun.{told-source}
+use Rattle.script_runs.proofs.Rounds.{told-source}
 use Rattle.tcam_cli.proofs.MadeRuns.{made-ends}
 use Rattle.tcam_cli.proofs.TopCall.{memory-carried, told-alone}
 use Rattle.tcam_cli.proofs.HitlessRuns.{hitless-job}
@@ -27,11 +26,6 @@ run_script-requires-clause-begun g c =
     let range = rw c.in-Ok-Script.field-0-is at c.in-Ok-Script.ensures.within in
     let within : c.in-Ok-Script.slots ≤ slots = omega (arith, range.1) in
     ap (progress_of slots) c.in-Ok.ensures ∙ begins c.in-Ok-Script.mode c.in-Ok-Script.placement c.in-Ok-Script.family c.in-Ok-Script.slots slots c.in-Ok-Script.trace c.in-Ok-Script.depth c.in-Ok-Script.json within
-
-pub run_script-requires-clause-json : goal.run_script-requires-clause-json
-run_script-requires-clause-json g c =
-    let range = rw c.in-Ok-Script.field-0-is at c.in-Ok-Script.ensures.within in
-    subst (λ (run : Running). IsJsonOfIpv4 (setting_of run)) (sym c.in-Ok.ensures) range.3
 
 pub returns-in-Ok-clause-carried_out : goal.returns-in-Ok-clause-carried_out
 returns-in-Ok-clause-carried_out g c =

@@ -3,9 +3,10 @@ use Rattle.script_lines.specs.Given.{counted}
 use Rattle.rule_gen.specs.Batches.{AreBatches}
 use Rattle.rule_gen.specs.Made.{made_commands}
 use Rattle.rule_gen.specs.declared.Made.{Made}
-use Rattle.replay.specs.declared.Family.{Family}
+use Rattle.report_lines.specs.declared.Family.{Family}
 use Rattle.replay.specs.Effects.{Setting}
 use Rattle.replay.specs.Run.{Progress}
+use Rattle.report_lines.specs.Text.{family_version}
 use Rattle.replay.specs.Fates.{IsCrash}
 use Rattle.replay.specs.Running.{IsActOf, IsToldIn, progress_of, setting_of}
 use Rattle.replay.specs.Carried.{Carries}
@@ -47,7 +48,7 @@ apply-requires g c =
       slots = omega (arith, slots, count, within);
       none_in_flight = λ _. i.none_in_flight;
       act = subst (λ (family : Family). IsActOf family c.act_of_made.result) (sym family) c.act_of_made.ensures.list;
-      told = subst (λ (json : Bool). IsToldIn json c.act_of_made.result) (sym json) c.act_of_made.ensures.told;
+      told = subst (λ (json : Bool). IsToldIn json (family_version c.acts.run.family) c.act_of_made.result) (sym json) (c.act_of_made.ensures.told (family_version c.acts.run.family));
       whole = i.whole;
       stands = λ crash. absurd (never-crash c.in-Some.made (subst IsCrash c.act_of_made.ensures.act crash));
       commits = omega (arith, few);

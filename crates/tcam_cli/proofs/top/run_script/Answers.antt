@@ -2,23 +2,22 @@ use Rattle.std.proofs.Common.{true, false, ◌≡◌, ◌++◌, [], Some, refl, 
 use Rattle.std.specs.List.{concat}
 use Rattle.script_lines.specs.Given.{HasEnd, counted}
 use Rattle.script_lines.proofs.Turns.{gives-none, gives-trans, may-first, may-second, ended-both, no-more, may-all}
-use Rattle.tcam_cli.proofs.GivenRuns.{ends-told, promised}
-use Rattle.tcam_cli.proofs.InTime.{in-time-none, stands-first, stands-next, round-in-time, wants-in-time, reads-in-time}
+use Rattle.script_runs.proofs.Rounds.{ends-told, starts, told-source, counted-last}
+use Rattle.script_runs.proofs.InTime.{in-time-none, stands-first, stands-next, round-in-time, wants-in-time, reads-in-time}
+use Rattle.tcam_cli.proofs.GivenRuns.{promised}
+use Rattle.tcam_cli.proofs.Kind.{joins}
+use Rattle.tcam_cli.specs.Headline.{run_kind}
 use Rattle.script_lines.specs.Reader.{HeldBytes}
 use Rattle.replay.specs.Run.{Progress}
 use Rattle.replay.specs.Running.{progress_of, setting_of}
 use Rattle.replay.specs.Outside.{Leaves}
 use Rattle.replay.proofs.between.Leaving.{leaves-line, leaves-then, uncounted}
-use Rattle.tcam_cli.specs.declared.Status.TheVariants.{WriteFault, DeviceFault}
+use Rattle.script_runs.specs.declared.Status.TheVariants.{WriteFault, DeviceFault}
 use Rattle.tcam_device.specs.Flight.{writes_in}
 use Rattle.tcam_device.specs.State.{replay}
 use Rattle.tcam_cli.proofs.FaultCounts.{leaves-none, made-tried, status-leaves}
-use Rattle.tcam_cli.proofs.WholeRun.{starts, told-source, counted-last, carried, may-end}
-use Rattle.tcam_cli.specs.Rounds.{IsJsonOfIpv4}
+use Rattle.tcam_cli.proofs.WholeRun.{carried, may-end}
 use Rattle.tcam_cli.proofs.top.run_script.Goals as goal
-
-pub round-requires-clause-json : goal.round-requires-clause-json
-round-requires-clause-json g c = subst IsJsonOfIpv4 (sym c.acts.invariant.setting) c.requires.json
 
 pub acts-init : goal.acts-init
 acts-init g c = record {
@@ -30,7 +29,7 @@ acts-init g c = record {
     within = let none = ap (λ (h : HeldBytes). h.before) c.new-lines.ensures in omega (arith, none);
   };
   at = ap (λ (p : Progress). p.state) c.requires.begun ∙ sym (ap (λ events. replay (g.D.Writable.slot_count c.args.device.now) (writes_in events)) c.requires.blank);
-  gives = ([], gives-none _ _, λ e. absurd e, λ which left now may. stands-first _ _ _ _ _ _ _ _ _ (starts _ _ left _ now _ _ _ c.new-lines.ensures (ap Some may.bytes) c.requires.begun c.requires.blank), in-time-none _ _ _ _ _);
+  gives = ([], gives-none _ _, λ e. absurd e, λ which left now may. stands-first _ _ _ _ _ _ _ _ (starts (run_kind (setting_of c.args.run.now) (g.D.Writable.slot_count c.args.device.now)) left _ now _ _ _ refl refl c.new-lines.ensures (ap Some may.bytes) c.requires.begun c.requires.blank), in-time-none _ _ _ _);
   none_in_flight = c.requires.none_in_flight;
   leaves = leaves-line _ _ _ _ _ _ _ _ _ ⊥ ⊥ (λ some. some) refl refl refl (uncounted ⊥ _ _ (λ e. e) refl) (λ e. e);
   reads = refl;
@@ -51,12 +50,12 @@ acts-preserved g c =
         λ which left now may.
             let stays : HasEnd i.gives.0 → t.gives.0 ≡ [] = λ e. (t.gives.2 true).rests (no-more _ (i.gives.2 e)) in
             let s = i.gives.3 which left (concat t.gives.0 ++ now) (may-first left now i.gives.0 t.gives.0 may stays) in
-            rw (← i.setting, ← i.leaves.slot_count) (stands-next _ _ i.gives.0 t.gives.0 _ _ _ _ _ _ _ _ _ left now (t.gives.2 which) may (rw (i.setting, i.leaves.slot_count) s)),
+            rw (← i.setting, ← i.leaves.slot_count) (stands-next _ i.gives.0 t.gives.0 _ _ _ _ _ _ _ _ _ left now (t.gives.2 which) may (rw (i.setting, i.leaves.slot_count) s)),
         let round = t.gives.2 false in
             let stays : HasEnd i.gives.0 → t.gives.0 ≡ [] = λ e. round.rests (no-more _ (i.gives.2 e)) in
             let may = may-all (i.gives.0 ++ t.gives.0) in
             let s = i.gives.3 false _ (concat t.gives.0 ++ []) (may-first _ [] i.gives.0 t.gives.0 may stays) in
-            round-in-time (setting_of c.args.run.now) (g.D.Writable.slot_count c.args.device.now) i.gives.0 t.gives.0 c.acts.lines (progress_of (g.D.Writable.slot_count c.args.device.now) c.acts.run) (g.D.Writable.events c.acts.device) _ _ _ _ (λ left now may. (i.gives.3 false left now may).so_far) stays round.rests round.last
+            round-in-time (run_kind (setting_of c.args.run.now) (g.D.Writable.slot_count c.args.device.now)) joins i.gives.0 t.gives.0 c.acts.lines (progress_of (g.D.Writable.slot_count c.args.device.now) c.acts.run) (g.D.Writable.events c.acts.device) _ _ _ _ (λ left now may. (i.gives.3 false left now may).so_far) stays round.rests round.last
             (round.grows (concat (i.gives.0 ++ t.gives.0)) (concat t.gives.0 ++ []) [] (Some (g.K.Sink.accepted c.args.sink.now)) (may-second _ [] i.gives.0 t.gives.0 may) (rw (i.setting, i.leaves.slot_count) s.so_far)) i.gives.4,
       );
       none_in_flight = t.none_in_flight;
@@ -71,7 +70,7 @@ returns-in-Some-clause-carried_out g c =
     let stays : HasEnd i.gives.0 → t.gives.0 ≡ [] = λ e. (t.gives.2 true).rests (no-more _ (i.gives.2 e)) in
     let all = gives-trans _ _ _ _ _ _ i.gives.0 t.gives.0 i.gives.1 t.gives.1 stays (λ e. (t.rests (no-more _ (i.gives.2 e))).0) in
     carried (setting_of c.args.run.now) (g.D.Writable.slot_count c.args.device.now) c.in-Some.status (g.S.Source.left c.args.source.now) (g.S.Source.left c.round.new.source) (g.D.Writable.events c.round.new.device) (g.K.Sink.taken c.args.sink.now) (g.K.Sink.taken c.round.new.sink)
-    (concat (i.gives.0 ++ t.gives.0), all.taken) (ends-told _ _ c.in-Some.status _ _ _ _ (i.gives.0 ++ t.gives.0) _ _ _ all (λ left taken now may parts.
+    (concat (i.gives.0 ++ t.gives.0), all.taken) (ends-told _ c.in-Some.status _ _ _ _ (i.gives.0 ++ t.gives.0) _ _ _ all (λ left taken now may parts.
     let s = i.gives.3 true left (concat t.gives.0 ++ now) (may-first left now i.gives.0 t.gives.0 may stays) in
     rw (← i.setting, ← i.leaves.slot_count) ((t.gives.2 true).ends left taken (concat t.gives.0 ++ now) now _ (may-second left now i.gives.0 t.gives.0 may) parts (rw (i.setting, i.leaves.slot_count) s.so_far))))
 
@@ -100,7 +99,7 @@ returns-in-Some-clause-causes g c =
       write = whole.sink_cause;
       device = made-tried _ _ _ _ _ _ _ _ _ _ _ (g.met.D.Writable.agrees c.args.device.now ∙ ap writes_in c.requires.blank) whole;
       ends = may-end (setting_of c.args.run.now) (g.D.Writable.slot_count c.args.device.now) c.in-Some.status (g.S.Source.left c.args.source.now) (g.S.Source.left c.round.new.source) (g.D.Writable.events c.round.new.device) (g.K.Sink.taken c.args.sink.now) (g.K.Sink.taken c.round.new.sink)
-          (concat (i.gives.0 ++ t.gives.0), all.taken) (λ e. t.no_usage (ap Some e)) (ends-told _ _ c.in-Some.status _ _ _ _ (i.gives.0 ++ t.gives.0) _ _ _ all (λ left taken now may parts.
+          (concat (i.gives.0 ++ t.gives.0), all.taken) (λ e. t.no_usage (ap Some e)) (ends-told _ c.in-Some.status _ _ _ _ (i.gives.0 ++ t.gives.0) _ _ _ all (λ left taken now may parts.
           let s = i.gives.3 true left (concat t.gives.0 ++ now) (may-first left now i.gives.0 t.gives.0 may stays) in
           rw (← i.setting, ← i.leaves.slot_count) ((t.gives.2 true).ends left taken (concat t.gives.0 ++ now) now _ (may-second left now i.gives.0 t.gives.0 may) parts (rw (i.setting, i.leaves.slot_count) s.so_far))));
     }
@@ -124,9 +123,9 @@ returns-in-Some-clause-in_time g c =
     let all = gives-trans _ _ _ _ _ _ i.gives.0 t.gives.0 i.gives.1 t.gives.1 stays (λ e. (t.rests (no-more _ (i.gives.2 e))).0) in
     let may = may-all (i.gives.0 ++ t.gives.0) in
     let s = i.gives.3 false _ (concat t.gives.0 ++ []) (may-first _ [] i.gives.0 t.gives.0 may stays) in
-    reads-in-time (setting_of c.args.run.now) (g.D.Writable.slot_count c.args.device.now) c.in-Some.status _ _ (i.gives.0 ++ t.gives.0) _ _ _ all.given
-    (round-in-time (setting_of c.args.run.now) (g.D.Writable.slot_count c.args.device.now) i.gives.0 t.gives.0 c.acts.lines (progress_of (g.D.Writable.slot_count c.args.device.now) c.acts.run) (g.D.Writable.events c.acts.device) _ _ _ _ (λ left now may. (i.gives.3 false left now may).so_far) stays round.rests round.last
+    reads-in-time (run_kind (setting_of c.args.run.now) (g.D.Writable.slot_count c.args.device.now)) c.in-Some.status _ _ (i.gives.0 ++ t.gives.0) _ _ _ all.given
+    (round-in-time (run_kind (setting_of c.args.run.now) (g.D.Writable.slot_count c.args.device.now)) joins i.gives.0 t.gives.0 c.acts.lines (progress_of (g.D.Writable.slot_count c.args.device.now) c.acts.run) (g.D.Writable.events c.acts.device) _ _ _ _ (λ left now may. (i.gives.3 false left now may).so_far) stays round.rests round.last
     (round.grows (concat (i.gives.0 ++ t.gives.0)) (concat t.gives.0 ++ []) [] (Some (g.K.Sink.accepted c.args.sink.now)) (may-second _ [] i.gives.0 t.gives.0 may) (rw (i.setting, i.leaves.slot_count) s.so_far)) i.gives.4)
     (λ memory front last e left after may.
-    rw (← i.setting, ← i.leaves.slot_count) (wants-in-time _ _ i.gives.0 t.gives.0 _ _ _ _ _ _ _ _ _ _ left after last front round memory may
+    rw (← i.setting, ← i.leaves.slot_count) (wants-in-time _ joins i.gives.0 t.gives.0 _ _ _ _ _ _ _ _ _ _ left after last front round memory may
     (rw (i.setting, i.leaves.slot_count) (i.gives.3 false left (concat t.gives.0 ++ after) (may-first left after i.gives.0 t.gives.0 may stays))) e))

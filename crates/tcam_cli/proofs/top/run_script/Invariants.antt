@@ -5,7 +5,8 @@ use Rattle.replay.specs.Carried.{IsAt}
 use Rattle.replay.specs.Outside.{Leaves}
 use Rattle.replay.specs.Running.{progress_of, setting_of}
 use Rattle.tcam_cli.specs.Rounds.{IsBetweenLines}
-use Rattle.tcam_cli.proofs.InTime.{InTime, StandsAt}
+use Rattle.script_runs.proofs.InTime.{InTime, StandsAt}
+use Rattle.tcam_cli.specs.Headline.{run_kind}
 use Rattle.tcam_cli.proofs.top.run_script.Given as goal
 
 abbrev pub invariant-acts : goal.invariant-acts
@@ -16,9 +17,9 @@ invariant-acts g l = record {
   gives : (pieces : List (List ℕ)) × GivesPieces (g.S.Source.given l.fn.source) (g.S.Source.given l.source) (g.S.Source.left l.fn.source) (g.S.Source.left l.source) pieces
       × (HasEnd pieces → l.lines.over ≡ over.Ended)
       × ((which : Bool) (left now : List ℕ) → MayGive left pieces now
-      → StandsAt (setting_of l.fn.run) (g.D.Writable.slot_count l.fn.device) pieces left l.lines now (progress_of (g.D.Writable.slot_count l.fn.device) l.run)
+      → StandsAt (run_kind (setting_of l.fn.run) (g.D.Writable.slot_count l.fn.device)) pieces left l.lines now (progress_of (g.D.Writable.slot_count l.fn.device) l.run)
       (g.D.Writable.events l.device) (counted which (g.K.Sink.taken l.fn.sink) (g.K.Sink.accepted l.fn.sink)) (counted which (g.K.Sink.taken l.sink) (g.K.Sink.accepted l.sink)))
-      × InTime (setting_of l.fn.run) (g.D.Writable.slot_count l.fn.device) pieces (g.D.Writable.events l.device) (g.K.Sink.accepted l.fn.sink) (g.K.Sink.accepted l.sink);
+      × InTime (run_kind (setting_of l.fn.run) (g.D.Writable.slot_count l.fn.device)) pieces (g.D.Writable.events l.device) (g.K.Sink.accepted l.fn.sink) (g.K.Sink.accepted l.sink);
   none_in_flight : g.D.Writable.flight l.device ≡ [];
   leaves : Leaves g.K.Sink.taken g.K.Sink.faults l.fn.sink l.sink g.D.Writable.slot_count g.D.Writable.journal g.D.Writable.faults l.fn.device l.device ⊥ ⊥;
   reads : g.S.Source.faults l.source ≡ g.S.Source.faults l.fn.source;

@@ -1,5 +1,5 @@
 -- The last line is told.
-use Rattle.replay.proofs.lines.Handing.{hands-ok, hands-err}
+use Rattle.report_lines.proofs.Handing.{hands-ok, hands-err}
 use Rattle.replay.proofs.run.Run.finish.Goals as goal
 use Rattle.replay.proofs.run.Run.finish.Goals.{in-Ok, in-Err}
 

@@ -1,5 +1,5 @@
 -- The line is that of the rejection.
-use Rattle.replay.proofs.lines.Handing.{hands-ok, hands-err}
+use Rattle.report_lines.proofs.Handing.{hands-ok, hands-err}
 use Rattle.replay.proofs.run.Run.refuse.Goals as goal
 use Rattle.replay.proofs.run.Run.refuse.Goals.{in-Ok, in-Err}
 

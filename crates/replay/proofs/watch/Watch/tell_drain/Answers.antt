@@ -7,7 +7,7 @@ use Rattle.replay.proofs.watch.Watch.tell_drain.Goals as goal
 pub returns-then-self : goal.returns-then-self
 returns-then-self g c =
     let json : c.args.self.now.json ≡ true = ap (λ (watch : Watching). watch.json) (sym c.self.view_is) ∙ c.if-self.true in
-    rw json (line-alone g.K.Sink.taken g.K.Sink.accepted g.K.Sink.faults _ _ _ c.write_json.result c.write_json.ensures)
+    rw json (line-alone g.K.Sink.taken g.K.Sink.accepted g.K.Sink.faults _ _ _ c.write_shared.result c.write_shared.ensures)
 
 pub returns-in_err-write_drain : goal.returns-in_err-write_drain
 returns-in_err-write_drain g c =

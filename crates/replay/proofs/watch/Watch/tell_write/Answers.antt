@@ -7,7 +7,9 @@ use Rattle.replay.proofs.watch.Watch.tell_write.Goals as goal
 pub returns-then-self : goal.returns-then-self
 returns-then-self g c =
     let json : c.args.self.now.json ≡ true = ap (λ (watch : Watching). watch.json) (sym c.self.view_is) ∙ c.if-self.true in
-    rw json (line-alone g.K.Sink.taken g.K.Sink.accepted g.K.Sink.faults _ _ _ c.write_json.result (rw c.journal_line.ensures at c.write_json.ensures))
+    let named : c.self.inside.family ≡ c.args.self.now.family = ap (λ (watch : Watching). watch.family) c.self.view_is in
+    rw json (line-alone g.K.Sink.taken g.K.Sink.accepted g.K.Sink.faults _ _ _ c.write_json.result
+    (rw (c.journal_line.ensures, c.version.ensures, named) at c.write_json.ensures))
 
 pub returns-in_err-write_trace : goal.returns-in_err-write_trace
 returns-in_err-write_trace g c =

@@ -1,8 +1,0 @@
--- The parts of the address stand one behind the other.
-use Rattle.replay.proofs.lines.Lines.{four_parts}
-use Rattle.replay.proofs.report_line.ReportLine.dotted.Goals as goal
-
-pub returns-clause-text : goal.returns-clause-text
-returns-clause-text c =
-    rw (c.digits-4.ensures.text, c.text-3.ensures.text, c.digits-3.ensures.text, c.text-2.ensures.text, c.digits-2.ensures.text, c.text.ensures.text, c.digits.ensures.text)
-    (four_parts _ _ _ _ _)
