@@ -33,7 +33,7 @@ past-blank check text blank = record {
 }
 
 -- a line of a trace
-past-taken : (check : Checking) (text : List ℕ) (line : TraceLine) (place : Place) → is_blank_line text ≡ false → trace_line text ≡ Some line
+past-taken : (check : Checking) (text : List ℕ) (line : TraceLine) (place : Place) → is_blank_line text ≡ false → trace_line check.now.version text ≡ Some line
     → place_after check.now.slots check.place line ≡ Some place → Keeps check.now line → IsPast check text (taken check check.next line place)
 past-taken check text line place written read stands keeps = record {
   next = refl;
@@ -61,6 +61,11 @@ stands-known check checked line place known stands =
     subst (λ (p : Place). place_after check.now.slots p line ≡ place) known.place
     (subst (λ (t : Tracing). place_after t.slots checked.place line ≡ place) known.now stands)
 
+-- what a line is by the version that a checker knows it is by the one that a check knows
+read-known : (check : Checking) (checked : Checked) (text : List ℕ) (line : TraceLine) → IsKnown check checked
+    → trace_line checked.now.version text ≡ Some line → trace_line check.now.version text ≡ Some line
+read-known check checked text line known read = subst (λ (t : Tracing). trace_line t.version text ≡ Some line) known.now read
+
 -- What a checker passes a check passes, and the checker knows what it does behind the line too.
 pub passed : (check : Checking) (checked : Checked) (text : List ℕ) (next : Checked) → IsKnown check checked → PassesLine checked text next
     → (later : Checking) × IsPast check text later × IsKnown later next
@@ -70,24 +75,24 @@ passed check checked text next known (inr (written, (line, read, takes))) =
     let stands = stands-known check checked line (Some next.place) known takes.may_stand in
     let keeps : Keeps check.now line = keeps_on check.now line (subst (λ (t : Tracing). Keeps t line) known.now takes.keeps) in
     let knows : next.now ≡ without_made (traced_on check.now line) = takes.knows ∙ (ap (λ (t : Tracing). without_made (traced_on t line)) known.now ∙ same_on check.now line) in
-    (taken check check.next line next.place, past-taken check text line next.place written read stands keeps, record { place = refl; now = knows })
+    (taken check check.next line next.place, past-taken check text line next.place written (read-known check checked text line known read) stands keeps, record { place = refl; now = knows })
 
 -- a line that is none of a trace, or that may not stand
 pub bad-line : (check : Checking) (checked : Checked) (text : List ℕ) (lines : List NumberedLine) (last : LinesEnd) → IsKnown check checked → IsUtf8 text → is_blank_line text ≡ false
-    → ((line : TraceLine) → IsLineOf text line → place_after checked.now.slots checked.place line ≡ None) → Tells check (line_at check text ∷ lines) last (Bad check.next)
+    → ((line : TraceLine) → IsLineOf checked.now.version text line → place_after checked.now.slots checked.place line ≡ None) → Tells check (line_at check text ∷ lines) last (Bad check.next)
 bad-line check checked text lines last known utf8 written none =
-    subst (TellsLine check (line_at check text) (λ next. Tells next lines last (Bad check.next)) (Bad check.next)) (sym written) (by-read (trace_line text) refl)
+    subst (TellsLine check (line_at check text) (λ next. Tells next lines last (Bad check.next)) (Bad check.next)) (sym written) (by-read (trace_line check.now.version text) refl)
   where
-    by-read : (read : Option TraceLine) → trace_line text ≡ read → TellsRead check check.next (λ next. Tells next lines last (Bad check.next)) (Bad check.next) read
+    by-read : (read : Option TraceLine) → trace_line check.now.version text ≡ read → TellsRead check check.next (λ next. Tells next lines last (Bad check.next)) (Bad check.next) read
     by-read None is = refl
-    by-read (Some line) is = subst (TellsPlaced check check.next line (λ next. Tells next lines last (Bad check.next)) (Bad check.next)) (sym (stands-known check checked line None known (none line (utf8, is)))) refl
+    by-read (Some line) is = subst (TellsPlaced check check.next line (λ next. Tells next lines last (Bad check.next)) (Bad check.next)) (sym (stands-known check checked line None known (none line (utf8, subst (λ (t : Tracing). trace_line t.version text ≡ Some line) (sym known.now) is)))) refl
 
 -- a line that breaks the order
 pub no-line : (check : Checking) (checked : Checked) (text : List ℕ) (line : TraceLine) (lines : List NumberedLine) (last : LinesEnd) → IsKnown check checked → is_blank_line text ≡ false
-    → trace_line text ≡ Some line → RefusesLine checked line Unordered → Tells check (line_at check text ∷ lines) last (No check.next)
+    → trace_line checked.now.version text ≡ Some line → RefusesLine checked line Unordered → Tells check (line_at check text ∷ lines) last (No check.next)
 no-line check checked text line lines last known written read refuses =
     subst (TellsLine check (line_at check text) (λ next. Tells next lines last (No check.next)) (No check.next)) (sym written)
-    (subst (TellsRead check check.next (λ next. Tells next lines last (No check.next)) (No check.next)) (sym read)
+    (subst (TellsRead check check.next (λ next. Tells next lines last (No check.next)) (No check.next)) (sym (read-known check checked text line known read))
     (placed (place_after checked.now.slots checked.place line) refl refuses.0))
   where
     broken : Keeps check.now line → ⊥
@@ -121,11 +126,11 @@ bad-at-end check checked known other = at check.place (λ last. other (known.pla
 -- ---- what a line is judged as
 
 -- it is none of a trace
-pub judged-bad : (checked : Checked) (text : List ℕ) (number : ℕ) → is_blank_line text ≡ false → ((found : TraceLine) → IsLineOf text found → ⊥) → EndsAtLine checked text number (verified.Bad number)
+pub judged-bad : (checked : Checked) (text : List ℕ) (number : ℕ) → is_blank_line text ≡ false → ((found : TraceLine) → IsLineOf checked.now.version text found → ⊥) → EndsAtLine checked text number (verified.Bad number)
 judged-bad checked text number written none = (refl, written, λ found is. absurd (none found is))
 
 -- it may not stand
-pub judged-misplaced : (checked : Checked) (text : List ℕ) (number : ℕ) (line : TraceLine) → is_blank_line text ≡ false → IsLineOf text line → RefusesLine checked line Misplaced
+pub judged-misplaced : (checked : Checked) (text : List ℕ) (number : ℕ) (line : TraceLine) → is_blank_line text ≡ false → IsLineOf checked.now.version text line → RefusesLine checked line Misplaced
     → EndsAtLine checked text number (verified.Bad number)
 judged-misplaced checked text number line written read refused = (
   refl,
@@ -136,10 +141,10 @@ judged-misplaced checked text number line written read refused = (
 )
 
 -- it breaks the order
-pub judged-unordered : (checked : Checked) (text : List ℕ) (number : ℕ) (line : TraceLine) → is_blank_line text ≡ false → IsLineOf text line → RefusesLine checked line Unordered
+pub judged-unordered : (checked : Checked) (text : List ℕ) (number : ℕ) (line : TraceLine) → is_blank_line text ≡ false → IsLineOf checked.now.version text line → RefusesLine checked line Unordered
     → EndsAtLine checked text number (verified.No number)
 judged-unordered checked text number line written read refused = (refl, written, (line, read.1, refused))
 
 -- it is taken
-pub judged-taken : (checked : Checked) (text : List ℕ) (line : TraceLine) (next : Checked) → is_blank_line text ≡ false → IsLineOf text line → Takes checked line next → PassesLine checked text next
+pub judged-taken : (checked : Checked) (text : List ℕ) (line : TraceLine) (next : Checked) → is_blank_line text ≡ false → IsLineOf checked.now.version text line → Takes checked line next → PassesLine checked text next
 judged-taken checked text line next written read takes = inr (written, (line, read.1, takes))

@@ -1,3 +1,4 @@
+pub mod Hitless
 pub mod Judged
 pub mod Lines
 pub mod Unsettled

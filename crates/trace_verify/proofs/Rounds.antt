@@ -13,11 +13,11 @@ use Rattle.script_lines.specs.Reader.{HeldBytes, IsOpenLine, lines_held, HandsWh
 use Rattle.script_lines.proofs.Turns.{may-all}
 use Rattle.trace_check.specs.Checked.{Checked}
 use Rattle.trace_check.specs.Answers.{TraceAnswer, Yes, No, Bad, Unread, Tells, IsTraceAnswer}
-use Rattle.trace_check.proofs.AnyMode.{yes_is_hitless}
 use Rattle.trace_verify.specs.declared.Verified.{Verified}
 use Rattle.trace_verify.specs.declared.Verified.TheVariants as verified
 use Rattle.trace_verify.specs.Verify.{IsRightOf}
-use Rattle.trace_verify.specs.Rounds.{IsBehind, StandsAt, IsAnew, MayGoOn, PassesLine, EndsAtLine, EndsAtEnd, RoundsBy}
+use Rattle.trace_verify.specs.Rounds.{IsBehind, RoundBegins, IsAnew, MayGoOn, PassesLine, EndsAtLine, EndsAtEnd, RoundsBy}
+use Rattle.trace_verify.proofs.Hitless.{yes-hitless}
 use Rattle.trace_verify.proofs.Judged.{line_at, passed, bad-line, no-line, yes-at-end, bad-at-end}
 use Rattle.trace_verify.proofs.Lines.{plain-utf8, open-anew, begins-whole, begins-last, told-here, behind-whole, behind-last, told-at-end, told-at-fault, fault-of-line}
 
@@ -96,7 +96,7 @@ line-counted number checked text (Err answer) r old new ends is =
 
 module _ (old new : HeldBytes) (number : ℕ) (checked : Checked) (pieces : List (List ℕ)) (anew : IsAnew old) where
   abbrev Ends : Verified → Type 0
-  Ends answer = (text left now : List ℕ) → MayGive left pieces now → StandsAt text old left number checked → IsRightOf text now answer
+  Ends answer = (text left now : List ℕ) → MayGive left pieces now → RoundBegins text old left number checked → IsRightOf text now answer
 
   ends-by : (r : Result (Option Line) LineFault) (held : HeldBytes) (answer : Verified) → HandsByGiven old pieces r held → answer ≢ verified.Read → Ends answer
       → RoundsBy old number checked pieces (Err answer) new
@@ -150,7 +150,7 @@ module _ (old new : HeldBytes) (number : ℕ) (checked : Checked) (pieces : List
   nothing-left [] b none = none
   nothing-left (x ∷ a) b none = absurd (let bad : x ∷ (a ++ b) ≡ [] = none in cc)
 
-  at-end : (o : Over) (held : HeldBytes) (text left now : List ℕ) → old.over ≡ o → MayGoOn o → HandsByGiven old pieces (Ok None) held → MayGive left pieces now → StandsAt text old left number checked
+  at-end : (o : Over) (held : HeldBytes) (text left now : List ℕ) → old.over ≡ o → MayGoOn o → HandsByGiven old pieces (Ok None) held → MayGive left pieces now → RoundBegins text old left number checked
       → (old.pending ++ left ≡ []) × (now ≡ [])
   at-end over.Going held text left now is may_go by may s = let h = by.hands is left now may in (h.0, h.1)
   at-end over.Ended held text left now is may_go by may s =
@@ -161,11 +161,11 @@ module _ (old new : HeldBytes) (number : ℕ) (checked : Checked) (pieces : List
   at-end (over.Stopped stopped) held text left now is may_go by may s = absurd may_go
 
   end-right : (answer : Verified) (held : HeldBytes) (text left now : List ℕ) → EndsAtEnd checked number answer → HandsByGiven old pieces (Ok None) held → MayGive left pieces now
-      → StandsAt text old left number checked → IsRightOf text now answer
+      → RoundBegins text old left number checked → IsRightOf text now answer
   end-right (verified.Yes commits writes) held text left now ends by may s =
       let none = at-end old.over held text left now refl anew.goes_on by may s in
       let told = told-at-end text s.done s.check (old.pending ++ left) (Yes commits writes) s.behind none.0 (yes-at-end s.check checked commits writes s.known ends.0 ends.1 ends.2) in
-      record { told = told; yes = (none.1, yes_is_hitless text commits writes told) }
+      record { told = told; yes = (none.1, yes-hitless text commits writes told) }
   end-right (verified.Bad line) held text left now ends by may s =
       let none = at-end old.over held text left now refl anew.goes_on by may s in
       let told = told-at-end text s.done s.check (old.pending ++ left) (Bad s.check.next) s.behind none.0 (bad-at-end s.check checked s.known ends.1) in
@@ -183,7 +183,7 @@ module _ (old new : HeldBytes) (number : ℕ) (checked : Checked) (pieces : List
   -- ---- a line
 
   -- what is told at the line is told of the text
-  line-told : (line : NumberedLine) (held : HeldBytes) (text left now : List ℕ) (answer : TraceAnswer) (s : StandsAt text old left number checked)
+  line-told : (line : NumberedLine) (held : HeldBytes) (text left now : List ℕ) (answer : TraceAnswer) (s : RoundBegins text old left number checked)
       → HandsWhole old left line held now ⊎ HandsLast old left line held now
       → (IsOpenLine 0 line.text → (lines : List NumberedLine) (last : LinesEnd) → Tells s.check (line_at s.check line.text ∷ lines) last answer) → IsTraceAnswer text answer
   line-told line held text left now answer s (inl whole) told =
@@ -196,7 +196,7 @@ module _ (old new : HeldBytes) (number : ℕ) (checked : Checked) (pieces : List
       told-here text s.done s.check line.text line.text (ends_at EndOfInput) answer behind (begins-last text s.done s.check line.text behind opened last.some) (told opened)
 
   line-right : (answer : Verified) (line : NumberedLine) (held : HeldBytes) (text left now : List ℕ) → EndsAtLine checked line.text number answer
-      → StandsAt text old left number checked → HandsWhole old left line held now ⊎ HandsLast old left line held now → IsRightOf text now answer
+      → RoundBegins text old left number checked → HandsWhole old left line held now ⊎ HandsLast old left line held now → IsRightOf text now answer
   line-right (verified.Bad n) line held text left now ends s hands =
       let told = line-told line held text left now (Bad s.check.next) s hands (λ opened lines last.
       bad-line s.check checked line.text lines last s.known (plain-utf8 0 line.text opened) ends.1 ends.2) in
@@ -213,7 +213,7 @@ module _ (old new : HeldBytes) (number : ℕ) (checked : Checked) (pieces : List
   -- ---- a round after which the check goes on
 
   line-on : (line : NumberedLine) (held : HeldBytes) (next : Checked) (text left now : List ℕ) → new.pending ≡ held.pending → new.over ≡ held.over → PassesLine checked line.text next
-      → StandsAt text old left number checked → HandsWhole old left line held now ⊎ HandsLast old left line held now → StandsAt text new now (number + 1) next
+      → RoundBegins text old left number checked → HandsWhole old left line held now ⊎ HandsLast old left line held now → RoundBegins text new now (number + 1) next
   line-on line held next text left now pending_is over_is passes s (inl whole) =
       let opened = open-anew old.before line.text anew.before whole.one_line in
       let behind = subst (λ rest. IsBehind text s.done s.check rest) whole.bytes s.behind in

@@ -14,8 +14,8 @@ use Rattle.trace_check.specs.declared.places.Place.TheVariants.{AtStart, Between
 use Rattle.trace_check.specs.Places.{place_after}
 use Rattle.trace_check.specs.Checked.{Checked}
 use Rattle.trace_check.specs.Answers.{No, Unread, Checking, past, taken, is_blank_line, answer_at_end, TellsPlaced, TellsRead, TellsLine, Tells}
-use Rattle.trace_verify.specs.Verify.{IsOpenText, IsUnsettled, IsNeeded}
-use Rattle.trace_verify.specs.Rounds.{TellsLines, IsBehind, StandsAt}
+use Rattle.trace_verify.specs.Verify.{IsOpenText, LeavesOpen, IsNeeded}
+use Rattle.trace_verify.specs.Rounds.{TellsLines, IsBehind, RoundBegins}
 use Rattle.trace_verify.proofs.Judged.{line_at}
 use Rattle.trace_verify.proofs.Lines.{begins-whole}
 
@@ -42,7 +42,7 @@ module _ (fault : LineFault) where
 
   no-fault-line : (check : Checking) (line : NumberedLine) (blank : Bool) → TellsLine check line More (Unread fault) blank → ⊥
   no-fault-line check line true told = no-fault-at-end (past check line.number) check.place fault told
-  no-fault-line check line false told = no-fault-read check line.number (trace_line line.text) told
+  no-fault-line check line false told = no-fault-read check line.number (trace_line check.now.version line.text) told
 
 pub no-fault : (check : Checking) (line : NumberedLine) (fault : LineFault) → Tells check (line ∷ []) EndOfInput (Unread fault) → ⊥
 no-fault check line fault told = no-fault-line fault check line (is_blank_line line.text) told
@@ -71,7 +71,7 @@ open-text bytes part opened before answer all =
 
 -- the pieces before a round, and those of it that are a part of one line, leave the answer open
 pub unsettled : (pieces front : List (List ℕ)) (held : HeldBytes) (number : ℕ) (checked : Checked) → (HasEnd pieces → ⊥) → (HasEnd front → ⊥) → IsOpenLine 0 (held.pending ++ concat front)
-    → ((text now : List ℕ) → MayGive text pieces now → StandsAt text held now number checked) → IsUnsettled (pieces ++ front)
+    → ((text now : List ℕ) → MayGive text pieces now → RoundBegins text held now number checked) → LeavesOpen (pieces ++ front)
 unsettled pieces front held number checked none none_front opened stands = record {
   goes_on = λ e. elim (end-either pieces front e) [ inl l ↦ none l | inr r ↦ none_front r ];
   undecided = open-text (concat (pieces ++ front)) (held.pending ++ concat front) opened before;
@@ -89,7 +89,7 @@ no-push (piece ∷ front) last e = absurd (let bad : piece ∷ (front ++ last �
 
 -- so that the last read of the round was needed, if it had one
 pub needed-on : (pieces round : List (List ℕ)) (held : HeldBytes) (number : ℕ) (checked : Checked) → (HasEnd pieces → round ≡ []) → LastAtOpenLine 0 held.pending round
-    → ((text now : List ℕ) → MayGive text pieces now → StandsAt text held now number checked) → IsNeeded pieces → IsNeeded (pieces ++ round)
+    → ((text now : List ℕ) → MayGive text pieces now → RoundBegins text held now number checked) → IsNeeded pieces → IsNeeded (pieces ++ round)
 needed-on pieces round held number checked stays (inl empty) stands needed = subst IsNeeded (sym (ap (λ r. pieces ++ r) empty ∙ append-nil pieces)) needed
 needed-on pieces round held number checked stays (inr (front, last, round_is, opened, none_front)) stands needed =
     let none : HasEnd pieces → ⊥ = λ e. no-push front last (sym round_is ∙ stays e) in

@@ -13,7 +13,7 @@ use Rattle.trace_check.specs.Answers.{unchecked}
 use Rattle.trace_verify.specs.declared.Verified.{Verified}
 use Rattle.trace_verify.specs.declared.Verified.TheVariants as verified
 use Rattle.trace_verify.specs.Verify.{IsNeeded, VerifiesBy}
-use Rattle.trace_verify.specs.Rounds.{TellsLines, StandsAt, IsAnew, RoundsBy}
+use Rattle.trace_verify.specs.Rounds.{TellsLines, RoundBegins, IsAnew, RoundsBy}
 use Rattle.trace_verify.proofs.Unsettled.{needed-on, unsettled}
 
 -- ---- before the first line
@@ -22,14 +22,14 @@ pub new-anew : (held : HeldBytes) → held ≡ record { pending = []; before = 0
 new-anew held is = subst IsAnew (sym is) (record { before = refl; number = refl; goes_on = tt })
 
 pub stands-first : (held : HeldBytes) (checked : Checked) (text now : List ℕ) → held ≡ record { pending = []; before = 0; number = 1; over = over.Going } → checked ≡ nothing_checked
-    → MayGive text [] now → StandsAt text held now 1 checked
+    → MayGive text [] now → RoundBegins text held now 1 checked
 stands-first held checked text now held_is checked_is may =
-    subst (λ (h : HeldBytes). StandsAt text h now 1 checked) (sym held_is) (subst (λ (c : Checked). StandsAt text (record { pending = []; before = 0; number = 1; over = over.Going }) now 1 c) (sym checked_is) start)
+    subst (λ (h : HeldBytes). RoundBegins text h now 1 checked) (sym held_is) (subst (λ (c : Checked). RoundBegins text (record { pending = []; before = 0; number = 1; over = over.Going }) now 1 c) (sym checked_is) start)
   where
     same : text ≡ now
     same = may.bytes
 
-    start : StandsAt text (record { pending = []; before = 0; number = 1; over = over.Going }) now 1 nothing_checked
+    start : RoundBegins text (record { pending = []; before = 0; number = 1; over = over.Going }) now 1 nothing_checked
     start = record {
       done = 0;
       check = unchecked;
@@ -51,7 +51,7 @@ nothing-read = record { right = λ text after may. record { told = tt; yes = tt 
 -- what a loop knows of the rounds before
 pub record Rounds (pieces : List (List ℕ)) (held : HeldBytes) (number : ℕ) (checked : Checked) : Type 0 where
   pub ended : HasEnd pieces → held.over ≡ over.Ended
-  pub stands : (text now : List ℕ) → MayGive text pieces now → StandsAt text held now number checked
+  pub stands : (text now : List ℕ) → MayGive text pieces now → RoundBegins text held now number checked
   pub needed : IsNeeded pieces
 
 module _ (pieces round : List (List ℕ)) (old new : HeldBytes) (number : ℕ) (checked : Checked) (result : Result Checked Verified) (so_far : Rounds pieces old number checked) (by : RoundsBy old number checked round result new) where

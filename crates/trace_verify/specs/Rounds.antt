@@ -33,7 +33,7 @@ pub record IsKnown (check : Checking) (checked : Checked) : Type 0 where
   pub now : checked.now ≡ without_made check.now
 
 -- A round begins here, at the line of this number, with these bytes held and those to come.
-pub record StandsAt (text : List ℕ) (held : HeldBytes) (left : List ℕ) (number : ℕ) (checked : Checked) : Type 0 where
+pub record RoundBegins (text : List ℕ) (held : HeldBytes) (left : List ℕ) (number : ℕ) (checked : Checked) : Type 0 where
   pub done : ℕ
   pub check : Checking
   pub behind : IsBehind text done check (held.pending ++ left)
@@ -56,14 +56,14 @@ pub record IsAnew (held : HeldBytes) : Type 0 where
 abbrev pub PassesLine : Checked → List ℕ → Checked → Type 0
 PassesLine checked text next =
     ((is_blank_line text ≡ true) × (next ≡ checked))
-    ⊎ ((is_blank_line text ≡ false) × ((line : TraceLine) × (trace_line text ≡ Some line) × Takes checked line next))
+    ⊎ ((is_blank_line text ≡ false) × ((line : TraceLine) × (trace_line checked.now.version text ≡ Some line) × Takes checked line next))
 
 -- a check ends at a line of this number
 abbrev pub EndsAtLine : Checked → List ℕ → ℕ → Verified → Type 0
 EndsAtLine checked text number (verified.Bad line) =
-    (line ≡ number) × (is_blank_line text ≡ false) × ((found : TraceLine) → IsLineOf text found → place_after checked.now.slots checked.place found ≡ None)
+    (line ≡ number) × (is_blank_line text ≡ false) × ((found : TraceLine) → IsLineOf checked.now.version text found → place_after checked.now.slots checked.place found ≡ None)
 EndsAtLine checked text number (verified.No line) =
-    (line ≡ number) × (is_blank_line text ≡ false) × ((found : TraceLine) × (trace_line text ≡ Some found) × RefusesLine checked found Unordered)
+    (line ≡ number) × (is_blank_line text ≡ false) × ((found : TraceLine) × (trace_line checked.now.version text ≡ Some found) × RefusesLine checked found Unordered)
 EndsAtLine checked text number verified.Memory = Unit {0}
 EndsAtLine checked text number answer = ⊥
 
@@ -75,8 +75,8 @@ EndsAtEnd checked number answer = ⊥
 
 -- What a round comes to whose source gave these pieces.
 pub record RoundsBy (old : HeldBytes) (number : ℕ) (checked : Checked) (pieces : List (List ℕ)) (result : Result Checked Verified) (new : HeldBytes) : Type 0 where
-  pub goes : IfOk result (λ next. (text left now : List ℕ) → MayGive left pieces now → StandsAt text old left number checked → StandsAt text new now (number + 1) next)
-  pub ends : IfErr result (λ answer. (text left now : List ℕ) → MayGive left pieces now → StandsAt text old left number checked → IsRightOf text now answer)
+  pub goes : IfOk result (λ next. (text left now : List ℕ) → MayGive left pieces now → RoundBegins text old left number checked → RoundBegins text new now (number + 1) next)
+  pub ends : IfErr result (λ answer. (text left now : List ℕ) → MayGive left pieces now → RoundBegins text old left number checked → IsRightOf text now answer)
   pub went : IfOk result (λ _. old.over ≡ over.Going)
   pub ended : HasEnd pieces → IfOk result (λ _. new.over ≡ over.Ended)
   pub rests : old.over ≢ over.Going → pieces ≡ []

@@ -16,11 +16,11 @@ use trace_check::{CheckFault, Checker};
 use trace_file::{TraceFault, read_line};
 
 /// Checks a trace, which the source gives. The answer is `Yes` exactly where the input is an orderly trace, and then
-/// each of its commits is hitless for every key and the input was read to its end; `No` where a line of it is the first
-/// that breaks the order, `Bad` where one is the first that is no line of a trace or may not stand there, or where the
-/// last line is missing; `TooLong` and `BadByte` where a byte is at fault before any of these. It ends at the line that
-/// it names: no byte is asked for where those that came settle the answer. `Read` comes exactly where the source failed,
-/// and `Memory` may come of any text.
+/// each of its commits is hitless for every key, for look-ups of two events too as long as none is under way over a
+/// drain, and the input was read to its end; `No` where a line of it is the first that breaks the order, `Bad` where one
+/// is the first that is no line of a trace or may not stand there, or where the last line is missing; `TooLong` and
+/// `BadByte` where a byte is at fault before any of these. It ends at the line that it names: no byte is asked for where
+/// those that came settle the answer. `Read` comes exactly where the source failed, and `Memory` may come of any text.
 pub fn verify<S: Source>(alloc: Global, source: &mut S) -> Verified
     ensures gives { (pieces : List (List ℕ)) × GivesPieces (S.given source.old) (S.given source.new) (S.left source.old) (S.left source.new) pieces
         × VerifiesBy pieces result }
@@ -81,7 +81,7 @@ fn judge(alloc: Global, checker: Checker, line: &Line, number: u64) -> Result<Ch
     if is_blank(line) {
         return Ok(checker);
     }
-    let found = match read_line(alloc, line) {
+    let found = match read_line(alloc, line, checker.version()) {
         Ok(found) => found,
         Err(TraceFault::Bad) => return Err(Verified::Bad { line: number }),
         Err(TraceFault::Memory) => return Err(Verified::Memory),

@@ -1,4 +1,4 @@
-//! The check of a whole trace: reads it line by line, and tells whether every write of it is hitless.
+//! The check of a whole trace: reads it line by line, and says yes only where every write of it is hitless.
 //!
 //! [`verify`] reads a trace from a source (`script_lines`), line by line (`trace_file`), hands each line to a checker
 //! (`trace_check`), and ends at the first one that isn't taken, or at the end of the input. It keeps what the checker
@@ -20,31 +20,23 @@
 mod check;
 
 pub use check::verify;
-use thiserror::Error;
 
 /// What is told of a trace, or why nothing is. Lines are counted from 1, those with blanks alone too.
-#[derive(Clone, Copy, Debug, PartialEq, Eq, Error)]
+#[derive(Clone, Copy, Debug, PartialEq, Eq)]
 pub enum Verified {
     /// It is orderly: so many commits were accepted, and so many device writes made.
-    #[error("yes commits {commits} writes {writes}")]
     Yes { commits: u64, writes: u64 },
     /// The first line that breaks the order; each line before it may stand and keeps it.
-    #[error("no line {line}")]
     No { line: u64 },
     /// The first line that is none of a trace, or that may not stand there; where the trace isn't whole, the line behind
     /// the last one.
-    #[error("line {line} bad trace")]
     Bad { line: u64 },
     /// The line has a byte after its first 512, and it is no line feed.
-    #[error("line {line} line too long")]
     TooLong { line: u64 },
     /// A byte of the line is neither printable (32 to 126) nor a tab, a carriage return or a line feed.
-    #[error("line {line} bad byte")]
     BadByte { line: u64 },
     /// The source failed.
-    #[error("read failed")]
     Read,
     /// Want of memory.
-    #[error("out of memory")]
     Memory,
 }
