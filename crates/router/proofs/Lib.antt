@@ -1,0 +1,10 @@
+pub mod Few
+pub mod RouteSets
+pub mod Effects
+pub mod Counting
+pub mod Parts
+pub mod Acts
+pub mod Kept
+pub mod Left
+pub mod Planning
+pub mod Making

@@ -1,0 +1,87 @@
+-- A commit that both tables have taken, and one that isn't planned.
+use Rattle.std.specs.Prelude.{◌≡◌, ◌⊎◌, ◌+◌, ◌++◌, ℕ, List}
+use Rattle.rule_store.specs.Verdict.{Verdict, Accepted}
+use Rattle.batch_order.specs.declared.Refusal.{Refusal}
+use Rattle.batch_order.specs.declared.Refusal.TheVariants as refusal
+use Rattle.split_writes.specs.declared.SplitDone.{SplitDone}
+use Rattle.split_device.specs.declared.SplitAction.{SplitAction}
+use Rattle.split_order.specs.CarriedOut.{finished_split}
+use Rattle.split_order.specs.Left.{left_of}
+use Rattle.split_order.specs.Prepared.{HoldsSplit}
+use Rattle.report_lines.specs.Told.{verdict_told}
+use Rattle.router.specs.declared.Side.{Side}
+use Rattle.router.specs.declared.Side.TheVariants as side
+use Rattle.router.specs.declared.committing.Unplanned.{Unplanned}
+use Rattle.router.specs.declared.committing.Unplanned.TheVariants.{Memory, Refused}
+use Rattle.router.specs.Run.{DeviceSlots, Setting, Progress, drains_in, verdict_of}
+use Rattle.router.specs.Carried.{IsStuckAt}
+use Rattle.router.specs.Routing.{IsIdle, Routing, progress_of, setting_of}
+
+-- the verdicts on both pending batches
+abbrev pub list_verdict : Routing → Verdict
+list_verdict router = verdict_of (setting_of router) (progress_of router).listed
+
+abbrev pub route_verdict : Routing → Verdict
+route_verdict router = verdict_of (setting_of router) (progress_of router).routed
+
+-- Both tables hold the plans of their pending batches, with so many parts.
+pub record IsTaken (before now : Routing) (listed routed : ℕ) : Type 0 where
+  pub idle : IsIdle before
+  pub list_accepted : list_verdict before ≡ Accepted
+  pub route_accepted : route_verdict before ≡ Accepted
+  pub list_counts : SplitDone
+  pub list_holds : HoldsSplit before.listed before.list_batch list_counts now.listed
+  pub listed_is : listed ≡ list_counts.writes
+  pub route_counts : SplitDone
+  pub route_holds : HoldsSplit before.routed before.route_batch route_counts now.routed
+  pub routed_is : routed ≡ route_counts.writes
+  pub now_is : now ≡ record before { listed = now.listed; routed = now.routed }
+
+-- Why a commit isn't planned: its batch is accepted by the list, and memory is wanting; or a table refuses, the routes where the list
+-- doesn't.
+abbrev pub IsUnplannedBy : Routing → Unplanned → Type 0
+IsUnplannedBy router Memory = list_verdict router ≡ Accepted
+IsUnplannedBy router (Refused side.List reason) = list_verdict router ≡ verdict_told reason
+IsUnplannedBy router (Refused side.Routes reason) = (list_verdict router ≡ Accepted) × (route_verdict router ≡ verdict_told reason)
+
+-- a manager with no commit under way isn't busy
+abbrev pub IsNotBusy : Refusal → Type 0
+IsNotBusy (refusal.Busy left) = ⊥
+IsNotBusy refusal.Memory = Unit {0}
+IsNotBusy (refusal.Rejected reason) = Unit {0}
+
+-- what its refusal says
+abbrev pub unplanned_by : Side → Refusal → Unplanned
+unplanned_by which (refusal.Busy left) = Memory
+unplanned_by which refusal.Memory = Memory
+unplanned_by which (refusal.Rejected reason) = Refused which reason
+
+-- what was made of both devices since they were blank
+pub record Made : Type 0 where
+  pub list : List SplitAction
+  pub routes : List SplitAction
+
+abbrev pub made_on : List SplitAction → List SplitAction → Made
+made_on list routes = record { list = list; routes = routes }
+
+-- Both plans were made to their ends, with so many drains.
+pub record IsMadeBy (slots : DeviceSlots) (old : Routing) (drains : ℕ) (new : Routing) (before after : Made) : Type 0 where
+  pub new_is : new ≡ record old { listed = finished_split slots.listed old.listed; routed = finished_split slots.routed old.routed }
+  pub count : drains ≡ drains_in (left_of slots.listed old.listed) + drains_in (left_of slots.routed old.routed)
+  pub list : after.list ≡ before.list ++ left_of slots.listed old.listed
+  pub routes : after.routes ≡ before.routes ++ left_of slots.routed old.routed
+
+-- or a part of the list's failed,
+pub record IsStuckInList (slots : DeviceSlots) (old new : Routing) (before after : Made) : Type 0 where
+  pub stuck : IsStuckAt slots.listed old.listed new.listed before.list after.list
+  pub new_is : new ≡ record old { listed = new.listed }
+  pub routes : after.routes ≡ before.routes
+
+-- or one of the routes', with the list's made
+pub record IsStuckInRoutes (slots : DeviceSlots) (old new : Routing) (before after : Made) : Type 0 where
+  pub stuck : IsStuckAt slots.routed old.routed new.routed before.routes after.routes
+  pub new_is : new ≡ record old { listed = finished_split slots.listed old.listed; routed = new.routed }
+  pub list : after.list ≡ before.list ++ left_of slots.listed old.listed
+
+abbrev pub IsStuckBy : DeviceSlots → Routing → Routing → Made → Made → Type 0
+IsStuckBy slots old new before after = IsStuckInList slots old new before after ⊎ IsStuckInRoutes slots old new before after

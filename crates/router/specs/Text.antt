@@ -1,0 +1,43 @@
+-- The lines of a router's report.
+use Rattle.std.specs.Prelude.{ℕ, List, [], ◌∷◌, ◌++◌, codes, decimal}
+use Rattle.rule_model.specs.RuleSet.{Answer}
+use Rattle.rule_store.specs.Verdict.{Verdict}
+use Rattle.report_lines.specs.declared.Family.{Family}
+use Rattle.report_lines.specs.declared.Family.TheVariants.{Route, Acl}
+use Rattle.report_lines.specs.Text.{line_text, answer_words, reason_words}
+use Rattle.router.specs.declared.Side.{Side}
+use Rattle.router.specs.declared.Side.TheVariants as side
+
+-- how the rules of a table are named
+abbrev pub family_of : Side → Family
+family_of side.List = Acl
+family_of side.Routes = Route
+
+-- the name of a table, of which a refusal speaks
+abbrev pub side_word : Side → List ℕ
+side_word side.List = codes "list"
+side_word side.Routes = codes "route"
+
+-- what both tables answer a packet
+abbrev pub packet_line : Answer → Answer → List ℕ
+packet_line listed routed =
+    line_text (codes "packet" ∷ codes "list" ∷ answer_words Acl listed ++ codes "route" ∷ answer_words Route routed)
+
+-- a commit that was made, by its number, the writes of each table and the drains of both
+abbrev pub accepted_line : ℕ → ℕ → ℕ → ℕ → List ℕ
+accepted_line commit listed routed drains =
+    line_text
+    (codes "commit" ∷ decimal commit ∷ codes "ok" ∷ codes "list" ∷ codes "writes" ∷ decimal listed ∷ codes "route"
+    ∷ codes "writes" ∷ decimal routed ∷ codes "drains" ∷ decimal drains ∷ [])
+
+-- a refused commit, by its number, the table whose batch is refused, and the reason
+abbrev pub refused_line : Side → ℕ → Verdict → List ℕ
+refused_line which commit reason =
+    line_text (codes "commit" ∷ decimal commit ∷ codes "refused" ∷ side_word which ∷ reason_words (family_of which) reason)
+
+-- the rules of each table, the device writes of all commits, and the commands that are pending
+abbrev pub end_line : ℕ → ℕ → ℕ → ℕ → List ℕ
+end_line listed routed writes pending =
+    line_text
+    (codes "end" ∷ codes "list" ∷ decimal listed ∷ codes "route" ∷ decimal routed ∷ codes "writes" ∷ decimal writes
+    ∷ codes "pending" ∷ decimal pending ∷ [])

@@ -1,0 +1,150 @@
+//! The lines of a router's report.
+
+ghost use Rattle.std.specs.Prelude.{◌≡◌, ◌<◌, [], ◌∷◌, ◌++◌, length};
+ghost use Rattle.report_lines.specs.Told.{verdict_told};
+ghost use Rattle.report_lines.specs.Outside.{WritesLine};
+ghost use Rattle.router.specs.Text.{accepted_line, end_line, family_of, packet_line, refused_line, side_word};
+
+use crate::Side;
+use report_lines::{Family, LINE_ROOM, ReportLine};
+use rule_model::Rank;
+use script_lines::{Failed, Sink};
+use split_order::Rejection;
+
+/// The numbers of a commit that was made: the writes of each table, and the drains of both.
+#[derive(Clone, Copy, Debug, PartialEq, Eq)]
+pub(crate) struct Made {
+    pub(crate) listed: u64,
+    pub(crate) routed: u64,
+    pub(crate) drains: u64,
+}
+
+/// The numbers of a run that came to its end: the rules of each table, the device writes, and the changes that are
+/// pending.
+#[derive(Clone, Copy, Debug, PartialEq, Eq)]
+pub(crate) struct Totals {
+    pub(crate) listed: u32,
+    pub(crate) routed: u32,
+    pub(crate) writes: u128,
+    pub(crate) pending: u32,
+}
+
+// The name of a table, as a refusal has it.
+fn word_of(side: Side) -> &'static str
+    ensures word { result.now ≡ side_word side }
+    ensures len { length result.now < 6 }
+{
+    match side {
+        Side::List => "list",
+        Side::Routes => "route",
+    }
+}
+
+// How the rules of a table are named.
+fn naming(side: Side) -> Family
+    ensures { result ≡ family_of side }
+{
+    match side {
+        Side::List => Family::Acl,
+        Side::Routes => Family::Route,
+    }
+}
+
+// The line of a packet.
+fn packet(listed: Option<(Rank, u32)>, routed: Option<(Rank, u32)>) -> ReportLine
+    ensures text { result ++ 10 ∷ [] ≡ packet_line listed routed }
+    ensures len { length result < LINE_ROOM }
+{
+    ReportLine::new("packet")
+        .word("list")
+        .answer(Family::Acl, listed)
+        .word("route")
+        .answer(Family::Route, routed)
+}
+
+// The line of a commit that was made.
+fn accepted(commit: u32, made: &Made) -> ReportLine
+    ensures text { result ++ 10 ∷ [] ≡ accepted_line commit made.now.listed made.now.routed made.now.drains }
+    ensures len { length result < LINE_ROOM }
+{
+    ReportLine::new("commit")
+        .number(u64::from(commit))
+        .word("ok")
+        .word("list")
+        .word("writes")
+        .number(made.listed)
+        .word("route")
+        .word("writes")
+        .number(made.routed)
+        .word("drains")
+        .number(made.drains)
+}
+
+// The line of a refused commit.
+fn refused(side: Side, commit: u32, rejection: &Rejection) -> ReportLine
+    ensures text { result ++ 10 ∷ [] ≡ refused_line side commit (verdict_told rejection.now) }
+    ensures len { length result < LINE_ROOM }
+{
+    ReportLine::new("commit")
+        .number(u64::from(commit))
+        .word("refused")
+        .word(word_of(side))
+        .reason(naming(side), rejection)
+}
+
+// The line of a run that came to its end.
+fn end(totals: &Totals) -> ReportLine
+    ensures text { result ++ 10 ∷ [] ≡ end_line totals.now.listed totals.now.routed totals.now.writes totals.now.pending }
+    ensures len { length result < LINE_ROOM }
+{
+    ReportLine::new("end")
+        .word("list")
+        .number(u64::from(totals.listed))
+        .word("route")
+        .number(u64::from(totals.routed))
+        .word("writes")
+        .long_number(totals.writes)
+        .word("pending")
+        .number(u64::from(totals.pending))
+}
+
+/// Writes what both tables answer a packet. Takes no memory. Where the sink fails, a part of the line was taken, perhaps
+/// none or all of it.
+pub(crate) fn write_packet<K: Sink>(
+    sink: &mut K,
+    listed: Option<(Rank, u32)>,
+    routed: Option<(Rank, u32)>,
+) -> Result<(), Failed>
+    ensures { WritesLine K.taken K.accepted K.faults sink.old sink.new (packet_line listed routed) result }
+{
+    packet(listed, routed).write(sink)
+}
+
+/// Writes the line of a commit that was made, by its number, from 1, and its numbers. Takes no memory. Where the sink
+/// fails, a part of the line was taken, perhaps none or all of it.
+pub(crate) fn write_accepted<K: Sink>(sink: &mut K, commit: u32, made: &Made) -> Result<(), Failed>
+    ensures { WritesLine K.taken K.accepted K.faults sink.old sink.new (accepted_line commit made.now.listed made.now.routed made.now.drains) result }
+{
+    accepted(commit, made).write(sink)
+}
+
+/// Writes the line of a refused commit, by the table that refuses it, its number, from 1, and the reason. Takes no memory.
+/// Where the sink fails, a part of the line was taken, perhaps none or all of it.
+pub(crate) fn write_refused<K: Sink>(
+    sink: &mut K,
+    side: Side,
+    commit: u32,
+    rejection: &Rejection,
+) -> Result<(), Failed>
+    ensures { WritesLine K.taken K.accepted K.faults sink.old sink.new (refused_line side commit (verdict_told rejection.now)) result }
+{
+    refused(side, commit, rejection).write(sink)
+}
+
+/// Writes the last line of a run that came to its end. Takes no memory. Where the sink fails, a part of the line was
+/// taken, perhaps none or all of it.
+pub(crate) fn write_end<K: Sink>(sink: &mut K, totals: &Totals) -> Result<(), Failed>
+    ensures { WritesLine K.taken K.accepted K.faults sink.old sink.new (end_line totals.now.listed totals.now.routed totals.now.writes totals.now.pending) result }
+{
+    end(totals).write(sink)
+}
