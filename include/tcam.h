@@ -22,10 +22,10 @@
  * some moment between its search and its read, the answer of the rules that were the old ones or the new ones then. A
  * commit by parts isn't turned round: tcam_abort drops it before its first part, and answers TCAM_BEGUN behind that.
  *
- * Every function answers a code: TCAM_NULL where a pointer is null, and else TCAM_NO_MANAGER where the handle has
- * none, but for tcam_new and tcam_new_split. With any code but TCAM_OK all is as it was before the call, and nothing
- * was written through a pointer, but what tcam_prepare tells of a refusal and tcam_abort with TCAM_BACK. After any code
- * any call may come.
+ * Every function of a manager answers a code: TCAM_NULL where a pointer is null, and else TCAM_NO_MANAGER where the
+ * handle has none, but for tcam_new and tcam_new_split. With any code but TCAM_OK all is as it was before the call,
+ * and nothing was written through a pointer, but what tcam_prepare tells of a refusal and tcam_abort with TCAM_BACK.
+ * After any code any call may come.
  *
  * No call locks, waits, prints, calls back, or keeps a pointer that it is given. tcam_new and tcam_new_split, the
  * functions that put a change into the batch, and tcam_prepare take memory by malloc, realloc and free, and say so by
@@ -37,6 +37,11 @@
  * Addresses, ports and protocols are numbers as the processor has them: 10.0.0.0 is 0x0a000000. A result is any
  * number, and a look-up answers it: an output port, a next hop, permit or deny. Routes and rules of an access list
  * may stand in one memory: each route but the one of length 0 goes before every rule, and that one behind them all.
+ *
+ * A manager takes rules and packets of IPv4 and, by the functions whose names end in 6, of IPv6. Its memory has no
+ * bit for the version: an address of IPv4 is that of IPv6 which has it in its upper 32 bits, and 0 below. So a packet
+ * of one version meets a rule of the other where its address, taken so, is in the rule's prefixes, as any packet
+ * meets the route of length 0. Where addresses don't keep the versions apart, each has a memory of its own.
  *
  * What the C side keeps, and nothing here can test:
  *  - A struct tcam_manager is set by TCAM_MANAGER_NONE (all zeros) before the first call, and after that changed by
@@ -65,7 +70,7 @@ extern "C" {
 
 /* The version of this header, and as one number as tcam_version tells it. */
 #define TCAM_VERSION_MAJOR 0
-#define TCAM_VERSION_MINOR 1
+#define TCAM_VERSION_MINOR 2
 #define TCAM_VERSION_PATCH 0
 #define TCAM_VERSION (TCAM_VERSION_MAJOR << 16 | TCAM_VERSION_MINOR << 8 | TCAM_VERSION_PATCH)
 
@@ -77,7 +82,7 @@ enum tcam_error {
     TCAM_SLOTS_RANGE = 3,   /* 1 to 4,096 slots */
     TCAM_NO_MODE = 4,       /* none of enum tcam_mode */
     TCAM_NO_PLACEMENT = 5,  /* none of enum tcam_placement */
-    TCAM_PREFIX_LENGTH = 6, /* a prefix longer than 32 bits */
+    TCAM_PREFIX_LENGTH = 6, /* a prefix longer than 32 bits, or than 128 of IPv6 */
     TCAM_HOST_BITS = 7,     /* a bit of the address past the length is set */
     TCAM_PORTS = 8,         /* a range ends before it begins */
     TCAM_PROTOCOL = 9,      /* past TCAM_ANY_PROTOCOL */
@@ -95,7 +100,9 @@ enum tcam_error {
     TCAM_WRITE_DUE = 21,    /* a write is due, and no drain */
     TCAM_BACK = 22,         /* the commit is turned round already */
     TCAM_RESTARTED = 23,    /* a restart goes on with the commit: it can't be taken back */
-    TCAM_BEGUN = 24         /* the commit is made by parts and has begun: it can't be taken back */
+    TCAM_BEGUN = 24,        /* the commit is made by parts and has begun: it can't be taken back */
+    TCAM_NUMBER = 25,       /* a rule of an access list has number 0: they are 1 to 4,294,967,295 */
+    TCAM_NO_RULE = 26       /* there is no rule at the cursor */
 };
 
 /* How port ranges are cut: into an entry for each pair of blocks of their covers, up to 900 a rule, or into one
@@ -104,9 +111,10 @@ enum tcam_error {
  * are drains: a memory without such tables takes TCAM_COVER. */
 enum tcam_mode { TCAM_COVER = 0, TCAM_BY_BITS = 1 };
 
-/* Where a new entry goes: to the middle of its gap, as routes want it, or to the slot of its rank, as access lists
- * do. */
-enum tcam_placement { TCAM_MIDDLE = 0, TCAM_RANK = 1 };
+/* Where a new entry goes: to the middle of its gap, as routes want it; to the slot of its rank, as a table does that is
+ * loaded in one commit; or by rank but at the ends of the list, where it goes right behind what is above it or right
+ * before what is below it, as access lists want it that grow a line a commit. */
+enum tcam_placement { TCAM_MIDDLE = 0, TCAM_RANK = 1, TCAM_ENDS = 2 };
 
 /* What is due. Later kinds may come: a driver that meets one that it doesn't know makes nothing and tells nothing. */
 enum tcam_kind {
@@ -123,6 +131,7 @@ enum tcam_kind {
 enum tcam_field { TCAM_SOURCE = 0, TCAM_DESTINATION = 1 };
 
 #define TCAM_LANES 11
+#define TCAM_NO_SLOT UINT32_MAX
 #define TCAM_ANY_PROTOCOL 256
 
 /* A manager in the caller's own memory. */
@@ -132,8 +141,9 @@ struct tcam_manager {
 };
 #define TCAM_MANAGER_NONE { false, NULL }
 
-/* A rule's priority as a number of 136 bits. Of a route: its length, and its address in the last 32 bits; of a rule
- * of an access list: 0, and 2^32 less its number. */
+/* A rule's priority as a number of 136 bits. Of a route of IPv4: its length, and its address in the last 32 bits; of
+ * one of IPv6 its length and its address; of a rule of an access list: 0, and 2^32 less its number. tcam_route_of,
+ * tcam_route6_of and tcam_rule_number read them. */
 struct tcam_tag {
     uint8_t high;
     uint64_t low_upper;
@@ -141,15 +151,24 @@ struct tcam_tag {
 };
 
 /* What is due, by its kind of enum tcam_kind, in the lanes of the memory. An entry hits a search word where (word ^
- * value) & mask is 0 in every lane, and the hit of lowest slot wins. Lane 0 has the source address of IPv4 and lane
- * 4 the destination address, lane 8 the source port times 65,536 and the destination port, lane 9 the protocol times
+ * value) & mask is 0 in every lane, and the hit of lowest slot wins. Lanes 0 to 3 have the source address of IPv6,
+ * its upper bits first, and lanes 4 to 7 the destination address; one of IPv4 is in lane 0 and in lane 4, and the
+ * other ones are 0. Lane 8 has the source port times 65,536 and the destination port, lane 9 the protocol times
  * 2^24, and lane 10 the source table's word at the source port times 65,536 and the destination table's at the
- * destination port. A memory that is narrower leaves out lanes that no rule tests: a route tests lane 4 alone. The
- * tag is that of the rule, for the driver's own use, since no look-up needs it. The field is one of enum tcam_field,
- * and a word has 16 bits. What a kind doesn't name is 0. */
+ * destination port. A memory that is narrower leaves out lanes that no rule tests: a route of IPv4 tests lane 4
+ * alone. The tag is that of the rule, for the driver's own use, since no look-up needs it. The field is one of enum
+ * tcam_field, and a word has 16 bits. What a kind doesn't name is 0, but for from.
+ *
+ * Of a TCAM_PUT from is the slot that holds this very entry already, tag and result too, by the writes that were
+ * told as made: the entry is moved, and its old copy goes later. Hardware that moves entries, or counts the hits of
+ * each, takes it from there. It is the lesser one where two slots hold it, and the slot itself where the entry is
+ * written again as it stands. TCAM_NO_SLOT stands for an entry that no slot holds, which is a new one, one that gets
+ * another result where it stands, or one that a commit which is taken back had erased; for every other kind; and for
+ * all kinds with results beside the slots, where entries are put by parts. */
 struct tcam_write {
     uint32_t kind;
     uint32_t slot;
+    uint32_t from;
     uint32_t value[TCAM_LANES];
     uint32_t mask[TCAM_LANES];
     struct tcam_tag tag;
@@ -159,10 +178,26 @@ struct tcam_write {
     uint32_t word;
 };
 
+/* An address of IPv6, in two halves: 2001:db8::1 is {0x20010db800000000, 1}. In what the library tells, an address
+ * of IPv4 stands in the upper 32 bits, with 0 below. */
+struct tcam_address {
+    uint64_t upper;
+    uint64_t lower;
+};
+
 /* A packet of IPv4, each address as a number: 10.0.0.1 is 0x0a000001. */
 struct tcam_key {
     uint32_t source;
     uint32_t destination;
+    uint16_t source_port;
+    uint16_t destination_port;
+    uint8_t protocol;
+};
+
+/* A packet of IPv6. */
+struct tcam_key6 {
+    struct tcam_address source;
+    struct tcam_address destination;
     uint16_t source_port;
     uint16_t destination_port;
     uint8_t protocol;
@@ -176,14 +211,45 @@ struct tcam_answer {
     struct tcam_tag tag;
 };
 
-/* A rule of an access list: of all that match a packet the one of the lowest number decides, which names the rule. A
- * prefix of length 0 is any address, its address then 0; the protocol is 0 to 255, or TCAM_ANY_PROTOCOL. Both ends
- * belong to a range of ports, and 0 to 65,535 is any: a rule that is all zeros but for its protocol has port 0
- * alone. */
+/* A rule of an access list: of all that match a packet the one of the lowest number decides, which names the rule
+ * and is 1 or more. A prefix of length 0 is any address, its address then 0; the protocol is 0 to 255, or
+ * TCAM_ANY_PROTOCOL. Both ends belong to a range of ports, and 0 to 65,535 is any: a rule that is all zeros but for
+ * its protocol has port 0 alone. */
 struct tcam_rule {
     uint32_t number;
     uint32_t source;
     uint32_t destination;
+    uint8_t source_length;
+    uint8_t destination_length;
+    uint16_t protocol;
+    uint16_t source_port_first;
+    uint16_t source_port_last;
+    uint16_t destination_port_first;
+    uint16_t destination_port_last;
+    uint32_t result;
+};
+
+/* A rule of an access list with prefixes of IPv6, up to 128 bits long, likewise. */
+struct tcam_rule6 {
+    uint32_t number;
+    struct tcam_address source;
+    struct tcam_address destination;
+    uint8_t source_length;
+    uint8_t destination_length;
+    uint16_t protocol;
+    uint16_t source_port_first;
+    uint16_t source_port_last;
+    uint16_t destination_port_first;
+    uint16_t destination_port_last;
+    uint32_t result;
+};
+
+/* A rule that the manager has, a route or one of an access list: tcam_route_of, tcam_route6_of and tcam_rule_number
+ * tell of its tag which one. A route has any source, TCAM_ANY_PROTOCOL and ports 0 to 65,535. */
+struct tcam_stored {
+    struct tcam_tag tag;
+    struct tcam_address source;
+    struct tcam_address destination;
     uint8_t source_length;
     uint8_t destination_length;
     uint16_t protocol;
@@ -233,6 +299,15 @@ uint32_t tcam_c_made(struct tcam_manager *manager);
 uint32_t tcam_c_drained(struct tcam_manager *manager);
 uint32_t tcam_c_abort(struct tcam_manager *manager, uint64_t *left);
 uint32_t tcam_c_answer(struct tcam_manager *manager, const struct tcam_key *key, struct tcam_answer *answer);
+uint32_t tcam_c_add_route6(struct tcam_manager *manager, const struct tcam_address *address, uint8_t length,
+                           uint32_t result);
+uint32_t tcam_c_set_route6(struct tcam_manager *manager, const struct tcam_address *address, uint8_t length,
+                           uint32_t result);
+uint32_t tcam_c_del_route6(struct tcam_manager *manager, const struct tcam_address *address, uint8_t length);
+uint32_t tcam_c_add_rule6(struct tcam_manager *manager, const struct tcam_rule6 *rule);
+uint32_t tcam_c_answer6(struct tcam_manager *manager, const struct tcam_key6 *key, struct tcam_answer *answer);
+uint32_t tcam_c_rules(struct tcam_manager *manager, uint32_t *cursor, struct tcam_stored *rule);
+uint32_t tcam_c_free_slots(struct tcam_manager *manager, uint32_t *slots);
 
 /* The version of the library that the program runs with, which may be another than that of the header that it was
  * compiled with: the major version times 65,536, the minor one times 256, and the patch. */
@@ -261,9 +336,9 @@ static inline enum tcam_error tcam_free(struct tcam_manager *manager) {
     return manager ? (enum tcam_error)tcam_c_free(manager) : TCAM_NULL;
 }
 
-/* Six changes that join the pending batch, up to 4,096: a route or a rule is added, gets another result, or is
- * removed. The next batch may be collected while a commit is under way. Other answers tell the first thing that is
- * wrong, in this order: TCAM_PREFIX_LENGTH and TCAM_HOST_BITS of a route or of a rule's source, then both of its
+/* Changes that join the pending batch, up to 4,096: a route or a rule is added, gets another result, or is removed.
+ * The next batch may be collected while a commit is under way. Other answers tell the first thing that is wrong, in
+ * this order: TCAM_NUMBER, TCAM_PREFIX_LENGTH and TCAM_HOST_BITS of a route or of a rule's source, then both of its
  * destination, then TCAM_PORTS, TCAM_PROTOCOL, and behind all of these TCAM_BATCH_FULL or TCAM_MEMORY. Whether a
  * rule is there is judged by tcam_prepare. A batch names each rule once, or removes it and then adds another in its
  * place. */
@@ -285,6 +360,28 @@ static inline enum tcam_error tcam_add_rule(struct tcam_manager *manager, const 
     return manager && rule ? (enum tcam_error)tcam_c_add_rule(manager, rule) : TCAM_NULL;
 }
 
+/* The same for IPv6. A rule of either version is changed and removed by its number, and numbers are one list for
+ * both. */
+static inline enum tcam_error tcam_add_route6(struct tcam_manager *manager, struct tcam_address address,
+                                              uint8_t length, uint32_t result) {
+    return manager ? (enum tcam_error)tcam_c_add_route6(manager, &address, length, result) : TCAM_NULL;
+}
+
+static inline enum tcam_error tcam_set_route6(struct tcam_manager *manager, struct tcam_address address,
+                                              uint8_t length, uint32_t result) {
+    return manager ? (enum tcam_error)tcam_c_set_route6(manager, &address, length, result) : TCAM_NULL;
+}
+
+static inline enum tcam_error tcam_del_route6(struct tcam_manager *manager, struct tcam_address address,
+                                              uint8_t length) {
+    return manager ? (enum tcam_error)tcam_c_del_route6(manager, &address, length) : TCAM_NULL;
+}
+
+static inline enum tcam_error tcam_add_rule6(struct tcam_manager *manager, const struct tcam_rule6 *rule) {
+    return manager && rule ? (enum tcam_error)tcam_c_add_rule6(manager, rule) : TCAM_NULL;
+}
+
+/* A rule of an access list gets another result, or is removed, by its number. */
 static inline enum tcam_error tcam_set_rule(struct tcam_manager *manager, uint32_t number, uint32_t result) {
     return manager ? (enum tcam_error)tcam_c_set_rule(manager, number, result) : TCAM_NULL;
 }
@@ -362,6 +459,54 @@ static inline enum tcam_error tcam_answer(struct tcam_manager *manager, const st
     return manager && key && answer ? (enum tcam_error)tcam_c_answer(manager, key, answer) : TCAM_NULL;
 }
 
+/* The same of a packet of IPv6. */
+static inline enum tcam_error tcam_answer6(struct tcam_manager *manager, const struct tcam_key6 *key,
+                                           struct tcam_answer *answer) {
+    return manager && key && answer ? (enum tcam_error)tcam_c_answer6(manager, key, answer) : TCAM_NULL;
+}
+
+/* Tells the rule at the cursor, which is 0 for the one of the highest priority, and moves the cursor on by one: with
+ * cursor 0 at first, until TCAM_NO_RULE, each rule is told once, in falling priority. TCAM_NO_RULE comes exactly
+ * where the cursor is the number of rules or more; then neither is written. While a commit is under way the rules
+ * are those before it; its last tcam_made changes them, so a cursor that was begun before counts others behind it.
+ * It takes no memory. */
+static inline enum tcam_error tcam_rules(struct tcam_manager *manager, uint32_t *cursor, struct tcam_stored *rule) {
+    return manager && cursor && rule ? (enum tcam_error)tcam_c_rules(manager, cursor, rule) : TCAM_NULL;
+}
+
+/* Tells how many slots the entries of the rules leave free, as TCAM_SLOTS would: while a commit is under way by the
+ * rules before it. It takes no memory. */
+static inline enum tcam_error tcam_free_slots(struct tcam_manager *manager, uint32_t *slots) {
+    return manager && slots ? (enum tcam_error)tcam_c_free_slots(manager, slots) : TCAM_NULL;
+}
+
+/* The number of the rule of an access list that has this tag, 1 or more, or 0 where the tag is that of none. */
+static inline uint32_t tcam_rule_number(struct tcam_tag tag) {
+    const uint64_t past = (uint64_t)1 << 32;
+    if (tag.high != 0 || tag.low_upper != 0 || tag.low_lower == 0 || tag.low_lower >= past) return 0;
+    return (uint32_t)(past - tag.low_lower);
+}
+
+/* Whether a tag is that of a route of IPv4, whose address and length are written then; a pointer that is null isn't
+ * written to. */
+static inline bool tcam_route_of(struct tcam_tag tag, uint32_t *address, uint8_t *length) {
+    if (tag.high > 32 || tag.low_upper != 0 || tag.low_lower >> 32 != 0) return false;
+    if (tag.low_lower << tag.high & UINT32_MAX) return false;
+    if (address) *address = (uint32_t)tag.low_lower;
+    if (length) *length = tag.high;
+    return true;
+}
+
+/* The same of a route of IPv6. A tag whose address is 0 is that of a route of either version. */
+static inline bool tcam_route6_of(struct tcam_tag tag, struct tcam_address *address, uint8_t *length) {
+    const uint64_t past_upper = tag.high < 64 ? UINT64_MAX >> tag.high : 0;
+    const uint64_t past_lower = tag.high <= 64 ? UINT64_MAX : tag.high < 128 ? UINT64_MAX >> (tag.high - 64) : 0;
+    if (tag.high > 128 || (tag.low_upper & past_upper) != 0 || (tag.low_lower & past_lower) != 0) return false;
+    if (address) address->upper = tag.low_upper, address->lower = tag.low_lower;
+    if (length) *length = tag.high;
+    return true;
+}
+
 /* An answer's text, a constant that nobody frees. */
 static inline const char *tcam_error_text(enum tcam_error error) {
     switch (error) {
@@ -390,6 +535,8 @@ static inline const char *tcam_error_text(enum tcam_error error) {
     case TCAM_BACK: return "the commit is turned round already";
     case TCAM_RESTARTED: return "a restart goes on with the commit";
     case TCAM_BEGUN: return "the commit has begun, and is made by parts";
+    case TCAM_NUMBER: return "rules are numbered from 1";
+    case TCAM_NO_RULE: return "no rule at the cursor";
     }
     return "no such answer";
 }

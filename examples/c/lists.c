@@ -14,9 +14,31 @@ static bool matches(const struct tcam_rule *rule, const struct tcam_key *key) {
 }
 
 int64_t list_answer(const struct list *list, const struct tcam_key *key) {
-    for (int number = 0; number < NUMBERS; number++)
-        if (list->there[number] && matches(&list->rules[number], key)) return list->rules[number].result;
+    for (int at = 0; at < NUMBERS; at++)
+        if (list->there[at] && matches(&list->rules[at], key)) return list->rules[at].result;
     return -1;
+}
+
+static bool is_told(const struct tcam_rule *rule, const struct tcam_stored *told) {
+    return tcam_rule_number(told->tag) == rule->number && !tcam_route_of(told->tag, NULL, NULL) &&
+           told->source.upper == (uint64_t)rule->source << 32 && told->source.lower == 0 &&
+           told->destination.upper == (uint64_t)rule->destination << 32 && told->destination.lower == 0 &&
+           told->source_length == rule->source_length && told->destination_length == rule->destination_length &&
+           told->protocol == rule->protocol && told->source_port_first == rule->source_port_first &&
+           told->source_port_last == rule->source_port_last &&
+           told->destination_port_first == rule->destination_port_first &&
+           told->destination_port_last == rule->destination_port_last && told->result == rule->result;
+}
+
+bool list_is_told(const struct list *list, struct tcam_manager *manager) {
+    struct tcam_stored told;
+    uint32_t cursor = 0, count = 0;
+    for (int at = 0; at < NUMBERS; at++) {
+        if (!list->there[at]) continue;
+        if (tcam_rules(manager, &cursor, &told) != TCAM_OK || cursor != ++count) return false;
+        if (!is_told(&list->rules[at], &told)) return false;
+    }
+    return tcam_rules(manager, &cursor, &told) == TCAM_NO_RULE && cursor == count;
 }
 
 uint32_t below(struct draws *draws, uint32_t bound) {

@@ -4,7 +4,7 @@
 
 #include "tcam.h"
 
-/* Rules by number, in their order. */
+/* Rules in their order: the one at i has the number i + 1. */
 #define NUMBERS 24
 struct list {
     bool there[NUMBERS];
@@ -13,6 +13,9 @@ struct list {
 
 /* What a list answers: the result of the first rule that matches, or -1. */
 int64_t list_answer(const struct list *list, const struct tcam_key *key);
+
+/* Whether a manager tells the rules of a list and no others, in their order. */
+bool list_is_told(const struct list *list, struct tcam_manager *manager);
 
 /* Numbers at random, the same ones behind the same seed: one below a bound, a rule with a number and a result below a
  * bound, and a packet, of few addresses and ports, so that rules overlap. */

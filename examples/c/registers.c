@@ -9,6 +9,7 @@ static void make(struct registers *registers, const struct tcam_write *write) {
         memcpy(slot->value, write->value, sizeof slot->value);
         memcpy(slot->mask, write->mask, sizeof slot->mask);
         slot->result = write->result;
+        slot->tag = write->tag;
         slot->used = true;
         break;
     }

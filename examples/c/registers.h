@@ -12,6 +12,7 @@ struct slot {
     uint32_t value[TCAM_LANES];
     uint32_t mask[TCAM_LANES];
     uint32_t result;
+    struct tcam_tag tag;
 };
 
 struct registers {

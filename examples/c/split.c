@@ -24,6 +24,7 @@ static uint16_t tables[2][PORTS];
 static unsigned calls;
 
 static void make(const struct tcam_write *part) {
+    CHECK(part->from == TCAM_NO_SLOT);
     switch (part->kind) {
     case TCAM_PUT:
         memcpy(cells[part->slot].value, part->value, sizeof part->value);
@@ -151,6 +152,7 @@ static uint64_t carry_out(struct tcam_manager *manager, const struct list *old, 
         CHECK(tcam_abort(manager, &left) == (part.kind == TCAM_NOTHING ? TCAM_NOTHING_DUE : TCAM_BEGUN));
     }
     moment(new, new);
+    CHECK(list_is_told(new, manager));
     CHECK(tcam_made(manager) == TCAM_NOTHING_DUE && tcam_drained(manager) == TCAM_NOTHING_DUE);
     return parts;
 }
@@ -159,19 +161,19 @@ static uint64_t carry_out(struct tcam_manager *manager, const struct list *old, 
 static void change(struct tcam_manager *manager, struct list *list) {
     bool named[NUMBERS] = {false};
     for (uint32_t changes = 1 + below(&draws, 5); changes > 0; changes--) {
-        uint32_t number = below(&draws, NUMBERS);
-        if (named[number]) continue;
-        named[number] = true;
-        if (!list->there[number]) {
-            list->rules[number] = rule_at_random(&draws, number, 1000);
-            list->there[number] = true;
-            CHECK(tcam_add_rule(manager, &list->rules[number]) == TCAM_OK);
+        uint32_t at = below(&draws, NUMBERS);
+        if (named[at]) continue;
+        named[at] = true;
+        if (!list->there[at]) {
+            list->rules[at] = rule_at_random(&draws, 1 + at, 1000);
+            list->there[at] = true;
+            CHECK(tcam_add_rule(manager, &list->rules[at]) == TCAM_OK);
         } else if (below(&draws, 2)) {
-            list->rules[number].result = below(&draws, 1000);
-            CHECK(tcam_set_rule(manager, number, list->rules[number].result) == TCAM_OK);
+            list->rules[at].result = below(&draws, 1000);
+            CHECK(tcam_set_rule(manager, 1 + at, list->rules[at].result) == TCAM_OK);
         } else {
-            list->there[number] = false;
-            CHECK(tcam_del_rule(manager, number) == TCAM_OK);
+            list->there[at] = false;
+            CHECK(tcam_del_rule(manager, 1 + at) == TCAM_OK);
         }
     }
 }
@@ -221,7 +223,7 @@ static void commits(enum tcam_mode mode, enum tcam_placement placement, bool wai
 
 int main(void) {
     for (int mode = TCAM_COVER; mode <= TCAM_BY_BITS; mode++) {
-        for (int placement = TCAM_MIDDLE; placement <= TCAM_RANK; placement++) {
+        for (int placement = TCAM_MIDDLE; placement <= TCAM_ENDS; placement++) {
             commits((enum tcam_mode)mode, (enum tcam_placement)placement, true);
             CHECK(counts.neither == 0 && counts.drains > 0);
             printf("mode %d placement %d: %u commits in %llu parts with %u drains, %u look-ups read; ", mode, placement,

@@ -24,6 +24,14 @@ void *__wrap_realloc(void *block, size_t size) {
 /* Numbers at random, the same in every run. */
 static struct draws draws = {1};
 
+/* The library tells the rules of a list one by one, and how many slots are free. */
+static void compare_rules(struct tcam_manager *manager, const struct registers *registers, const struct list *list) {
+    uint32_t free = SLOTS, told = 0;
+    for (int slot = 0; slot < SLOTS; slot++) free -= registers->slots[slot].used;
+    CHECK(list_is_told(list, manager));
+    CHECK(tcam_free_slots(manager, &told) == TCAM_OK && told == free);
+}
+
 /* The registers and the library's own answer agree with the old rules or with the new ones. */
 static void compare(struct tcam_manager *manager, const struct registers *registers, const struct list *old,
                     const struct list *new) {
@@ -44,7 +52,7 @@ static struct flight {
     struct tcam_key key;
     uint32_t word[TCAM_LANES];
 } flight[IN_FLIGHT];
-static unsigned flying, drains, turned;
+static unsigned flying, drains, turned, moved;
 
 /* Searches the oldest look-up, whose answer is that of the old rules or of the new ones. */
 static void search(const struct registers *registers, const struct list *old, const struct list *new) {
@@ -67,14 +75,14 @@ static void look_up(const struct registers *registers, const struct list *old, c
 }
 
 static bool same_write(const struct tcam_write *a, const struct tcam_write *b) {
-    return a->kind == b->kind && a->slot == b->slot && !memcmp(a->value, b->value, sizeof a->value) &&
+    return a->kind == b->kind && a->slot == b->slot && a->from == b->from && !memcmp(a->value, b->value, sizeof a->value) &&
            !memcmp(a->mask, b->mask, sizeof a->mask) && same_tag(a->tag, b->tag) && a->result == b->result &&
            a->field == b->field && a->port == b->port && a->word == b->word;
 }
 
-/* What is due has 0 in each field that its kind doesn't name. */
+/* What is due has 0 in each field that its kind doesn't name, and comes from a slot only where it is an entry. */
 static bool is_plain(const struct tcam_write *write) {
-    struct tcam_write plain = {.kind = write->kind};
+    struct tcam_write plain = {.kind = write->kind, .from = TCAM_NO_SLOT};
     if (write->kind == TCAM_PUT) {
         plain = *write;
         plain.field = plain.port = plain.word = 0;
@@ -86,6 +94,17 @@ static bool is_plain(const struct tcam_write *write) {
         plain.word = write->word;
     }
     return same_write(write, &plain);
+}
+
+/* The least slot that holds an entry which is to be put, or none. */
+static uint32_t holder(const struct registers *registers, const struct tcam_write *write) {
+    for (uint32_t at = 0; write->kind == TCAM_PUT && at < SLOTS; at++) {
+        const struct slot *slot = &registers->slots[at];
+        if (slot->used && !memcmp(slot->value, write->value, sizeof slot->value) && slot->result == write->result &&
+            !memcmp(slot->mask, write->mask, sizeof slot->mask) && same_tag(slot->tag, write->tag))
+            return at;
+    }
+    return TCAM_NO_SLOT;
 }
 
 /* A drain is due: nothing but tcam_drained goes on, and only once every look-up under way was searched. */
@@ -108,6 +127,8 @@ static uint32_t make_due(struct tcam_manager *manager, struct registers *registe
     memset(&write, 0xff, sizeof write);
     CHECK(tcam_next(manager, &write) == TCAM_OK && is_plain(&write));
     if (write.kind == TCAM_NOTHING) return TCAM_NOTHING;
+    CHECK(write.from == holder(registers, &write));
+    moved += write.from != TCAM_NO_SLOT;
     look_up(registers, old, new);
     if (write.kind == TCAM_DRAIN) {
         drain(manager, registers, old, new);
@@ -129,8 +150,12 @@ static uint64_t carry_out(struct tcam_manager *manager, struct registers *regist
     uint64_t made = 0;
     uint32_t kind;
     compare(manager, registers, old, new);
-    while ((kind = make_due(manager, registers, old, new)) != TCAM_NOTHING) made += kind != TCAM_DRAIN;
+    while ((kind = make_due(manager, registers, old, new)) != TCAM_NOTHING) {
+        made += kind != TCAM_DRAIN;
+        CHECK(list_is_told(old, manager) || list_is_told(last, manager));
+    }
     compare(manager, registers, last, last);
+    compare_rules(manager, registers, last);
     while (flying > 0) search(registers, old, new);
     CHECK(tcam_made(manager) == TCAM_NOTHING_DUE && tcam_drained(manager) == TCAM_NOTHING_DUE);
     return made;
@@ -140,19 +165,19 @@ static uint64_t carry_out(struct tcam_manager *manager, struct registers *regist
 static void change(struct tcam_manager *manager, struct list *list) {
     bool named[NUMBERS] = {false};
     for (uint32_t changes = 1 + below(&draws, 5); changes > 0; changes--) {
-        uint32_t number = below(&draws, NUMBERS);
-        if (named[number]) continue;
-        named[number] = true;
-        if (!list->there[number]) {
-            list->rules[number] = rule_at_random(&draws, number, 1000);
-            list->there[number] = true;
-            CHECK(tcam_add_rule(manager, &list->rules[number]) == TCAM_OK);
+        uint32_t at = below(&draws, NUMBERS);
+        if (named[at]) continue;
+        named[at] = true;
+        if (!list->there[at]) {
+            list->rules[at] = rule_at_random(&draws, 1 + at, 1000);
+            list->there[at] = true;
+            CHECK(tcam_add_rule(manager, &list->rules[at]) == TCAM_OK);
         } else if (below(&draws, 2)) {
-            list->rules[number].result = below(&draws, 1000);
-            CHECK(tcam_set_rule(manager, number, list->rules[number].result) == TCAM_OK);
+            list->rules[at].result = below(&draws, 1000);
+            CHECK(tcam_set_rule(manager, 1 + at, list->rules[at].result) == TCAM_OK);
         } else {
-            list->there[number] = false;
-            CHECK(tcam_del_rule(manager, number) == TCAM_OK);
+            list->there[at] = false;
+            CHECK(tcam_del_rule(manager, 1 + at) == TCAM_OK);
         }
     }
 }
@@ -218,7 +243,7 @@ static void commits_at_random(enum tcam_mode mode, enum tcam_placement placement
     unsigned taken = 0, refused = 0;
     memset(&registers, 0, sizeof registers);
     memset(&old, 0, sizeof old);
-    drains = turned = 0;
+    drains = turned = moved = 0;
     CHECK(tcam_new(&manager, SLOTS, mode, placement) == TCAM_OK);
     for (int commit = 0; commit < 150; commit++) {
         struct tcam_numbers numbers;
@@ -242,9 +267,9 @@ static void commits_at_random(enum tcam_mode mode, enum tcam_placement placement
         }
     }
     CHECK(tcam_free(&manager) == TCAM_OK);
-    CHECK((drains > 0) == (mode == TCAM_BY_BITS));
-    printf("mode %d placement %d: %u commits taken, %u refused, %u taken back, %u drains\n", mode, placement, taken,
-           refused, turned, drains);
+    CHECK((drains > 0) == (mode == TCAM_BY_BITS) && moved > 0);
+    printf("mode %d placement %d: %u commits taken, %u refused, %u taken back, %u drains, %u moves\n", mode, placement,
+           taken, refused, turned, drains, moved);
 }
 
 /* Two commits, of entries or by parts, with each allocation failing in turn: want of memory is told, and then the same
@@ -274,7 +299,7 @@ static unsigned long wants_memory(bool split, unsigned long nth) {
 int main(void) {
     wrong_uses();
     for (int mode = TCAM_COVER; mode <= TCAM_BY_BITS; mode++)
-        for (int placement = TCAM_MIDDLE; placement <= TCAM_RANK; placement++)
+        for (int placement = TCAM_MIDDLE; placement <= TCAM_ENDS; placement++)
             commits_at_random((enum tcam_mode)mode, (enum tcam_placement)placement);
     for (int split = 0; split < 2; split++) {
         unsigned long nth = 1;

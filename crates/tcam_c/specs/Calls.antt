@@ -1,36 +1,48 @@
 -- What the calls of the library do to what stands behind a handle.
-use Rattle.std.specs.Prelude.{◌≡◌, ℕ, ◌<◌, ◌≤◌, ◌++◌, ◌∷◌, [], ◌↔◌, ◌⊎◌, Result, Ok, Err, Option, Some, None, OnOk, OnErr, length}
+use Rattle.std.specs.Prelude.{◌≡◌, ℕ, ◌+◌, ◌<◌, ◌≤◌, ◌++◌, ◌∷◌, [], ◌↔◌, ◌⊎◌, Result, Ok, Err, Option, Some, None, OnOk, OnErr, length, slice_get}
 use Rattle.slot_order.specs.Order.{most_slots}
 use Rattle.rule_store.specs.Batch.{most_pending}
 use Rattle.rule_model.specs.AddressBlock.{ipv4_address}
-use Rattle.rule_model.specs.Rank.{list_rank}
+use Rattle.rule_model.specs.RuleSet.{IsRuleSet}
 use Rattle.rule_model.specs.declared.Key.{Key}
+use Rattle.rule_model.specs.declared.Rule.{Rule}
 use Rattle.rule_store.specs.declared.Command.{Command}
-use Rattle.rule_store.specs.declared.Command.TheVariants.{Set, Del}
 use Rattle.rule_store.specs.declared.PushFault.{PushFault}
 use Rattle.rule_store.specs.declared.PushFault.TheVariants as push
 use Rattle.rule_store.specs.declared.Mode.{Mode}
 use Rattle.batch_order.specs.declared.Placement.{Placement}
 use Rattle.batch_order.specs.declared.Refusal.{Refusal}
 use Rattle.tcam_c.specs.Codes.{push_code, refusal_code, mode_of_code, placement_by}
-use Rattle.tcam_c.specs.Plain.{IsAnswer, IsRefusalTold}
-use Rattle.tcam_c.specs.Tables.{AbortsTable, IsServingTable, PassesTable, PreparesTable, TellsTable, answer_of_table, fresh_table, kind_of_table}
+use Rattle.tcam_c.specs.Plain.{IsAnswer, IsRefusalTold, IsStoredTold, address_number}
+use Rattle.tcam_c.specs.Tables.{AbortsTable, IsServingTable, PassesTable, PreparesTable, TellsTable, answer_of_table, slots_left_of_table, fresh_table, kind_of_table, rules_of_table}
 use Rattle.tcam_c.specs.declared.plain.TcamAnswer.{TcamAnswer}
 use Rattle.tcam_c.specs.declared.plain.TcamKey.{TcamKey}
+use Rattle.tcam_c.specs.declared.plain.TcamKey6.{TcamKey6}
 use Rattle.tcam_c.specs.declared.plain.TcamNumbers.{TcamNumbers}
 use Rattle.tcam_c.specs.declared.plain.TcamRefusal.{TcamRefusal}
+use Rattle.tcam_c.specs.declared.plain.TcamStored.{TcamStored}
 use Rattle.tcam_c.specs.declared.plain.TcamWrite.{TcamWrite}
 use Rattle.tcam_c.specs.declared.session.Session.{Session}
 use Rattle.tcam_c.specs.declared.steps.DueKind.{DueKind}
 use Rattle.tcam_c.specs.declared.steps.DueKind.TheVariants as kind
 use Rattle.tcam_c.specs.declared.table.TableKind.{TableKind}
 
--- a packet's key
+-- a packet's key, of IPv4 or of IPv6
 abbrev pub packet_key : TcamKey → Key
 packet_key key =
     record {
       src = ipv4_address key.source;
       dst = ipv4_address key.destination;
+      proto = key.protocol;
+      sport = key.source_port;
+      dport = key.destination_port;
+    }
+
+abbrev pub packet_key6 : TcamKey6 → Key
+packet_key6 key =
+    record {
+      src = address_number key.source;
+      dst = address_number key.destination;
       proto = key.protocol;
       sport = key.source_port;
       dport = key.destination_port;
@@ -57,13 +69,6 @@ Enters (Err fault) before after code = (code ≡ fault) × (after ≡ before)
 
 abbrev pub Entered : (Result Command ℕ → Type 0) → Option Session → Option Session → ℕ → Type 0
 Entered Stands old new code = (wanted : Result Command ℕ) × Stands wanted × Called (Enters wanted) old new code
-
--- a rule of an access list is changed or removed
-abbrev pub SetsRule : ℕ → ℕ → Session → Session → ℕ → Type 0
-SetsRule number given = Pushes (Set (list_rank number) given)
-
-abbrev pub DelsRule : ℕ → Session → Session → ℕ → Type 0
-DelsRule number = Pushes (Del (list_rank number))
 
 -- every change is taken out of the batch
 abbrev pub Clears : Session → Session → ℕ → Type 0
@@ -119,9 +124,25 @@ abbrev pub TellsAbort : ℕ → ℕ → Session → Session → ℕ → Type 0
 TellsAbort left left' before after code = AbortsTable left left' code before.table after.table × (after.batch ≡ before.batch)
 
 -- a packet is answered by the writes that were made, and nothing changes
-abbrev pub AnswersPacket : TcamKey → TcamAnswer → Session → Session → ℕ → Type 0
+abbrev pub AnswersPacket : Key → TcamAnswer → Session → Session → ℕ → Type 0
 AnswersPacket key answer before after code =
-    (code ≡ 0) × (after ≡ before) × IsAnswer (answer_of_table before.table (packet_key key)) answer × IsServingTable before.table
+    (code ≡ 0) × (after ≡ before) × IsAnswer (answer_of_table before.table key) answer × IsServingTable before.table
+
+-- The rule at the cursor is told, and the cursor goes on to the next one. Where the set has none there the code says so, and
+-- nothing is told. The set is listed by strictly falling priority, so each rule has one place. While a commit is under way it is
+-- the old set.
+abbrev pub IsRuleAt : Option Rule → ℕ → ℕ → TcamStored → TcamStored → ℕ → Type 0
+IsRuleAt None cursor cursor' told told' code = (code ≡ 26) × (cursor' ≡ cursor) × (told' ≡ told)
+IsRuleAt (Some rule) cursor cursor' told told' code = (code ≡ 0) × (cursor' ≡ cursor + 1) × IsStoredTold rule told'
+
+abbrev pub ListsRule : ℕ → ℕ → TcamStored → TcamStored → Session → Session → ℕ → Type 0
+ListsRule cursor cursor' told told' before after code =
+    (after ≡ before) × IsRuleSet (rules_of_table before.table)
+    × IsRuleAt (slice_get (rules_of_table before.table) cursor) cursor cursor' told told' code
+
+-- how many slots are free is told, and nothing changes
+abbrev pub TellsFree : ℕ → Session → Session → ℕ → Type 0
+TellsFree free before after code = (code ≡ 0) × (after ≡ before) × (free ≡ slots_left_of_table before.table)
 
 -- a manager without rules, of a blank memory of this kind
 abbrev pub fresh_session : TableKind → ℕ → Mode → Placement → Session

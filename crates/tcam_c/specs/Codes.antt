@@ -70,6 +70,7 @@ protocol_of_code protocol = if nat_eq protocol 256 then None else Some protocol
 
 -- a rule of an access list as plain numbers that are right
 pub record IsRule (rule : TcamRule) : Type 0 where
+  pub number : rule.number ≢ 0
   pub source : IsIpv4Prefix rule.source rule.source_length
   pub destination : IsIpv4Prefix rule.destination rule.destination_length
   pub source_ports : rule.source_port_first ≤ rule.source_port_last
@@ -97,23 +98,36 @@ HasPrefixes rule = IsIpv4Prefix rule.source rule.source_length × IsIpv4Prefix r
 abbrev pub HasPorts : TcamRule → Type 0
 HasPorts rule = (rule.source_port_first ≤ rule.source_port_last) × (rule.destination_port_first ≤ rule.destination_port_last)
 
--- The code of what is wrong with plain numbers that are no rule. Where several are wrong it is that of the first, in this order:
--- the source, the destination, the ranges of ports, the protocol.
-abbrev pub IsRuleFault : TcamRule → ℕ → Type 0
-IsRuleFault rule code =
+-- The code of what is wrong with the conditions of a rule. Where several are wrong it is that of the first, in this order: the
+-- source, the destination, the ranges of ports, the protocol.
+abbrev pub IsConditionFault : TcamRule → ℕ → Type 0
+IsConditionFault rule code =
     IsPrefixFault rule.source rule.source_length code
     ⊎ ((IsIpv4Prefix rule.source rule.source_length × IsPrefixFault rule.destination rule.destination_length code)
     ⊎ ((HasPrefixes rule × (code ≡ 8) × (rule.source_port_last < rule.source_port_first))
     ⊎ ((HasPrefixes rule × (code ≡ 8) × (rule.destination_port_last < rule.destination_port_first))
     ⊎ (HasPrefixes rule × HasPorts rule × (code ≡ 9) × (256 < rule.protocol)))))
 
+-- And of plain numbers that are no rule: before all of these comes the rule's own number.
+abbrev pub IsRuleFault : TcamRule → ℕ → Type 0
+IsRuleFault rule code = ((code ≡ 25) × (rule.number ≡ 0)) ⊎ ((rule.number ≢ 0) × IsConditionFault rule code)
+
+-- a rule is added, changed or removed: the command, or the code of what is wrong
 abbrev pub AddsRule : TcamRule → Result Command ℕ → Type 0
 AddsRule rule (Ok command) = IsRule rule × (command ≡ Add (list_rule rule))
 AddsRule rule (Err code) = IsRuleFault rule code
+
+abbrev pub SetsRule : ℕ → ℕ → Result Command ℕ → Type 0
+SetsRule number given (Ok command) = (number ≢ 0) × (command ≡ Set (list_rank number) given)
+SetsRule number given (Err code) = (code ≡ 25) × (number ≡ 0)
+
+abbrev pub DelsRule : ℕ → Result Command ℕ → Type 0
+DelsRule number (Ok command) = (number ≢ 0) × (command ≡ Del (list_rank number))
+DelsRule number (Err code) = (code ≡ 25) × (number ≡ 0)
 
 -- the mode and the placement of a number
 abbrev pub mode_of_code : ℕ → Option Mode
 mode_of_code number = if nat_eq number 0 then Some mode.Cover else (if nat_eq number 1 then Some mode.Bits else None)
 
 abbrev pub placement_by : ℕ → Option Placement
-placement_by number = if nat_eq number 0 then Some placement.Middle else (if nat_eq number 1 then Some placement.Rank else None)
+placement_by number = if nat_eq number 0 then Some placement.Middle else (if nat_eq number 1 then Some placement.Rank else (if nat_eq number 2 then Some placement.Ends else None))

@@ -1,8 +1,11 @@
 -- What stands behind a handle of a memory of whole entries, and what its calls do.
-use Rattle.std.specs.Prelude.{◌≡◌, ℕ, ◌≤◌, ◌++◌, ◌∷◌, [], Bool, true, false, Result, Ok, Err, Option, Some, None, List, length}
+use Rattle.std.specs.Prelude.{◌≡◌, ◌≢◌, ℕ, ◌<◌, ◌≤◌, ◌++◌, ◌∷◌, [], Bool, true, false, Result, Ok, Err, Option, Some, None, List, length}
+use Rattle.slot_order.specs.Order.{slot}
+use Rattle.rule_model.specs.declared.words.Entry.{Entry}
 use Rattle.rule_store.specs.declared.Command.{Command}
 use Rattle.rule_store.specs.declared.Mode.{Mode}
 use Rattle.tcam_device.specs.declared.Write.{Write}
+use Rattle.tcam_device.specs.declared.Write.TheVariants.{Slot, Table}
 use Rattle.tcam_device.specs.declared.Action.{Action}
 use Rattle.tcam_device.specs.declared.Action.TheVariants.{Written, Drained}
 use Rattle.tcam_device.specs.State.{State, apply, replay}
@@ -72,6 +75,25 @@ first_action (action ∷ actions) = Some action
 abbrev pub due_of : Option HeldCommit → Option Action
 due_of None = None
 due_of (Some held) = first_action (actions_due held)
+
+-- no slot before this one holds the entry
+abbrev pub StandsNotBefore : List (Option Entry) → Entry → ℕ → Type 0
+StandsNotBefore slots entry place = (k : ℕ) → k < place → slot slots k ≢ Some entry
+
+-- the least of so many slots that holds the entry, whole, or none where none does
+abbrev pub IsLeastHolder : List (Option Entry) → ℕ → Entry → Option ℕ → Type 0
+IsLeastHolder slots count entry None = StandsNotBefore slots entry count
+IsLeastHolder slots count entry (Some from) = (from < count) × (slot slots from ≡ Some entry) × StandsNotBefore slots entry from
+
+-- Where what is due comes from: an entry from the least slot that holds it now, before the write. Nothing else comes from a slot,
+-- nor does an entry that none holds, a new one or one that gets a new result.
+abbrev pub ComesFrom : Driven → Option Action → Option ℕ → Type 0
+ComesFrom driven None from = from ≡ None
+ComesFrom driven (Some Drained) from = from ≡ None
+ComesFrom driven (Some (Written (Table field port word))) from = from ≡ None
+ComesFrom driven (Some (Written (Slot place None))) from = from ≡ None
+ComesFrom driven (Some (Written (Slot place (Some entry)))) from =
+    IsLeastHolder (replay driven.manager.slots (journal_of driven)).slots driven.manager.slots entry from
 
 -- what kind of thing that is
 abbrev pub kind_of_due : Option Action → DueKind

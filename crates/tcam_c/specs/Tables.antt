@@ -1,9 +1,11 @@
 -- What stands behind a handle, of one kind of memory or the other, and what its calls do.
-use Rattle.std.specs.Prelude.{◌≡◌, ℕ, Result, Ok, Err, Some, List, IfOk, OnErr}
+use Rattle.std.specs.Prelude.{◌≡◌, ℕ, ◌-◌, Result, Ok, Err, Option, Some, List, IfOk, OnErr}
 use Rattle.rule_model.specs.declared.Key.{Key}
+use Rattle.rule_model.specs.declared.Rule.{Rule}
 use Rattle.rule_model.specs.RuleSet.{Answer}
 use Rattle.rule_store.specs.declared.Command.{Command}
 use Rattle.rule_store.specs.declared.Mode.{Mode}
+use Rattle.rule_store.specs.Verdict.{entries_of}
 use Rattle.tcam_device.specs.State.{lookup, replay}
 use Rattle.tcam_device.specs.declared.Action.TheVariants as whole_action
 use Rattle.commit_writes.specs.declared.Done.{Done}
@@ -12,14 +14,14 @@ use Rattle.batch_order.specs.declared.AbortFault.TheVariants as abort_fault
 use Rattle.batch_order.specs.declared.Placement.{Placement}
 use Rattle.batch_order.specs.declared.Refusal.{Refusal}
 use Rattle.batch_order.specs.CarriedOut.{GoesForward}
-use Rattle.batch_order.specs.Managed.{Judges}
+use Rattle.batch_order.specs.Managed.{Judges, Managed}
 use Rattle.batch_order.specs.Steps.{ServesNow}
 use Rattle.split_device.specs.State.{split_lookup}
 use Rattle.split_writes.specs.declared.SplitDone.{SplitDone}
 use Rattle.split_order.specs.Left.{state_on}
 use Rattle.split_order.specs.Managed.{SplitManaged, fresh_split}
 use Rattle.split_order.specs.Prepared.{JudgesSplit}
-use Rattle.tcam_c.specs.Driven.{AbortsHeld, Driven, IsEnded, IsServing, IsServingAhead, KeepsLive, PassesOn, Prepares, due_of, fresh_driven, journal_of, kind_of_due}
+use Rattle.tcam_c.specs.Driven.{AbortsHeld, ComesFrom, Driven, IsEnded, IsServing, IsServingAhead, KeepsLive, PassesOn, Prepares, due_of, fresh_driven, journal_of, kind_of_due}
 use Rattle.tcam_c.specs.Plain.{IsDuePart, IsDueWrite}
 use Rattle.tcam_c.specs.Split.{Cancels, IsServingSplit, IsSplitEnded, PassesDue, PlansParts, ServesOn, kind_of_part, part_due}
 use Rattle.tcam_c.specs.declared.plain.TcamNumbers.{TcamNumbers}
@@ -81,9 +83,12 @@ PreparesTable batch told (Split before) (Whole after) = ⊥
 
 -- What is due is told: a write or a part, a drain, or nothing where no commit is under way. Each key is answered as the old rules
 -- or the new ones do, even where what is due was made already; and so is one whose word was made earlier, by the ranges that
--- words are current for. Of entries a drain is due only of a commit that isn't turned round.
+-- words are current for. Of entries a drain is due only of a commit that isn't turned round, and of an entry that is put it is
+-- told which slot holds it already, if one does.
 pub record TellsWhole (write : TcamWrite) (driven : Driven) : Type 0 where
-  pub due : IsDueWrite (due_of driven.manager.held) write
+  pub from : Option ℕ
+  pub comes : ComesFrom driven (due_of driven.manager.held) from
+  pub due : IsDueWrite (due_of driven.manager.held) from write
   pub ended : IsEnded driven.manager.held (due_of driven.manager.held)
   pub drain : due_of driven.manager.held ≡ Some whole_action.Drained → GoesForward driven.manager.held
   pub serving : IsServing driven
@@ -144,3 +149,16 @@ AbortsTable left left' code (Split before) (Whole after) = ⊥
 abbrev pub answer_of_table : Table → Key → Answer
 answer_of_table (Whole driven) key = lookup (replay driven.manager.slots (journal_of driven)) key
 answer_of_table (Split manager) key = split_lookup (state_on manager.whole.slots manager) key
+
+-- the rules of the set by falling priority; while a commit is under way, those of the old set
+abbrev pub rules_of_table : Table → List Rule
+rules_of_table (Whole driven) = driven.manager.rules
+rules_of_table (Split manager) = manager.whole.rules
+
+-- the slots that their entries leave free, of which a batch may take as many
+abbrev pub slots_left : Managed → ℕ
+slots_left manager = manager.slots - entries_of manager.mode manager.rules
+
+abbrev pub slots_left_of_table : Table → ℕ
+slots_left_of_table (Whole driven) = slots_left driven.manager
+slots_left_of_table (Split manager) = slots_left manager.whole

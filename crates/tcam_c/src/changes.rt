@@ -1,9 +1,9 @@
 //! The commands that plain numbers stand for.
 
 ghost use Rattle.std.specs.Prelude.{◌≡◌};
-ghost use Rattle.tcam_c.specs.Codes.{AddsRoute, AddsRule, DelsRoute, IsPrefixOr, SetsRoute};
+ghost use Rattle.tcam_c.specs.Codes.{AddsRoute, AddsRule, DelsRoute, DelsRule, IsPrefixOr, SetsRoute, SetsRule};
 
-use crate::codes::{HOST_BITS, PORTS, PREFIX_LENGTH, PROTOCOL};
+use crate::codes::{HOST_BITS, NUMBER, PORTS, PREFIX_LENGTH, PROTOCOL};
 use crate::plain::TcamRule;
 use rule_model::{Ports, Prefix, PrefixFault, Rule, ipv4_route_rank, list_rank, route_rule};
 use rule_store::Command;
@@ -56,6 +56,9 @@ pub(crate) fn dels_route(address: u32, length: u8) -> Result<Command, u32>
 pub(crate) fn adds_rule(rule: &TcamRule) -> Result<Command, u32>
     ensures { AddsRule rule.now result }
 {
+    if rule.number == 0 {
+        return Err(NUMBER);
+    }
     let src = match prefix_of(rule.source, rule.source_length) {
         Ok(prefix) => prefix,
         Err(code) => return Err(code),
@@ -87,4 +90,27 @@ pub(crate) fn adds_rule(rule: &TcamRule) -> Result<Command, u32>
         dport,
         result: rule.result,
     }))
+}
+
+/// The change of such a rule's result.
+pub(crate) fn sets_rule(number: u32, answer: u32) -> Result<Command, u32>
+    ensures { SetsRule number answer result }
+{
+    if number == 0 {
+        return Err(NUMBER);
+    }
+    Ok(Command::Set {
+        priority: list_rank(number),
+        result: answer,
+    })
+}
+
+/// The removal of such a rule.
+pub(crate) fn dels_rule(number: u32) -> Result<Command, u32>
+    ensures { DelsRule number result }
+{
+    if number == 0 {
+        return Err(NUMBER);
+    }
+    Ok(Command::Del(list_rank(number)))
 }

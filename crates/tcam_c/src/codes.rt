@@ -16,7 +16,7 @@ pub const MADE_ALREADY: u32 = 2;
 pub const SLOTS_RANGE: u32 = 3;
 /// A mode is 0 or 1.
 pub const NO_MODE: u32 = 4;
-/// A placement is 0 or 1.
+/// A placement is 0, 1 or 2.
 pub const NO_PLACEMENT: u32 = 5;
 /// A prefix of IPv4 is at most 32 bits long.
 pub const PREFIX_LENGTH: u32 = 6;
@@ -54,6 +54,10 @@ pub const BACK: u32 = 22;
 pub const RESTARTED: u32 = 23;
 /// The commit under way is made by parts and has begun, so it can't be taken back.
 pub const BEGUN: u32 = 24;
+/// A rule of an access list has a number from 1 on.
+pub const NUMBER: u32 = 25;
+/// The set has no rule at the cursor.
+pub const NO_RULE: u32 = 26;
 
 /// The code of a push.
 pub(crate) fn code_of_push(pushed: Result<(), PushFault>) -> u32
@@ -101,6 +105,7 @@ pub(crate) fn placement_of(number: u32) -> Option<Placement>
     match number {
         0 => Some(Placement::Middle),
         1 => Some(Placement::Rank),
+        2 => Some(Placement::Ends),
         _ => None,
     }
 }

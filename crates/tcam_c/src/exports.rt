@@ -1,24 +1,25 @@
 //! The functions that C calls.
 
 ghost use Rattle.std.specs.Prelude.{◌≡◌, ◌≤◌, Some, None, IfSome, IsSome, IsNone};
-ghost use Rattle.tcam_c.specs.Calls.{AnswersPacket, Called, Clears, DelsRule, Enters, Entered, IsFreed, IsMade, MakesOf, Nexts, Prepared, SetsRule, TellsWrite, TellsDrain, TellsAbort, fresh_session};
-ghost use Rattle.tcam_c.specs.Codes.{AddsRoute, AddsRule, DelsRoute, SetsRoute};
+ghost use Rattle.tcam_c.specs.Calls.{AnswersPacket, Called, Clears, Enters, Entered, IsFreed, IsMade, ListsRule, MakesOf, Nexts, Prepared, TellsWrite, TellsDrain, TellsAbort, TellsFree, fresh_session, packet_key};
+ghost use Rattle.tcam_c.specs.Codes.{AddsRoute, AddsRule, DelsRoute, DelsRule, SetsRoute, SetsRule};
 ghost use Rattle.tcam_c.specs.Tables.{IsServingTable, fresh_table};
 
-use crate::changes::{adds_route, adds_rule, dels_route, sets_route};
+use crate::changes::{adds_route, adds_rule, dels_route, dels_rule, sets_route, sets_rule};
 use crate::codes::{
-    DRAIN_DUE, MADE_ALREADY, MEMORY, NO_MANAGER, NO_MODE, NO_PLACEMENT, NOTHING_DUE, OK,
+    DRAIN_DUE, MADE_ALREADY, MEMORY, NO_MANAGER, NO_MODE, NO_PLACEMENT, NO_RULE, NOTHING_DUE, OK,
     SLOTS_RANGE, WRITE_DUE, code_of_push, code_of_refusal, mode_of, placement_of,
 };
 use crate::handle::TcamManager;
 use crate::plain::{
-    TcamAnswer, TcamKey, TcamNumbers, TcamRefusal, TcamRule, TcamWrite, answer_of, refusal_of,
+    TcamAnswer, TcamKey, TcamNumbers, TcamRefusal, TcamRule, TcamStored, TcamWrite, answer_of,
+    refusal_of, stored_of,
 };
 use crate::session::Session;
 use crate::steps::DueKind;
 use crate::table::TableKind;
 use batch_order::{Mode, Placement};
-use rule_model::{Key, list_rank};
+use rule_model::Key;
 use rule_store::Command;
 use slot_order::MOST_SLOTS;
 use std::alloc::Global;
@@ -137,7 +138,7 @@ pub extern "C" fn tcam_c_free(manager: &mut TcamManager, alloc: Global) -> u32
 }
 
 /// A change joins the batch.
-fn enter(manager: &mut TcamManager, alloc: Global, wanted: Result<Command, u32>) -> u32
+pub(crate) fn enter(manager: &mut TcamManager, alloc: Global, wanted: Result<Command, u32>) -> u32
     ensures { Called (Enters wanted) manager.old.held.session manager.new.held.session result }
 {
     let Some(mut session) = manager.take(alloc) else {
@@ -208,21 +209,17 @@ pub extern "C" fn tcam_c_set_rule(
     answer: u32,
     alloc: Global,
 ) -> u32
-    ensures { Called (SetsRule number answer) manager.old.held.session manager.new.held.session result }
+    ensures { Entered (SetsRule number answer) manager.old.held.session manager.new.held.session result }
 {
-    let change = Command::Set {
-        priority: list_rank(number),
-        result: answer,
-    };
-    enter(manager, alloc, Ok(change))
+    enter(manager, alloc, sets_rule(number, answer))
 }
 
 /// Removes a rule of an access list in the batch.
 #[unsafe(no_mangle)]
 pub extern "C" fn tcam_c_del_rule(manager: &mut TcamManager, number: u32, alloc: Global) -> u32
-    ensures { Called (DelsRule number) manager.old.held.session manager.new.held.session result }
+    ensures { Entered (DelsRule number) manager.old.held.session manager.new.held.session result }
 {
-    enter(manager, alloc, Ok(Command::Del(list_rank(number))))
+    enter(manager, alloc, dels_rule(number))
 }
 
 /// Takes every change out of the batch.
@@ -354,7 +351,7 @@ pub extern "C" fn tcam_c_answer(
     answer: &mut TcamAnswer,
     alloc: Global,
 ) -> u32
-    ensures told { Called (AnswersPacket key.now answer.new) manager.old.held.session manager.new.held.session result }
+    ensures told { Called (AnswersPacket (packet_key key.now) answer.new) manager.old.held.session manager.new.held.session result }
     ensures untold { IsNone manager.old.held.session → answer.new ≡ answer.old }
 {
     let Some(session) = manager.take(alloc) else {
@@ -368,6 +365,53 @@ pub extern "C" fn tcam_c_answer(
         key.destination_port,
     );
     *answer = answer_of(session.look(&asked));
+    manager.put(session);
+    OK
+}
+
+/// Tells the rule at the cursor, from 0 by falling priority, and moves the cursor on to the next one. While a commit is
+/// under way the rules are the old set. Where the set has no rule at the cursor the code says so. It changes nothing else,
+/// and takes no memory.
+#[unsafe(no_mangle)]
+pub extern "C" fn tcam_c_rules(
+    manager: &mut TcamManager,
+    cursor: &mut u32,
+    rule: &mut TcamStored,
+    alloc: Global,
+) -> u32
+    ensures told { Called (ListsRule cursor.old cursor.new rule.old rule.new) manager.old.held.session manager.new.held.session result }
+    ensures untold { IsNone manager.old.held.session → (cursor.new ≡ cursor.old) × (rule.new ≡ rule.old) }
+{
+    let Some(session) = manager.take(alloc) else {
+        return NO_MANAGER;
+    };
+    let code = match session.rule_at_place(*cursor) {
+        None => NO_RULE,
+        Some(stored) => {
+            *rule = stored_of(&stored);
+            *cursor += 1;
+            OK
+        }
+    };
+    manager.put(session);
+    code
+}
+
+/// Tells how many slots the entries of the set leave free; while a commit is under way, those of the old set. It changes
+/// nothing else, and takes no memory.
+#[unsafe(no_mangle)]
+pub extern "C" fn tcam_c_free_slots(
+    manager: &mut TcamManager,
+    slots: &mut u32,
+    alloc: Global,
+) -> u32
+    ensures told { Called (TellsFree slots.new) manager.old.held.session manager.new.held.session result }
+    ensures untold { IsNone manager.old.held.session → slots.new ≡ slots.old }
+{
+    let Some(session) = manager.take(alloc) else {
+        return NO_MANAGER;
+    };
+    *slots = session.slots_left();
     manager.put(session);
     OK
 }

@@ -47,8 +47,12 @@
 //!   since a driver that takes its answer for a commit that was just turned would count them wrong. Undone is what
 //!   `tcam_made` came for: of a write that failed and was made all the same the library knows nothing, so the driver
 //!   makes it first.
-//! - **Of several wrong numbers C is told the first** (`IsRuleFault`), in the order source, destination, ports,
+//! - **Of several wrong numbers C is told the first** (`IsRuleFault`), in the order number, source, destination, ports,
 //!   protocol, so a driver that corrects its rule by the code is told the same by each build.
+//! - **IPv6 has exports of its own** (`exports6`, `changes6`, `specs/Codes6`), since an export takes no enum with data, and
+//!   what is wrong with a prefix is said by its version; behind them all is the same.
+//! - **The rules are told by a cursor that is a place in their order**, so that the library keeps nothing of a walk, and C
+//!   may give any number.
 //! - **A handle is two words**, a flag and a pointer to bytes. An export can answer no pointer, and takes no struct
 //!   whose Rust type points to one with a `Vec`, so what the bytes own is said in ghost data. By the flag a misuse is
 //!   told without a test of the pointer, which needs a proof about where it points. Each call takes what stands behind
@@ -56,15 +60,19 @@
 #![tactic(auto)]
 
 mod changes;
+mod changes6;
 mod codes;
 mod exports;
+mod exports6;
 mod handle;
 mod loose;
+mod moved;
 mod outside;
 mod part_steps;
 mod plain;
 mod session;
 mod split;
 mod steps;
+mod stored;
 mod table;
 mod whole;

@@ -1,10 +1,10 @@
 //! What crosses to C: plain structs of numbers, in the lanes of a memory's entries.
 
 ghost use Rattle.std.specs.Prelude.{◌≡◌, Some};
-ghost use Rattle.tcam_c.specs.Plain.{IsDuePart, IsDueWrite, IsResultWrite, IsAnswer, IsTag, IsRefusalTold, field_code};
+ghost use Rattle.tcam_c.specs.Plain.{IsDuePart, IsDueWrite, IsResultWrite, IsAnswer, IsStoredTold, IsTag, IsRefusalTold, address_number, field_code, protocol_code, slot_number};
 
 use batch_order::{BatchFault, Done, Refusal, Rejection};
-use rule_model::{Entry, Field, Rank, Word};
+use rule_model::{Addr, Entry, Field, Rank, Rule, Word};
 use split_device::{SplitAction, SplitWrite};
 use split_writes::SplitDone;
 use tcam_device::{Action, Write};
@@ -20,12 +20,13 @@ pub struct TcamTag {
 
 /// What is due, by its kind: nothing, an entry that a slot gets, an erase of a slot, a word that a table gets at a
 /// port, or a drain. Where results stand beside the slots it is a value and a mask that a slot gets, or its result word.
-/// Fields that the kind has no use for are 0.
+/// Fields that the kind has no use for are 0, and `from` is [`NO_SLOT`] unless it is an entry that stands in a slot already.
 #[repr(C)]
 #[derive(Clone, Copy)]
 pub struct TcamWrite {
     pub kind: u32,
     pub slot: u32,
+    pub from: u32,
     pub value: [u32; 11],
     pub mask: [u32; 11],
     pub tag: TcamTag,
@@ -41,6 +42,17 @@ pub struct TcamWrite {
 pub struct TcamKey {
     pub source: u32,
     pub destination: u32,
+    pub source_port: u16,
+    pub destination_port: u16,
+    pub protocol: u8,
+}
+
+/// A packet's fields, of IPv6.
+#[repr(C)]
+#[derive(Clone, Copy)]
+pub struct TcamKey6 {
+    pub source: TcamAddress,
+    pub destination: TcamAddress,
     pub source_port: u16,
     pub destination_port: u16,
     pub protocol: u8,
@@ -63,6 +75,49 @@ pub struct TcamRule {
     pub number: u32,
     pub source: u32,
     pub destination: u32,
+    pub source_length: u8,
+    pub destination_length: u8,
+    pub protocol: u16,
+    pub source_port_first: u16,
+    pub source_port_last: u16,
+    pub destination_port_first: u16,
+    pub destination_port_last: u16,
+    pub result: u32,
+}
+
+/// A rule of an access list with prefixes of IPv6.
+#[repr(C)]
+#[derive(Clone, Copy)]
+pub struct TcamRule6 {
+    pub number: u32,
+    pub source: TcamAddress,
+    pub destination: TcamAddress,
+    pub source_length: u8,
+    pub destination_length: u8,
+    pub protocol: u16,
+    pub source_port_first: u16,
+    pub source_port_last: u16,
+    pub destination_port_first: u16,
+    pub destination_port_last: u16,
+    pub result: u32,
+}
+
+/// An address of 128 bits, in two halves. One of IPv4 stands in the upper 32 bits.
+#[repr(C)]
+#[derive(Clone, Copy)]
+pub struct TcamAddress {
+    pub upper: u64,
+    pub lower: u64,
+}
+
+/// A rule of the set, a route or one of an access list, which its tag tells: two prefixes, a protocol of which 256 is
+/// any, two ranges of ports, and a result.
+#[repr(C)]
+#[derive(Clone, Copy)]
+pub struct TcamStored {
+    pub tag: TcamTag,
+    pub source: TcamAddress,
+    pub destination: TcamAddress,
     pub source_length: u8,
     pub destination_length: u8,
     pub protocol: u16,
@@ -102,9 +157,13 @@ const NO_TAG: TcamTag = TcamTag {
     low_lower: 0,
 };
 
+/// No slot has this number.
+const NO_SLOT: u32 = u32::MAX;
+
 const NO_WRITE: TcamWrite = TcamWrite {
     kind: 0,
     slot: 0,
+    from: NO_SLOT,
     value: [0; 11],
     mask: [0; 11],
     tag: NO_TAG,
@@ -133,6 +192,45 @@ fn tag_of(rank: Rank) -> TcamTag
     }
 }
 
+/// An address in two halves.
+fn halves_of(address: Addr) -> TcamAddress
+    ensures { address_number result ≡ address }
+{
+    TcamAddress {
+        upper: (address >> 64) as u64,
+        lower: (address % (1u128 << 64)) as u64,
+    }
+}
+
+/// A protocol, or any, as a number.
+fn protocol_number(protocol: Option<u8>) -> u16
+    ensures { result ≡ protocol_code protocol }
+{
+    match protocol {
+        None => 256,
+        Some(number) => u16::from(number),
+    }
+}
+
+/// A rule of the set, for C.
+pub(crate) fn stored_of(rule: &Rule) -> TcamStored
+    ensures { IsStoredTold rule.now result }
+{
+    TcamStored {
+        tag: tag_of(rule.priority),
+        source: halves_of(rule.src.addr()),
+        destination: halves_of(rule.dst.addr()),
+        source_length: rule.src.len(),
+        destination_length: rule.dst.len(),
+        protocol: protocol_number(rule.proto),
+        source_port_first: rule.sport.lo(),
+        source_port_last: rule.sport.hi(),
+        destination_port_first: rule.dport.lo(),
+        destination_port_last: rule.dport.hi(),
+        result: rule.result,
+    }
+}
+
 /// A field as a number.
 fn field_number(field: Field) -> u32
     ensures { result ≡ field_code field }
@@ -143,15 +241,26 @@ fn field_number(field: Field) -> u32
     }
 }
 
-/// An entry that a slot gets.
-fn put_of(slot: u32, entry: Entry) -> TcamWrite
-    ensures { IsDueWrite (Some (Action.Written (Write.Slot slot (Some entry)))) result }
+/// A slot, or none, as a number.
+fn from_number(from: Option<u32>) -> u32
+    ensures { result ≡ slot_number from }
+{
+    match from {
+        None => NO_SLOT,
+        Some(slot) => slot,
+    }
+}
+
+/// An entry that a slot gets, from this slot if it stands in one.
+fn put_of(slot: u32, entry: Entry, from: Option<u32>) -> TcamWrite
+    ensures { IsDueWrite (Some (Action.Written (Write.Slot slot (Some entry)))) from result }
 {
     let value = entry.value.lane;
     let mask = entry.mask.lane;
     TcamWrite {
         kind: 1,
         slot,
+        from: from_number(from),
         value,
         mask,
         tag: tag_of(entry.tag),
@@ -162,13 +271,13 @@ fn put_of(slot: u32, entry: Entry) -> TcamWrite
     }
 }
 
-/// What is due, for C.
-pub(crate) fn due_of(due: Option<Action>) -> TcamWrite
-    ensures { IsDueWrite due result }
+/// What is due, for C, and the slot that an entry comes from.
+pub(crate) fn due_of(due: Option<Action>, from: Option<u32>) -> TcamWrite
+    ensures { IsDueWrite due from result }
 {
     match due {
         None => NO_WRITE,
-        Some(Action::Written(Write::Slot(slot, Some(entry)))) => put_of(slot, entry),
+        Some(Action::Written(Write::Slot(slot, Some(entry)))) => put_of(slot, entry, from),
         Some(Action::Written(Write::Slot(slot, None))) => TcamWrite {
             kind: 2,
             slot,

@@ -1,16 +1,17 @@
 //! What stands behind a handle: a manager with its memory, and the batch that waits for it.
 
-ghost use Rattle.std.specs.Prelude.{◌≡◌, ◌≤◌, ◌++◌, ◌∷◌, [], ◌↔◌, Err, IfOk, OnOk, OnErr, length};
+ghost use Rattle.std.specs.Prelude.{◌≡◌, ◌≤◌, ◌<◌, ◌+◌, ◌^◌, ◌++◌, ◌∷◌, [], ◌↔◌, Err, IfOk, OnOk, OnErr, IsSome, length, slice_get};
 ghost use Rattle.rule_store.specs.Batch.{most_pending};
+ghost use Rattle.rule_model.specs.RuleSet.{IsRuleSet};
 ghost use Rattle.tcam_c.specs.Calls.{fresh_session};
 ghost use Rattle.tcam_c.specs.Driven.{IsDue};
-ghost use Rattle.tcam_c.specs.Tables.{AbortsTable, IsServingTable, PassesTable, PreparesTable, TellsTable, answer_of_table, fresh_table, kind_of_table};
+ghost use Rattle.tcam_c.specs.Tables.{AbortsTable, IsServingTable, PassesTable, PreparesTable, TellsTable, answer_of_table, slots_left_of_table, fresh_table, kind_of_table, rules_of_table};
 
 use crate::plain::{TcamNumbers, TcamWrite};
 use crate::steps::DueKind;
 use crate::table::{Table, TableKind};
 use batch_order::{Mode, Placement, Refusal};
-use rule_model::{Key, Rank};
+use rule_model::{Key, Rank, Rule};
 use rule_store::{Batch, Command, PushFault};
 use slot_order::MOST_SLOTS;
 use std::alloc::{AllocError, Global};
@@ -111,5 +112,21 @@ impl Session {
         ensures serves { IsServingTable self.now.table }
     {
         self.table.look(key)
+    }
+
+    /// The rule at a place of the set, from 0 by falling priority, or None where there is none.
+    pub(crate) fn rule_at_place(&self, place: u32) -> Option<Rule>
+        ensures rule { result ≡ slice_get (rules_of_table self.now.table) place }
+        ensures more { IsSome result → place + 1 < 2 ^ 32 }
+        ensures falling { IsRuleSet (rules_of_table self.now.table) }
+    {
+        self.table.rule_at_place(place)
+    }
+
+    /// How many slots the entries of the set leave free.
+    pub(crate) fn slots_left(&self) -> u32
+        ensures { result ≡ slots_left_of_table self.now.table }
+    {
+        self.table.slots_left()
     }
 }

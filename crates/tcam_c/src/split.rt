@@ -1,18 +1,21 @@
 //! A manager of a memory whose results stand beside its slots, and the shadow of the caller's memory.
 
-ghost use Rattle.std.specs.Prelude.{◌≡◌, ◌≤◌, IfOk, OnOk, OnErr};
+ghost use Rattle.std.specs.Prelude.{◌≡◌, ◌≤◌, ◌<◌, ◌+◌, ◌^◌, IfOk, IsSome, OnOk, OnErr, slice_get};
 ghost use Rattle.split_device.specs.State.{split_lookup};
 ghost use Rattle.split_order.specs.Left.{state_on};
 ghost use Rattle.split_order.specs.Managed.{fresh_split};
 ghost use Rattle.split_order.specs.Prepared.{JudgesSplit};
+ghost use Rattle.rule_model.specs.RuleSet.{IsRuleSet};
 ghost use Rattle.tcam_c.specs.Driven.{IsDue, KeepsLive};
+ghost use Rattle.tcam_c.specs.Tables.{slots_left};
 ghost use Rattle.tcam_c.specs.Split.{Cancels, IsServingSplit, IsSplitEnded, PassesDue, PlansParts, ServesOn, cancelled_by, kind_of_part, part_due};
 
 use crate::outside::Outside;
 use crate::part_steps::{go_on, prepare};
 use crate::steps::DueKind;
+use crate::stored::rule_at_place;
 use batch_order::{Mode, Placement, Refusal};
-use rule_model::{Key, Rank};
+use rule_model::{Key, Rank, Rule};
 use rule_store::Batch;
 use slot_order::MOST_SLOTS;
 use split_device::{SplitAction, SplitDevice};
@@ -135,6 +138,22 @@ impl SplitTable {
     {
         self.manager.serving();
         self.device.look(key)
+    }
+
+    /// The rule at a place of the set, from 0 by falling priority, or None where there is none.
+    pub(crate) fn rule_at_place(&self, place: u32) -> Option<Rule>
+        ensures rule { result ≡ slice_get self.now.whole.rules place }
+        ensures more { IsSome result → place + 1 < 2 ^ 32 }
+        ensures falling { IsRuleSet self.now.whole.rules }
+    {
+        rule_at_place(self.manager.rules(), place)
+    }
+
+    /// How many slots the entries of the set leave free.
+    pub(crate) fn slots_left(&self) -> u32
+        ensures { result ≡ slots_left self.now.whole }
+    {
+        self.device.slots().saturating_sub(self.manager.entries())
     }
 }
 

@@ -1,8 +1,9 @@
 //! What a session leads: a memory of whole entries, or one whose results stand beside its slots, with its manager.
 
-ghost use Rattle.std.specs.Prelude.{◌≡◌, ◌≤◌, IfOk, OnOk};
+ghost use Rattle.std.specs.Prelude.{◌≡◌, ◌≤◌, ◌<◌, ◌+◌, ◌^◌, IfOk, IsSome, OnOk, slice_get};
+ghost use Rattle.rule_model.specs.RuleSet.{IsRuleSet};
 ghost use Rattle.tcam_c.specs.Driven.{IsDue};
-ghost use Rattle.tcam_c.specs.Tables.{AbortsTable, IsServingTable, PassesTable, PreparesTable, TellsTable, answer_of_table, fresh_table, kind_of_table};
+ghost use Rattle.tcam_c.specs.Tables.{AbortsTable, IsServingTable, PassesTable, PreparesTable, TellsTable, answer_of_table, slots_left_of_table, fresh_table, kind_of_table, rules_of_table};
 
 use crate::codes::{BACK, BEGUN, NOTHING_DUE, OK, RESTARTED};
 use crate::plain::{TcamNumbers, TcamWrite, due_of, numbers_of, part_of, split_numbers_of};
@@ -10,7 +11,7 @@ use crate::split::{Cancelled, SplitTable};
 use crate::steps::DueKind;
 use crate::whole::WholeTable;
 use batch_order::{AbortFault, Mode, Placement, Refusal};
-use rule_model::{Key, Rank};
+use rule_model::{Key, Rank, Rule};
 use rule_store::Batch;
 use slot_order::MOST_SLOTS;
 use std::alloc::{AllocError, Global};
@@ -76,7 +77,11 @@ impl Table {
         ensures { TellsTable result self.now }
     {
         match self {
-            Table::Whole(table) => due_of(table.due()),
+            Table::Whole(table) => {
+                let due = table.due();
+                let from = table.source(&due);
+                due_of(due, from)
+            }
             Table::Split(table) => part_of(&table.due()),
         }
     }
@@ -141,6 +146,28 @@ impl Table {
         match self {
             Table::Whole(table) => table.look(key),
             Table::Split(table) => table.look(key),
+        }
+    }
+
+    /// The rule at a place of the set, from 0 by falling priority, or None where there is none.
+    pub(crate) fn rule_at_place(&self, place: u32) -> Option<Rule>
+        ensures rule { result ≡ slice_get (rules_of_table self.now) place }
+        ensures more { IsSome result → place + 1 < 2 ^ 32 }
+        ensures falling { IsRuleSet (rules_of_table self.now) }
+    {
+        match self {
+            Table::Whole(table) => table.rule_at_place(place),
+            Table::Split(table) => table.rule_at_place(place),
+        }
+    }
+
+    /// How many slots the entries of the set leave free.
+    pub(crate) fn slots_left(&self) -> u32
+        ensures { result ≡ slots_left_of_table self.now }
+    {
+        match self {
+            Table::Whole(table) => table.slots_left(),
+            Table::Split(table) => table.slots_left(),
         }
     }
 }

@@ -1,22 +1,26 @@
 //! A manager of a memory whose slots hold whole entries, and the shadow of the caller's memory.
 
-ghost use Rattle.std.specs.Prelude.{◌≡◌, ◌≤◌, IfOk, IsOk, OnOk, OnErr, Some};
+ghost use Rattle.std.specs.Prelude.{◌≡◌, ◌≤◌, ◌<◌, ◌+◌, ◌^◌, IfOk, IsOk, IsSome, OnOk, OnErr, Some, slice_get};
 ghost use Rattle.tcam_device.specs.State.{lookup, replay};
 ghost use Rattle.batch_order.specs.Managed.{Judges};
 ghost use Rattle.batch_order.specs.CarriedOut.{GoesForward};
 ghost use Rattle.batch_order.specs.Steps.{ServesNow};
-ghost use Rattle.tcam_c.specs.Driven.{Prepares, PassesOn, IsDue, IsEnded, KeepsLive, AbortsHeld, IsServing, IsServingAhead, due_of, fresh_driven, journal_of, kind_of_due};
+ghost use Rattle.rule_model.specs.RuleSet.{IsRuleSet};
+ghost use Rattle.tcam_c.specs.Tables.{slots_left};
+ghost use Rattle.tcam_c.specs.Driven.{ComesFrom, Prepares, PassesOn, IsDue, IsEnded, KeepsLive, AbortsHeld, IsServing, IsServingAhead, due_of, fresh_driven, journal_of, kind_of_due};
 
+use crate::moved::slot_holding;
 use crate::outside::Outside;
 use crate::steps::{DueKind, abort, due, go_on, kind_due, prepare};
+use crate::stored::rule_at_place;
 use batch_order::{AbortFault, Done, Manager, Mode, Placement, Refusal};
 use memory_tcam::Shadowed;
-use rule_model::{Key, Rank};
+use rule_model::{Key, Rank, Rule};
 use rule_store::Batch;
 use slot_order::MOST_SLOTS;
 use std::alloc::{AllocError, Global};
 use std::marker::Model;
-use tcam_device::{Action, Device};
+use tcam_device::{Action, Device, Writable, Write};
 
 /// Between two calls a commit is under way exactly where a write or a drain is due.
 #[derive(Drop)]
@@ -80,6 +84,20 @@ impl WholeTable {
         due(&self.manager)
     }
 
+    /// The slot that an entry which is due comes from: the least one that holds it already. None comes where no slot does,
+    /// and where no entry is due.
+    pub(crate) fn source(&self, due: &Option<Action>) -> Option<u32>
+        ensures { ComesFrom self.now due.now result }
+    {
+        match due {
+            None => None,
+            Some(Action::Drained) => None,
+            Some(Action::Written(Write::Table(_, _, _))) => None,
+            Some(Action::Written(Write::Slot(_, None))) => None,
+            Some(Action::Written(Write::Slot(_, Some(entry)))) => slot_holding(&self.device, entry),
+        }
+    }
+
     /// What kind of thing is due.
     pub(crate) fn kind_due(&self) -> DueKind
         ensures kind { result ≡ kind_of_due (due_of self.now.manager.held) }
@@ -117,5 +135,21 @@ impl WholeTable {
     {
         let _rules = self.manager.rules();
         self.device.look(key)
+    }
+
+    /// The rule at a place of the set, from 0 by falling priority, or None where there is none.
+    pub(crate) fn rule_at_place(&self, place: u32) -> Option<Rule>
+        ensures rule { result ≡ slice_get self.now.manager.rules place }
+        ensures more { IsSome result → place + 1 < 2 ^ 32 }
+        ensures falling { IsRuleSet self.now.manager.rules }
+    {
+        rule_at_place(self.manager.rules(), place)
+    }
+
+    /// How many slots the entries of the set leave free.
+    pub(crate) fn slots_left(&self) -> u32
+        ensures { result ≡ slots_left self.now.manager }
+    {
+        self.device.slots().saturating_sub(self.manager.entries())
     }
 }
