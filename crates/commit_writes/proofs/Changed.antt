@@ -20,6 +20,7 @@ use Rattle.rule_store.specs.Batch.{removes, IsSound, additions, with_result_afte
 use Rattle.rule_store.specs.Verdict.{pieces_of, has_piece, replaced_rule, added_pieces, added_pieces_over}
 use Rattle.rule_store.proofs.Additions.{new_rules, new_rules-member, additions_set}
 use Rattle.rule_store.proofs.After.{set_after-set}
+use Rattle.rule_store.proofs.AfterAt.{own_priority, rule_at-filter, after_at}
 use Rattle.rule_store.proofs.Falling.{IsRuleSet-filter}
 use Rattle.rule_store.proofs.Members.{sound-gone}
 use Rattle.rule_store.proofs.RulesAt.{cases_rule_at}
@@ -31,7 +32,7 @@ use Rattle.commit_writes.proofs.BatchRules.{added_named, unnamed_stays}
 use Rattle.commit_writes.proofs.ModePieces.{pieces_after}
 use Rattle.commit_writes.specs.declared.batch.pieces.Choice.TheVariants.{Common, Fresh}
 use Rattle.commit_writes.specs.Changes.{RuleChange, AreChanges, names_at, change_at, pieces_at, is_among, chosen_pieces, inserted_by, rewritten_by, erased_by}
-use Rattle.commit_writes.proofs.Named.{own_priority, rule_at-filter, after_at, map_reverse}
+use Rattle.commit_writes.proofs.Named.{map_reverse}
 
 -- the images of what is found, if something is
 abbrev images_at : {X Y : Type 0} → (X → List Y) → Option X → List Y

@@ -1,5 +1,6 @@
 pub mod Above
 pub mod After
+pub mod AfterAt
 pub mod Best
 pub mod Counts
 mod Examples

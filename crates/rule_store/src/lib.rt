@@ -31,7 +31,7 @@ mod laws;
 mod pending;
 mod stored;
 
-pub use entries::entries_needed;
+pub use entries::{entries_needed, same_conditions};
 pub use laws::{has_added_and_kept_rules, is_a_set_afterward};
 pub use pending::{Batch, Commands, PushFault};
 pub use stored::Store;

@@ -1,0 +1,11 @@
+pub mod At
+pub mod EachKind
+pub mod FirstFault
+pub mod Fits
+pub mod Forgiving
+pub mod FromLast
+pub mod Leads
+pub mod NamedSets
+pub mod Naming
+pub mod Strict
+pub mod Whole

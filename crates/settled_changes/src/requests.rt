@@ -1,0 +1,100 @@
+//! Requests that wait to be settled.
+
+ghost use Rattle.std.specs.Prelude.{◌≡◌, ◌↔◌, ◌<◌, ◌≤◌, [], ◌∷◌, ◌++◌, Err, Some, IsTrue, length, OnOk, OnErr, slice_get};
+
+use crate::Request;
+use rule_store::{Command, PushFault};
+use std::alloc::Global;
+use std::marker::Model;
+
+/// The most requests that are settled together (`most_pending` in definitions).
+const MOST_REQUESTS: u32 = 4096;
+
+/// Requests in the order in which they came, 4,096 at most.
+#[derive(Drop)]
+pub struct Requests {
+    requests: Vec<Request>,
+}
+
+impl Model for Requests {
+    ghost use Rattle.std.specs.Prelude.{List, ◌≤◌, length};
+    ghost use Rattle.rule_store.specs.Batch.{most_pending};
+    ghost use Rattle.settled_changes.specs.declared.Request.{Request};
+
+    ghost Value = { List Request };
+
+    ghost view = { λ r. r.requests.items };
+
+    ghost invariant = { λ r. length r.requests.items ≤ most_pending };
+}
+
+// No command. The borrow checker has a plan for a list of requests only where the type of their commands is named too, so
+// whoever puts requests into one calls it.
+pub(crate) fn no_command() -> Option<Command> {
+    None
+}
+
+impl Requests {
+    /// No requests. It takes no memory yet.
+    pub fn new(alloc: Global) -> Requests
+        ensures { result ≡ [] }
+    {
+        Requests {
+            requests: Vec::new(alloc),
+        }
+    }
+
+    /// Puts a request behind the others. `Full` comes exactly at 4,096 requests; after a refusal they are as before.
+    pub fn push(&mut self, request: Request) -> Result<(), PushFault>
+        ensures pushed { OnOk result (self.new ≡ self.old ++ request ∷ []) }
+        ensures full { (result ≡ Err PushFault.Full) ↔ (length self.old ≡ MOST_REQUESTS) }
+        ensures same { OnErr result (self.new ≡ self.old) }
+    {
+        if self.requests.len() >= MOST_REQUESTS as usize {
+            return Err(PushFault::Full);
+        }
+        let _named = no_command();
+        if self.requests.reserve(1).is_err() {
+            return Err(PushFault::Memory);
+        }
+        self.requests.push_reserved(request);
+        Ok(())
+    }
+
+    /// How many requests there are, 4,096 at most.
+    pub fn len(&self) -> u32
+        ensures count { result ≡ length self.now }
+        ensures most { result ≤ MOST_REQUESTS }
+    {
+        self.requests.len() as u32
+    }
+
+    /// Whether there is no request.
+    pub fn is_empty(&self) -> bool
+        ensures { IsTrue result ↔ (self.now ≡ []) }
+    {
+        self.requests.is_empty()
+    }
+
+    /// The request at a place, from 0 in the order of the pushes.
+    pub fn at(&self, i: u32) -> Request
+        requires { i < length self.now }
+        ensures { slice_get self.now i ≡ Some result }
+    {
+        self.requests[i as usize]
+    }
+
+    /// Takes every request out. The memory of the list stays for later ones.
+    pub fn clear(&mut self)
+        ensures { self.new ≡ [] }
+    {
+        self.requests.clear();
+    }
+
+    /// The requests as a list.
+    pub(crate) fn as_slice(&self) -> &[Request]
+        ensures { result.now ≡ self.now }
+    {
+        self.requests.as_slice()
+    }
+}
