@@ -1,9 +1,10 @@
 -- The rules above a priority, and how many entries they take.
-use Rattle.std.proofs.Common.{◌≡◌, ℕ, zero, suc, ◌<◌, ◌≤◌, List, [], ◌∷◌, length, map, take, sum, get_or, refl, sym, ap, ◌∙◌, arith}
+use Rattle.std.proofs.Common.{◌≡◌, ℕ, zero, suc, ◌<◌, ◌≤◌, ◌*◌, List, [], ◌∷◌, length, map, take, sum, get_or, mul-le-mul, refl, sym, ap, ◌∙◌, arith}
 use Rattle.std.proofs.lemmas.Bool.{lt-ltb, le-ltb, cond-true, cond-false}
 use Rattle.std.proofs.lemmas.List.{take-map, length-take-le}
-use Rattle.std.proofs.lemmas.List.Sums.{sum_by-cons, sum_by-take-le, sum-map}
+use Rattle.std.proofs.lemmas.List.Sums.{sum_by-cons, sum_by-le, sum_by-take-le, sum-map}
 use Rattle.rule_model.specs.declared.Rule.{Rule}
+use Rattle.rule_model.proofs.CoverSize.{cover-size}
 use Rattle.rule_store.specs.declared.Mode.{Mode}
 use Rattle.rule_store.specs.declared.Mode.TheVariants.{Cover, Bits}
 use Rattle.rule_store.specs.Store.{IsPlace, rules_above}
@@ -44,3 +45,18 @@ entries_above-cover rules priority place sizes is same =
 pub entries_above-most : (mode : Mode) (rules : List Rule) (priority place : ℕ) → IsPlace rules priority place → entries_of mode (rules_above rules priority) ≤ entries_of mode rules
 entries_above-most mode rules priority place is =
     rw (rules_above-take rules priority place is) (sum_by-take-le (entries_needed mode) rules place)
+
+-- how many entries rules take, by their numbers and at most
+pub entries-bits : (rules : List Rule) → entries_of Bits rules ≡ length rules
+entries-bits rules = one-each rules
+
+pub entries-cover : (rules : List Rule) (sizes : List ℕ) → sizes ≡ map (entries_needed Cover) rules → entries_of Cover rules ≡ sum sizes
+entries-cover rules sizes same = sym (ap sum same ∙ sum-map (entries_needed Cover) rules)
+
+needed-most : (mode : Mode) (rule : Rule) → entries_needed mode rule ≤ 900
+needed-most Bits rule = omega arith
+needed-most Cover rule = mul-le-mul (cover-size rule.sport) (cover-size rule.dport)
+
+pub entries-most : (mode : Mode) (rules : List Rule) → entries_of mode rules ≤ 900 * length rules
+entries-most mode rules =
+    let most = sum_by-le (entries_needed mode) 900 rules (λ k none inside. needed-most mode (get_or rules k none)) in omega arith

@@ -16,8 +16,8 @@ use Rattle.rule_store.specs.Batch.{named_priority, is_addition, is_removal, comm
 use Rattle.rule_store.specs.Naming.{uses_of, naming_by, fault_by}
 use Rattle.rule_store.proofs.Faults.{command_fault-named, uses-used}
 
--- What no fault says of a command behind earlier ones: an addition's priority is absent and unnamed, or the one command that names
--- it removes it; another command's priority is present and unnamed.
+-- What no fault says of a command behind earlier ones: an addition's priority is absent and unnamed, or the one command that
+-- names it removes it; another command's priority is present and unnamed.
 abbrev pub IsTaken : List Rule → List Command → Command → Type 0
 IsTaken rules earlier (Add rule) =
     (IsFalse (has_priority rules rule.priority) × (commands_naming rule.priority earlier ≡ []))

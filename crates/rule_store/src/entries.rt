@@ -71,8 +71,8 @@ fn kept_entries(old: &Rule, new: &Rule) -> u64
     common_size(&new.sport, &old.sport) * common_size(&new.dport, &old.dport)
 }
 
-// Whether two rules have the same conditions.
-fn same_conditions(a: &Rule, b: &Rule) -> bool
+/// Whether two rules have the same conditions: all but their priorities and results.
+pub fn same_conditions(a: &Rule, b: &Rule) -> bool
     ensures { result ≡ pieces.same_piece (pieces.whole_piece a.now) (pieces.whole_piece b.now) }
 {
     same_ends(a, b) && a.sport == b.sport && a.dport == b.dport
@@ -101,18 +101,6 @@ fn entries_over(mode: Mode, old: Option<&Rule>, new: &Rule) -> u64
 }
 
 impl Store {
-    /// How many entries the rules of the set take, 900 each at most.
-    pub fn entries_of(&self, mode: Mode) -> u64
-        ensures count { result ≡ verdict.entries_of mode self.now.rules }
-        ensures most { result ≤ 900 * length self.now.rules }
-    {
-        let mut total = 0;
-        for i in 0..self.len() {
-            total += entries_needed(mode, self.at(i));
-        }
-        total
-    }
-
     /// How many entries a batch takes beside those of the set, 900 for each command at most. An addition in
     /// place of a rule of the set takes only those that the rule doesn't have.
     pub fn entries_added(&self, mode: Mode, batch: &Batch) -> u64

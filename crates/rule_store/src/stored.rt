@@ -1,6 +1,6 @@
 //! A set of rules by falling priority.
 
-ghost use Rattle.std.specs.Prelude.{take, ◌≡◌, ◌↔◌, ◌+◌, ◌-◌, ◌<◌, ◌≤◌, ◌^◌, ℕ, [], ◌∷◌, None, Some, IsTrue, IsFalse, IsSome, IfOk, IfErr, IfSome, OnOk, OnErr, length, slice_get, slice_index, option_copied, is_some, MatchResult, All, not, sum};
+ghost use Rattle.std.specs.Prelude.{take, ◌≡◌, ◌↔◌, ◌+◌, ◌-◌, ◌*◌, ◌<◌, ◌≤◌, ◌^◌, ℕ, [], ◌∷◌, None, Some, IsTrue, IsFalse, IsSome, IfOk, IfErr, IfSome, OnOk, OnErr, length, slice_get, slice_index, option_copied, is_some, MatchResult, All, not, sum};
 ghost use Rattle.slab.specs.Slab.{get};
 ghost use Rattle.rule_model.specs.RuleSet.{IsRuleSet, best_rule, has_priority, rule_at};
 ghost use Rattle.rule_store.specs.Batch.{batch_fault, with_rule};
@@ -155,6 +155,17 @@ impl Store {
         match mode {
             Mode::Cover => sum_of(&self.sizes[..place]),
             Mode::Bits => place as u64,
+        }
+    }
+
+    /// How many entries the rules of the set take, 900 each at most. It reads a number for each of them, and no rule.
+    pub fn entries_of(&self, mode: Mode) -> u64
+        ensures count { result ≡ entries_of mode self.now.rules }
+        ensures most { result ≤ 900 * length self.now.rules }
+    {
+        match mode {
+            Mode::Cover => sum_of(&self.sizes),
+            Mode::Bits => u64::from(self.len()),
         }
     }
 

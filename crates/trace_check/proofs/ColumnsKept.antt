@@ -1,15 +1,14 @@
 -- Columns beside the pieces of slots: of a blank device, behind a write, and what is passed over by them.
-use Rattle.std.proofs.Common.{◌≡◌, ℕ, zero, suc, ◌-◌, ◌^◌, ◌<◌, ◌≤◌, false, IsTrue, Option, Some, None, List, length, replicate, inl, inr, sym, ◌∙◌, ap, subst, arith, length-set, get_or-set_same, get_or-set_other, le-leb, eq-eqb, eqb-true}
-use Rattle.std.specs.Prelude.{◌==◌, nat_le, nat_lt, slice_index, slice_set}
-use Rattle.std.proofs.lemmas.Bool.{cases_eq, cases_lt, both_ways, and_parts, and_from, cond-true, cond-false, lt-ltb, le-ltb}
+use Rattle.std.proofs.Common.{◌≡◌, ℕ, zero, suc, ◌+◌, ◌-◌, ◌*◌, ◌/◌, ◌^◌, ◌<◌, ◌≤◌, false, Option, Some, None, List, length, replicate, inl, inr, sym, ◌∙◌, ap, subst, arith, length-set, get_or-set_same, get_or-set_other, le-leb}
+use Rattle.std.specs.Prelude.{nat_le, nat_lt, slice_index, slice_set}
+use Rattle.std.proofs.lemmas.Bool.{cases_eq, cases_lt, both_ways, and_from, cond-true, cond-false, lt-ltb, le-ltb}
 use Rattle.std.proofs.lemmas.List.{length-replicate}
 use Rattle.slot_order.specs.Order.{slot}
 use Rattle.slot_order.proofs.Writes.{slot_same, slot_other}
 use Rattle.rule_model.specs.declared.Piece.{Piece}
 use Rattle.rule_model.specs.Piece.{PiecesOverlap}
 use Rattle.rule_model.specs.Rank.{high_of, low_of}
-use Rattle.rule_model.specs.declared.words.Entry.{Entry}
-use Rattle.rule_model.specs.Entry.{RankedPiece, entry_for, same_match}
+use Rattle.rule_model.specs.Entry.{RankedPiece}
 use Rattle.rule_model.proofs.CommonKeys.{overlap_parts}
 use Rattle.block_windows.specs.declared.Span.{Span}
 use Rattle.block_windows.specs.Windows.{first_of, last_of, span_of, meets_at}
@@ -17,7 +16,7 @@ use Rattle.block_windows.proofs.Blocks.{held_within}
 use Rattle.trace_check.specs.declared.placed.Cells.{Cells}
 use Rattle.trace_check.specs.Columns.{low_part, coarse_rank, ranks_below, ranks_above, may_meet, AreCellsOf, AreColumnsOf, IsNear}
 
-nothing_stands : (n at : ℕ) (x : RankedPiece) → slot (replicate n None) at ≡ Some x → ⊥
+pub nothing_stands : (n at : ℕ) (x : RankedPiece) → slot (replicate n None) at ≡ Some x → ⊥
 nothing_stands zero at x held = absurd (cc)
 nothing_stands (suc n) zero x held = absurd (cc)
 nothing_stands (suc n) (suc at) x held = nothing_stands n at x held
@@ -84,12 +83,6 @@ far_piece pieces ranks firsts lasts of_ranks of_windows k x are there apart with
     (and_from (nat_le (slice_index firsts k) of_windows.last) (nat_le of_windows.first (slice_index lasts k))
     (le-leb _ _ (subst (λ (n : ℕ). n ≤ of_windows.last) (sym cells.first) near.starts)) (le-leb _ _ (subst (λ (n : ℕ). of_windows.first ≤ n) (sym cells.last) near.ends))))
 
--- a slot whose number of the rank is another has no piece of this rank
-pub other_rank : (pieces : List (Option RankedPiece)) (ranks firsts lasts : List ℕ) (k : ℕ) (x : RankedPiece) (rank : ℕ) → AreColumnsOf pieces ranks firsts lasts → slot pieces k ≡ Some x
-    → (slice_index ranks k == coarse_rank rank) ≡ false → x.rank ≡ rank → ⊥
-other_rank pieces ranks firsts lasts k x rank are there apart same =
-    both_ways (slice_index ranks k == coarse_rank rank) apart (eq-eqb _ _ ((are.cells k x there).rank ∙ ap coarse_rank same))
-
 -- ranks in 32 bits are in the order of ranks
 part_is : (rank : ℕ) → low_of rank < 2 ^ 32 → low_part rank ≡ low_of rank
 part_is rank less = cond-true (nat_lt (low_of rank) (2 ^ 32)) _ _ (lt-ltb (low_of rank) (2 ^ 32) less)
@@ -113,10 +106,29 @@ part_order a b less =
       | inr great ↦ let is = part_most b great in omega arith
     ]
 
+coarse_low : (rank : ℕ) → high_of rank ≤ 0 → coarse_rank rank ≡ low_part rank / 2
+coarse_low rank none = cond-false (nat_lt 0 (high_of rank)) _ _ (le-ltb 0 (high_of rank) none)
+
+coarse_high : (rank : ℕ) → 0 < high_of rank → coarse_rank rank ≡ 2 ^ 31 + (high_of rank - 1) * 2 ^ 23 + low_part rank / 2 ^ 9
+coarse_high rank some = cond-true (nat_lt 0 (high_of rank)) _ _ (lt-ltb 0 (high_of rank) some)
+
+coarse_above : (a b : ℕ) → a ≤ b → 0 < high_of b → coarse_rank a ≤ coarse_rank b
+coarse_above a b less some = elim (cases_lt 0 (high_of a)) [
+  | inl also ↦
+      let is_a = coarse_high a also in let is_b = coarse_high b some in
+      elim (cases_lt (high_of a) (high_of b)) [
+        | inl higher ↦ let low = part_fits a in let most = low.1 in omega arith
+        | inr same ↦ let low = part_order a b (omega arith) in omega arith
+      ]
+  | inr none ↦ let is_a = coarse_low a none in let is_b = coarse_high b some in let low = part_fits a in let most = low.1 in omega arith
+]
+
 pub coarse_order : (a b : ℕ) → a ≤ b → coarse_rank a ≤ coarse_rank b
-coarse_order a b less = elim (cases_lt (high_of a) (high_of b)) [
-  | inl higher ↦ let low = part_fits a in let most = low.1 in omega arith
-  | inr same ↦ let low = part_order a b (omega arith) in omega arith
+coarse_order a b less = elim (cases_lt 0 (high_of b)) [
+  | inl some ↦ coarse_above a b less some
+  | inr none ↦
+      let is_a = coarse_low a (omega arith) in let is_b = coarse_low b none in
+      let low = part_order a b (omega arith) in omega arith
 ]
 
 -- pieces that overlap have windows in common
@@ -145,10 +157,3 @@ higher_near high ranked over less fits =
 pub near_by : {ranks to windows next : Span} {x : RankedPiece} → ranks ≡ to → windows ≡ next → IsNear to next x → IsNear ranks windows x
 near_by {ranks} {to} {windows} {next} {x} same_ranks same_windows near =
     subst (λ (s : Span). IsNear s windows x) (sym same_ranks) (subst (λ (s : Span). IsNear to s x) (sym same_windows) near)
-
--- an entry has the rank of each piece that it is of
-pub match_rank : (entry : Entry) (x : RankedPiece) → IsTrue (same_match entry (entry_for x)) → x.rank ≡ entry.tag
-match_rank entry x match = sym (eqb-true entry.tag x.rank (and_parts _ _ match).1)
-
-pub entry_rank : (entry : Entry) (x : RankedPiece) → entry_for x ≡ entry → x.rank ≡ entry.tag
-entry_rank entry x same = ap (λ (e : Entry). e.tag) same

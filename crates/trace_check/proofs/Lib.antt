@@ -12,6 +12,8 @@ pub mod Kept
 pub mod Taken
 pub mod PlacedEntries
 pub mod ColumnsKept
+pub mod GroupsKept
+pub mod PagesKept
 pub mod PlacedTasks
 pub mod Comes
 pub mod PairsBehind

@@ -7,13 +7,14 @@ use Rattle.block_windows.specs.declared.Span.{Span}
 use Rattle.block_windows.specs.Windows.{first_of, last_of, meets_at}
 use Rattle.trace_check.specs.declared.placed.Cells.{Cells}
 
--- A rank in 32 bits, in the order of ranks: its high part, and of its low part, or of the greatest number of 32 bits where that
--- is less, all bits but the lowest nine.
+-- A rank in 32 bits, in the order of ranks. Of its low part, or of the greatest number of 32 bits where that is less, it has
+-- all bits but the lowest, as access lists have ranks, and where there is a high part, as of routes, all but the lowest nine.
 abbrev pub low_part : ℕ → ℕ
 low_part rank = if nat_lt (low_of rank) (2 ^ 32) then low_of rank else 2 ^ 32 - 1
 
 abbrev pub coarse_rank : ℕ → ℕ
-coarse_rank rank = high_of rank * 2 ^ 24 + low_part rank / 2 ^ 9
+coarse_rank rank =
+    if nat_lt 0 (high_of rank) then 2 ^ 31 + (high_of rank - 1) * 2 ^ 23 + low_part rank / 2 ^ 9 else low_part rank / 2
 
 -- what the columns have of a piece
 pub record AreCellsOf (cells : Cells) (ranked : RankedPiece) : Type 0 where

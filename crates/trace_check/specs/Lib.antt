@@ -6,6 +6,8 @@ pub mod Segments
 pub mod Local
 pub mod Checked
 pub mod Columns
+pub mod Groups
+pub mod Pages
 pub mod Behind
 pub mod Kept
 pub mod Coming

@@ -260,7 +260,7 @@ impl Commit {
         let Ok(pair) = pair_behind(self.pair, &device.places, at, &content) else {
             return Ok(false);
         };
-        let before = device.places.set(at, content);
+        let before = device.places.set(at, content)?;
         let Some(done) = self.count_tasks(&device.places, at, &before) else {
             return Ok(false);
         };

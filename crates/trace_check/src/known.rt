@@ -84,6 +84,7 @@ fn changes_result(rules: &Store, ranked: &Ranked) -> bool
 }
 
 /// Whether two entries have the same value, mask and tag. Tags differ most, and are compared first.
+#[inline]
 pub(crate) fn same_match(a: &Entry, b: &Entry) -> bool
     ensures { result ≡ entries.same_match a.now b.now }
 {

@@ -19,19 +19,25 @@
 //!   first that is wrong, and a line that wasn't judged for want of memory isn't judged again.
 //! - **The bits of ranges aren't in a trace**, and are reckoned: a new range gets the least free bit. So a driver that
 //!   gives others is refused at its first entry that tests one.
-//! - **A write takes up to five walks over the slots**, one after the other: for the piece that comes, where a move
-//!   brings it, before and behind its slot for the order, and for a copy of what comes and of what goes. A piece takes
-//!   240 bytes, so columns stand beside the pieces (`placed`), of their ranks in 32 bits and of the upper 32 bits of
-//!   their destinations: a walk passes over eight slots in a step, and looks at the pieces that are left. Of a dense list
-//!   these are few by their ranks, since pieces that overlap stand in the order of ranks, and of routes by their
-//!   destinations.
+//! - **The order is judged by walks over the slots**, before and behind the one that is written. A piece takes 240 bytes,
+//!   so columns stand beside the pieces (`placed`), of their ranks in 32 bits and of the upper 32 bits of their
+//!   destinations: a walk passes over eight slots in a step, and looks at the pieces that are left. Of a dense list these
+//!   are few by their ranks, since pieces that overlap stand in the order of ranks, and of routes by their destinations.
+//!   Of each page of 64 slots the least and the greatest rank are known (`pages`), so that most pages are passed over
+//!   whole where ranks stand in their order.
+//! - **Where an entry stands is asked of one group of slots** (`groups`): which piece comes that stands, and whether a copy
+//!   of what comes, or of what goes, stands elsewhere. The group is told by the entry's tag and ports, so that the pieces
+//!   of one rule are in several. Each slot that has a piece is listed in its entry's group; a slot that is listed is
+//!   looked at, so it needn't hold one.
 //! - **More writes than a `u64` counts, or rules than a `u32`, are told as want of memory.**
 #![tactic(auto)]
 
 mod checker;
 mod commit;
+mod groups;
 mod known;
 mod laws;
+mod pages;
 mod pairs;
 mod placed;
 mod places;

@@ -1,16 +1,22 @@
 //! The piece of each slot, and columns beside them by which a walk passes most slots over.
 
-ghost use Rattle.std.specs.Prelude.{◌≡◌, ℕ, ◌+◌, ◌<◌, ◌≤◌, ◌==◌, ◌^◌, ◌-◌, false, None, Some, IfOk, length, replicate, slice_index, slice_set};
+ghost use Rattle.std.specs.Prelude.{◌≡◌, ℕ, ◌+◌, ◌*◌, ◌/◌, ◌<◌, ◌≤◌, ◌^◌, ◌-◌, false, Contains, None, Some, IfOk, IfSome, IsTrue, OnErr, OnOk, length, replicate, slice_set};
 ghost use Rattle.slot_order.specs.Order.{slot};
-ghost use Rattle.rule_model.specs.Entry.{RankedPiece};
+ghost use Rattle.rule_model.specs.Entry as entries;
+ghost use Rattle.rule_model.specs.Entry.{RankedPiece, entry_for};
 ghost use Rattle.trace_check.specs.Columns as columns;
 ghost use Rattle.trace_check.specs.Columns.{AreCellsOf, IsNear, may_meet};
+ghost use Rattle.trace_check.specs.Groups as groups;
+ghost use Rattle.trace_check.specs.Groups.{group_count};
+ghost use Rattle.trace_check.specs.Pages.{page_slots};
 
+use crate::groups::{Group, group_of, no_groups, regroup};
 use crate::known::Known;
+use crate::pages::{PAGE, bounds_of, have_common, no_bounds, page_end};
 use block_windows::{Span, also_apart, apart_eight, span_of};
 use commit_writes::Ranked;
-use eight_lanes::{eight, first_zero};
-use rule_model::Rank;
+use eight_lanes::first_zero;
+use rule_model::{Entry, Rank};
 use std::alloc::{AllocError, Global};
 use std::marker::Model;
 use std::mem::replace;
@@ -25,6 +31,10 @@ pub(crate) struct Placed {
     ranks: Vec<u32>,
     firsts: Vec<u32>,
     lasts: Vec<u32>,
+    // of each page of slots between which numbers these ranks are
+    bounds: Vec<Span>,
+    // the slots of each group
+    groups: Vec<Group>,
 }
 
 /// What the columns have of a slot.
@@ -39,12 +49,14 @@ impl Model for Placed {
     ghost use Rattle.std.specs.Prelude.{List, Option};
     ghost use Rattle.rule_model.specs.Entry.{RankedPiece};
     ghost use Rattle.trace_check.specs.Columns.{AreColumnsOf};
+    ghost use Rattle.trace_check.specs.Groups.{AreGroupsOf};
+    ghost use Rattle.trace_check.specs.Pages.{AreBoundsOf};
 
     ghost Value = { List (Option RankedPiece) };
 
     ghost view = { λ p. p.pieces.items };
 
-    ghost invariant = { λ p. AreColumnsOf p.pieces.items p.ranks.items p.firsts.items p.lasts.items };
+    ghost invariant = { λ p. AreColumnsOf p.pieces.items p.ranks.items p.firsts.items p.lasts.items × AreGroupsOf p.pieces.items p.groups.items × AreBoundsOf p.pieces.items p.bounds.items };
 }
 
 impl Placed {
@@ -56,11 +68,15 @@ impl Placed {
         let ranks = Vec::from_elem(alloc, u32::MAX, slots as usize)?;
         let firsts = Vec::from_elem(alloc, u32::MAX, slots as usize)?;
         let lasts = Vec::from_elem(alloc, 0u32, slots as usize)?;
+        let bounds = no_bounds(alloc, slots as usize)?;
+        let groups = no_groups(alloc)?;
         Ok(Placed {
             pieces,
             ranks,
             firsts,
             lasts,
+            bounds,
+            groups,
         })
     }
 
@@ -79,17 +95,34 @@ impl Placed {
         &self.pieces[at]
     }
 
-    /// Puts a piece into a slot, or empties it, and hands out what stood there.
-    pub(crate) fn set(&mut self, at: usize, content: Option<Known>) -> Option<Known>
+    /// Puts a piece into a slot, or empties it, and hands out what stood there. It fails only for want of memory, and then
+    /// all stands as it did.
+    pub(crate) fn set(
+        &mut self,
+        at: usize,
+        content: Option<Known>,
+    ) -> Result<Option<Known>, AllocError>
         requires { at < length self.old }
-        ensures placed { self.new ≡ slice_set self.old at content }
-        ensures stood { result ≡ slot self.old at }
+        ensures placed { OnOk result (self.new ≡ slice_set self.old at content) }
+        ensures stood { IfOk result (λ stood. stood ≡ slot self.old at) }
+        ensures same { OnErr result (self.new ≡ self.old) }
     {
+        let goes = group_at(&self.pieces[at]);
+        let comes = group_at(&content);
+        regroup(&mut self.groups, at, goes, comes)?;
         let cells = cells_of(&content);
         self.ranks[at] = cells.rank;
         self.firsts[at] = cells.first;
         self.lasts[at] = cells.last;
-        replace(&mut self.pieces[at], content)
+        self.bounds[at / PAGE] = bounds_of(&self.ranks, at);
+        Ok(replace(&mut self.pieces[at], content))
+    }
+
+    /// Slots among which are all that hold an entry of this value, mask and tag.
+    pub(crate) fn alike(&self, entry: &Entry) -> &[usize]
+        ensures { (at : ℕ) (ranked : RankedPiece) → slot self.now at ≡ Some ranked → IsTrue (entries.same_match entry.now (entry_for ranked)) → Contains result.now at }
+    {
+        self.groups[group_of(entry)].slots()
     }
 
     /// The next slot from one on, up to another, whose piece may be near: those that are passed over aren't. That a rank
@@ -102,6 +135,32 @@ impl Placed {
         ensures passed { (k : ℕ) (ranked : RankedPiece) → from ≤ k → k < result → slot self.now k ≡ Some ranked
             → (columns.coarse_rank ranked.rank < 2 ^ 32 - 1 → IsNear ranks windows ranked) → ⊥ }
     {
+        let mut next = from;
+        while next < to {
+            let end = page_end(next, to);
+            let found = self.next_in_page(ranks, windows, next, end);
+            let is_found = found < end;
+            if is_found {
+                return found;
+            }
+            next = end;
+        }
+        next
+    }
+
+    /// The same in a page, which is passed over by its bounds where these have no rank of the span.
+    fn next_in_page(&self, ranks: Span, windows: Span, from: usize, to: usize) -> usize
+        requires from { from < to }
+        requires to { to ≤ length self.now }
+        requires page { to ≤ from / page_slots * page_slots + page_slots }
+        ensures from { from ≤ result }
+        ensures most { result ≤ to }
+        ensures passed { (k : ℕ) (ranked : RankedPiece) → from ≤ k → k < result → slot self.now k ≡ Some ranked
+            → (columns.coarse_rank ranked.rank < 2 ^ 32 - 1 → IsNear ranks windows ranked) → ⊥ }
+    {
+        if !have_common(self.bounds[from / PAGE], ranks) {
+            return to;
+        }
         next_meeting(
             &self.ranks,
             &self.firsts,
@@ -111,17 +170,6 @@ impl Placed {
             from,
             to,
         )
-    }
-
-    /// The next slot from one on, up to another, whose piece may have this rank: those that are passed over haven't it.
-    pub(crate) fn next_ranked(&self, rank: Rank, from: usize, to: usize) -> usize
-        requires from { from ≤ to }
-        requires to { to ≤ length self.now }
-        ensures from { from ≤ result }
-        ensures most { result ≤ to }
-        ensures passed { (k : ℕ) (ranked : RankedPiece) → from ≤ k → k < result → slot self.now k ≡ Some ranked → ranked.rank ≡ rank → ⊥ }
-    {
-        next_equal(&self.ranks, coarse_rank(rank), from, to)
     }
 }
 
@@ -166,35 +214,16 @@ fn next_meeting(
     next
 }
 
-/// The next place from one on, up to another, that may have a number, eight in a step; of the last seven places none is
-/// passed over.
-fn next_equal(column: &[u32], number: u32, from: usize, to: usize) -> usize
-    requires from { from ≤ to }
-    requires column { to ≤ length column.now }
-    ensures from { from ≤ result }
-    ensures most { result ≤ to }
-    ensures passed { (k : ℕ) → from ≤ k → k < result → (slice_index column.now k == number) ≡ false }
+/// The group of the entry that a slot holds.
+fn group_at(place: &Option<Known>) -> Option<usize>
+    ensures group { (ranked : RankedPiece) → place.now ≡ Some ranked → result ≡ Some (groups.group_of (entry_for ranked)) }
+    ensures none { place.now ≡ None → result ≡ None }
+    ensures inside { IfSome result (λ group. group < group_count) }
 {
-    let mut next = from;
-    while to - next >= 8 {
-        let before = first_zero(unequal_eight(column, number, next));
-        if before < 8 {
-            return next + before as usize;
-        }
-        next += 8;
+    match place {
+        None => None,
+        Some(known) => Some(group_of(&known.entry)),
     }
-    next
-}
-
-/// Of the eight numbers of a column from a place on, 0 for each that is this one.
-fn unequal_eight(column: &[u32], number: u32, at: usize) -> u32x8
-    requires { at + 8 ≤ length column.now }
-    ensures len { length result ≡ 8 }
-    ensures equal { (k : ℕ) → k < 8 → (slice_index result k == 0) ≡ (slice_index column.now (at + k) == number) }
-{
-    eight(column, at)
-        .simd_eq(u32x8::splat(number))
-        .select(u32x8::splat(0), u32x8::splat(1))
 }
 
 /// What the columns have of a piece.
@@ -228,7 +257,11 @@ fn coarse_rank(rank: Rank) -> u32
     ensures value { result ≡ columns.coarse_rank rank }
     ensures fits { result < 2 ^ 32 - 1 }
 {
-    u32::from(rank.high) * 0x100_0000 + low_part(rank) / 512
+    if rank.high > 0 {
+        0x8000_0000 + (u32::from(rank.high) - 1) * 0x80_0000 + low_part(rank) / 512
+    } else {
+        low_part(rank) / 2
+    }
 }
 
 /// The low part of a rank, or the greatest number of 32 bits where that is less.

@@ -85,7 +85,7 @@ fn is_over(place: &Option<Known>, ranked: &Ranked) -> bool
     }
 }
 
-/// The least other slot than one that holds an entry of the same value, mask and tag as this.
+/// Another slot than one that holds an entry of the same value, mask and tag as this.
 pub(crate) fn copy_of(places: &Placed, at: usize, entry: &Entry) -> Option<usize>
     ensures some { IfSome result (λ other. (other ≢ at) × ((copy : RankedPiece) × (slot places.now other ≡ Some copy)
         × IsTrue (entries.same_match entry.now (entry_for copy)))) }
@@ -93,15 +93,28 @@ pub(crate) fn copy_of(places: &Placed, at: usize, entry: &Entry) -> Option<usize
     ensures none { IsNone result → (other : ℕ) (copy : RankedPiece) → other ≢ at → slot places.now other ≡ Some copy
         → IsTrue (entries.same_match entry.now (entry_for copy)) → ⊥ }
 {
-    let slots = places.len();
-    let mut other = places.next_ranked(entry.tag, 0, slots);
-    while other < slots {
-        if other != at && holds_match(places.at(other), entry) {
-            return Some(other);
+    let alike = places.alike(entry);
+    for other in alike {
+        if is_copy(places, at, *other, entry) {
+            return Some(*other);
         }
-        other = places.next_ranked(entry.tag, other + 1, slots);
     }
     None
+}
+
+/// Whether a slot is another than one and holds an entry of the same value, mask and tag.
+fn is_copy(places: &Placed, at: usize, other: usize, entry: &Entry) -> bool
+    ensures copy { IsTrue result ↔ (other ≢ at) × ((copy : RankedPiece) × (slot places.now other ≡ Some copy)
+        × IsTrue (entries.same_match entry.now (entry_for copy))) }
+    ensures inside { IsTrue result → other < length places.now }
+{
+    if other == at {
+        return false;
+    }
+    if other >= places.len() {
+        return false;
+    }
+    holds_match(places.at(other), entry)
 }
 
 /// Whether a slot holds an entry of the same value, mask and tag.
@@ -119,15 +132,25 @@ pub(crate) fn standing(places: &Placed, entry: &Entry) -> Option<Ranked>
     ensures found { IfSome result (λ ranked. (entry_for ranked ≡ entry.now) × ((at : ℕ) × (slot places.now at ≡ Some ranked))) }
     ensures none { IsNone result → (at : ℕ) (ranked : RankedPiece) → slot places.now at ≡ Some ranked → entry_for ranked ≡ entry.now → ⊥ }
 {
-    let slots = places.len();
-    let mut place = places.next_ranked(entry.tag, 0, slots);
-    while place < slots {
-        if let Some(ranked) = piece_with(places.at(place), entry) {
+    let alike = places.alike(entry);
+    for at in alike {
+        if let Some(ranked) = piece_at(places, *at, entry) {
             return Some(ranked);
         }
-        place = places.next_ranked(entry.tag, place + 1, slots);
     }
     None
+}
+
+/// The piece of a slot, if there is such a slot and it holds just this entry.
+fn piece_at(places: &Placed, at: usize, entry: &Entry) -> Option<Ranked>
+    ensures found { IfSome result (λ ranked. (slot places.now at ≡ Some ranked) × (entry_for ranked ≡ entry.now)) }
+    ensures none { IsNone result → (ranked : RankedPiece) → slot places.now at ≡ Some ranked → entry_for ranked ≡ entry.now → ⊥ }
+{
+    if at < places.len() {
+        piece_with(places.at(at), entry)
+    } else {
+        None
+    }
 }
 
 /// The piece of a slot, if it holds just this entry.

@@ -1,34 +1,30 @@
-use Rattle.std.proofs.Common.{◌≡◌, ◌+◌, Some, inl, inr, refl, sym, ◌∙◌, arith}
-use Rattle.std.proofs.lemmas.Bool.{cases_lt}
+use Rattle.std.proofs.Common.{◌≡◌, ℕ, ◌<◌, Some, IsTrue, get_or, length, refl, subst, sym, ◌∙◌, arith}
+use Rattle.std.specs.Prelude.{slice_index}
+use Rattle.std.proofs.lemmas.List.{get_or_default}
 use Rattle.slot_order.specs.Order.{slot}
-use Rattle.slot_order.proofs.Writes.{slot_inside}
-use Rattle.rule_model.specs.Entry.{RankedPiece, entry_for}
+use Rattle.rule_model.specs.declared.words.Entry.{Entry}
+use Rattle.rule_model.specs.Entry.{RankedPiece, entry_for, same_match}
+use Rattle.tcam_device.proofs.One.{same_match-same}
 use Rattle.readback.proofs.Pairs.{below_next}
-use Rattle.trace_check.proofs.ColumnsKept.{entry_rank}
 use Rattle.trace_check.proofs.slots.standing.Goals as goal
 
-pub loop-place-init : goal.loop-place-init
-loop-place-init c = record {
-  most = c.next_ranked-place.ensures.most;
-  none = λ k ranked less there same. c.next_ranked-place.ensures.passed k ranked (omega arith) less there (entry_rank c.args.entry.now ranked same);
-}
-
 pub returns-in-Some-clause-found : goal.returns-in-Some-clause-found
-returns-in-Some-clause-found c = let w = c.in-Some.ensures.found in (w.1, (c.loop-place.place, sym c.at.ensures ∙ w.0))
+returns-in-Some-clause-found c = let w = c.in-Some.ensures.found in (w.1, (slice_index c.alike-alike.result.now c.loop-at.at-index, w.0))
 
-pub loop-place-preserved : goal.loop-place-preserved
-loop-place-preserved c = record {
-  most = c.next_ranked-place-in-loop-place.ensures.most;
-  none = λ k ranked less there same. elim (cases_lt k (c.loop-place.place + 1)) [
-    | inl before ↦ below_next (λ k. (one : RankedPiece) → slot c.args.places.now k ≡ Some one → entry_for one ≡ c.args.entry.now → ⊥) c.loop-place.place
-        (λ k earlier one read is. c.loop-place.invariant.none k one earlier read is) (λ one read is. c.in_default.ensures.none refl one (c.at.ensures ∙ read) is) k before ranked there same
-    | inr past ↦ c.next_ranked-place-in-loop-place.ensures.passed k ranked past less there (entry_rank c.args.entry.now ranked same)
-  ];
-}
+pub loop-at-preserved : goal.loop-at-preserved
+loop-at-preserved c k place ranked below inside read there same =
+    below_next (λ k. (place : ℕ) (one : RankedPiece) → k < length c.alike-alike.result.now → get_or c.alike-alike.result.now k place ≡ place → slot c.args.places.now place ≡ Some one → entry_for one ≡ c.args.entry.now → ⊥) c.loop-at.at-index
+    (λ k before place one. c.loop-at.invariant k place one before) here k below place ranked inside read there same
+  where
+    here : (place : ℕ) (one : RankedPiece) → c.loop-at.at-index < length c.alike-alike.result.now → get_or c.alike-alike.result.now c.loop-at.at-index place ≡ place → slot c.args.places.now place ≡ Some one
+        → entry_for one ≡ c.args.entry.now → ⊥
+    here place one inside read there is =
+        let same : slice_index c.alike-alike.result.now c.loop-at.at-index ≡ place = get_or_default c.alike-alike.result.now c.loop-at.at-index 0 place inside ∙ read in
+        c.in_default.ensures.none refl one (rw same there) is
 
 pub returns-clause-none : goal.returns-clause-none
 returns-clause-none c _ at ranked there same =
-    let inside = slot_inside c.args.places.now at ranked there in
-    let all = c.loop-place-test.false in
-    let size = c.len-slots.ensures in
-    c.loop-place.invariant.none at ranked (omega arith) there same
+    let listed = c.alike-alike.ensures at ranked there (subst (λ (e : Entry). IsTrue (same_match c.args.entry.now e)) (sym same) (same_match-same c.args.entry.now)) in
+    let all = c.loop-at-test.false in
+    let inside = listed.1 in
+    c.loop-at.invariant listed.0 at ranked (omega arith) inside listed.2 there same

@@ -30,9 +30,9 @@ returns-in_default-pair_behind-clause-refused c _ slots mode bits rules batch us
 pub returns-in_default-count_tasks-clause-refused : goal.returns-in_default-count_tasks-clause-refused
 returns-in_default-count_tasks-clause-refused c _ slots mode bits rules batch used kept later =
     let right = some_of (λ (coming : Coming). ComesRight c.args.self.now c.args.device.now c.args.at (option_copied c.args.entry) coming.content coming.puts) c.in_ok-came.came c.in-Some.field-0 c.in-Some.is c.in_ok-came.ensures.right in
-    early_found slots mode bits rules batch c.args.device.now c.args.self.now kept c.args.at used c.requires.inside c.in-Some.field-0.content (option_copied c.args.entry) right.is c.set-before.new.self c.set-before.result
-    c.set-before.ensures.placed
-    c.set-before.ensures.stood later
+    early_found slots mode bits rules batch c.args.device.now c.args.self.now kept c.args.at used c.requires.inside c.in-Some.field-0.content (option_copied c.args.entry) right.is c.set.new.self c.in_ok-before.before
+    c.in_ok-before.ensures.placed
+    c.in_ok-before.ensures.stood later
     (c.in_default-count_tasks.ensures.early refl)
 
 pub returns-clause-taken : goal.returns-clause-taken
@@ -42,9 +42,9 @@ returns-clause-taken c _ slots mode bits rules batch used kept =
     let paired = c.in-Ok.ensures.kept in
     let e = c.come_to.ensures.others in
     kept_behind slots mode bits rules batch c.args.device.now c.args.self.now kept c.args.at used c.requires.inside c.in-Some.field-0.content (option_copied c.args.entry) right.is c.in-Some.field-0.puts right (goes c.if-not-may_go.false) c.in-Ok.pair paired c.in-Some-count_tasks.done
-    (counted_found slots mode bits rules batch c.args.device.now c.args.self.now kept c.args.at used c.requires.inside c.in-Some.field-0.content (option_copied c.args.entry) right.is c.set-before.new.self c.set-before.result c.in-Some-count_tasks.done
-    c.set-before.ensures.placed
-    c.set-before.ensures.stood
+    (counted_found slots mode bits rules batch c.args.device.now c.args.self.now kept c.args.at used c.requires.inside c.in-Some.field-0.content (option_copied c.args.entry) right.is c.set.new.self c.in_ok-before.before c.in-Some-count_tasks.done
+    c.in_ok-before.ensures.placed
+    c.in_ok-before.ensures.stood
     c.in-Some-count_tasks.ensures.parted)
-    _ c.come_to.new.self c.set-before.ensures.placed refl refl
+    _ c.come_to.new.self c.in_ok-before.ensures.placed refl refl
     (ap pieces_kept e) (ap (λ (k : Commit). k.live) e) (ap (λ (k : Commit). k.gives_bit) e) (ap (λ (k : Commit). k.done) e) (ap (λ (k : Commit). k.pair) e) c.come_to.ensures.served

@@ -1,10 +1,19 @@
-use Rattle.std.proofs.Common.{◌∙◌, ap}
-use Rattle.slot_order.specs.Order.{slot}
-use Rattle.trace_check.proofs.ColumnsKept.{far_piece}
+use Rattle.std.proofs.Common.{inl, inr, arith}
+use Rattle.std.proofs.lemmas.Bool.{cases_lt}
 use Rattle.trace_check.proofs.placed.Placed.next_near.Goals as goal
 
-pub returns-clause-passed : goal.returns-clause-passed
-returns-clause-passed c k ranked least below there near =
-    let i = c.self.inside in
-    let passed = rw (c.deref.ensures.value, c.deref-2.ensures.value, c.deref-3.ensures.value) at c.next_meeting.ensures.passed in
-    far_piece i.pieces.items i.ranks.items i.firsts.items i.lasts.items c.args.ranks c.args.windows k ranked c.self.invariant (ap (λ held. slot held k) c.self.view_is ∙ there) (passed k least below) near
+pub returns-then-is_found-clause-passed : goal.returns-then-is_found-clause-passed
+returns-then-is_found-clause-passed c k ranked least below there near = elim (cases_lt k c.loop-next.next) [
+  | inl before ↦ c.loop-next.invariant.passed k ranked least before there near
+  | inr past ↦ c.next_in_page-found.ensures.passed k ranked past below there near
+]
+
+pub loop-next-preserved : goal.loop-next-preserved
+loop-next-preserved c = record {
+  from = let more = c.page_end-end.ensures.further in let least = c.loop-next.invariant.from in omega arith;
+  most = c.page_end-end.ensures.most;
+  passed = λ k ranked least below there near. elim (cases_lt k c.loop-next.next) [
+    | inl before ↦ c.loop-next.invariant.passed k ranked least before there near
+    | inr past ↦ let all = c.if-is_found.false in let most = c.next_in_page-found.ensures.most in c.next_in_page-found.ensures.passed k ranked past (omega arith) there near
+  ];
+}
