@@ -1,5 +1,5 @@
 -- A change that joins its batch, a packet, and a commit that a table refuses.
-use Rattle.std.proofs.Common.{◌≡◌, ◌≢◌, ◌⊎◌, inl, inr, ℕ, ◌+◌, ◌-◌, ◌*◌, ◌^◌, ◌≤◌, min, Bool, true, false, Option, None, Some, IsSome, Result, Ok, Err, OnOk, OnErr, IfErr, List, [], ◌∷◌, ◌++◌, length, refl, sym, ap, subst, ◌∙◌, append-nil, arith}
+use Rattle.std.proofs.Common.{◌≡◌, ◌≢◌, ◌⊎◌, inl, inr, ℕ, ◌+◌, ◌≤◌, Option, None, Some, Result, Ok, Err, OnOk, OnErr, IfErr, List, [], ◌∷◌, ◌++◌, refl, sym, ap, subst, ◌∙◌, append-nil, arith}
 use Rattle.std.specs.Io.KnownBytes.{Appends}
 use Rattle.rule_model.specs.declared.Key.{Key}
 use Rattle.rule_model.specs.Key.{IsKey}
@@ -9,7 +9,6 @@ use Rattle.rule_store.specs.Verdict.{Verdict, Accepted, Unsound, OutOfBits, OutO
 use Rattle.tcam_device.specs.State.{Shows}
 use Rattle.readback.specs.declared.Rejection.{Rejection}
 use Rattle.readback.specs.declared.Rejection.TheVariants as rejection
-use Rattle.batch_order.specs.CarriedOut.{IsTried}
 use Rattle.batch_order.specs.Managed.{HeldCommit, Serves}
 use Rattle.split_device.specs.declared.SplitAction.{SplitAction}
 use Rattle.split_device.specs.State.{split_lookup, undivided}
@@ -24,14 +23,14 @@ use Rattle.router.specs.declared.Side.TheVariants as side
 use Rattle.router.specs.declared.RouterAct.{RouterAct}
 use Rattle.router.specs.declared.RouterAct.TheVariants.{Change, Packet, Commit}
 use Rattle.router.specs.declared.RouterFault.{RouterFault}
-use Rattle.router.specs.declared.RouterFault.TheVariants.{BatchFull, Sink, Device, Memory, Held}
+use Rattle.router.specs.declared.RouterFault.TheVariants.{BatchFull, Sink, Device, Memory}
 use Rattle.router.specs.Text.{packet_line, refused_line}
 use Rattle.router.specs.Run.{DeviceSlots, Effect, HasEffects, Judged, JudgedByRoutes, Prints, Progress, Refuses, Setting, TakesMemory}
 use Rattle.router.specs.Routing.{AreAt, FitsBoth, IsIdle, Routing, progress_of, setting_of, with_push, with_refusal}
 use Rattle.router.specs.Carried.{LeavesDevice}
 use Rattle.router.specs.declared.committing.Unplanned.TheVariants.{Refused}
 use Rattle.router.specs.Taken.{IsUnplannedBy, list_verdict, route_verdict}
-use Rattle.router.specs.Acting.{ComesTo, Does, FailedAt, IsUntouched, Outside, outside}
+use Rattle.router.specs.Acting.{ComesTo, Does, FailedAt, Outside, outside}
 
 -- nothing came about
 appends_nothing : (taken : Option (List ℕ)) → Appends taken taken []
@@ -97,20 +96,20 @@ packet_tells slots inside now key list routes listed routed same fits idle valid
 
 -- a packet whose line is written
 pub packet_carries : (slots : DeviceSlots) (router : Routing) (key : Key) (listed routed : Answer) (list routes : List SplitAction) (old new : Option (List ℕ))
-    → (AreAt router list routes → (answer router.listed.whole.rules key ≡ listed) × (answer router.routed.whole.rules key ≡ routed)) → Appends old new (packet_line listed routed)
+    → (AreAt router list routes → (answer router.listed.whole.rules key ≡ listed) × (answer router.routed.whole.rules key ≡ routed)) → Appends old new (packet_line router.version listed routed)
     → ComesTo slots router (Packet key) router (Ok tt) (outside list routes old) (outside list routes new)
 packet_carries slots router key listed routed list routes old new tells grown at = record {
-  effects = Prints (packet_line listed routed) ∷ [];
+  effects = Prints (packet_line router.version listed routed) ∷ [];
   step = (
-    ap (λ (one : Answer). Prints (packet_line one routed) ∷ []) (sym (tells at).0) ∙ ap (λ (one : Answer). Prints (packet_line (answer router.listed.whole.rules key) one) ∷ []) (sym (tells at).1),
+    ap (λ (one : Answer). Prints (packet_line router.version one routed) ∷ []) (sym (tells at).0) ∙ ap (λ (one : Answer). Prints (packet_line router.version (answer router.listed.whole.rules key) one) ∷ []) (sym (tells at).1),
     refl,
   );
-  does = does_line (packet_line listed routed) list routes old new grown;
+  does = does_line (packet_line router.version listed routed) list routes old new grown;
 }
 
 -- or cut
 pub packet_cuts : (slots : DeviceSlots) (router : Routing) (key : Key) (listed routed : Answer) (list routes : List SplitAction) (old new : Option (List ℕ))
-    → (AreAt router list routes → (answer router.listed.whole.rules key ≡ listed) × (answer router.routed.whole.rules key ≡ routed)) → AppendsPart old new (packet_line listed routed)
+    → (AreAt router list routes → (answer router.listed.whole.rules key ≡ listed) × (answer router.routed.whole.rules key ≡ routed)) → AppendsPart old new (packet_line router.version listed routed)
     → ComesTo slots router (Packet key) router (Err Sink) (outside list routes old) (outside list routes new)
 packet_cuts slots router key listed routed list routes old new tells part at = record {
   front = [];
@@ -121,7 +120,7 @@ packet_cuts slots router key listed routed list routes old new tells part at = r
     after = progress_of router;
     step = (
       ap (λ (text : List ℕ). Prints text ∷ []) (sym part.2)
-          ∙ (ap (λ (one : Answer). Prints (packet_line one routed) ∷ []) (sym (tells at).0) ∙ ap (λ (one : Answer). Prints (packet_line (answer router.listed.whole.rules key) one) ∷ []) (sym (tells at).1)),
+          ∙ (ap (λ (one : Answer). Prints (packet_line router.version one routed) ∷ []) (sym (tells at).0) ∙ ap (λ (one : Answer). Prints (packet_line router.version (answer router.listed.whole.rules key) one) ∷ []) (sym (tells at).1)),
       refl,
     );
   };
@@ -135,14 +134,14 @@ told_refused (rejection.Bits field needed free) = λ accepted. cc
 told_refused (rejection.Slots needed free) = λ accepted. cc
 
 judged_list : (setting : Setting) (slots : DeviceSlots) (old : Progress) (reason : Verdict) (effects : List Effect) (new : Progress) → reason ≢ Accepted
-    → Refuses side.List old reason effects new → Judged setting slots old reason effects new
+    → Refuses setting side.List old reason effects new → Judged setting slots old reason effects new
 judged_list setting slots old Accepted effects new other refuses = absurd (other refl)
 judged_list setting slots old (Unsound fault) effects new other refuses = refuses
 judged_list setting slots old (OutOfBits field needed free) effects new other refuses = refuses
 judged_list setting slots old (OutOfSlots needed free) effects new other refuses = refuses
 
 judged_routes : (setting : Setting) (slots : DeviceSlots) (old : Progress) (reason : Verdict) (effects : List Effect) (new : Progress) → reason ≢ Accepted
-    → Refuses side.Routes old reason effects new → JudgedByRoutes setting slots old reason effects new
+    → Refuses setting side.Routes old reason effects new → JudgedByRoutes setting slots old reason effects new
 judged_routes setting slots old Accepted effects new other refuses = absurd (other refl)
 judged_routes setting slots old (Unsound fault) effects new other refuses = refuses
 judged_routes setting slots old (OutOfBits field needed free) effects new other refuses = refuses
@@ -154,7 +153,7 @@ RefusedBy router side.List reason = list_verdict router ≡ reason
 RefusedBy router side.Routes reason = (list_verdict router ≡ Accepted) × (route_verdict router ≡ reason)
 
 refuse_step : (slots : DeviceSlots) (router : Routing) (which : Side) (reason : Verdict) (effects : List Effect) → RefusedBy router which reason → reason ≢ Accepted
-    → effects ≡ Prints (refused_line which (router.commits + 1) reason) ∷ [] → HasEffects (setting_of router) slots (progress_of router) Commit effects (progress_of (with_refusal router))
+    → effects ≡ Prints (refused_line router.version which (router.commits + 1) reason) ∷ [] → HasEffects (setting_of router) slots (progress_of router) Commit effects (progress_of (with_refusal router))
 refuse_step slots router side.List reason effects judged other same =
     subst (λ (verdict : Verdict). Judged (setting_of router) slots (progress_of router) verdict effects (progress_of (with_refusal router))) (sym judged)
     (judged_list (setting_of router) slots (progress_of router) reason effects (progress_of (with_refusal router)) other (same, refl))
@@ -165,18 +164,18 @@ refuse_step slots router side.Routes reason effects judged other same =
 
 -- a commit that is refused, with its line
 pub refuse_carries : (slots : DeviceSlots) (router new : Routing) (which : Side) (reason : Rejection) (list routes : List SplitAction) (old taken : Option (List ℕ))
-    → RefusedBy router which (verdict_told reason) → new ≡ with_refusal router → Appends old taken (refused_line which (router.commits + 1) (verdict_told reason))
+    → RefusedBy router which (verdict_told reason) → new ≡ with_refusal router → Appends old taken (refused_line router.version which (router.commits + 1) (verdict_told reason))
     → ComesTo slots router Commit new (Ok tt) (outside list routes old) (outside list routes taken)
 refuse_carries slots router new which reason list routes old taken judged is grown =
     subst (λ (after : Routing). ComesTo slots router Commit after (Ok tt) (outside list routes old) (outside list routes taken)) (sym is) (λ at. record {
-      effects = Prints (refused_line which (router.commits + 1) (verdict_told reason)) ∷ [];
+      effects = Prints (refused_line router.version which (router.commits + 1) (verdict_told reason)) ∷ [];
       step = refuse_step slots router which (verdict_told reason) _ judged (told_refused reason) refl;
-      does = does_line (refused_line which (router.commits + 1) (verdict_told reason)) list routes old taken grown;
+      does = does_line (refused_line router.version which (router.commits + 1) (verdict_told reason)) list routes old taken grown;
     })
 
 -- and with a part of it
 pub refuse_cuts : (slots : DeviceSlots) (router new : Routing) (which : Side) (reason : Rejection) (list routes : List SplitAction) (old taken : Option (List ℕ))
-    → RefusedBy router which (verdict_told reason) → AppendsPart old taken (refused_line which (router.commits + 1) (verdict_told reason))
+    → RefusedBy router which (verdict_told reason) → AppendsPart old taken (refused_line router.version which (router.commits + 1) (verdict_told reason))
     → ComesTo slots router Commit new (Err Sink) (outside list routes old) (outside list routes taken)
 refuse_cuts slots router new which reason list routes old taken judged part = λ at. record {
   front = [];
@@ -219,8 +218,8 @@ never_sink (Err why) kind is = cc
 
 -- a commit that a table refuses, by the answer of what writes its line
 pub refuse_comes : (result : Result (Unit {0}) RouterFault) (slots : DeviceSlots) (router new : Routing) (which : Side) (reason : Rejection) (list routes : List SplitAction) (old told : Option (List ℕ))
-    → IfErr result (λ why. why ≡ Sink) → RefusedBy router which (verdict_told reason) → new ≡ with_refusal router → OnOk result (Appends old told (refused_line which (router.commits + 1) (verdict_told reason)))
-    → OnErr result (AppendsPart old told (refused_line which (router.commits + 1) (verdict_told reason))) → ComesTo slots router Commit new result (outside list routes old) (outside list routes told)
+    → IfErr result (λ why. why ≡ Sink) → RefusedBy router which (verdict_told reason) → new ≡ with_refusal router → OnOk result (Appends old told (refused_line router.version which (router.commits + 1) (verdict_told reason)))
+    → OnErr result (AppendsPart old told (refused_line router.version which (router.commits + 1) (verdict_told reason))) → ComesTo slots router Commit new result (outside list routes old) (outside list routes told)
 refuse_comes (Ok done) slots router new which reason list routes old told kind judged is whole part = refuse_carries slots router new which reason list routes old told judged is whole
 refuse_comes (Err why) slots router new which reason list routes old told kind judged is whole part =
     subst (λ (one : RouterFault). ComesTo slots router Commit new (Err one) (outside list routes old) (outside list routes told)) (sym kind) (refuse_cuts slots router new which reason list routes old told judged part)

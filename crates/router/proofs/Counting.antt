@@ -1,5 +1,5 @@
 -- What carries one table's part of a commit out.
-use Rattle.std.proofs.Common.{◌≡◌, ℕ, zero, suc, ◌+◌, ◌*◌, ◌-◌, ◌^◌, ◌≤◌, ◌<◌, min, List, [], ◌∷◌, ◌++◌, length, refl, sym, ap, subst, ◌∙◌, append-nil, arith}
+use Rattle.std.proofs.Common.{◌≡◌, ℕ, suc, ◌+◌, ◌≤◌, List, [], ◌∷◌, ◌++◌, length, refl, sym, ap, ◌∙◌, append-nil, arith}
 use Rattle.batch_order.specs.CarriedOut.{IsTried, finished}
 use Rattle.batch_order.proofs.under_way.Tried.{IsCount}
 use Rattle.split_device.specs.declared.SplitWrite.{SplitWrite}

@@ -1,10 +1,9 @@
 -- What some effects are of each device and of the report.
-use Rattle.std.proofs.Common.{◌≡◌, ℕ, ◌+◌, List, [], ◌∷◌, ◌++◌, length, map, refl, sym, ap, ap₂, ◌∙◌, append_assoc}
+use Rattle.std.proofs.Common.{◌≡◌, List, [], ◌∷◌, ◌++◌, map, refl, ap}
 use Rattle.split_device.specs.declared.SplitAction.{SplitAction}
-use Rattle.split_device.specs.Flight.{written}
 use Rattle.router.specs.declared.Side.{Side}
 use Rattle.router.specs.declared.Side.TheVariants as side
-use Rattle.router.specs.Run.{Effect, Makes, Prints, made_of_list, made_of_routes, printed}
+use Rattle.router.specs.Run.{Effect, Makes, made_of_list, made_of_routes, printed}
 
 -- the parts of the list among what is made of the list first
 pub list_of_list : (made : List SplitAction) (rest : List Effect) → made_of_list (map (Makes side.List) made ++ rest) ≡ made ++ made_of_list rest

@@ -1,7 +1,7 @@
 -- What a router is between two calls.
-use Rattle.std.proofs.Common.{◌≡◌, ℕ, zero, suc, ◌+◌, ◌*◌, ◌^◌, ◌≤◌, ◌<◌, ◌&&◌, not, is_some, Bool, true, false, Option, None, Some, Result, Ok, Err, OnOk, OnErr, List, [], ◌∷◌, ◌++◌, length, refl, sym, ap, ap₂, subst, ◌∙◌, le_refl, length-append, arith}
+use Rattle.std.proofs.Common.{◌≡◌, ℕ, ◌+◌, ◌^◌, ◌≤◌, ◌&&◌, not, is_some, Bool, true, Option, None, Some, Result, Ok, Err, OnOk, OnErr, List, [], ◌∷◌, ◌++◌, length, refl, sym, ap, ap₂, subst, ◌∙◌, le_refl, length-append, arith}
 use Rattle.std.specs.List.{AllByRecursion}
-use Rattle.rule_model.specs.declared.IpVersion.TheVariants.{V4}
+use Rattle.rule_model.specs.declared.IpVersion.{IpVersion}
 use Rattle.rule_model.specs.declared.Rule.{Rule}
 use Rattle.rule_store.specs.declared.Mode.{Mode}
 use Rattle.rule_store.specs.declared.Command.{Command}
@@ -10,7 +10,7 @@ use Rattle.commit_writes.specs.Bits.{FieldBits}
 use Rattle.commit_writes.specs.Routes.{IsRoute}
 use Rattle.batch_order.specs.declared.Placement.{Placement}
 use Rattle.batch_order.specs.CarriedOut.{finished}
-use Rattle.batch_order.specs.Managed.{HeldCommit, Managed, OnlyChangesRoutes}
+use Rattle.batch_order.specs.Managed.{HeldCommit, Managed, OnlyChangesRoutes, commit_of}
 use Rattle.split_device.specs.declared.SplitAction.{SplitAction}
 use Rattle.split_device.specs.Flight.{written}
 use Rattle.split_writes.specs.declared.SplitDone.{SplitDone}
@@ -19,10 +19,12 @@ use Rattle.split_order.specs.CarriedOut.{HasMade, finished_split}
 use Rattle.split_order.specs.Left.{left_of}
 use Rattle.split_order.specs.Managed.{SplitManaged, at_rest}
 use Rattle.split_order.specs.Prepared.{HoldsSplit}
-use Rattle.split_order.specs.Steps.{dropped, is_untouched}
+use Rattle.split_order.specs.Steps.{IsPartNext, dropped, is_untouched}
 use Rattle.split_order.proofs.Carrying.{same_slots}
-use Rattle.router.specs.Routing.{HasFewLeft, IsRouter, Routing, begun, parts_left}
+use Rattle.router.specs.Routing.{HasFewLeft, HasPlannedState, IsRouter, Routing, begun, number_left}
 use Rattle.router.proofs.Few.{few_parts, held_is}
+use Rattle.router.proofs.Parts.{held_of_part, not_held}
+use Rattle.router.proofs.PlannedState.{planned_after, planned_before}
 use Rattle.router.proofs.RouteSets.{changes_more, routes_after}
 
 -- with no commit under way nothing is left
@@ -34,15 +36,18 @@ none_left slots whole events none = record {
 }
 
 -- before the first act
-pub begun_router : (slots : ℕ) (mode : Mode) (placement : Placement) → IsRouter (begun slots mode placement)
-begun_router slots mode placement = record {
+pub begun_router : (slots : ℕ) (mode : Mode) (placement : Placement) (version : IpVersion) → IsRouter (begun slots mode placement version)
+begun_router slots mode placement version = record {
   slots = refl;
   mode = refl;
+  placement = refl;
   routes = tt;
   changes = tt;
   writes = omega arith;
   list_few = record { slots = slots; wide = le_refl slots; few = omega arith };
   route_few = record { slots = slots; wide = le_refl slots; few = omega arith };
+  list_stands = λ none. planned_before slots mode placement;
+  route_stands = λ none. planned_before slots mode placement;
 }
 
 -- a change joined a batch, or it stayed as it was
@@ -50,51 +55,63 @@ pub pushed_list : (router : Routing) (batch : List Command) → IsRouter router 
 pushed_list router batch is = record {
   slots = is.slots;
   mode = is.mode;
+  placement = is.placement;
   routes = is.routes;
   changes = is.changes;
   writes = is.writes;
   list_few = is.list_few;
   route_few = is.route_few;
+  list_stands = is.list_stands;
+  route_stands = is.route_stands;
 }
 
-with_routes : (router : Routing) (batch : List Command) → IsRouter router → OnlyChangesRoutes V4 batch → IsRouter (record router { route_batch = batch })
+with_routes : (router : Routing) (batch : List Command) → IsRouter router → OnlyChangesRoutes router.version batch → IsRouter (record router { route_batch = batch })
 with_routes router batch is changes = record {
   slots = is.slots;
   mode = is.mode;
+  placement = is.placement;
   routes = is.routes;
   changes = changes;
   writes = is.writes;
   list_few = is.list_few;
   route_few = is.route_few;
+  list_stands = is.list_stands;
+  route_stands = is.route_stands;
 }
 
-pub pushed_routes : {E : Type 0} (result : Result (Unit {0}) E) (router : Routing) (command : Command) (batch : List Command) → IsRouter router → OnlyChangesRoutes V4 (command ∷ [])
+pub pushed_routes : {E : Type 0} (result : Result (Unit {0}) E) (router : Routing) (command : Command) (batch : List Command) → IsRouter router → OnlyChangesRoutes router.version (command ∷ [])
     → OnOk result (batch ≡ router.route_batch ++ command ∷ []) → OnErr result (batch ≡ router.route_batch) → IsRouter (record router { route_batch = batch })
 pushed_routes (Ok done) router command batch is change pushed same =
-    with_routes router batch is (subst (OnlyChangesRoutes V4) (sym pushed) (changes_more router.route_batch command is.changes change))
-pushed_routes (Err fault) router command batch is change pushed same = with_routes router batch is (subst (OnlyChangesRoutes V4) (sym same) is.changes)
+    with_routes router batch is (subst (OnlyChangesRoutes router.version) (sym pushed) (changes_more router.version router.route_batch command is.changes change))
+pushed_routes (Err fault) router command batch is change pushed same = with_routes router batch is (subst (OnlyChangesRoutes router.version) (sym same) is.changes)
 
 -- whether the sink failed makes no difference, nor whether a commit was refused
 pub marked_router : (router : Routing) (broken : Bool) → IsRouter router → IsRouter (record router { broken = broken })
 marked_router router broken is = record {
   slots = is.slots;
   mode = is.mode;
+  placement = is.placement;
   routes = is.routes;
   changes = is.changes;
   writes = is.writes;
   list_few = is.list_few;
   route_few = is.route_few;
+  list_stands = is.list_stands;
+  route_stands = is.route_stands;
 }
 
 pub refused_router : (router : Routing) (refused : Bool) → IsRouter router → IsRouter (record router { refused = refused })
 refused_router router refused is = record {
   slots = is.slots;
   mode = is.mode;
+  placement = is.placement;
   routes = is.routes;
   changes = is.changes;
   writes = is.writes;
   list_few = is.list_few;
   route_few = is.route_few;
+  list_stands = is.list_stands;
+  route_stands = is.route_stands;
 }
 
 -- a commit was counted, and the batches were dropped
@@ -102,11 +119,14 @@ pub counted_router : (router : Routing) → IsRouter router → IsRouter (record
 counted_router router is = record {
   slots = is.slots;
   mode = is.mode;
+  placement = is.placement;
   routes = is.routes;
   changes = tt;
   writes = (let few = is.writes in omega arith);
   list_few = is.list_few;
   route_few = is.route_few;
+  list_stands = is.list_stands;
+  route_stands = is.route_stands;
 }
 
 -- a manager that holds a plan has few parts to make
@@ -120,6 +140,12 @@ held_slots old batch counts new holds = ap (λ (whole : Managed). whole.slots) h
 pub held_mode : (old : SplitManaged) (batch : List Command) (counts : SplitDone) (new : SplitManaged) → HoldsSplit old batch counts new → new.whole.mode ≡ old.whole.mode
 held_mode old batch counts new holds = ap (λ (whole : Managed). whole.mode) holds.whole.1.new_is
 
+pub held_placement : (old : SplitManaged) (batch : List Command) (counts : SplitDone) (new : SplitManaged) → HoldsSplit old batch counts new → new.whole.placement ≡ old.whole.placement
+held_placement old batch counts new holds = ap (λ (whole : Managed). whole.placement) holds.whole.1.new_is
+
+held_none : (old : SplitManaged) (batch : List Command) (counts : SplitDone) (new : SplitManaged) → HoldsSplit old batch counts new → new.whole.held ≡ None → ⊥
+held_none old batch counts new holds none = let wrong : Some (commit_of old.whole batch holds.whole.1.made holds.whole.0) ≡ None = sym (held_is old.whole.slots old batch counts new holds) ∙ none in cc
+
 pub held_rules : (old : SplitManaged) (batch : List Command) (counts : SplitDone) (new : SplitManaged) → HoldsSplit old batch counts new → new.whole.rules ≡ old.whole.rules
 held_rules old batch counts new holds = ap (λ (whole : Managed). whole.rules) holds.whole.1.new_is
 
@@ -129,11 +155,15 @@ pub planned_router : (router : Routing) (list_counts route_counts : SplitDone) (
 planned_router router list_counts route_counts listed routed is list_holds route_holds = record {
   slots = held_slots router.routed router.route_batch route_counts routed route_holds ∙ (is.slots ∙ sym (held_slots router.listed router.list_batch list_counts listed list_holds));
   mode = held_mode router.routed router.route_batch route_counts routed route_holds ∙ (is.mode ∙ sym (held_mode router.listed router.list_batch list_counts listed list_holds));
-  routes = subst (AllByRecursion (IsRoute V4)) (sym (held_rules router.routed router.route_batch route_counts routed route_holds)) is.routes;
+  placement = held_placement router.routed router.route_batch route_counts routed route_holds
+      ∙ (is.placement ∙ sym (held_placement router.listed router.list_batch list_counts listed list_holds));
+  routes = subst (AllByRecursion (IsRoute router.version)) (sym (held_rules router.routed router.route_batch route_counts routed route_holds)) is.routes;
   changes = is.changes;
   writes = is.writes;
   list_few = few_held router.listed router.list_batch list_counts listed list_holds;
   route_few = few_held router.routed router.route_batch route_counts routed route_holds;
+  list_stands = λ none. absurd (held_none router.listed router.list_batch list_counts listed list_holds none);
+  route_stands = λ none. absurd (held_none router.routed router.route_batch route_counts routed route_holds none);
 }
 
 -- a plan of which nothing was made is dropped: its manager is as it was
@@ -150,9 +180,9 @@ cancelled old batch counts taken new result holds none rest cancels is =
     so ∙ (ap₂ (λ (whole : Managed) (events : List SplitAction). at_rest whole events) whole_is holds.events ∙ sym (rest none))
 
 -- a manager of which some parts were made has fewer left
-few_made : (slots : ℕ) (made : List SplitAction) (old now : SplitManaged) → HasMade slots made old now → parts_left slots now ≤ parts_left slots old
+few_made : (slots : ℕ) (made : List SplitAction) (old now : SplitManaged) → HasMade slots made old now → number_left slots now ≤ number_left slots old
 few_made slots made old now has =
-    let sum : parts_left slots old ≡ length (written made) + parts_left slots now =
+    let sum : number_left slots old ≡ length (written made) + number_left slots now =
     ap (λ (some : List SplitAction). length (written some)) has.left_is ∙ (ap length (written_append made (left_of slots now)) ∙ length-append (written made) (written (left_of slots now))) in
     omega arith
 
@@ -166,54 +196,67 @@ few_stuck slots made old batch counts taken now holds wide has = record {
 
 -- the router where the list's device failed
 pub stuck_list : (slots : ℕ) (made : List SplitAction) (router : Routing) (old : SplitManaged) (batch : List Command) (counts : SplitDone) (now : SplitManaged) → IsRouter router
-    → HoldsSplit old batch counts router.listed → router.listed.whole.slots ≤ slots → HasMade slots made router.listed now → IsRouter (record router { listed = now })
-stuck_list slots made router old batch counts now is holds wide has = record {
+    → HoldsSplit old batch counts router.listed → router.listed.whole.slots ≤ slots → HasMade slots made router.listed now → IsPartNext (left_of slots now) → IsRouter (record router { listed = now })
+stuck_list slots made router old batch counts now is holds wide has due = record {
   slots = is.slots ∙ sym (same_slots slots made router.listed now has);
   mode = is.mode ∙ sym (ap (λ (some : Managed × Option (List Rule × FieldBits × FieldBits)). some.0.mode) has.outline_is);
+  placement = is.placement ∙ sym (ap (λ (some : Managed × Option (List Rule × FieldBits × FieldBits)). some.0.placement) has.outline_is);
   routes = is.routes;
   changes = is.changes;
   writes = is.writes;
   list_few = few_stuck slots made old batch counts router.listed now holds wide has;
   route_few = is.route_few;
+  list_stands = λ none. absurd (not_held now (held_of_part slots now due) none);
+  route_stands = is.route_stands;
 }
 
 -- the router whose list's part was made
-pub made_list : (slots : ℕ) (router : Routing) → IsRouter router → IsRouter (record router { listed = finished_split slots router.listed })
-made_list slots router is = record {
+pub made_list : (slots : ℕ) (router : Routing) (old : SplitManaged) (batch : List Command) (counts : SplitDone) → IsRouter router → HoldsSplit old batch counts router.listed
+    → old.whole.slots ≤ slots → HasPlannedState old → IsRouter (record router { listed = finished_split slots router.listed })
+made_list slots router old batch counts is holds wide stands = record {
   slots = is.slots;
   mode = is.mode;
+  placement = is.placement;
   routes = is.routes;
   changes = is.changes;
   writes = is.writes;
   list_few = none_left slots (finished router.listed.whole) (router.listed.events ++ left_of slots router.listed) refl;
   route_few = is.route_few;
+  list_stands = λ none. planned_after old batch counts router.listed stands holds slots wide;
+  route_stands = is.route_stands;
 }
 
 -- and the routes' device failed
 pub stuck_routes : (slots : ℕ) (made : List SplitAction) (router : Routing) (old : SplitManaged) (batch : List Command) (counts : SplitDone) (now : SplitManaged) → IsRouter router
-    → HoldsSplit old batch counts router.routed → router.routed.whole.slots ≤ slots → HasMade slots made router.routed now → IsRouter (record router { routed = now })
-stuck_routes slots made router old batch counts now is holds wide has = record {
+    → HoldsSplit old batch counts router.routed → router.routed.whole.slots ≤ slots → HasMade slots made router.routed now → IsPartNext (left_of slots now) → IsRouter (record router { routed = now })
+stuck_routes slots made router old batch counts now is holds wide has due = record {
   slots = same_slots slots made router.routed now has ∙ is.slots;
   mode = ap (λ (some : Managed × Option (List Rule × FieldBits × FieldBits)). some.0.mode) has.outline_is ∙ is.mode;
-  routes = subst (AllByRecursion (IsRoute V4)) (sym (ap (λ (some : Managed × Option (List Rule × FieldBits × FieldBits)). some.0.rules) has.outline_is)) is.routes;
+  placement = ap (λ (some : Managed × Option (List Rule × FieldBits × FieldBits)). some.0.placement) has.outline_is ∙ is.placement;
+  routes = subst (AllByRecursion (IsRoute router.version)) (sym (ap (λ (some : Managed × Option (List Rule × FieldBits × FieldBits)). some.0.rules) has.outline_is)) is.routes;
   changes = is.changes;
   writes = is.writes;
   list_few = is.list_few;
   route_few = few_stuck slots made old batch counts router.routed now holds wide has;
+  list_stands = is.list_stands;
+  route_stands = λ none. absurd (not_held now (held_of_part slots now due) none);
 }
 
 -- the routes' part was made too
 pub made_routes : (slots : ℕ) (router : Routing) (old : SplitManaged) (counts : SplitDone) → IsRouter router → HoldsSplit old router.route_batch counts router.routed
-    → IsRouter (record router { routed = finished_split slots router.routed })
-made_routes slots router old counts is holds = record {
+    → old.whole.slots ≤ slots → HasPlannedState old → IsRouter (record router { routed = finished_split slots router.routed })
+made_routes slots router old counts is holds wide stands = record {
   slots = is.slots;
   mode = is.mode;
-  routes = subst (AllByRecursion (IsRoute V4)) (sym rules_are)
-      (routes_after old.whole.rules router.route_batch (subst (AllByRecursion (IsRoute V4)) (held_rules old router.route_batch counts router.routed holds) is.routes) is.changes);
+  placement = is.placement;
+  routes = subst (AllByRecursion (IsRoute router.version)) (sym rules_are)
+      (routes_after router.version old.whole.rules router.route_batch (subst (AllByRecursion (IsRoute router.version)) (held_rules old router.route_batch counts router.routed holds) is.routes) is.changes);
   changes = is.changes;
   writes = is.writes;
   list_few = is.list_few;
   route_few = none_left slots (finished router.routed.whole) (router.routed.events ++ left_of slots router.routed) refl;
+  list_stands = is.list_stands;
+  route_stands = λ none. planned_after old router.route_batch counts router.routed stands holds slots wide;
 }
   where
     rules_are : (finished router.routed.whole).rules ≡ set_after old.whole.rules router.route_batch
@@ -224,9 +267,12 @@ pub wrote_router : (router : Routing) (more : ℕ) → IsRouter router → more 
 wrote_router router more is few = record {
   slots = is.slots;
   mode = is.mode;
+  placement = is.placement;
   routes = is.routes;
   changes = tt;
   writes = (let so_far = is.writes in omega arith);
   list_few = is.list_few;
   route_few = is.route_few;
+  list_stands = is.list_stands;
+  route_stands = is.route_stands;
 }

@@ -3,6 +3,7 @@ pub mod RouteSets
 pub mod Effects
 pub mod Counting
 pub mod Parts
+pub mod PlannedState
 pub mod Acts
 pub mod Kept
 pub mod Left

@@ -1,25 +1,17 @@
 -- What comes of both plans.
-use Rattle.std.proofs.Common.{◌≡◌, ◌⊎◌, inl, inr, ℕ, ◌+◌, ◌^◌, ◌≤◌, ◌||◌, is_some, true, false, Option, None, Some, IsSome, Result, Ok, Err, List, [], ◌∷◌, ◌++◌, length, map, refl, sym, ap, ap₂, subst, ◌∙◌, append-nil, append_assoc, length-append, arith}
+use Rattle.std.proofs.Common.{◌≡◌, ◌⊎◌, inl, inr, ℕ, ◌+◌, ◌≤◌, true, false, Option, None, Some, IsSome, Ok, Err, List, [], ◌∷◌, ◌++◌, length, map, refl, sym, ap, ap₂, subst, ◌∙◌, append-nil, append_assoc, arith}
 use Rattle.std.specs.Io.KnownBytes.{Appends}
-use Rattle.std.specs.List.{AllByRecursion}
-use Rattle.rule_model.specs.declared.IpVersion.TheVariants.{V4}
-use Rattle.rule_model.specs.declared.Rule.{Rule}
-use Rattle.rule_store.specs.declared.Command.{Command}
-use Rattle.rule_store.specs.declared.Mode.{Mode}
-use Rattle.rule_store.specs.Verdict.{Verdict, Accepted}
-use Rattle.commit_writes.specs.Routes.{IsRoute}
-use Rattle.batch_order.specs.CarriedOut.{finished}
-use Rattle.batch_order.specs.Managed.{HeldCommit, Managed, OnlyChangesRoutes}
+use Rattle.rule_store.specs.Verdict.{Verdict}
+use Rattle.batch_order.specs.Managed.{HeldCommit}
 use Rattle.split_device.specs.declared.SplitAction.{SplitAction}
 use Rattle.split_device.specs.declared.SplitAction.TheVariants.{Written, Drained}
 use Rattle.split_device.specs.declared.SplitWrite.{SplitWrite}
 use Rattle.split_device.specs.Flight.{written}
 use Rattle.split_writes.specs.Insertion.{split_insertions, IsSplitUncrossed}
 use Rattle.split_writes.specs.Segment.{most_by_parts}
-use Rattle.split_order.specs.CarriedOut.{HasMade, finished_split}
+use Rattle.split_order.specs.CarriedOut.{finished_split}
 use Rattle.split_order.specs.Left.{left_of}
-use Rattle.split_order.specs.Managed.{SplitManaged}
-use Rattle.split_order.specs.Prepared.{HoldsOn, HoldsSplit}
+use Rattle.split_order.specs.Prepared.{HoldsOn}
 use Rattle.split_order.specs.Steps.{IsPartNext}
 use Rattle.report_lines.specs.Outside.{AppendsPart}
 use Rattle.router.specs.declared.Side.{Side}
@@ -27,39 +19,39 @@ use Rattle.router.specs.declared.Side.TheVariants as side
 use Rattle.router.specs.declared.RouterAct.TheVariants.{Commit}
 use Rattle.router.specs.declared.RouterFault.TheVariants.{Sink, Device}
 use Rattle.router.specs.Text.{accepted_line}
-use Rattle.router.specs.Run.{Commits, DeviceSlots, Effect, HasEffects, IsPart, Judged, JudgedByRoutes, Makes, Prints, Progress, Table, after_commit, after_part, drains_in, made_line, made_of_list, made_of_routes, printed, state_of, writes_of}
-use Rattle.router.specs.Routing.{FitsBoth, IsIdle, IsRouter, Routing, held_left, parts_left, progress_of, setting_of, table_of}
-use Rattle.router.specs.Carried.{IsStuckAt}
-use Rattle.router.specs.Taken.{IsMadeBy, Made, made_on, IsStuckBy, IsStuckInList, IsStuckInRoutes, IsTaken}
-use Rattle.router.specs.Acting.{ComesTo, CutsAtPart, Does, KeepsCounts, Outside, outside}
+use Rattle.router.specs.Run.{Commits, DeviceSlots, Effect, HasEffects, Judged, JudgedByRoutes, Makes, Prints, Progress, Table, after_commit, made_line, made_of_list, made_of_routes, printed, table_state, writes_of}
+use Rattle.router.specs.Routing.{FitsBoth, IsRouter, Routing, held_left, number_left, progress_of, setting_of}
+use Rattle.router.specs.Taken.{IsMadeBy, MadeOfBoth, made_on, IsStuckInEither, IsStuckInList, IsStuckInRoutes, AreBothTaken}
+use Rattle.router.specs.Acting.{ComesTo, CutsAtPart, Does, KeepsCounts, outside}
 use Rattle.router.proofs.Effects.{list_of_list, list_of_routes, makes_append, printed_of, routes_of_list, routes_of_routes}
-use Rattle.router.proofs.Kept.{held_mode, held_rules, held_slots}
+use Rattle.router.proofs.Kept.{held_slots}
 use Rattle.router.proofs.Parts.{held_of_part, left_at}
-use Rattle.router.proofs.Planning.{part_of, table_after}
+use Rattle.router.proofs.PlannedState.{part_of}
+use Rattle.router.proofs.Planning.{table_after}
 
 -- the effects of a commit that is made of these, with this line
 abbrev pub both_made : List SplitAction → List SplitAction → List ℕ → List Effect
 both_made listed routed line = map (Makes side.List) listed ++ (map (Makes side.Routes) routed ++ Prints line ∷ [])
 
 -- a commit that both tables have taken
-module _ (slots : DeviceSlots) (before now : Routing) (listed routed : ℕ) (taken : IsTaken before now listed routed) (is : IsRouter now) (fits : FitsBoth now slots) where
+module _ (slots : DeviceSlots) (before now : Routing) (listed routed : ℕ) (taken : AreBothTaken before now listed routed) (is : IsRouter now) (fits : FitsBoth now slots) where
   abbrev pub list_left : List SplitAction
   list_left = left_of slots.listed now.listed
 
   abbrev pub route_left : List SplitAction
   route_left = left_of slots.routed now.routed
 
+  list_wide : before.listed.whole.slots ≤ slots.listed
+  list_wide = subst (λ (n : ℕ). n ≤ slots.listed) (held_slots before.listed before.list_batch taken.list_counts now.listed taken.list_holds) fits.listed
+
+  route_wide : before.routed.whole.slots ≤ slots.routed
+  route_wide = subst (λ (n : ℕ). n ≤ slots.routed) (held_slots before.routed before.route_batch taken.route_counts now.routed taken.route_holds) fits.routed
+
   list_on : HoldsOn slots.listed before.listed before.list_batch taken.list_counts now.listed
-  list_on =
-      let wide : before.listed.whole.slots ≤ slots.listed =
-      subst (λ (n : ℕ). n ≤ slots.listed) (held_slots before.listed before.list_batch taken.list_counts now.listed taken.list_holds) fits.listed in
-      taken.list_holds.on slots.listed wide
+  list_on = taken.list_holds.on slots.listed list_wide
 
   route_on : HoldsOn slots.routed before.routed before.route_batch taken.route_counts now.routed
-  route_on =
-      let wide : before.routed.whole.slots ≤ slots.routed =
-      subst (λ (n : ℕ). n ≤ slots.routed) (held_slots before.routed before.route_batch taken.route_counts now.routed taken.route_holds) fits.routed in
-      taken.route_holds.on slots.routed wide
+  route_on = taken.route_holds.on slots.routed route_wide
 
   -- the numbers are those of the parts
   pub list_number : listed ≡ length (written list_left)
@@ -68,17 +60,8 @@ module _ (slots : DeviceSlots) (before now : Routing) (listed routed : ℕ) (tak
   pub route_number : routed ≡ length (written route_left)
   route_number = taken.routed_is ∙ route_on.writes
 
-  route_mode : (setting_of before).mode ≡ before.routed.whole.mode
-  route_mode =
-      sym (held_mode before.listed before.list_batch taken.list_counts now.listed taken.list_holds)
-      ∙ (sym is.mode ∙ held_mode before.routed before.route_batch taken.route_counts now.routed taken.route_holds)
-
-  uncrossed : IsSplitUncrossed (most_by_parts V4) (split_insertions (state_of slots.routed (progress_of before).routed) (written route_left))
-  uncrossed =
-      let rules : AllByRecursion (IsRoute V4) before.routed.whole.rules =
-      subst (AllByRecursion (IsRoute V4)) (held_rules before.routed before.route_batch taken.route_counts now.routed taken.route_holds) is.routes in
-      let changes : OnlyChangesRoutes V4 before.route_batch = subst (OnlyChangesRoutes V4) (ap (λ (r : Routing). r.route_batch) taken.now_is) is.changes in
-      route_on.routes V4 rules changes
+  uncrossed : IsSplitUncrossed (most_by_parts before.version) (split_insertions (table_state slots.routed (progress_of before).routed) (written route_left))
+  uncrossed = route_on.routes before.version taken.router.routes taken.router.changes
 
   -- the commit's line
   abbrev pub whole_line : List ℕ
@@ -91,8 +74,9 @@ module _ (slots : DeviceSlots) (before now : Routing) (listed routed : ℕ) (tak
   commits effects are = record {
     listed = list_left;
     routed = route_left;
-    list_part = part_of slots.listed before.listed before.list_batch taken.list_counts now.listed (setting_of before) refl list_on;
-    route_part = part_of slots.routed before.routed before.route_batch taken.route_counts now.routed (setting_of before) route_mode route_on;
+    list_part = part_of before.listed before.list_batch taken.list_counts now.listed (taken.router.list_stands taken.idle.listed) taken.list_holds slots.listed (setting_of before) list_wide refl refl refl;
+    route_part = part_of before.routed before.route_batch taken.route_counts now.routed (taken.router.route_stands taken.idle.routed) taken.route_holds slots.routed (setting_of before) route_wide
+        (sym taken.router.slots) (sym taken.router.mode) (sym taken.router.placement);
     of_routes = uncrossed;
     effects_are = are;
     after = refl;
@@ -124,7 +108,7 @@ module _ (slots : DeviceSlots) (before now : Routing) (listed routed : ℕ) (tak
         writes = r.writes + (listed + routed);
       })) taken.now_is
       ∙ (ap₂ (λ (one two : Table). record done { listed = one; routed = two; writes = before.writes + (listed + routed) }) (table_after slots.listed before.listed before.list_batch taken.list_counts now.listed (setting_of before) refl taken.list_holds)
-      (table_after slots.routed before.routed before.route_batch taken.route_counts now.routed (setting_of before) route_mode taken.route_holds)
+      (table_after slots.routed before.routed before.route_batch taken.route_counts now.routed (setting_of before) (sym taken.router.mode) taken.route_holds)
       ∙ ap (λ (n : ℕ). record done { writes = before.writes + n }) (ap₂ (λ (a b : ℕ). a + b) list_number route_number)))
 
   -- what was made of each device, where the whole commit was, and the line
@@ -228,19 +212,19 @@ last_writes part rest line =
     ∙ (let first : 0 + length (written (Written part ∷ rest)) ≡ length (written (Written part ∷ rest)) = omega arith in first)
 
 -- what is left is that of both tables where one holds a plan
-pub left_of_both : (slots : DeviceSlots) (router : Routing) → (IsSome router.listed.whole.held ⊎ IsSome router.routed.whole.held) → held_left slots router ≡ Some (parts_left slots.listed router.listed + parts_left slots.routed router.routed)
+pub left_of_both : (slots : DeviceSlots) (router : Routing) → (IsSome router.listed.whole.held ⊎ IsSome router.routed.whole.held) → held_left slots router ≡ Some (number_left slots.listed router.listed + number_left slots.routed router.routed)
 left_of_both slots router some = go router.listed.whole.held router.routed.whole.held refl refl some
   where
     go : (one two : Option HeldCommit) → router.listed.whole.held ≡ one → router.routed.whole.held ≡ two → (IsSome router.listed.whole.held ⊎ IsSome router.routed.whole.held)
-        → left_at slots router router.listed.whole.held router.routed.whole.held ≡ Some (parts_left slots.listed router.listed + parts_left slots.routed router.routed)
+        → left_at slots router router.listed.whole.held router.routed.whole.held ≡ Some (number_left slots.listed router.listed + number_left slots.routed router.routed)
     go (Some one) two l r is = ap (λ (h : Option HeldCommit). left_at slots router h router.routed.whole.held) l
     go None (Some two) l r is = ap₂ (left_at slots router) l r
     go None None l r (inl is) = absurd (let wrong : false ≡ true = subst (λ (h : Option HeldCommit). IsSome h) l is in cc)
     go None None l r (inr is) = absurd (let wrong : false ≡ true = subst (λ (h : Option HeldCommit). IsSome h) r is in cc)
 
-module _ (slots : DeviceSlots) (before now new : Routing) (listed routed : ℕ) (taken : IsTaken before now listed routed) (is : IsRouter now) (fits : FitsBoth now slots) where
+module _ (slots : DeviceSlots) (before now new : Routing) (listed routed : ℕ) (taken : AreBothTaken before now listed routed) (is : IsRouter now) (fits : FitsBoth now slots) where
   -- the list's device failed
-  pub cuts_list : (from to : Made) (told : Option (List ℕ)) → IsStuckInList slots now new from to → IsSome new.listed.whole.held
+  pub cuts_list : (from to : MadeOfBoth) (told : Option (List ℕ)) → IsStuckInList slots now new from to → IsSome new.listed.whole.held
       → CutsAtPart (setting_of before) slots (progress_of before) Commit (held_left slots new) (outside from.list from.routes told) (outside to.list to.routes told)
   cuts_list from to told stuck some =
       let first = first_part (left_of slots.listed new.listed) stuck.stuck.due in
@@ -253,8 +237,8 @@ module _ (slots : DeviceSlots) (before now new : Routing) (listed routed : ℕ) 
       let whole : map (Makes side.List) made ++ (Makes side.List (Written part) ∷ (map (Makes side.List) rest ++ tail)) ≡ both_made (left_of slots.listed now.listed) (left_of slots.routed now.routed) line =
       sym (ap (λ (more : List SplitAction). map (Makes side.List) more ++ tail) split
       ∙ (ap (λ (more : List Effect). more ++ tail) (makes_append side.List made (Written part ∷ rest)) ∙ append_assoc (map (Makes side.List) made) (map (Makes side.List) (Written part ∷ rest)) tail)) in
-      let routes_left : parts_left slots.routed new.routed ≡ length (written (left_of slots.routed now.routed)) = ap (λ (r : Routing). parts_left slots.routed r.routed) stuck.new_is in
-      let list_left_is : parts_left slots.listed new.listed ≡ length (written (Written part ∷ rest)) = ap (λ (more : List SplitAction). length (written more)) first.2 in
+      let routes_left : number_left slots.routed new.routed ≡ length (written (left_of slots.routed now.routed)) = ap (λ (r : Routing). number_left slots.routed r.routed) stuck.new_is in
+      let list_left_is : number_left slots.listed new.listed ≡ length (written (Written part ∷ rest)) = ap (λ (more : List SplitAction). length (written more)) first.2 in
       record {
         front = map (Makes side.List) made;
         which = side.List;
@@ -270,7 +254,7 @@ module _ (slots : DeviceSlots) (before now new : Routing) (listed routed : ℕ) 
       }
 
   -- or the routes'
-  pub cuts_routes : (from to : Made) (told : Option (List ℕ)) → IsStuckInRoutes slots now new from to → IsSome new.routed.whole.held
+  pub cuts_routes : (from to : MadeOfBoth) (told : Option (List ℕ)) → IsStuckInRoutes slots now new from to → IsSome new.routed.whole.held
       → CutsAtPart (setting_of before) slots (progress_of before) Commit (held_left slots new) (outside from.list from.routes told) (outside to.list to.routes told)
   cuts_routes from to told stuck some =
       let first = first_part (left_of slots.routed new.routed) stuck.stuck.due in
@@ -285,8 +269,8 @@ module _ (slots : DeviceSlots) (before now new : Routing) (listed routed : ℕ) 
       ∙ (ap (λ (more : List Effect). more ++ Prints line ∷ []) (makes_append side.Routes made (Written part ∷ rest)) ∙ append_assoc (map (Makes side.Routes) made) (map (Makes side.Routes) (Written part ∷ rest)) (Prints line ∷ [])) in
       let whole : (front ++ map (Makes side.Routes) made) ++ (Makes side.Routes (Written part) ∷ (map (Makes side.Routes) rest ++ Prints line ∷ [])) ≡ both_made (left_of slots.listed now.listed) (left_of slots.routed now.routed) line =
       append_assoc front (map (Makes side.Routes) made) (Makes side.Routes (Written part) ∷ (map (Makes side.Routes) rest ++ Prints line ∷ [])) ∙ ap (λ (more : List Effect). front ++ more) (sym inner) in
-      let list_none : parts_left slots.listed new.listed ≡ 0 = ap (λ (r : Routing). parts_left slots.listed r.listed) stuck.new_is in
-      let routes_left : parts_left slots.routed new.routed ≡ length (written (Written part ∷ rest)) = ap (λ (more : List SplitAction). length (written more)) first.2 in
+      let list_none : number_left slots.listed new.listed ≡ 0 = ap (λ (r : Routing). number_left slots.listed r.listed) stuck.new_is in
+      let routes_left : number_left slots.routed new.routed ≡ length (written (Written part ∷ rest)) = ap (λ (more : List SplitAction). length (written more)) first.2 in
       record {
         front = front ++ map (Makes side.Routes) made;
         which = side.Routes;
@@ -303,14 +287,14 @@ module _ (slots : DeviceSlots) (before now new : Routing) (listed routed : ℕ) 
       }
 
   -- the line that is told
-  pub line_is : (drains : ℕ) (mid : Routing) (from to : Made) → IsMadeBy slots now drains mid from to → accepted_line (mid.commits + 1) listed routed drains ≡ whole_line slots before now listed routed taken is fits
+  pub line_is : (drains : ℕ) (mid : Routing) (from to : MadeOfBoth) → IsMadeBy slots now drains mid from to → accepted_line (mid.commits + 1) listed routed drains ≡ whole_line slots before now listed routed taken is fits
   line_is drains mid from to made =
       let commits : mid.commits ≡ before.commits = ap (λ (r : Routing). r.commits) made.new_is ∙ ap (λ (r : Routing). r.commits) taken.now_is in
       ap₂ (λ (commit number : ℕ). accepted_line (commit + 1) number routed drains) commits (list_number slots before now listed routed taken is fits)
       ∙ ap₂ (λ (number total : ℕ). accepted_line (before.commits + 1) (length (written (left_of slots.listed now.listed))) number total) (route_number slots before now listed routed taken is fits) made.count
 
   -- and what is kept of the router where it is cut
-  pub keeps_list : (from to : Made) → IsStuckInList slots now new from to → KeepsCounts before new
+  pub keeps_list : (from to : MadeOfBoth) → IsStuckInList slots now new from to → KeepsCounts before new
   keeps_list from to stuck = record {
     list_batch = ap (λ (r : Routing). r.list_batch) stuck.new_is ∙ ap (λ (r : Routing). r.list_batch) taken.now_is;
     route_batch = ap (λ (r : Routing). r.route_batch) stuck.new_is ∙ ap (λ (r : Routing). r.route_batch) taken.now_is;
@@ -319,7 +303,7 @@ module _ (slots : DeviceSlots) (before now new : Routing) (listed routed : ℕ) 
     refused = ap (λ (r : Routing). r.refused) stuck.new_is ∙ ap (λ (r : Routing). r.refused) taken.now_is;
   }
 
-  pub keeps_routes : (from to : Made) → IsStuckInRoutes slots now new from to → KeepsCounts before new
+  pub keeps_routes : (from to : MadeOfBoth) → IsStuckInRoutes slots now new from to → KeepsCounts before new
   keeps_routes from to stuck = record {
     list_batch = ap (λ (r : Routing). r.list_batch) stuck.new_is ∙ ap (λ (r : Routing). r.list_batch) taken.now_is;
     route_batch = ap (λ (r : Routing). r.route_batch) stuck.new_is ∙ ap (λ (r : Routing). r.route_batch) taken.now_is;
@@ -329,7 +313,7 @@ module _ (slots : DeviceSlots) (before now new : Routing) (listed routed : ℕ) 
   }
 
   -- where its device failed a commit comes to this
-  pub make_stops : (list list' routes routes' : List SplitAction) (told : Option (List ℕ)) → IsStuckBy slots now new (made_on list routes) (made_on list' routes')
+  pub make_stops : (list list' routes routes' : List SplitAction) (told : Option (List ℕ)) → IsStuckInEither slots now new (made_on list routes) (made_on list' routes')
       → ComesTo slots before Commit new (Err Device) (outside list routes told) (outside list' routes' told)
   make_stops list list' routes routes' told (inl stuck) =
       (keeps_list (made_on list routes) (made_on list' routes') stuck, λ at. cuts_list (made_on list routes) (made_on list' routes') told stuck (held_of_part slots.listed new.listed stuck.stuck.due))

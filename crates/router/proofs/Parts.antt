@@ -1,6 +1,5 @@
 -- Where a part is next a plan is held; and what is left of a device, said by another reason.
-use Rattle.std.proofs.Common.{◌≡◌, ℕ, ◌+◌, ◌||◌, is_some, Bool, true, false, Option, None, Some, IsSome, List, [], length, refl, sym, ap, subst, ◌∙◌}
-use Rattle.batch_order.specs.CarriedOut.{IsTried}
+use Rattle.std.proofs.Common.{◌≡◌, ℕ, ◌+◌, ◌||◌, is_some, true, false, Option, None, Some, IsSome, List, [], refl, sym, ap, subst}
 use Rattle.batch_order.specs.Managed.{HeldCommit}
 use Rattle.split_device.specs.declared.SplitAction.{SplitAction}
 use Rattle.split_device.specs.Flight.{Flight}
@@ -8,12 +7,12 @@ use Rattle.split_order.specs.Left.{left_of, left_of_held, since_of, state_on}
 use Rattle.split_order.specs.Managed.{SplitManaged}
 use Rattle.split_order.specs.Steps.{IsPartNext}
 use Rattle.router.specs.Run.{DeviceSlots}
-use Rattle.router.specs.Routing.{Routing, parts_left}
+use Rattle.router.specs.Routing.{Routing, number_left}
 use Rattle.router.specs.Carried.{LeavesDevice}
 
 -- what is left of both tables, by whether each holds a plan
 abbrev pub left_at : DeviceSlots → Routing → Option HeldCommit → Option HeldCommit → Option ℕ
-left_at slots router one two = elim (is_some one || is_some two) [ true ↦ Some (parts_left slots.listed router.listed + parts_left slots.routed router.routed) | false ↦ None ]
+left_at slots router one two = elim (is_some one || is_some two) [ true ↦ Some (number_left slots.listed router.listed + number_left slots.routed router.routed) | false ↦ None ]
 
 pub held_of_part : (slots : ℕ) (manager : SplitManaged) → IsPartNext (left_of slots manager) → IsSome manager.whole.held
 held_of_part slots manager due = go manager.whole.held refl

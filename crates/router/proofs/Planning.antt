@@ -1,48 +1,26 @@
 -- What comes of the plans of both tables.
-use Rattle.std.proofs.Common.{◌≡◌, inl, inr, ℕ, zero, suc, ◌+◌, ◌*◌, ◌^◌, ◌≤◌, ◌<◌, ◌||◌, is_some, Bool, true, false, Option, None, Some, IsSome, Result, Ok, Err, List, [], ◌∷◌, ◌++◌, length, map, refl, sym, ap, ap₂, subst, ◌∙◌, append-nil, append_assoc, length-append, arith}
-use Rattle.std.specs.Io.KnownBytes.{Appends}
-use Rattle.std.specs.List.{AllByRecursion}
-use Rattle.rule_model.specs.declared.IpVersion.TheVariants.{V4}
+use Rattle.std.proofs.Common.{◌≡◌, inl, inr, ℕ, true, false, Ok, Err, List, [], ◌++◌, refl, sym, ap, ap₂, ◌∙◌}
 use Rattle.rule_store.specs.declared.Command.{Command}
 use Rattle.rule_store.specs.declared.Mode.{Mode}
-use Rattle.rule_store.specs.Batch.{set_after}
 use Rattle.rule_store.specs.Verdict.{Verdict, Accepted, Unsound, OutOfBits, OutOfSlots}
-use Rattle.commit_writes.specs.Bits.{bits_with}
-use Rattle.commit_writes.specs.Routes.{IsRoute}
 use Rattle.readback.specs.declared.Rejection.{Rejection}
 use Rattle.readback.specs.declared.Rejection.TheVariants as rejection
 use Rattle.readback.specs.Judged.{judgement}
 use Rattle.batch_order.specs.declared.Refusal.{Refusal}
 use Rattle.batch_order.specs.declared.Refusal.TheVariants as refusal
 use Rattle.batch_order.specs.CarriedOut.{finished}
-use Rattle.batch_order.specs.Managed.{HeldCommit, Managed, OnlyChangesRoutes}
+use Rattle.batch_order.specs.Managed.{Managed}
 use Rattle.split_device.specs.declared.SplitAction.{SplitAction}
-use Rattle.split_device.specs.declared.SplitAction.TheVariants.{Written, Drained}
-use Rattle.split_device.specs.declared.SplitWrite.{SplitWrite}
-use Rattle.split_device.specs.Flight.{written}
 use Rattle.split_writes.specs.declared.SplitDone.{SplitDone}
-use Rattle.split_writes.specs.Insertion.{split_insertions, IsSplitUncrossed}
-use Rattle.split_writes.specs.Segment.{IsSplitSegment, most_by_parts}
-use Rattle.split_writes.specs.UnderWay.{IsUnderWay}
-use Rattle.split_writes.proofs.Made.{written_append}
-use Rattle.split_order.specs.CarriedOut.{HasMade, finished_split}
-use Rattle.split_order.specs.Left.{left_of, since_of, state_on}
+use Rattle.split_order.specs.CarriedOut.{finished_split}
+use Rattle.split_order.specs.Left.{left_of}
 use Rattle.split_order.specs.Managed.{SplitManaged, at_rest}
-use Rattle.split_order.specs.Prepared.{AnswersSplit, HoldsOn, HoldsSplit}
-use Rattle.split_order.specs.Steps.{IsPartNext}
+use Rattle.split_order.specs.Prepared.{AnswersSplit, HoldsSplit}
 use Rattle.report_lines.specs.Told.{verdict_told}
-use Rattle.report_lines.specs.Outside.{AppendsPart}
-use Rattle.router.specs.declared.Side.{Side}
 use Rattle.router.specs.declared.Side.TheVariants as side
-use Rattle.router.specs.declared.RouterAct.TheVariants.{Commit}
-use Rattle.router.specs.declared.RouterFault.TheVariants.{Sink, Device}
-use Rattle.router.specs.Run.{Commits, DeviceSlots, Effect, HasEffects, IsCutStep, IsPart, Judged, JudgedByRoutes, Makes, Prints, Progress, Setting, Table, after_commit, after_part, drains_in, made_line, made_of_list, made_of_routes, printed, since_last, state_of, writes_of}
-use Rattle.router.specs.Routing.{AreAt, FitsBoth, IsRouter, Routing, held_left, parts_left, progress_of, setting_of, slots_of, table_of}
-use Rattle.router.specs.Carried.{IsCarriedTo, IsStuckAt}
-use Rattle.router.specs.Taken.{IsNotBusy, IsTaken, IsUnplannedBy, list_verdict, route_verdict, unplanned_by}
-use Rattle.router.specs.Acting.{ComesTo, CutsAtPart, Does, KeepsCounts, Outside, outside}
-use Rattle.router.proofs.Few.{few_parts, held_is}
-use Rattle.router.proofs.Effects.{list_of_list, list_of_routes, makes_append, printed_of, routes_of_list, routes_of_routes}
+use Rattle.router.specs.Run.{Setting, after_part}
+use Rattle.router.specs.Routing.{Routing, managed_table}
+use Rattle.router.specs.Taken.{IsNotBusy, IsUnplannedBy, list_verdict, route_verdict, unplanned_by}
 
 -- a batch that is taken is accepted
 pub split_accepted : (verdict : Verdict) (counts : SplitDone) → AnswersSplit (judgement verdict) (Ok counts) → verdict ≡ Accepted
@@ -90,18 +68,9 @@ route_unplanned router (refusal.Busy left) accepted answers = accepted
 route_unplanned router refusal.Memory accepted answers = accepted
 route_unplanned router (refusal.Rejected reason) accepted answers = (accepted, split_told (route_verdict router) reason answers)
 
--- a table's part
-pub part_of : (slots : ℕ) (old : SplitManaged) (batch : List Command) (counts : SplitDone) (new : SplitManaged) (setting : Setting) → setting.mode ≡ old.whole.mode
-    → HoldsOn slots old batch counts new → IsPart setting slots (table_of old batch) (left_of slots new)
-part_of slots old batch counts new setting same holds = record {
-  segment = subst (λ (mode : Mode). IsSplitSegment mode old.whole.bits old.whole.rules batch (state_on slots old) (since_of old) (left_of slots new)) (sym same) holds.segment;
-  under_way = subst (λ (mode : Mode). IsUnderWay old.whole.rules (set_after old.whole.rules batch) old.whole.bits (bits_with mode old.whole.rules batch old.whole.bits) (state_on slots old) (since_of old) (left_of slots new))
-      (sym same) holds.under_way;
-}
-
--- and where the table stands after it
+-- where a table stands after its part
 pub table_after : (slots : ℕ) (old : SplitManaged) (batch : List Command) (counts : SplitDone) (now : SplitManaged) (setting : Setting) → setting.mode ≡ old.whole.mode
-    → HoldsSplit old batch counts now → table_of (finished_split slots now) [] ≡ after_part setting (table_of old batch) (left_of slots now)
+    → HoldsSplit old batch counts now → managed_table (finished_split slots now) [] ≡ after_part setting (managed_table old batch) (left_of slots now)
 table_after slots old batch counts now setting same holds =
-    ap₂ (λ (whole : Managed) (events : List SplitAction). table_of (at_rest (finished whole) (events ++ left_of slots now)) []) holds.whole.1.new_is holds.events
-    ∙ ap (λ (mode : Mode). after_part (record setting { mode = mode }) (table_of old batch) (left_of slots now)) (sym same)
+    ap₂ (λ (whole : Managed) (events : List SplitAction). managed_table (at_rest (finished whole) (events ++ left_of slots now)) []) holds.whole.1.new_is holds.events
+    ∙ ap (λ (mode : Mode). after_part (record setting { mode = mode }) (managed_table old batch) (left_of slots now)) (sym same)

@@ -10,7 +10,7 @@ use Rattle.router.specs.declared.RouterAct.{RouterAct}
 use Rattle.router.specs.declared.RouterFault.{RouterFault}
 use Rattle.router.specs.declared.RouterFault.TheVariants.{BatchFull, Sink, Device, Memory, Held}
 use Rattle.router.specs.Run.{DeviceSlots, Effect, HasEffects, IsCutStep, Makes, Prints, Progress, Setting, TakesMemory, made_of_list, made_of_routes, printed, writes_of}
-use Rattle.router.specs.Routing.{AreAt, Routing, held_left, parts_left, progress_of, setting_of}
+use Rattle.router.specs.Routing.{AreAt, Routing, held_left, progress_of, setting_of}
 
 -- what was made of both devices since they were blank, and what the sink took
 pub record Outside : Type 0 where

@@ -1,15 +1,17 @@
 -- What a router keeps, and where it stands by that.
 use Rattle.std.specs.Prelude.{◌≡◌, ℕ, ◌+◌, ◌*◌, ◌^◌, ◌≤◌, ◌||◌, ◌++◌, ◌∷◌, Bool, true, false, Option, None, Some, is_some, Result, Ok, Err, List, [], length, codes}
 use Rattle.std.specs.List.{AllByRecursion}
-use Rattle.rule_model.specs.declared.IpVersion.TheVariants.{V4}
+use Rattle.rule_model.specs.declared.IpVersion.{IpVersion}
 use Rattle.rule_store.specs.declared.Mode.{Mode}
 use Rattle.rule_store.specs.declared.Command.{Command}
+use Rattle.tcam_device.specs.State.{on_device}
 use Rattle.commit_writes.specs.Routes.{IsRoute}
 use Rattle.batch_order.specs.declared.Placement.{Placement}
 use Rattle.batch_order.specs.Managed.{OnlyChangesRoutes}
 use Rattle.split_device.specs.declared.SplitAction.{SplitAction}
+use Rattle.split_device.specs.State.{undivided}
 use Rattle.split_device.specs.Flight.{written}
-use Rattle.split_order.specs.Left.{left_of}
+use Rattle.split_order.specs.Left.{left_of, state_on}
 use Rattle.split_order.specs.Managed.{SplitManaged, fresh_split}
 use Rattle.router.specs.declared.Side.{Side}
 use Rattle.router.specs.declared.Side.TheVariants as side
@@ -20,12 +22,13 @@ use Rattle.router.specs.declared.RouterFault.TheVariants.{BatchFull, Sink, Devic
 use Rattle.router.specs.Run.{DeviceSlots, Progress, Setting, Table}
 use Rattle.router.specs.Script.{Pending}
 
--- The manager and the pending batch of each table, what the report counts, and whether the sink failed.
+-- The manager and the pending batch of each table, the version of IP, what the report counts, and whether the sink failed.
 pub record Routing : Type 0 where
   pub listed : SplitManaged
   pub routed : SplitManaged
   pub list_batch : List Command
   pub route_batch : List Command
+  pub version : IpVersion
   pub commits : ℕ
   pub writes : ℕ
   pub refused : Bool
@@ -33,18 +36,24 @@ pub record Routing : Type 0 where
 
 -- what the words of a command line asked for
 abbrev pub setting_of : Routing → Setting
-setting_of router = record { slots = router.listed.whole.slots; mode = router.listed.whole.mode }
+setting_of router =
+    record {
+      slots = router.listed.whole.slots;
+      mode = router.listed.whole.mode;
+      placement = router.listed.whole.placement;
+      version = router.version;
+    }
 
 -- where a table stands by its manager and its pending batch
-abbrev pub table_of : SplitManaged → List Command → Table
-table_of manager batch = record { rules = manager.whole.rules; batch = batch; bits = manager.whole.bits; events = manager.events }
+abbrev pub managed_table : SplitManaged → List Command → Table
+managed_table manager batch = record { rules = manager.whole.rules; batch = batch; bits = manager.whole.bits; events = manager.events }
 
 -- where the router stands
 abbrev pub progress_of : Routing → Progress
 progress_of router =
     record {
-      listed = table_of router.listed router.list_batch;
-      routed = table_of router.routed router.route_batch;
+      listed = managed_table router.listed router.list_batch;
+      routed = managed_table router.routed router.route_batch;
       commits = router.commits;
       writes = router.writes;
       refused = router.refused;
@@ -55,13 +64,14 @@ abbrev pub pending_of : Routing → Pending
 pending_of router = record { listed = length router.list_batch; routed = length router.route_batch }
 
 -- a router before its first act
-abbrev pub begun : ℕ → Mode → Placement → Routing
-begun slots mode placement =
+abbrev pub begun : ℕ → Mode → Placement → IpVersion → Routing
+begun slots mode placement version =
     record {
       listed = fresh_split slots mode placement;
       routed = fresh_split slots mode placement;
       list_batch = [];
       route_batch = [];
+      version = version;
       commits = 0;
       writes = 0;
       refused = false;
@@ -88,14 +98,14 @@ pub record AreAt (router : Routing) (listed routed : List SplitAction) : Type 0 
   pub routes : routed ≡ router.routed.events
 
 -- how many parts a manager has still to make
-abbrev pub parts_left : ℕ → SplitManaged → ℕ
-parts_left slots manager = length (written (left_of slots manager))
+abbrev pub number_left : ℕ → SplitManaged → ℕ
+number_left slots manager = length (written (left_of slots manager))
 
 -- of an unfinished commit, the parts that are still to make of both tables
 abbrev pub held_left : DeviceSlots → Routing → Option ℕ
 held_left slots router =
     elim (is_some router.listed.whole.held || is_some router.routed.whole.held) [
-      | true ↦ Some (parts_left slots.listed router.listed + parts_left slots.routed router.routed)
+      | true ↦ Some (number_left slots.listed router.listed + number_left slots.routed router.routed)
       | false ↦ None
     ]
 
@@ -103,17 +113,26 @@ held_left slots router =
 pub record HasFewLeft (manager : SplitManaged) : Type 0 where
   pub slots : ℕ
   pub wide : manager.whole.slots ≤ slots
-  pub few : parts_left slots manager ≤ 2 ^ 41
+  pub few : number_left slots manager ≤ 2 ^ 41
 
--- A router between two calls: its tables are alike, the routes are such of IPv4 prefixes, and no count comes near its end.
+-- What was made of a manager's device, of any number of slots, left there what its planner keeps of the slots in use.
+pub record HasPlannedState (manager : SplitManaged) : Type 0 where
+  pub size : length manager.whole.state.slots ≡ manager.whole.slots
+  pub on : (slots : ℕ) → manager.whole.slots ≤ slots → undivided (state_on slots manager) ≡ on_device slots manager.whole.state
+
+-- A router between two calls: its tables are alike, the routes are such of its version's prefixes, no count comes near its end,
+-- and with no commit under way its devices have what its planners keep.
 pub record IsRouter (router : Routing) : Type 0 where
   pub slots : router.routed.whole.slots ≡ router.listed.whole.slots
   pub mode : router.routed.whole.mode ≡ router.listed.whole.mode
-  pub routes : AllByRecursion (IsRoute V4) router.routed.whole.rules
-  pub changes : OnlyChangesRoutes V4 router.route_batch
+  pub placement : router.routed.whole.placement ≡ router.listed.whole.placement
+  pub routes : AllByRecursion (IsRoute router.version) router.routed.whole.rules
+  pub changes : OnlyChangesRoutes router.version router.route_batch
   pub writes : router.writes ≤ router.commits * 2 ^ 42
   pub list_few : HasFewLeft router.listed
   pub route_few : HasFewLeft router.routed
+  pub list_stands : router.listed.whole.held ≡ None → HasPlannedState router.listed
+  pub route_stands : router.routed.whole.held ≡ None → HasPlannedState router.routed
 
 -- a change joins the batch of its table
 abbrev pub with_push : Routing → Side → Command → Routing
@@ -124,12 +143,12 @@ with_push old side.Routes command = record old { route_batch = old.route_batch +
 abbrev pub with_refusal : Routing → Routing
 with_refusal old = record old { list_batch = []; route_batch = []; commits = old.commits + 1; refused = true }
 
--- An act of a router's script: a route that is added is one of an IPv4 prefix, and the list takes any rule.
-abbrev pub IsActOf : RouterAct → Type 0
-IsActOf (Change side.List command) = Unit {0}
-IsActOf (Change side.Routes command) = OnlyChangesRoutes V4 (command ∷ [])
-IsActOf (Packet key) = Unit {0}
-IsActOf Commit = Unit {0}
+-- An act of a router's script: a route that is added is one of a prefix of its version, and the list takes any rule.
+abbrev pub IsActOf : IpVersion → RouterAct → Type 0
+IsActOf version (Change side.List command) = Unit {0}
+IsActOf version (Change side.Routes command) = OnlyChangesRoutes version (command ∷ [])
+IsActOf version (Packet key) = Unit {0}
+IsActOf version Commit = Unit {0}
 
 -- the sink failed
 abbrev pub has_failed : Result (Unit {0}) RouterFault → Bool

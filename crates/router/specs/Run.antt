@@ -1,14 +1,18 @@
 -- What the acts of a router's script do to both devices and to the report.
-use Rattle.std.specs.Prelude.{◌≡◌, ℕ, ◌+◌, suc, Bool, true, false, List, [], ◌∷◌, ◌++◌, length, map}
-use Rattle.rule_model.specs.declared.IpVersion.TheVariants.{V4}
+use Rattle.std.specs.Prelude.{◌≡◌, ℕ, ◌+◌, suc, Bool, true, false, List, [], ◌∷◌, ◌++◌, length, map, take}
+use Rattle.std.specs.List.{AllByRecursion}
+use Rattle.rule_model.specs.declared.IpVersion.{IpVersion}
 use Rattle.rule_model.specs.declared.Rule.{Rule}
 use Rattle.rule_model.specs.RuleSet.{answer}
 use Rattle.rule_store.specs.declared.Mode.{Mode}
 use Rattle.rule_store.specs.declared.Command.{Command}
 use Rattle.rule_store.specs.Batch.{set_after}
 use Rattle.rule_store.specs.Verdict.{Verdict, Accepted, Unsound, OutOfBits, OutOfSlots, verdict}
+use Rattle.tcam_device.specs.State.{State}
 use Rattle.commit_writes.specs.Bits.{FieldBits, no_bits, bits_with, bits_left}
-use Rattle.split_device.specs.State.{SplitState}
+use Rattle.batch_order.specs.declared.Placement.{Placement}
+use Rattle.batch_order.specs.Placing.{IsPlacedBy}
+use Rattle.split_device.specs.State.{IsSplitInUse, SplitState, undivided}
 use Rattle.split_device.specs.declared.SplitAction.{SplitAction}
 use Rattle.split_device.specs.declared.SplitAction.TheVariants.{Written, Drained}
 use Rattle.split_device.specs.Flight.{state_of_events, written}
@@ -22,10 +26,12 @@ use Rattle.router.specs.declared.RouterAct.{RouterAct}
 use Rattle.router.specs.declared.RouterAct.TheVariants.{Change, Packet, Commit}
 use Rattle.router.specs.Text.{packet_line, accepted_line, refused_line, end_line}
 
--- the slots in use of each device, and how ranges are tested
+-- the slots in use of each device, how ranges are tested, where insertions aim, and the version of IP
 pub record Setting : Type 0 where
   pub slots : ℕ
   pub mode : Mode
+  pub placement : Placement
+  pub version : IpVersion
 
 -- the slots of both devices
 pub record DeviceSlots : Type 0 where
@@ -69,8 +75,8 @@ pub record Table : Type 0 where
   pub events : List SplitAction
 
 -- the state of its device, of so many slots
-abbrev pub state_of : ℕ → Table → SplitState
-state_of slots table = state_of_events slots table.events
+abbrev pub table_state : ℕ → Table → SplitState
+table_state slots table = state_of_events slots table.events
 
 -- what was done to it since the last drain
 abbrev pub since_last : Table → SinceDrain
@@ -85,23 +91,30 @@ pub record Progress : Type 0 where
   pub refused : Bool
 
 -- a table without rules, over a blank device
-abbrev pub blank_table : Table
-blank_table = record { rules = []; batch = []; bits = no_bits; events = [] }
+abbrev pub start_table : Table
+start_table = record { rules = []; batch = []; bits = no_bits; events = [] }
 
 -- before the first act, over blank devices
 abbrev pub start : Progress
-start = record { listed = blank_table; routed = blank_table; commits = 0; writes = 0; refused = false }
+start = record { listed = start_table; routed = start_table; commits = 0; writes = 0; refused = false }
 
 -- the verdict on a table's pending batch
 abbrev pub verdict_of : Setting → Table → Verdict
 verdict_of setting table = verdict setting.slots setting.mode table.rules table.batch
 
--- A table's part of a commit that is made, over a device of so many slots: a segment of its pending batch by parts. From its first
--- part to its last each look-up, of one event or three, gets the answer of the old set or of the new one.
-pub record IsPart (setting : Setting) (slots : ℕ) (old : Table) (made : List SplitAction) : Type 0 where
-  pub segment : IsSplitSegment setting.mode old.bits old.rules old.batch (state_of slots old) (since_last old) made
+-- the slots in use of a state, with its tables
+abbrev pub used_slots : Setting → State → State
+used_slots setting state = record state { slots = take setting.slots state.slots }
+
+-- A table's part of a commit that is made, over a device of so many slots: a segment of its pending batch by parts, which writes
+-- no slot past those in use, and whose undivided writes have their insertions by the placement. From its first part to its last
+-- each look-up, of one event or three, gets the answer of the old set or of the new one.
+pub record IsPartOfCommit (setting : Setting) (slots : ℕ) (old : Table) (made : List SplitAction) : Type 0 where
+  pub segment : IsSplitSegment setting.mode old.bits old.rules old.batch (table_state slots old) (since_last old) made
+  pub placed : IsPlacedBy setting.placement setting.mode old.bits old.rules old.batch (used_slots setting (undivided (table_state slots old))) segment.writes
+  pub in_use : AllByRecursion (IsSplitInUse setting.slots) (written made)
   pub under_way : IsUnderWay old.rules (set_after old.rules old.batch) old.bits (bits_with setting.mode old.rules old.batch old.bits)
-      (state_of slots old) (since_last old) made
+      (table_state slots old) (since_last old) made
 
 -- where a table stands after its part
 abbrev pub after_part : Setting → Table → List SplitAction → Table
@@ -138,10 +151,10 @@ after_commit setting old listed routed =
 pub record Commits (setting : Setting) (slots : DeviceSlots) (old : Progress) (effects : List Effect) (new : Progress) : Type 0 where
   pub listed : List SplitAction
   pub routed : List SplitAction
-  pub list_part : IsPart setting slots.listed old.listed listed
-  pub route_part : IsPart setting slots.routed old.routed routed
+  pub list_part : IsPartOfCommit setting slots.listed old.listed listed
+  pub route_part : IsPartOfCommit setting slots.routed old.routed routed
   -- no insertion of a route crosses others, nor takes more parts than a prefix may have lengths
-  pub of_routes : IsSplitUncrossed (most_by_parts V4) (split_insertions (state_of slots.routed old.routed) (written routed))
+  pub of_routes : IsSplitUncrossed (most_by_parts setting.version) (split_insertions (table_state slots.routed old.routed) (written routed))
   pub effects_are : effects ≡ map (Makes side.List) listed ++ (map (Makes side.Routes) routed ++ Prints (made_line old listed routed) ∷ [])
   pub after : new ≡ after_commit setting old listed routed
 
@@ -156,22 +169,23 @@ after_refusal old =
     }
 
 -- A commit that is refused for one table's batch writes nothing, and says why.
-abbrev pub Refuses : Side → Progress → Verdict → List Effect → Progress → Type 0
-Refuses which old reason effects new = (effects ≡ Prints (refused_line which (old.commits + 1) reason) ∷ []) × (new ≡ after_refusal old)
+abbrev pub Refuses : Setting → Side → Progress → Verdict → List Effect → Progress → Type 0
+Refuses setting which old reason effects new =
+    (effects ≡ Prints (refused_line setting.version which (old.commits + 1) reason) ∷ []) × (new ≡ after_refusal old)
 
 -- by the routes' verdict, where the list's is that its batch is accepted
 abbrev pub JudgedByRoutes : Setting → DeviceSlots → Progress → Verdict → List Effect → Progress → Type 0
 JudgedByRoutes setting slots old Accepted effects new = Commits setting slots old effects new
-JudgedByRoutes setting slots old (Unsound fault) effects new = Refuses side.Routes old (Unsound fault) effects new
-JudgedByRoutes setting slots old (OutOfBits field need free) effects new = Refuses side.Routes old (OutOfBits field need free) effects new
-JudgedByRoutes setting slots old (OutOfSlots need free) effects new = Refuses side.Routes old (OutOfSlots need free) effects new
+JudgedByRoutes setting slots old (Unsound fault) effects new = Refuses setting side.Routes old (Unsound fault) effects new
+JudgedByRoutes setting slots old (OutOfBits field need free) effects new = Refuses setting side.Routes old (OutOfBits field need free) effects new
+JudgedByRoutes setting slots old (OutOfSlots need free) effects new = Refuses setting side.Routes old (OutOfSlots need free) effects new
 
 -- what a commit does: the list's verdict is looked at first
 abbrev pub Judged : Setting → DeviceSlots → Progress → Verdict → List Effect → Progress → Type 0
 Judged setting slots old Accepted effects new = JudgedByRoutes setting slots old (verdict_of setting old.routed) effects new
-Judged setting slots old (Unsound fault) effects new = Refuses side.List old (Unsound fault) effects new
-Judged setting slots old (OutOfBits field need free) effects new = Refuses side.List old (OutOfBits field need free) effects new
-Judged setting slots old (OutOfSlots need free) effects new = Refuses side.List old (OutOfSlots need free) effects new
+Judged setting slots old (Unsound fault) effects new = Refuses setting side.List old (Unsound fault) effects new
+Judged setting slots old (OutOfBits field need free) effects new = Refuses setting side.List old (OutOfBits field need free) effects new
+Judged setting slots old (OutOfSlots need free) effects new = Refuses setting side.List old (OutOfSlots need free) effects new
 
 -- a change joins the batch of its table
 abbrev pub with_change : Progress → Side → Command → Progress
@@ -182,7 +196,7 @@ with_change old side.Routes command = record old { routed = record old.routed { 
 abbrev pub HasEffects : Setting → DeviceSlots → Progress → RouterAct → List Effect → Progress → Type 0
 HasEffects setting slots old (Change which command) effects new = (effects ≡ []) × (new ≡ with_change old which command)
 HasEffects setting slots old (Packet key) effects new =
-    (effects ≡ Prints (packet_line (answer old.listed.rules key) (answer old.routed.rules key)) ∷ []) × (new ≡ old)
+    (effects ≡ Prints (packet_line setting.version (answer old.listed.rules key) (answer old.routed.rules key)) ∷ []) × (new ≡ old)
 HasEffects setting slots old Commit effects new = Judged setting slots old (verdict_of setting old.listed) effects new
 
 -- an act that is cut before an effect that is due: these are its effects before that

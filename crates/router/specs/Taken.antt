@@ -13,9 +13,9 @@ use Rattle.router.specs.declared.Side.{Side}
 use Rattle.router.specs.declared.Side.TheVariants as side
 use Rattle.router.specs.declared.committing.Unplanned.{Unplanned}
 use Rattle.router.specs.declared.committing.Unplanned.TheVariants.{Memory, Refused}
-use Rattle.router.specs.Run.{DeviceSlots, Setting, Progress, drains_in, verdict_of}
+use Rattle.router.specs.Run.{DeviceSlots, drains_in, verdict_of}
 use Rattle.router.specs.Carried.{IsStuckAt}
-use Rattle.router.specs.Routing.{IsIdle, Routing, progress_of, setting_of}
+use Rattle.router.specs.Routing.{IsIdle, IsRouter, Routing, progress_of, setting_of}
 
 -- the verdicts on both pending batches
 abbrev pub list_verdict : Routing → Verdict
@@ -24,8 +24,9 @@ list_verdict router = verdict_of (setting_of router) (progress_of router).listed
 abbrev pub route_verdict : Routing → Verdict
 route_verdict router = verdict_of (setting_of router) (progress_of router).routed
 
--- Both tables hold the plans of their pending batches, with so many parts.
-pub record IsTaken (before now : Routing) (listed routed : ℕ) : Type 0 where
+-- Both tables of a router hold the plans of their pending batches, with so many parts.
+pub record AreBothTaken (before now : Routing) (listed routed : ℕ) : Type 0 where
+  pub router : IsRouter before
   pub idle : IsIdle before
   pub list_accepted : list_verdict before ≡ Accepted
   pub route_accepted : route_verdict before ≡ Accepted
@@ -37,8 +38,8 @@ pub record IsTaken (before now : Routing) (listed routed : ℕ) : Type 0 where
   pub routed_is : routed ≡ route_counts.writes
   pub now_is : now ≡ record before { listed = now.listed; routed = now.routed }
 
--- Why a commit isn't planned: its batch is accepted by the list, and memory is wanting; or a table refuses, the routes where the list
--- doesn't.
+-- Why a commit isn't planned: its batch is accepted by the list, and memory is wanting; or a table refuses, the routes where
+-- the list doesn't.
 abbrev pub IsUnplannedBy : Routing → Unplanned → Type 0
 IsUnplannedBy router Memory = list_verdict router ≡ Accepted
 IsUnplannedBy router (Refused side.List reason) = list_verdict router ≡ verdict_told reason
@@ -57,31 +58,31 @@ unplanned_by which refusal.Memory = Memory
 unplanned_by which (refusal.Rejected reason) = Refused which reason
 
 -- what was made of both devices since they were blank
-pub record Made : Type 0 where
+pub record MadeOfBoth : Type 0 where
   pub list : List SplitAction
   pub routes : List SplitAction
 
-abbrev pub made_on : List SplitAction → List SplitAction → Made
+abbrev pub made_on : List SplitAction → List SplitAction → MadeOfBoth
 made_on list routes = record { list = list; routes = routes }
 
 -- Both plans were made to their ends, with so many drains.
-pub record IsMadeBy (slots : DeviceSlots) (old : Routing) (drains : ℕ) (new : Routing) (before after : Made) : Type 0 where
+pub record IsMadeBy (slots : DeviceSlots) (old : Routing) (drains : ℕ) (new : Routing) (before after : MadeOfBoth) : Type 0 where
   pub new_is : new ≡ record old { listed = finished_split slots.listed old.listed; routed = finished_split slots.routed old.routed }
   pub count : drains ≡ drains_in (left_of slots.listed old.listed) + drains_in (left_of slots.routed old.routed)
   pub list : after.list ≡ before.list ++ left_of slots.listed old.listed
   pub routes : after.routes ≡ before.routes ++ left_of slots.routed old.routed
 
 -- or a part of the list's failed,
-pub record IsStuckInList (slots : DeviceSlots) (old new : Routing) (before after : Made) : Type 0 where
+pub record IsStuckInList (slots : DeviceSlots) (old new : Routing) (before after : MadeOfBoth) : Type 0 where
   pub stuck : IsStuckAt slots.listed old.listed new.listed before.list after.list
   pub new_is : new ≡ record old { listed = new.listed }
   pub routes : after.routes ≡ before.routes
 
 -- or one of the routes', with the list's made
-pub record IsStuckInRoutes (slots : DeviceSlots) (old new : Routing) (before after : Made) : Type 0 where
+pub record IsStuckInRoutes (slots : DeviceSlots) (old new : Routing) (before after : MadeOfBoth) : Type 0 where
   pub stuck : IsStuckAt slots.routed old.routed new.routed before.routes after.routes
   pub new_is : new ≡ record old { listed = finished_split slots.listed old.listed; routed = new.routed }
   pub list : after.list ≡ before.list ++ left_of slots.listed old.listed
 
-abbrev pub IsStuckBy : DeviceSlots → Routing → Routing → Made → Made → Type 0
-IsStuckBy slots old new before after = IsStuckInList slots old new before after ⊎ IsStuckInRoutes slots old new before after
+abbrev pub IsStuckInEither : DeviceSlots → Routing → Routing → MadeOfBoth → MadeOfBoth → Type 0
+IsStuckInEither slots old new before after = IsStuckInList slots old new before after ⊎ IsStuckInRoutes slots old new before after

@@ -1,17 +1,21 @@
 -- The lines of a router's report.
 use Rattle.std.specs.Prelude.{ℕ, List, [], ◌∷◌, ◌++◌, codes, decimal}
 use Rattle.rule_model.specs.RuleSet.{Answer}
+use Rattle.rule_model.specs.declared.IpVersion.{IpVersion}
+use Rattle.rule_model.specs.declared.IpVersion.TheVariants.{V4, V6}
 use Rattle.rule_store.specs.Verdict.{Verdict}
 use Rattle.report_lines.specs.declared.Family.{Family}
-use Rattle.report_lines.specs.declared.Family.TheVariants.{Route, Acl}
+use Rattle.report_lines.specs.declared.Family.TheVariants.{Route, Acl, Route6, Acl6}
 use Rattle.report_lines.specs.Text.{line_text, answer_words, reason_words}
 use Rattle.router.specs.declared.Side.{Side}
 use Rattle.router.specs.declared.Side.TheVariants as side
 
--- how the rules of a table are named
-abbrev pub family_of : Side → Family
-family_of side.List = Acl
-family_of side.Routes = Route
+-- how the rules of a table are named, of a router of this version of IP
+abbrev pub family_of : IpVersion → Side → Family
+family_of V4 side.List = Acl
+family_of V4 side.Routes = Route
+family_of V6 side.List = Acl6
+family_of V6 side.Routes = Route6
 
 -- the name of a table, of which a refusal speaks
 abbrev pub side_word : Side → List ℕ
@@ -19,9 +23,11 @@ side_word side.List = codes "list"
 side_word side.Routes = codes "route"
 
 -- what both tables answer a packet
-abbrev pub packet_line : Answer → Answer → List ℕ
-packet_line listed routed =
-    line_text (codes "packet" ∷ codes "list" ∷ answer_words Acl listed ++ codes "route" ∷ answer_words Route routed)
+abbrev pub packet_line : IpVersion → Answer → Answer → List ℕ
+packet_line version listed routed =
+    line_text
+    (codes "packet" ∷ codes "list" ∷ answer_words (family_of version side.List) listed ++ codes "route"
+    ∷ answer_words (family_of version side.Routes) routed)
 
 -- a commit that was made, by its number, the writes of each table and the drains of both
 abbrev pub accepted_line : ℕ → ℕ → ℕ → ℕ → List ℕ
@@ -31,9 +37,10 @@ accepted_line commit listed routed drains =
     ∷ codes "writes" ∷ decimal routed ∷ codes "drains" ∷ decimal drains ∷ [])
 
 -- a refused commit, by its number, the table whose batch is refused, and the reason
-abbrev pub refused_line : Side → ℕ → Verdict → List ℕ
-refused_line which commit reason =
-    line_text (codes "commit" ∷ decimal commit ∷ codes "refused" ∷ side_word which ∷ reason_words (family_of which) reason)
+abbrev pub refused_line : IpVersion → Side → ℕ → Verdict → List ℕ
+refused_line version which commit reason =
+    line_text
+    (codes "commit" ∷ decimal commit ∷ codes "refused" ∷ side_word which ∷ reason_words (family_of version which) reason)
 
 -- the rules of each table, the device writes of all commits, and the commands that are pending
 abbrev pub end_line : ℕ → ℕ → ℕ → ℕ → List ℕ

@@ -8,11 +8,11 @@ ghost use Rattle.split_order.specs.Left.{left_of};
 ghost use Rattle.router.specs.Text.{accepted_line};
 ghost use Rattle.router.specs.Routing.{slots_of, FitsBoth, IsIdle, IsRouter, Routing};
 ghost use Rattle.router.specs.Carried.{LeavesAll, LeavesDevice};
-ghost use Rattle.router.specs.Taken.{IsMadeBy, IsNotBusy, IsStuckBy, IsTaken, IsUnplannedBy, made_on, unplanned_by};
+ghost use Rattle.router.specs.Taken.{IsMadeBy, IsNotBusy, IsStuckInEither, AreBothTaken, IsUnplannedBy, made_on, unplanned_by};
 
 use crate::Side;
 use crate::carrying::carry;
-use crate::report::{Made, write_accepted};
+use crate::report::{CommitNumbers, write_accepted};
 use crate::router::Router;
 use script_lines::{Failed, Sink};
 use split_device::SplitDevice;
@@ -29,8 +29,8 @@ pub(crate) enum Unplanned {
 }
 
 impl Router {
-    /// Plans both parts of a commit, and answers how many writes each has. Where the routes don't take theirs the list's plan is
-    /// dropped.
+    /// Plans both parts of a commit, and answers how many writes each has. Where the routes don't take theirs the list's plan
+    /// is dropped.
     pub(crate) fn plan<D: SplitDevice>(
         &mut self,
         list: &mut D,
@@ -38,7 +38,7 @@ impl Router {
     ) -> Result<(u64, u64), Unplanned>
         requires slots { FitsBoth self.old (slots_of (D.slot_count list.old) (D.slot_count routes.old)) }
         requires idle { IsIdle self.old }
-        ensures taken { IfOk result (λ writes. IsTaken self.old self.new writes.0 writes.1) }
+        ensures taken { IfOk result (λ writes. AreBothTaken self.old self.new writes.0 writes.1) }
         ensures unplanned { IfErr result (IsUnplannedBy self.old) }
         ensures unchanged { OnErr result (self.new ≡ self.old) }
         ensures list_room { OnOk result (length (left_of (D.slot_count list.new) self.new.listed) ≤ D.spare list.new) }
@@ -69,14 +69,14 @@ impl Router {
         requires slots { FitsBoth self.old (slots_of (D.slot_count list.old) (D.slot_count routes.old)) }
         requires list_flight { D.flight list.old ≡ no_flight }
         requires route_flight { D.flight routes.old ≡ no_flight }
-        requires taken { (before : Routing) × (listed : ℕ) × (routed : ℕ) × IsTaken before self.old listed routed }
+        requires taken { (before : Routing) × (listed : ℕ) × (routed : ℕ) × AreBothTaken before self.old listed routed }
         requires list_room { length (left_of (D.slot_count list.old) self.old.listed) ≤ D.spare list.old }
         requires route_room { length (left_of (D.slot_count routes.old) self.old.routed) ≤ D.spare routes.old }
         ensures made { IfOk result (λ drains. IsMadeBy (slots_of (D.slot_count list.old) (D.slot_count routes.old)) self.old drains self.new
             (made_on (D.events list.old) (D.events routes.old)) (made_on (D.events list.new) (D.events routes.new))) }
         ensures small { IfOk result (λ drains. drains < 2 ^ 44) }
         ensures router { IsRouter self.old }
-        ensures stuck { OnErr result (IsStuckBy (slots_of (D.slot_count list.old) (D.slot_count routes.old)) self.old self.new
+        ensures stuck { OnErr result (IsStuckInEither (slots_of (D.slot_count list.old) (D.slot_count routes.old)) self.old self.new
             (made_on (D.events list.old) (D.events routes.old)) (made_on (D.events list.new) (D.events routes.new))) }
         ensures list { LeavesDevice D.slot_count D.events D.flight D.faults list.old list.new (IsErr result × IsSome self.new.listed.whole.held) }
         ensures routes { LeavesDevice D.slot_count D.events D.flight D.faults routes.old routes.new (IsErr result × (self.new.listed.whole.held ≡ None)) }
@@ -102,7 +102,7 @@ impl Router {
         requires commits { self.now.commits < 2 ^ 24 }
         ensures { WritesLine K.taken K.accepted K.faults sink.old sink.new (accepted_line (self.now.commits + 1) listed routed drains) result }
     {
-        let made = Made {
+        let made = CommitNumbers {
             listed,
             routed,
             drains,

@@ -13,7 +13,7 @@
 //!
 //! # How it stands
 //! `router` has the acts, `committing` what becomes of a commit, `carrying` what carries one table's part out, `report` the
-//! lines.
+//! lines, `alike` what callers may know of every router.
 //!
 //! # A device that fails
 //! A part that failed is tried again at once, [`TRIES`] times in all. Where it failed each time the rest of the commit is
@@ -32,12 +32,15 @@
 //! - **`Memory` comes only where the list's verdict takes the batch**, and before any part.
 //! - **`Held` is the end of a router**: it tells how many parts are left of both tables, and there is no call that goes on.
 //!   The devices answer old or new then, so they may be left as they are, or be read by whoever mends them.
-//! - **A commit says nothing of where its insertions aim**, nor of the slots beyond those in use: the managers choose as
-//!   `SplitManager` promises, and a reader of the report needs neither.
+//! - **Each table's insertions go where the placement says, and no slot past those in use is written**: both are said of a
+//!   table's part of a commit (`IsPartOfCommit` in `specs/Run`). A device is known here by its events, and a planner by what it
+//!   keeps of the slots in use; that these are one where no commit is under way is a part of what a router is.
+//! - **A router is of one version of IP**, which its routes are of, and by which its report names rules.
 //! - **The writes of all commits are counted in 128 bits**, since no bound of a commit's parts is promised that 64 bits
 //!   would hold so many times over.
 #![tactic(auto)]
 
+mod alike;
 mod carrying;
 mod committing;
 mod report;

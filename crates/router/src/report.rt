@@ -7,13 +7,13 @@ ghost use Rattle.router.specs.Text.{accepted_line, end_line, family_of, packet_l
 
 use crate::Side;
 use report_lines::{Family, LINE_ROOM, ReportLine};
-use rule_model::Rank;
+use rule_model::{IpVersion, Rank};
 use script_lines::{Failed, Sink};
 use split_order::Rejection;
 
 /// The numbers of a commit that was made: the writes of each table, and the drains of both.
 #[derive(Clone, Copy, Debug, PartialEq, Eq)]
-pub(crate) struct Made {
+pub(crate) struct CommitNumbers {
     pub(crate) listed: u64,
     pub(crate) routed: u64,
     pub(crate) drains: u64,
@@ -40,30 +40,36 @@ fn word_of(side: Side) -> &'static str
     }
 }
 
-// How the rules of a table are named.
-fn naming(side: Side) -> Family
-    ensures { result ≡ family_of side }
+// How the rules of a table are named, of a router of this version of IP.
+fn naming(version: IpVersion, side: Side) -> Family
+    ensures { result ≡ family_of version side }
 {
-    match side {
-        Side::List => Family::Acl,
-        Side::Routes => Family::Route,
+    match (version, side) {
+        (IpVersion::V4, Side::List) => Family::Acl,
+        (IpVersion::V4, Side::Routes) => Family::Route,
+        (IpVersion::V6, Side::List) => Family::Acl6,
+        (IpVersion::V6, Side::Routes) => Family::Route6,
     }
 }
 
 // The line of a packet.
-fn packet(listed: Option<(Rank, u32)>, routed: Option<(Rank, u32)>) -> ReportLine
-    ensures text { result ++ 10 ∷ [] ≡ packet_line listed routed }
+fn packet(
+    version: IpVersion,
+    listed: Option<(Rank, u32)>,
+    routed: Option<(Rank, u32)>,
+) -> ReportLine
+    ensures text { result ++ 10 ∷ [] ≡ packet_line version listed routed }
     ensures len { length result < LINE_ROOM }
 {
     ReportLine::new("packet")
         .word("list")
-        .answer(Family::Acl, listed)
+        .answer(naming(version, Side::List), listed)
         .word("route")
-        .answer(Family::Route, routed)
+        .answer(naming(version, Side::Routes), routed)
 }
 
 // The line of a commit that was made.
-fn accepted(commit: u32, made: &Made) -> ReportLine
+fn accepted(commit: u32, made: &CommitNumbers) -> ReportLine
     ensures text { result ++ 10 ∷ [] ≡ accepted_line commit made.now.listed made.now.routed made.now.drains }
     ensures len { length result < LINE_ROOM }
 {
@@ -81,15 +87,15 @@ fn accepted(commit: u32, made: &Made) -> ReportLine
 }
 
 // The line of a refused commit.
-fn refused(side: Side, commit: u32, rejection: &Rejection) -> ReportLine
-    ensures text { result ++ 10 ∷ [] ≡ refused_line side commit (verdict_told rejection.now) }
+fn refused(version: IpVersion, side: Side, commit: u32, rejection: &Rejection) -> ReportLine
+    ensures text { result ++ 10 ∷ [] ≡ refused_line version side commit (verdict_told rejection.now) }
     ensures len { length result < LINE_ROOM }
 {
     ReportLine::new("commit")
         .number(u64::from(commit))
         .word("refused")
         .word(word_of(side))
-        .reason(naming(side), rejection)
+        .reason(naming(version, side), rejection)
 }
 
 // The line of a run that came to its end.
@@ -108,37 +114,43 @@ fn end(totals: &Totals) -> ReportLine
         .number(u64::from(totals.pending))
 }
 
-/// Writes what both tables answer a packet. Takes no memory. Where the sink fails, a part of the line was taken, perhaps
-/// none or all of it.
+/// Writes what both tables answer a packet, by the version of IP of their rules. Takes no memory. Where the sink fails, a part
+/// of the line was taken, perhaps none or all of it.
 pub(crate) fn write_packet<K: Sink>(
     sink: &mut K,
+    version: IpVersion,
     listed: Option<(Rank, u32)>,
     routed: Option<(Rank, u32)>,
 ) -> Result<(), Failed>
-    ensures { WritesLine K.taken K.accepted K.faults sink.old sink.new (packet_line listed routed) result }
+    ensures { WritesLine K.taken K.accepted K.faults sink.old sink.new (packet_line version listed routed) result }
 {
-    packet(listed, routed).write(sink)
+    packet(version, listed, routed).write(sink)
 }
 
 /// Writes the line of a commit that was made, by its number, from 1, and its numbers. Takes no memory. Where the sink
 /// fails, a part of the line was taken, perhaps none or all of it.
-pub(crate) fn write_accepted<K: Sink>(sink: &mut K, commit: u32, made: &Made) -> Result<(), Failed>
+pub(crate) fn write_accepted<K: Sink>(
+    sink: &mut K,
+    commit: u32,
+    made: &CommitNumbers,
+) -> Result<(), Failed>
     ensures { WritesLine K.taken K.accepted K.faults sink.old sink.new (accepted_line commit made.now.listed made.now.routed made.now.drains) result }
 {
     accepted(commit, made).write(sink)
 }
 
-/// Writes the line of a refused commit, by the table that refuses it, its number, from 1, and the reason. Takes no memory.
-/// Where the sink fails, a part of the line was taken, perhaps none or all of it.
+/// Writes the line of a refused commit, by the version of IP of the rules, the table that refuses it, its number, from 1, and
+/// the reason. Takes no memory. Where the sink fails, a part of the line was taken, perhaps none or all of it.
 pub(crate) fn write_refused<K: Sink>(
     sink: &mut K,
+    version: IpVersion,
     side: Side,
     commit: u32,
     rejection: &Rejection,
 ) -> Result<(), Failed>
-    ensures { WritesLine K.taken K.accepted K.faults sink.old sink.new (refused_line side commit (verdict_told rejection.now)) result }
+    ensures { WritesLine K.taken K.accepted K.faults sink.old sink.new (refused_line version side commit (verdict_told rejection.now)) result }
 {
-    refused(side, commit, rejection).write(sink)
+    refused(version, side, commit, rejection).write(sink)
 }
 
 /// Writes the last line of a run that came to its end. Takes no memory. Where the sink fails, a part of the line was

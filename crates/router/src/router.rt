@@ -12,13 +12,13 @@ ghost use Rattle.router.specs.Run.{ending, start};
 ghost use Rattle.router.specs.Script.{full_fault, limit_fault};
 ghost use Rattle.router.specs.Routing.{begun, progress_of, setting_of, slots_of, pending_of, has_failed, held_left, limit_text, with_refusal, with_push, AreAt, FitsBoth, IsActOf, IsIdle, IsRouter, Routing};
 ghost use Rattle.router.specs.Carried.{LeavesDevice};
-ghost use Rattle.router.specs.Taken.{IsTaken};
+ghost use Rattle.router.specs.Taken.{AreBothTaken};
 ghost use Rattle.router.specs.Acting.{AnswersHeld, ComesTo, FailedAt, IsNotHeld, outside};
 
 use crate::committing::Unplanned;
 use crate::report::{Totals, write_end, write_packet, write_refused};
 use crate::{RouterAct, RouterFault, Side};
-use rule_model::{Key, key_fields};
+use rule_model::{IpVersion, Key, key_fields};
 use rule_store::{Batch, Command, PushFault};
 use script_lines::{Failed, Sink};
 use slot_order::MOST_SLOTS;
@@ -35,6 +35,7 @@ pub struct Router {
     pub(crate) routed: SplitManager,
     pub(crate) list_batch: Batch,
     pub(crate) route_batch: Batch,
+    version: IpVersion,
     pub(crate) commits: u32,
     pub(crate) writes: u128,
     refused: bool,
@@ -47,24 +48,25 @@ impl Model for Router {
 
     ghost Value = { Routing };
 
-    ghost view = { λ r. record { listed = r.listed; routed = r.routed; list_batch = r.list_batch; route_batch = r.route_batch; commits = r.commits; writes = r.writes; refused = r.refused; broken = r.broken } };
+    ghost view = { λ r. record { listed = r.listed; routed = r.routed; list_batch = r.list_batch; route_batch = r.route_batch; version = r.version; commits = r.commits; writes = r.writes; refused = r.refused; broken = r.broken } };
 
-    ghost invariant = { λ r. IsRouter (record { listed = r.listed; routed = r.routed; list_batch = r.list_batch; route_batch = r.route_batch; commits = r.commits; writes = r.writes; refused = r.refused; broken = r.broken }) };
+    ghost invariant = { λ r. IsRouter (record { listed = r.listed; routed = r.routed; list_batch = r.list_batch; route_batch = r.route_batch; version = r.version; commits = r.commits; writes = r.writes; refused = r.refused; broken = r.broken }) };
 }
 
 impl Router {
     /// A router before its first act, over two blank devices with so many slots in use of each, 1 to 4,096: no rules, and no
-    /// change pending. The mode says how port ranges are tested, and the placement is that of both managers. It fails only
-    /// for want of memory.
+    /// change pending. The mode says how port ranges are tested, and the placement where an insertion of either table aims. Of
+    /// the version of IP are the routes that it takes, and by it the report names rules. It fails only for want of memory.
     pub fn new(
         alloc: Global,
         slots: u32,
         mode: Mode,
         placement: Placement,
+        version: IpVersion,
     ) -> Result<Router, AllocError>
         requires least { 1 ≤ slots }
         requires most { slots ≤ MOST_SLOTS }
-        ensures begun { IfOk result (λ router. router ≡ begun slots mode placement) }
+        ensures begun { IfOk result (λ router. router ≡ begun slots mode placement version) }
         ensures starts { IfOk result (λ router. progress_of router ≡ start) }
     {
         Ok(Router {
@@ -72,6 +74,7 @@ impl Router {
             routed: SplitManager::new(alloc, slots, mode, placement)?,
             list_batch: Batch::new(alloc),
             route_batch: Batch::new(alloc),
+            version,
             commits: 0,
             writes: 0,
             refused: false,
@@ -81,8 +84,8 @@ impl Router {
 
     /// Carries out an act of a router's script, over two devices, the list's and the routes', each with at least as many
     /// slots as the router uses, and each where the router stands: it was blank before the first act, and nobody else has
-    /// written it since. Nothing is in flight in them while no commit is unfinished. Each route that is added is one of an
-    /// IPv4 prefix. The router has made fewer than 16,777,216 commits.
+    /// written it since. Nothing is in flight in them while no commit is unfinished. Each route that is added is one of a
+    /// prefix of the router's version of IP. The router has made fewer than 16,777,216 commits.
     ///
     /// A change joins the pending batch of its table. With 4,096 changes pending there the answer is `BatchFull`, and nothing
     /// has changed; each table counts its own. A packet's line has what the rules of each table answer; the devices are asked,
@@ -111,7 +114,7 @@ impl Router {
     ) -> Result<(), RouterFault>
         requires slots { FitsBoth self.old (slots_of (D.slot_count list.old) (D.slot_count routes.old)) }
         requires none_in_flight { IsIdle self.old → (D.flight list.old ≡ no_flight) × (D.flight routes.old ≡ no_flight) }
-        requires act { IsActOf act.now }
+        requires act { IsActOf self.old.version act.now }
         requires whole { self.old.broken ≡ false }
         requires commits { self.old.commits < 2 ^ 24 }
         ensures acts { (which : Bool) → ComesTo (slots_of (D.slot_count list.old) (D.slot_count routes.old)) self.old act.now self.new result
@@ -169,7 +172,7 @@ impl Router {
         requires list_flight { D.flight list.old ≡ no_flight }
         requires route_flight { D.flight routes.old ≡ no_flight }
         requires idle { IsIdle self.old }
-        requires act { IsActOf act.now }
+        requires act { IsActOf self.old.version act.now }
         requires whole { self.old.broken ≡ false }
         requires commits { self.old.commits < 2 ^ 24 }
         ensures acts { (which : Bool) → ComesTo (slots_of (D.slot_count list.old) (D.slot_count routes.old)) self.old act.now self.new result
@@ -196,7 +199,7 @@ impl Router {
 
     // A change joins the pending batch of its table.
     fn push(&mut self, side: Side, command: Command) -> Result<(), RouterFault>
-        requires change { IsActOf (RouterAct.Change side command) }
+        requires change { IsActOf self.old.version (RouterAct.Change side command) }
         ensures pushed { OnOk result (self.new ≡ with_push self.old side command) }
         ensures limit { limit_text result ≡ limit_fault (RouterAct.Change side command) (pending_of self.old) }
         ensures unchanged { OnErr result (self.new ≡ self.old) }
@@ -228,7 +231,7 @@ impl Router {
         key_fields(key);
         self.listed.serving();
         self.routed.serving();
-        match write_packet(sink, list.look(key), routes.look(key)) {
+        match write_packet(sink, self.version, list.look(key), routes.look(key)) {
             Ok(()) => Ok(()),
             Err(Failed) => Err(RouterFault::Sink),
         }
@@ -281,12 +284,12 @@ impl Router {
         requires slots { FitsBoth self.old (slots_of (D.slot_count list.old) (D.slot_count routes.old)) }
         requires list_flight { D.flight list.old ≡ no_flight }
         requires route_flight { D.flight routes.old ≡ no_flight }
-        requires taken { (before : Routing) × IsTaken before self.old listed routed }
+        requires taken { (before : Routing) × AreBothTaken before self.old listed routed }
         requires list_room { length (left_of (D.slot_count list.old) self.old.listed) ≤ D.spare list.old }
         requires route_room { length (left_of (D.slot_count routes.old) self.old.routed) ≤ D.spare routes.old }
         requires whole { self.old.broken ≡ false }
         requires commits { self.old.commits < 2 ^ 24 }
-        ensures acts { (which : Bool) → (before : Routing) → IsTaken before self.old listed routed → ComesTo (slots_of (D.slot_count list.old) (D.slot_count routes.old)) before RouterAct.Commit self.new result
+        ensures acts { (which : Bool) → (before : Routing) → AreBothTaken before self.old listed routed → ComesTo (slots_of (D.slot_count list.old) (D.slot_count routes.old)) before RouterAct.Commit self.new result
             (outside (D.events list.old) (D.events routes.old) (counted which (K.taken sink.old) (K.accepted sink.old)))
             (outside (D.events list.new) (D.events routes.new) (counted which (K.taken sink.new) (K.accepted sink.new))) }
         ensures kind { IfErr result (λ fault. (fault ≡ RouterFault.Sink) ⊎ (fault ≡ RouterFault.Device)) }
@@ -322,7 +325,7 @@ impl Router {
         requires idle { IsIdle self.old }
         requires commits { self.old.commits < 2 ^ 24 }
         ensures refused { self.new ≡ with_refusal self.old }
-        ensures line { WritesLine K.taken K.accepted K.faults sink.old sink.new (refused_line side (self.old.commits + 1) (verdict_told rejection)) result }
+        ensures line { WritesLine K.taken K.accepted K.faults sink.old sink.new (refused_line self.old.version side (self.old.commits + 1) (verdict_told rejection)) result }
         ensures kind { IfErr result (λ fault. fault ≡ RouterFault.Sink) }
     {
         let told = self.tell_refused(side, &rejection, sink);
@@ -342,9 +345,9 @@ impl Router {
         sink: &mut K,
     ) -> Result<(), Failed>
         requires commits { self.now.commits < 2 ^ 24 }
-        ensures { WritesLine K.taken K.accepted K.faults sink.old sink.new (refused_line side (self.now.commits + 1) (verdict_told rejection.now)) result }
+        ensures { WritesLine K.taken K.accepted K.faults sink.old sink.new (refused_line self.now.version side (self.now.commits + 1) (verdict_told rejection.now)) result }
     {
-        write_refused(sink, side, self.commits + 1, rejection)
+        write_refused(sink, self.version, side, self.commits + 1, rejection)
     }
 
     // Counts a commit, and drops both batches.
@@ -355,6 +358,13 @@ impl Router {
         self.list_batch.clear();
         self.route_batch.clear();
         self.commits += 1;
+    }
+
+    /// The version of IP of its routes and of its report.
+    pub fn version(&self) -> IpVersion
+        ensures { result ≡ self.now.version }
+    {
+        self.version
     }
 
     /// Writes the last line of a run that came to its end: the rules of each table, the device writes of all commits, none of

@@ -1,17 +1,16 @@
 -- The loop goes on as `SplitManager::carry_out` does, and counts the drains.
-use Rattle.std.proofs.Common.{◌≡◌, ◌+◌, ◌*◌, ◌-◌, ◌<◌, ◌≤◌, ◌++◌, ◌∷◌, [], ℕ, List, false, true, length, refl, sym, ap, ap₂, subst, ◌∙◌, append-nil, arith}
-use Rattle.split_device.specs.declared.SplitAction.{SplitAction}
+use Rattle.std.proofs.Common.{◌≡◌, ◌+◌, ◌-◌, ◌≤◌, ◌++◌, ◌∷◌, [], false, true, length, refl, ap, subst, ◌∙◌, append-nil, arith}
 use Rattle.split_device.specs.declared.SplitAction.TheVariants.{Written, Drained}
-use Rattle.split_device.specs.Flight.{Flight, flight_count}
+use Rattle.split_device.specs.Flight.{flight_count}
 use Rattle.split_order.specs.declared.SplitStep.{SplitStep}
 use Rattle.split_order.specs.declared.SplitStep.TheVariants as step
 use Rattle.split_order.specs.Left.{left_of, left_of_held, since_of, state_on}
 use Rattle.split_order.specs.Managed.{SplitManaged}
 use Rattle.split_order.specs.Steps.{Advances, IsPartNext, SplitSteps, made_by}
-use Rattle.split_order.proofs.Carrying.{drained_is, finished_is, goes_drained, goes_failed, goes_start, goes_wrote, idle_is, nearer, nearer_drained, no_tries, rests_is, same_slots, waiting_is, wrote_is}
+use Rattle.split_order.proofs.Carrying.{drained_is, finished_is, goes_drained, goes_start, goes_wrote, idle_is, nearer, nearer_drained, no_tries, rests_is, wrote_is}
 use Rattle.split_order.proofs.Stepped.{advances_slots}
 use Rattle.router.specs.Run.{drains_in}
-use Rattle.router.proofs.Counting.{all_carried, count_drained, count_wrote, drain_fits, leaves_carried, leaves_stuck}
+use Rattle.router.proofs.Counting.{all_carried, count_drained, count_wrote, drain_fits, leaves_carried}
 use Rattle.router.proofs.carrying.carry.Goals as goal
 
 pub carrying-init : goal.carrying-init

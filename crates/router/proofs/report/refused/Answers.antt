@@ -9,4 +9,4 @@ use Rattle.router.proofs.report.refused.Goals as goal
 pub returns-clause-text : goal.returns-clause-text
 returns-clause-text c =
     rw (c.reason.ensures.text, c.naming.ensures, c.word-2.ensures.text, c.word_of.ensures.word, c.word.ensures.text, c.number.ensures.text, c.new.ensures, c.from.ensures)
-    (with_words-line (codes "commit") (decimal c.args.commit ∷ codes "refused" ∷ side_word c.args.side ∷ reason_words (family_of c.args.side) (verdict_told c.args.rejection.now)))
+    (with_words-line (codes "commit") (decimal c.args.commit ∷ codes "refused" ∷ side_word c.args.side ∷ reason_words (family_of c.args.version c.args.side) (verdict_told c.args.rejection.now)))

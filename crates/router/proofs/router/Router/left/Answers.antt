@@ -1,5 +1,5 @@
 -- What is left of both plans.
-use Rattle.std.proofs.Common.{◌+◌, ◌≤◌, ◌^◌, ap₂, sym, ◌∙◌, arith}
+use Rattle.std.proofs.Common.{◌≤◌, ◌^◌, ap₂, sym, ◌∙◌, arith}
 use Rattle.router.proofs.Left.{both_left, few_told, left_is}
 use Rattle.router.proofs.router.Router.left.Goals as goal
 

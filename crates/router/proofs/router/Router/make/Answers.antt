@@ -1,5 +1,5 @@
 -- The commit is made with its line, or cut at it, or at a part.
-use Rattle.std.proofs.Common.{◌≡◌, ◌+◌, false, true, [], List, ℕ, Option, ap, subst, sym, ◌∙◌}
+use Rattle.std.proofs.Common.{◌≡◌, ◌+◌, false, true, [], List, ℕ, Option, ap, subst, ◌∙◌}
 use Rattle.std.specs.Io.KnownBytes.{Appends}
 use Rattle.script_lines.specs.Given.{counted}
 use Rattle.report_lines.specs.Outside.{AppendsPart}

@@ -2,7 +2,6 @@
 use Rattle.std.proofs.Common.{refl}
 use Rattle.router.specs.declared.Side.TheVariants as side
 use Rattle.router.specs.Routing.{slots_of}
-use Rattle.router.specs.Acting.{outside}
 use Rattle.router.proofs.Acts.{leaves_still, never_device, never_push, never_sink, push_acts}
 use Rattle.router.proofs.router.Router.perform.Goals as goal
 
