@@ -44,7 +44,8 @@ use Rattle.json_traces.proofs.Standing.{StandsIn, may_begin, stands_behind}
 use Rattle.json_traces.proofs.Texts.{in_json, behind_append, none_due, of_commit, of_refusal}
 use Rattle.json_traces.proofs.Through.{traced_through, keeps_append, through_append, keeps_commands, through_commands, are_commands, command_count, are_events, with_made, through_events, writes-append, command_writes, event_writes, done_count, done-append, done-commit}
 
--- what is known between two commits of a run whose slots in use hold a state; what no line between them is judged by is of another trace
+-- what is known between two commits of a run whose slots in use hold a state; what no line between them is judged by is of
+-- another trace
 abbrev pub standing : Setting → Progress → State → Tracing → Tracing
 standing setting old state rest =
     record rest {

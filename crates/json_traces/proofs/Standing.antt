@@ -29,8 +29,8 @@ use Rattle.replay.specs.Run.{Progress, start, after_segment}
 use Rattle.report_lines.specs.Text.{family_version}
 use Rattle.json_traces.proofs.TraceRules.{IsTraceChange, told_changes, set_told}
 
--- The slots in use hold a state, and over a device of so many slots the run is at rest with it. Rules and changes are those of a
--- trace of the family's version, and no more changes are pending than may be.
+-- The slots in use hold a state, and over a device of so many slots the run is at rest with it. Rules and changes are those
+-- of a trace of the family's version, and no more changes are pending than may be.
 pub record StandsIn (setting : Setting) (device_slots : ℕ) (old : Progress) (state : State) : Type 0 where
   pub at : old.state ≡ on_device device_slots state
   pub size : length state.slots ≡ setting.slots

@@ -19,8 +19,9 @@ use Rattle.report_lines.specs.declared.Family.TheVariants.{Route, Acl, Route6, A
 use Rattle.replay.specs.Effects.{Setting}
 use Rattle.tcam_cli.specs.declared.own_texts.Topic.{Topic}
 use Rattle.tcam_cli.specs.Headline.{Job, NoJob, Reads, Verifies}
-use Rattle.tcam_cli.specs.CommandLine.{is_traced, job_at, job_by_faults, job_of, job_of_fault, is_json, made_at, mode_wanted, number_in, placed_by, script_setting, tcam_app, text_of, topic_in}
-use Rattle.tcam_cli.specs.Asked.{job_by, number_given, tested_job, tested_job_of_rows, tested_made, tested_script}
+use Rattle.option_words.specs.Options.{is_traced, number_given, number_in, placed_by, text_of}
+use Rattle.tcam_cli.specs.CommandLine.{job_at, job_by_faults, job_of, job_of_fault, is_json, made_at, mode_wanted, script_setting, tcam_app, topic_in}
+use Rattle.tcam_cli.specs.Asked.{job_by, tested_job, tested_job_of_rows, tested_made, tested_script}
 use Rattle.tcam_cli.proofs.NumbersTaken.{tested}
 
 -- what a script is asked for over: slots in use that there may be

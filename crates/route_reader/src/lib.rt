@@ -13,9 +13,11 @@
 //! Addresses, prefixes and frames are those of one version of IP, which the caller names. `read_route` is equal to the
 //! grammar both ways: it answers a command only where the line is one, and a fault only where the line has that fault.
 //! Faults are found in a fixed order: the words that begin no command, then a wrong number of words, then the leftmost
-//! bad word. What is common to both kinds of script stands in `line_words`; here is what routes alone have. Nothing
-//! takes memory.
+//! bad word. What is common to both kinds of script stands in `line_words`; here is what routes alone have, and which
+//! rule a route of a version is (`routes`). Nothing takes memory.
 #![tactic(auto)]
+
+mod routes;
 
 ghost use Rattle.std.specs.Prelude.{◌≡◌, ◌≤◌, ◌∷◌, codes, take};
 ghost use Rattle.std.specs.Str.{bytes_eq};
@@ -25,6 +27,7 @@ ghost use Rattle.route_reader.specs.Grammar.{addition, change, removal, route_co
 use line_words::{
     CommonCommand, WordFault, Words, command_words, common_command, prefix_of, result_of,
 };
+pub use routes::{route_of, route_rank};
 use rule_model::{IpVersion, Prefix};
 use script_lines::{LINE_BYTES, Line};
 

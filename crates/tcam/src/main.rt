@@ -1,23 +1,28 @@
-//! The program `tcam`: `tcam_cli`'s `run` over standard input, standard output and a blank device in memory.
+//! The program `tcam`: `tcam_cli`'s `run` over standard input, standard output and a blank device in memory; where the first
+//! word behind its name is `router`, `router_cli`'s `run_router` over two, and where it is `draw`, `trace_draw`'s `draw`.
 //!
-//! What `run` promises is proved; of these few lines nothing is said. What std's reader and writer do with the files is
+//! What these three promise is proved; of these few lines nothing is said. What std's reader and writer do with the files is
 //! trusted.
 //!
 //! # Decided
-//! - **The device keeps no journal**: it is `Shadowed` over hardware that takes each write and holds nothing. What the
-//!   program takes for a write is what its plan keeps of it. Tests have `MemTcam`, whose journal they read.
+//! - **The devices keep no journal**: each is a shadow in memory, `Shadowed` or `SplitShadowed`, over hardware that takes
+//!   each write and holds nothing. What the program takes for a write is what its plan keeps of it. Tests have `MemTcam`
+//!   and `MemSplit`, whose writes they read.
 #![tactic(auto)]
 
 mod modelled;
 
 use memory_tcam::Shadowed;
 use modelled::Modelled;
-use script_lines::{ReadFrom, WriteTo};
+use router_cli::run_router;
+use script_lines::{ReadFrom, Sink, Source, WriteTo};
+use split_hardware::SplitShadowed;
 use std::alloc::AllocError;
 use std::env::{self, Env};
 use std::io;
 use std::process::ExitCode;
 use tcam_cli::{Status, run};
+use trace_draw::draw;
 
 /// The words of the process's command line, or none where they can't be had for another cause than memory.
 fn process_words<R: Env + AllocGlobal>(rt: &R) -> Result<Vec<String>, AllocError> {
@@ -36,20 +41,47 @@ fn process_words<R: Env + AllocGlobal>(rt: &R) -> Result<Vec<String>, AllocError
     }
 }
 
-/// Runs the process's words over standard input, standard output and a blank device in memory. Its journal is for
-/// proofs alone, and takes no memory.
+/// The subcommand that the words begin with, the program's name first.
+fn subcommand(words: &[String]) -> &str {
+    match words.get(1) {
+        Some(word) => word.as_str(),
+        None => "",
+    }
+}
+
+/// Runs the process's words over standard input and standard output.
 fn run_process(rt: &HostRuntime) -> Result<Status, AllocError> {
     let words = process_words(rt)?;
     let mut source = ReadFrom::new(rt.stdin());
     let mut sink = WriteTo::new(rt.stdout());
+    match subcommand(words.as_slice()) {
+        "draw" => Ok(draw(rt.alloc(), words.as_slice(), &mut source, &mut sink)),
+        "router" => run_on_two(rt, words.as_slice(), &mut source, &mut sink),
+        _ => run_on_device(rt, words.as_slice(), &mut source, &mut sink),
+    }
+}
+
+/// Runs words over a source, a sink and a blank device in memory. Its journal is for proofs alone, and takes no memory.
+fn run_on_device<S: Source, K: Sink>(
+    rt: &HostRuntime,
+    words: &[String],
+    source: &mut S,
+    sink: &mut K,
+) -> Result<Status, AllocError> {
     let mut device = Shadowed::new(rt.alloc(), Modelled::new())?;
-    Ok(run(
-        rt.alloc(),
-        words.as_slice(),
-        &mut source,
-        &mut sink,
-        &mut device,
-    ))
+    Ok(run(rt.alloc(), words, source, sink, &mut device))
+}
+
+/// Runs a router's words over a source, a sink and two blank devices in memory, likewise.
+fn run_on_two<S: Source, K: Sink>(
+    rt: &HostRuntime,
+    words: &[String],
+    source: &mut S,
+    sink: &mut K,
+) -> Result<Status, AllocError> {
+    let mut list = SplitShadowed::new(rt.alloc(), Modelled::new())?;
+    let mut routes = SplitShadowed::new(rt.alloc(), Modelled::new())?;
+    Ok(run_router(rt.alloc(), words, source, sink, &mut list, &mut routes))
 }
 
 fn main(rt: HostRuntime) -> ExitCode {

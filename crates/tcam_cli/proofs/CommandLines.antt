@@ -6,7 +6,8 @@ use Rattle.clap.proofs.OnLiterals.{clap_on_literals}
 use Rattle.rule_store.specs.declared.Mode.TheVariants.{Cover, Bits}
 use Rattle.batch_order.specs.declared.Placement.TheVariants.{Middle, Rank}
 use Rattle.report_lines.specs.declared.Family.TheVariants.{Route, Acl, Route6, Acl6}
-use Rattle.tcam_cli.specs.CommandLine.{acl_app, depth_option, gen_app, job_of, number_position, placement_option, ranges_option, route_app, script_setting, slots_option, tcam_app, tcam_top, trace_flag, json_flag, verify_app}
+use Rattle.option_words.specs.Options.{number_position, placement_option, ranges_option, slots_option, trace_flag}
+use Rattle.tcam_cli.specs.CommandLine.{acl_app, depth_option, gen_app, job_of, route_app, script_setting, tcam_app, tcam_top, json_flag, verify_app}
 use Rattle.tcam_cli.specs.Headline.{NoJob, Tells, Reads, Makes, Verifies}
 use Rattle.tcam_cli.specs.OwnTexts.{acl_help, acl6_help, gen_help, help_text, route_help, verify_help, version_text}
 

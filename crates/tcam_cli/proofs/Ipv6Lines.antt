@@ -13,7 +13,7 @@ use Rattle.line_words.specs.Words.{◌>>=◌}
 use Rattle.line_words.specs.Kinds.{number_up_to, block_of, parts_at}
 use Rattle.line_words.specs.Ipv6.{hex_value, group_value, group_values, groups_of, at_double_colon, address_value, eight_groups, joined_groups, shortened_number, number_by_parts, ipv6_number, ipv6_prefix}
 use Rattle.line_words.proofs.Groups.{digits-fit, group-fits, with_groups}
-use Rattle.tcam_cli.proofs.RouteLines.{within}
+use Rattle.route_reader.proofs.RouteLines.{within}
 
 -- ---- groups
 

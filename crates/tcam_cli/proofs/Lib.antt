@@ -1,11 +1,6 @@
-mod ClearFaults
 mod CommandLines
-mod Numbers
-mod ArgumentRows
-mod TakenRows
 pub mod NumbersTaken
 mod Words
-mod RouteLines
 mod Ipv6Lines
 mod TracedLines
 pub mod ToldLines

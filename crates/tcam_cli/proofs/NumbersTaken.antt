@@ -3,7 +3,6 @@ use Rattle.std.proofs.Common.{◌≡◌, ◌∙◌, ◌&&◌, ℕ, Bool, cond, t
 use Rattle.std.specs.Prelude.{fold}
 use Rattle.std.specs.List.{list_any}
 use Rattle.std.proofs.lemmas.List.Sums.{fold-append}
-use Rattle.std.specs.Str.{bytes_eq}
 use Rattle.slot_order.specs.Order.{most_slots}
 use Rattle.clap.specs.ValueTests.{is_unsigned_in}
 use Rattle.clap.specs.Takes.{is_given}
@@ -12,11 +11,26 @@ use Rattle.clap.specs.Simple.{Shape, argument_words, built, filled, help_rule, s
 use Rattle.clap.specs.Faults.{fault_of, level_fault}
 use Rattle.report_lines.specs.declared.Family.{Family}
 use Rattle.report_lines.specs.declared.Family.TheVariants.{Route, Acl, Route6, Acl6}
-use Rattle.tcam_cli.specs.CommandLine.{acl_app, depth_option, gen_app, is_traced, job_at, job_of_rows, job_of_subcommand, made_at, mode_wanted, number_of, number_position, placed_by, placement_option, ranges_option, route_app, script_by, slots_option, tcam_app, tcam_top, text_of, trace_flag, json_flag, verify_app, is_json}
+use Rattle.option_words.specs.Options.{is_traced, number_of, number_position, placed_by, placement_option, ranges_option, slots_option, text_of, trace_flag}
+use Rattle.tcam_cli.specs.CommandLine.{acl_app, depth_option, gen_app, job_at, job_of_rows, job_of_subcommand, made_at, mode_wanted, route_app, script_by, tcam_app, tcam_top, json_flag, verify_app, is_json}
 use Rattle.tcam_cli.specs.Asked.{job_by, tested_job, tested_job_of_rows, tested_made, tested_script}
 use Rattle.tcam_cli.specs.Headline.{Job}
-use Rattle.tcam_cli.proofs.ArgumentRows.{AllKeep, Good, HasNumber, apart-keeps, depth-default, depth-keep, depth_id, has-apart, number-given, or_no, position, position-keeps, slots-default, slots-keep, slots_id}
-use Rattle.tcam_cli.proofs.TakenRows.{IsTaken, built-gives, level-taken}
+use Rattle.option_words.proofs.Defaults.{AreOthers, all-behind, has-still, keep-defaults, others-keep, script-slots}
+use Rattle.option_words.proofs.ArgumentRows.{AllKeep, Good, HasNumber, Keeps, apart-keeps, number-given, numbered-default, numbered-keep, or_no, position, position-keeps, slots-default, slots-keep, slots_id}
+use Rattle.option_words.proofs.TakenRows.{IsTaken, built-gives, level-taken}
+
+-- ---- the depth of probes
+
+abbrev depth_id : Text
+depth_id = codes "depth"
+
+depth-default : (rows : List Row) → Good depth_id 0 15 rows → HasNumber depth_id 0 15 (with_default rows (filled depth_option)) × Good depth_id 0 15 (with_default rows (filled depth_option))
+unfolding depth_option
+depth-default = numbered-default depth_id 0 15 (codes "0") refl
+
+depth-keep : Keeps (Good depth_id 0 15) (filled depth_option)
+unfolding depth_option
+depth-keep = numbered-keep depth_id 0 15 (codes "0") refl
 
 -- ---- the jobs by tests that pass
 
@@ -55,25 +69,6 @@ made-tested rows slots seed rules batches =
     ∙ ap (λ b. made_by rows true true b (is_unsigned_in 1 64 (text_of batches_id rows))) rules
     ∙ ap (λ b. made_by rows true true true b) batches)
 
--- ---- other arguments
-
--- these arguments are others
-abbrev AreOthers : Text → List Rule → Type 0
-AreOthers id rules = list_any (λ a. bytes_eq a.id id) rules ≡ false
-
-others-keep : (id : Text) (low high : ℕ) (rules : List Rule) → AreOthers id rules → AllKeep (Good id low high) rules
-others-keep id low high [] others = tt
-others-keep id low high (a ∷ rest) others =
-    let parts = or_no (bytes_eq a.id id) _ others in
-    (apart-keeps id low high a parts.0, others-keep id low high rest parts.1)
-
--- their defaults leave a number
-has-still : (id : Text) (low high : ℕ) (rules : List Rule) → AreOthers id rules → (rows : List Row) → HasNumber id low high rows → HasNumber id low high (fold with_default rows rules)
-has-still id low high [] others rows has = has
-has-still id low high (a ∷ rest) others rows has =
-    let parts = or_no (bytes_eq a.id id) _ others in
-    has-still id low high rest parts.1 (with_default rows a) (has-apart id low high a parts.0 rows has)
-
 -- ---- a subcommand for scripts
 
 -- what stands behind --slots
@@ -93,24 +88,6 @@ route_front = filled slots_option ∷ filled placement_option ∷ filled trace_f
 
 abbrev list_front : List Rule
 list_front = filled slots_option ∷ filled ranges_option ∷ filled placement_option ∷ filled trace_flag ∷ []
-
-module _ (s : Shape) (rest : List Rule) (others : AreOthers slots_id rest) (are : s.rules ≡ filled slots_option ∷ rest) (once : s.args_override_self ≡ false) (words : List Text) (none : level_fault s [] nothing_held words false [] ≡ []) where
-  script-slots : HasNumber slots_id 1 most_slots (rows_after s.rules [] words)
-  script-slots =
-      let keep : AllKeep (Good slots_id 1 most_slots) s.rules =
-      subst (AllKeep (Good slots_id 1 most_slots)) (sym are) (slots-keep, others-keep slots_id 1 most_slots rest others) in
-      let taken = level-taken (Good slots_id 1 most_slots) s keep once tt words none in
-      subst (HasNumber slots_id 1 most_slots) (sym (taken.after ∙ ap (fold with_default taken.rows) are))
-      (has-still slots_id 1 most_slots rest others (with_default taken.rows (filled slots_option)) (slots-default taken.rows taken.good).0)
-
--- an argument behind others keeps what they keep
-all-behind : (P : List Row → Type 0) (front back : List Rule) → AllKeep P front → AllKeep P back → AllKeep P (front ++ back)
-all-behind P [] back ahead behind = behind
-all-behind P (a ∷ front) back ahead behind = (ahead.0, all-behind P front back ahead.1 behind)
-
-keep-defaults : (P : List Row → Type 0) (rules : List Rule) → AllKeep P rules → (rows : List Row) → P rows → P (fold with_default rows rules)
-keep-defaults P [] all rows good = good
-keep-defaults P (a ∷ rest) all rows good = keep-defaults P rest all.1 (with_default rows a) (all.0.by_default rows good)
 
 module _ (s : Shape) (front back : List Rule) (others : AreOthers depth_id front) (others_back : AreOthers depth_id back) (are : s.rules ≡ front ++ filled depth_option ∷ back) (once : s.args_override_self ≡ false) (words : List Text)
     (none : level_fault s [] nothing_held words false [] ≡ []) where

@@ -25,8 +25,8 @@ use Rattle.acl_reader.specs.declared.AclCommand.{AclCommand}
 use Rattle.acl_reader.specs.declared.AclCommand.TheVariants as acl
 use Rattle.acl_reader.specs.Grammar as lists
 use Rattle.trace_file.specs.Forms.{IsTraceRank, IsTraceRule}
-use Rattle.tcam_cli.specs.Readings.{route_rank}
-use Rattle.tcam_cli.proofs.RouteLines.{line-command, within}
+use Rattle.route_reader.specs.Routes.{route_rank}
+use Rattle.route_reader.proofs.RouteLines.{line-command, within}
 use Rattle.tcam_cli.proofs.Ipv6Lines.{prefix-right as ipv6-prefix-right}
 
 -- ---- addresses

@@ -1,25 +1,22 @@
 -- What words ask for, by what clap made of them.
-use Rattle.std.proofs.Common.{◌≡◌, ◌∙◌, refl, sym, ap, subst, true, List, [], Option, Some, None}
-use Rattle.std.specs.Prelude.{IfOk, Ok, Err, Result, option_map, unwrap_or}
-use Rattle.clap.specs.Walk.{Text, nothing_held, rows_of}
+use Rattle.std.proofs.Common.{◌≡◌, ◌∙◌, refl, sym, ap, subst, true, List, [], ◌∷◌, Option, inl, inr}
+use Rattle.std.specs.Prelude.{IfOk, Ok, Err, Result}
+use Rattle.clap.specs.Walk.{Row, Text, nothing_held}
 use Rattle.clap.specs.Simple.{App, argument_words, built, is_simple, subcommand_of, subcommand_rows_of}
-use Rattle.clap.proofs.WalkLemmas.{first_value-rows}
-use Rattle.clap.specs.declared.parser.matches.Found.{Found}
-use Rattle.std.specs.Borrow.{Bor}
 use Rattle.clap.specs.Faults.{fault_of, is_simple_and_free}
-use Rattle.clap.specs.Kinds.{IsAmong}
-use Rattle.clap.specs.Matches.{first_value}
+use Rattle.clap.specs.Kinds.{Kinds, IsAmong}
 use Rattle.clap.specs.declared.error.kind.ErrorKind.{ErrorKind}
 use Rattle.clap.specs.declared.parser.matches.ArgMatches.{ArgMatches}
 use Rattle.clap.proofs.OnLiterals.{clap_on_literals}
 use Rattle.tcam_cli.specs.declared.own_texts.Topic.{Topic}
 use Rattle.tcam_cli.specs.declared.command_line.Asked.{Asked}
-use Rattle.tcam_cli.specs.declared.command_line.WordsFault.{WordsFault}
-use Rattle.tcam_cli.specs.CommandLine.{job_by_faults, job_of, job_of_fault, acl_app, depth_option, gen_app, number_position, placement_option, ranges_option, route_app, slots_option, tcam_app, tcam_top, text_of, trace_flag, json_flag, verify_app, topic_in}
+use Rattle.option_words.specs.declared.WordsFault.{WordsFault}
+use Rattle.option_words.specs.Options.{number_position, placement_option, ranges_option, slots_option, trace_flag}
+use Rattle.tcam_cli.specs.CommandLine.{job_by_faults, job_of, job_of_fault, acl_app, depth_option, gen_app, route_app, tcam_app, tcam_top, json_flag, verify_app, topic_in}
 use Rattle.tcam_cli.specs.Asked.{asked_by, tested_job}
 use Rattle.tcam_cli.specs.Headline.{Job}
 use Rattle.tcam_cli.proofs.NumbersTaken.{tested}
-use Rattle.tcam_cli.proofs.ClearFaults.{Clear, built-clear, fault_job}
+use Rattle.option_words.proofs.ClearFaults.{Clear, built-clear}
 
 pub simple_and_free : is_simple_and_free tcam_app ≡ true
 unfolding clap_on_literals tcam_app tcam_top route_app acl_app gen_app slots_option ranges_option placement_option trace_flag json_flag depth_option number_position verify_app
@@ -28,6 +25,16 @@ simple_and_free = refl
 pub simple : is_simple tcam_app ≡ true
 unfolding clap_on_literals tcam_app tcam_top route_app acl_app gen_app slots_option ranges_option placement_option trace_flag json_flag depth_option number_position verify_app
 simple = refl
+
+-- the job by such kinds is that of the kind that came
+fault_job : (topic : Option Topic) (ks : Kinds) (sub : Option (Text × List Row)) (k : ErrorKind) → Clear ks → IsAmong k ks
+    → job_by_faults topic ks sub ≡ job_of_fault topic k
+fault_job topic [] sub k clear among = absurd among
+fault_job topic (a ∷ []) sub k clear (inl e) = ap (job_of_fault topic) (sym e)
+fault_job topic (a ∷ []) sub k clear (inr none) = absurd none
+fault_job topic (a ∷ b ∷ ks) sub k clear (inl e) = sym (ap (job_of_fault topic) (e ∙ clear.0))
+fault_job topic (a ∷ b ∷ ks) sub k clear (inr (inl e)) = sym (ap (job_of_fault topic) (e ∙ clear.1))
+fault_job topic (a ∷ b ∷ ks) sub k clear (inr (inr more)) = absurd (subst (IsAmong k) clear.2 more)
 
 tcam-clear : (words : List Text) → Clear (fault_of tcam_app words)
 unfolding tcam_app tcam_top route_app acl_app gen_app slots_option ranges_option placement_option trace_flag json_flag depth_option number_position verify_app
@@ -50,13 +57,3 @@ refused a words topic k is whose among =
 pub then_asked : (r : Result Asked WordsFault) (x y : Job) → y ≡ x → IfOk r (λ job. x ≡ asked_by job) → IfOk r (λ job. y ≡ asked_by job)
 then_asked (Ok job) x y is h = is ∙ h
 then_asked (Err e) x y is h = tt
-
--- the first text of an argument, where none stands for the empty text
-pub given_text : (f : Found) (id : Text) (o : Option (Bor Text)) (r d : Bor Text) → r ≡ unwrap_or o d → d.now ≡ []
-    → option_map (λ s. s.now) o ≡ first_value f id → text_of id (rows_of f) ≡ r.now
-given_text f id o r d is empty given =
-    ap (λ x. unwrap_or x []) (sym (first_value-rows f id) ∙ sym given) ∙ go o ∙ ap (λ (s : Bor Text). s.now) (sym is)
-  where
-    go : (x : Option (Bor Text)) → unwrap_or (option_map (λ s. s.now) x) [] ≡ (unwrap_or x d).now
-    go None = sym empty
-    go (Some t) = refl

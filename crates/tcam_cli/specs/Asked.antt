@@ -3,27 +3,19 @@ use Rattle.std.specs.Prelude.{ℕ, ◌≡◌, ◌≤◌, Option, Some, None, Lis
 use Rattle.std.specs.Str.{bytes_eq}
 use Rattle.slot_order.specs.Order.{most_slots}
 use Rattle.clap.specs.Walk.{Row, Text}
-use Rattle.clap.specs.ValueTests.{is_unsigned_in}
 use Rattle.report_lines.specs.declared.Family.{Family}
 use Rattle.report_lines.specs.declared.Family.TheVariants.{Route, Acl, Route6, Acl6}
 use Rattle.tcam_cli.specs.declared.command_line.Asked.{Asked}
 use Rattle.tcam_cli.specs.declared.command_line.Asked.TheVariants as asked
-use Rattle.tcam_cli.specs.CommandLine.{is_json, is_traced, job_at, made_at, mode_wanted, number_in, placed_by, script_setting, text_of}
+use Rattle.option_words.specs.Options.{is_traced, number_given, placed_by}
+use Rattle.tcam_cli.specs.CommandLine.{is_json, job_at, made_at, mode_wanted, script_setting}
 use Rattle.tcam_cli.specs.OwnTexts.{help_on, version_text}
 use Rattle.tcam_cli.specs.Headline.{Job, NoJob, Tells, Reads, Makes, Verifies}
-
--- the number that a text writes, if it is one of the range
-abbrev pub number_within : ℕ → ℕ → Text → Option ℕ
-number_within least greatest text = if is_unsigned_in least greatest text then Some (number_in text) else None
 
 -- what is asked for by a number, if there is one
 abbrev pub job_by : Option ℕ → (ℕ → Job) → Job
 job_by None job = NoJob
 job_by (Some number) job = job number
-
--- the number in a range that an argument was given
-abbrev pub number_given : ℕ → ℕ → Text → List Row → Option ℕ
-number_given least greatest id rows = number_within least greatest (text_of id rows)
 
 -- what a subcommand asks for by rows that may not be clap's, whose numbers are tested again; where clap takes
 -- the words the tests pass, and the two are one

@@ -1,9 +1,7 @@
 -- The command lines, by the declaration that clap is given, and what each asks for.
-use Rattle.std.specs.Prelude.{ℕ, Bool, Option, Some, None, unwrap_or, option_and_then, slice_get, List, [], ◌∷◌, true, false, codes, if◌then◌else◌}
+use Rattle.std.specs.Prelude.{ℕ, Bool, Option, Some, None, option_and_then, slice_get, List, [], ◌∷◌, true, false, codes, if◌then◌else◌}
 use Rattle.std.specs.Str.{bytes_eq}
-use Rattle.std.specs.Str.Parse.{digits_value, without_leading_plus}
-use Rattle.slot_order.specs.Order.{most_slots}
-use Rattle.clap.specs.Walk.{Rule, Row, Text, first_of}
+use Rattle.clap.specs.Walk.{Rule, Row, Text}
 use Rattle.clap.specs.Simple.{App, new_app, new_rule, on_top, with_rule, with_subcommand, subcommand_of}
 use Rattle.clap.specs.Faults.{fault_of}
 use Rattle.clap.specs.Kinds.{Kinds}
@@ -11,10 +9,10 @@ use Rattle.clap.specs.declared.error.kind.ErrorKind.{ErrorKind}
 use Rattle.clap.specs.declared.error.kind.ErrorKind.TheVariants as kind
 use Rattle.clap.specs.declared.builder.action.ArgAction.TheVariants.{Set, SetTrue}
 use Rattle.clap.specs.declared.builder.value_parser.ValueParser.TheVariants.{Unsigned}
+use Rattle.option_words.specs.Options.{text_of, number_of, has_text, is_traced, mode_in, placed_by, slots_option, ranges_option, placement_option, trace_flag, number_position}
 use Rattle.rule_store.specs.declared.Mode.{Mode}
-use Rattle.rule_store.specs.declared.Mode.TheVariants.{Cover, Bits}
+use Rattle.rule_store.specs.declared.Mode.TheVariants.{Cover}
 use Rattle.batch_order.specs.declared.Placement.{Placement}
-use Rattle.batch_order.specs.declared.Placement.TheVariants.{Middle, Rank, Ends}
 use Rattle.report_lines.specs.declared.Family.{Family}
 use Rattle.report_lines.specs.declared.Family.TheVariants.{Route, Acl, Route6, Acl6}
 use Rattle.replay.specs.Effects.{Setting}
@@ -29,35 +27,6 @@ use Rattle.tcam_cli.specs.OwnTexts.{help_on, version_text}
 abbrev pub script_setting : Family → ℕ → Mode → Placement → Bool → ℕ → Bool → Setting
 script_setting family slots mode placement trace depth json =
     record { slots = slots; mode = mode; placement = placement; family = family; trace = trace; depth = depth; json = json }
-
--- --slots, a number from 1 to 4096, by default 4096
-unfoldable pub slots_option : Rule
-slots_option = record (new_rule (codes "slots")) {
-  long = Some (codes "slots");
-  action = Some Set;
-  parser = Some (Unsigned 1 most_slots);
-  defaults = codes "4096" ∷ [];
-}
-
--- --ranges, a word, by default cover
-unfoldable pub ranges_option : Rule
-ranges_option = record (new_rule (codes "ranges")) {
-  long = Some (codes "ranges");
-  action = Some Set;
-  defaults = codes "cover" ∷ [];
-}
-
--- --placement, a word, by default middle
-unfoldable pub placement_option : Rule
-placement_option = record (new_rule (codes "placement")) {
-  long = Some (codes "placement");
-  action = Some Set;
-  defaults = codes "middle" ∷ [];
-}
-
--- --trace, a flag
-unfoldable pub trace_flag : Rule
-trace_flag = record (new_rule (codes "trace")) { long = Some (codes "trace"); action = Some SetTrue }
 
 -- --depth, a number from 0 to 15, by default 0
 unfoldable pub depth_option : Rule
@@ -83,14 +52,6 @@ acl_app name =
     with_rule (with_rule (with_rule (with_rule (with_rule (with_rule (new_app name) slots_option) ranges_option) placement_option) trace_flag)
     depth_option) json_flag
 
--- a required number of a range, which stands behind the subcommand in its order
-unfoldable pub number_position : Text → ℕ → ℕ → Rule
-number_position name least greatest = record (new_rule name) {
-  action = Some Set;
-  parser = Some (Unsigned least greatest);
-  required = true;
-}
-
 -- the subcommand for made commands: SEED, RULES and BATCHES
 unfoldable pub gen_app : App
 gen_app =
@@ -115,34 +76,9 @@ tcam_app =
     with_subcommand (with_subcommand (with_subcommand (with_subcommand (with_subcommand (with_subcommand tcam_top (route_app (codes "route")).top)
     (acl_app (codes "acl")).top) (route_app (codes "route6")).top) (acl_app (codes "acl6")).top) gen_app.top) verify_app.top
 
--- the text that an argument was given, or has by default
-abbrev pub text_of : Text → List Row → Text
-text_of id rows = unwrap_or (first_of id rows) []
-
--- the number that a text writes in decimal digits
-abbrev pub number_in : Text → ℕ
-number_in text = digits_value 10 (without_leading_plus text)
-
--- the number that an argument was given, or has by default
-abbrev pub number_of : Text → List Row → ℕ
-number_of id rows = number_in (text_of id rows)
-
--- whether an argument was given this text, or has it by default
-abbrev pub has_text : Text → Text → List Row → Bool
-has_text id text rows = bytes_eq (text_of id rows) text
-
--- whether a trace is wanted
-abbrev pub is_traced : List Row → Bool
-is_traced rows = has_text (codes "trace") (codes "true") rows
-
 -- whether a report in JSON is wanted
 abbrev pub is_json : List Row → Bool
 is_json rows = has_text (codes "json") (codes "true") rows
-
--- the mode that a word names
-abbrev pub mode_in : Text → Option Mode
-mode_in text =
-    if bytes_eq text (codes "cover") then Some Cover else if bytes_eq text (codes "bits") then Some Bits else None
 
 -- the mode that is wanted: the ranges of a route are any port, and it has no such option
 abbrev pub mode_wanted : Family → List Row → Option Mode
@@ -150,18 +86,6 @@ mode_wanted Route rows = Some Cover
 mode_wanted Acl rows = mode_in (text_of (codes "ranges") rows)
 mode_wanted Route6 rows = Some Cover
 mode_wanted Acl6 rows = mode_in (text_of (codes "ranges") rows)
-
--- the placement that a word names
-abbrev pub placement_in : Text → Option Placement
-placement_in text =
-    if bytes_eq text (codes "middle") then Some Middle
-    else if bytes_eq text (codes "rank") then Some Rank
-    else if bytes_eq text (codes "ends") then Some Ends
-    else None
-
--- the placement that is wanted
-abbrev pub placed_by : List Row → Option Placement
-placed_by rows = placement_in (text_of (codes "placement") rows)
 
 -- a script of a family over so many slots, where the words of --ranges and --placement name a mode and a placement
 abbrev pub job_at : Family → ℕ → Option Mode → Option Placement → Bool → ℕ → Bool → Job

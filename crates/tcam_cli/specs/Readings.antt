@@ -2,8 +2,7 @@
 use Rattle.std.specs.Prelude.{ℕ, Bool, true, false, Result, Ok, Err, Option, Some, None, List, codes, option_map}
 use Rattle.rule_model.specs.declared.IpVersion.{IpVersion}
 use Rattle.rule_model.specs.declared.IpVersion.TheVariants.{V4, V6}
-use Rattle.rule_model.specs.AddressBlock.{AddressBlock}
-use Rattle.rule_model.specs.Rank.{ipv4_route_rank, ipv6_route_rank, list_rank}
+use Rattle.rule_model.specs.Rank.{list_rank}
 use Rattle.rule_model.specs.Rule.{route_rule}
 use Rattle.rule_store.specs.declared.Command.TheVariants.{Add as Adds, Set as Sets, Del as Dels}
 use Rattle.line_words.specs.declared.WordFault.{WordFault}
@@ -14,6 +13,7 @@ use Rattle.line_words.specs.declared.commands.CommonCommand.TheVariants as commo
 use Rattle.route_reader.specs.declared.RouteCommand.{RouteCommand}
 use Rattle.route_reader.specs.declared.RouteCommand.TheVariants as route
 use Rattle.route_reader.specs.Grammar.{route_line}
+use Rattle.route_reader.specs.Routes.{route_rank}
 use Rattle.acl_reader.specs.declared.AclCommand.{AclCommand}
 use Rattle.acl_reader.specs.declared.AclCommand.TheVariants as acl
 use Rattle.acl_reader.specs.Grammar.{acl_line}
@@ -31,11 +31,6 @@ common_act (common.Packet key) = Packet key
 common_act common.Commit = Commit
 common_act (common.Trial most) = Trial most
 common_act (common.Crash after) = Crash after
-
--- the priority of a route of a version of IP, by its prefix
-abbrev pub route_rank : IpVersion → AddressBlock → ℕ
-route_rank V4 block = ipv4_route_rank block
-route_rank V6 block = ipv6_route_rank block
 
 -- a route's rule has its prefix as its priority
 abbrev pub route_act : IpVersion → RouteCommand → Act

@@ -1,4 +1,4 @@
--- What a command of a run over a script has, where a run stands between two lines, and how a report is closed.
+-- Where a run over a script stands between two lines, and how a report is closed.
 use Rattle.std.specs.Prelude.{◌≡◌, ◌⊎◌, ℕ, ◌≤◌, Bool, true, false, Option, None, Some, IsSome, List}
 use Rattle.call_history.specs.Cause.{IsCounted}
 use Rattle.script_lines.specs.Given.{counted}
@@ -6,11 +6,6 @@ use Rattle.script_lines.specs.Reader.{HeldBytes}
 use Rattle.script_runs.specs.declared.Status.{Status}
 use Rattle.script_runs.specs.declared.Status.TheVariants.{ReadFault, WriteFault, DeviceFault, Memory}
 use Rattle.script_runs.specs.Rounds.{Closes}
-use Rattle.rule_model.specs.declared.IpVersion.{IpVersion}
-use Rattle.rule_model.specs.declared.IpVersion.TheVariants.{V4, V6}
-use Rattle.rule_model.specs.AddressBlock.{AddressBlock, IsIpv4Block}
-use Rattle.route_reader.specs.declared.RouteCommand.{RouteCommand}
-use Rattle.route_reader.specs.declared.RouteCommand.TheVariants as route
 use Rattle.report_lines.specs.declared.Family.TheVariants.{Route, Acl}
 use Rattle.replay.specs.declared.RunFault.{RunFault}
 use Rattle.replay.specs.declared.RunFault.TheVariants as fault
@@ -21,18 +16,6 @@ use Rattle.trace_verify.specs.declared.Verified.{Verified}
 use Rattle.trace_verify.specs.declared.Verified.TheVariants as verified
 use Rattle.trace_verify.specs.Verify.{told_of}
 use Rattle.tcam_cli.specs.Headline.{told_line, told_status}
-
--- the prefix is one of this version of IP
-abbrev pub IsBlockOf : IpVersion → AddressBlock → Type 0
-IsBlockOf V4 block = IsIpv4Block block
-IsBlockOf V6 block = Unit {0}
-
--- what a command of a route script adds is a route of its version
-abbrev pub IsCommandOf : IpVersion → RouteCommand → Type 0
-IsCommandOf version (route.Add block answer) = IsBlockOf version block
-IsCommandOf version (route.Set block answer) = Unit {0}
-IsCommandOf version (route.Del block) = Unit {0}
-IsCommandOf version (route.Common command) = Unit {0}
 
 -- the status of a run at an act that was stopped
 abbrev pub status_of_fault : RunFault → Status

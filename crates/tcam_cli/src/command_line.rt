@@ -1,16 +1,19 @@
 //! The words of the command line, as `clap` takes them.
 
-ghost use Rattle.std.specs.Prelude.{◌≡◌, ◌≤◌, codes, Err, IfOk, IsErrOf, IfSome, IsNone, None, false, true, map, string_bytes};
+ghost use Rattle.std.specs.Prelude.{◌≡◌, codes, Err, IfOk, IsErrOf, IfSome, IsNone, None, false, true, map, string_bytes};
 ghost use Rattle.clap.specs.Words.{app_of, rule_of, rows_of, found_of, subcommand_rows_of, kind_of};
 ghost use Rattle.clap.specs.declared.builder.command.Command.TheViews.{out-Command};
-ghost use Rattle.tcam_cli.specs.CommandLine.{job_of, job_of_fault, mode_wanted, mode_in, placement_in, topic_in, topic_named, verify_app, acl_app, depth_option, gen_app, json_flag, number_position, placement_option, ranges_option, route_app, slots_option, tcam_app, text_of as text_in, trace_flag};
-ghost use Rattle.tcam_cli.specs.Asked.{IsInRange, asked_by, number_within, tested_job, tested_made, tested_script};
+ghost use Rattle.tcam_cli.specs.CommandLine.{job_of, job_of_fault, mode_wanted, topic_in, topic_named, verify_app, acl_app, depth_option, gen_app, json_flag, route_app, tcam_app};
+ghost use Rattle.tcam_cli.specs.Asked.{IsInRange, asked_by, tested_job, tested_made, tested_script};
 ghost use Rattle.tcam_cli.specs.Headline.{NoJob};
 
 use crate::own_texts::Topic;
-use clap::builder::ValueParser;
 use clap::error::ErrorKind;
 use clap::{Arg, ArgAction, ArgMatches, Command, Error};
+use option_words::{
+    WordsFault, mode_named, number_arg, number_of, placement_arg, placement_of, ranges_arg,
+    slots_arg, text_of, trace_arg,
+};
 use replay::{Family, Mode, Placement};
 use slot_order::MOST_SLOTS;
 use std::alloc::{AllocError, Global};
@@ -46,59 +49,6 @@ pub enum Asked {
     Help(Option<Topic>),
     /// Name and version.
     Version,
-}
-
-/// Why words ask for nothing.
-#[derive(Clone, Copy, Debug, PartialEq, Eq)]
-pub enum WordsFault {
-    /// They are no command line.
-    Usage,
-    /// Want of memory.
-    Memory,
-}
-
-/// How many slots are in use.
-fn slots_arg<'a>(alloc: Global) -> Arg<'a>
-    ensures rule { rule_of result ≡ slots_option }
-    ensures global { result.global ≡ false }
-{
-    Arg::new(alloc, "slots")
-        .long("slots")
-        .action(ArgAction::Set)
-        .value_parser(clap::value_parser!(u64).range(1..4097))
-        .default_value("4096")
-}
-
-/// How port ranges are tested.
-fn ranges_arg<'a>(alloc: Global) -> Arg<'a>
-    ensures rule { rule_of result ≡ ranges_option }
-    ensures global { result.global ≡ false }
-{
-    Arg::new(alloc, "ranges")
-        .long("ranges")
-        .action(ArgAction::Set)
-        .default_value("cover")
-}
-
-/// Where an insertion aims.
-fn placement_arg<'a>(alloc: Global) -> Arg<'a>
-    ensures rule { rule_of result ≡ placement_option }
-    ensures global { result.global ≡ false }
-{
-    Arg::new(alloc, "placement")
-        .long("placement")
-        .action(ArgAction::Set)
-        .default_value("middle")
-}
-
-/// Whether each device write has its line.
-fn trace_arg<'a>(alloc: Global) -> Arg<'a>
-    ensures rule { rule_of result ≡ trace_flag }
-    ensures global { result.global ≡ false }
-{
-    Arg::new(alloc, "trace")
-        .long("trace")
-        .action(ArgAction::SetTrue)
 }
 
 /// After how many further writes the words of the probes are searched.
@@ -152,17 +102,6 @@ fn acl_command<'a>(alloc: Global, name: &'a str) -> Result<Command<'a>, AllocErr
             .arg(depth_arg(alloc))?
             .arg(json_arg(alloc))?,
     )
-}
-
-/// A required number in a range, which stands behind the subcommand in its order.
-fn number_arg<'a>(alloc: Global, name: &'a str, least: u64, greatest: u64) -> Arg<'a>
-    ensures rule { rule_of result ≡ number_position name.entry.now least greatest }
-    ensures global { result.global ≡ false }
-{
-    Arg::new(alloc, name)
-        .required(true)
-        .action(ArgAction::Set)
-        .value_parser(ValueParser::unsigned(least, greatest))
 }
 
 /// The subcommand for made commands.
@@ -278,13 +217,6 @@ fn job_of_made(found: &ArgMatches) -> Option<Asked>
     })
 }
 
-/// The text that an argument was given, or has by default.
-fn text_of<'a>(found: &ArgMatches<'a>, id: &str) -> &'a str
-    ensures { result.now ≡ text_in id.now (rows_of (found_of found.now)) }
-{
-    found.get_str(id).unwrap_or("")
-}
-
 /// The mode that is wanted: the ranges of a route are any port, and it has no such option.
 fn mode_of(family: Family, found: &ArgMatches) -> Option<Mode>
     ensures { result ≡ mode_wanted family (rows_of (found_of found.now)) }
@@ -292,40 +224,6 @@ fn mode_of(family: Family, found: &ArgMatches) -> Option<Mode>
     match family {
         Family::Route | Family::Route6 => Some(Mode::Cover),
         Family::Acl | Family::Acl6 => mode_named(text_of(found, "ranges")),
-    }
-}
-
-/// A mode from its word.
-fn mode_named(text: &str) -> Option<Mode>
-    ensures { result ≡ mode_in text.now }
-{
-    match text {
-        "cover" => Some(Mode::Cover),
-        "bits" => Some(Mode::Bits),
-        _ => None,
-    }
-}
-
-/// A placement from its word.
-fn placement_of(text: &str) -> Option<Placement>
-    ensures { result ≡ placement_in text.now }
-{
-    match text {
-        "middle" => Some(Placement::Middle),
-        "rank" => Some(Placement::Rank),
-        "ends" => Some(Placement::Ends),
-        _ => None,
-    }
-}
-
-/// A number in a range from its text.
-fn number_of(text: &str, least: u32, greatest: u32) -> Option<u32>
-    ensures number { result ≡ number_within least greatest text.now }
-    ensures range { IfSome result (λ n. (least ≤ n) × (n ≤ greatest)) }
-{
-    match text.parse::<u32>() {
-        Ok(number) if least <= number && number <= greatest => Some(number),
-        _ => None,
     }
 }
 

@@ -31,21 +31,25 @@ output. Or it checks a trace of writes, its own or another driver's.
     tcam acl [OPTIONS] < FILE      a script of an access list
     tcam route6 [OPTIONS] < FILE   a script of IPv6 routes
     tcam acl6 [OPTIONS] < FILE     a script of an IPv6 access list
+    tcam router [OPTIONS] < FILE   a script of two tables, a list and routes
     tcam gen SEED RULES BATCHES [OPTIONS]
                                    changes of an access list, made from SEED
     tcam verify < FILE             a check of a trace of device writes
+    tcam draw [OPTIONS] < TRACE    a picture of a trace's commits, as an SVG
     tcam route --help              the commands of a script of routes
     tcam acl --help                the commands of a script of an access list
     tcam route6 --help             those of a script of IPv6 routes
     tcam acl6 --help               those of a script of an IPv6 access list
+    tcam router --help             those of a script of two tables
     tcam gen --help                what SEED, RULES and BATCHES make
     tcam verify --help             the lines of a trace, and what is told of it
+    tcam draw --help               what a picture shows, and of which commits
     tcam --help                    this text
     tcam --version                 name and version
 
 Options:
     --slots N        N slots in use, 1 to 4096, by default 4096
-    --ranges R       of acl, acl6 and gen, how port ranges are tested: cover, by
+    --ranges R       of what has a list, how port ranges are tested: cover, by
                      an entry for each block of a range, which is the default,
                      and has no limit but slots; or bits, by one entry a rule,
                      for at most 16 distinct ranges a field that come seldom:
@@ -56,10 +60,10 @@ Options:
                      loaded in one commit; or ends, for a list that grows: by
                      rank, but what is lower than all goes right behind what it
                      must stand behind, and what is higher right before it
-    --trace          a line for each device write and drain; not for gen
-    --json           of scripts, a report in JSON: a value a line for each
-                     command, device write and drain of a commit
-    --depth K        of scripts, after how many further writes the words of the
+    --trace          a line for each device write and drain; not for gen, router
+    --json           of scripts of one table, a report in JSON: a value a line
+                     for each command, device write and drain of a commit
+    --depth K        of these, after how many further writes the words of the
                      probes are searched: 0 to 15, by default 0, at once
 
 Exit status:

@@ -21,23 +21,22 @@ ghost use Rattle.tcam_cli.specs.AllTheWay.{IsHitlessJob};
 ghost use Rattle.tcam_cli.specs.CommandLine.{job_of};
 ghost use Rattle.tcam_cli.specs.Headline.{IsCarriedOut, HasCauses, Makes, Reads, run_kind, status_of};
 ghost use Rattle.tcam_cli.specs.MadeScript.{made_act};
-ghost use Rattle.tcam_cli.specs.Readings.{acl_act, acl_reading, common_act, reading, reading_by, route_act, route_rank, route_reading, told_by};
+ghost use Rattle.tcam_cli.specs.Readings.{acl_act, acl_reading, common_act, reading, reading_by, route_act, route_reading, told_by};
 ghost use Rattle.script_runs.specs.Rounds.{RoundsBy};
-ghost use Rattle.tcam_cli.specs.Rounds.{ClosesReport, IsBetweenLines, IsBlockOf, IsCommandOf, status_of_fault};
+ghost use Rattle.route_reader.specs.Routes as routes;
+ghost use Rattle.tcam_cli.specs.Rounds.{ClosesReport, IsBetweenLines, status_of_fault};
 
 use crate::Status;
-use crate::command_line::{Asked, WordsFault, read_words};
+use crate::command_line::{Asked, read_words};
 use crate::own_texts::{VERSION, help_of};
 use crate::traces::run_verify;
 use acl_reader::{AclCommand, read_acl};
 use line_words::{CommonCommand, WordFault};
+use option_words::WordsFault;
 use replay::{Act, ActFault, Family, Run, RunFault, write_text};
-use route_reader::{RouteCommand, read_route};
+use route_reader::{RouteCommand, read_route, route_of, route_rank};
 use rule_gen::{Made, Maker};
-use rule_model::{
-    IpVersion, Prefix, Rank, ipv4_route_rank, ipv6_route_rank, ipv6_route_rule, list_rank,
-    route_rule, rule_conditions,
-};
+use rule_model::{IpVersion, Prefix, list_rank};
 use rule_store::Command;
 use script_lines::{Failed, Line, LineFault, Lines, Sink, Source};
 use slot_order::MOST_SLOTS;
@@ -392,7 +391,7 @@ fn acl_act(command: &AclCommand) -> Act
 
 /// The act that a command of a script of routes is. What it adds is a route of its version of IP.
 fn route_act(command: &RouteCommand, version: IpVersion) -> Act
-    requires { IsCommandOf version command.now }
+    requires { routes.IsCommandOf version command.now }
     ensures act { result ≡ route_act version command.now }
     ensures route { IsActOf (routes_of version) result }
 {
@@ -409,26 +408,11 @@ fn route_act(command: &RouteCommand, version: IpVersion) -> Act
 
 /// The act that adds a route of a version of IP.
 fn route_addition(prefix: Prefix, answer: u32, version: IpVersion) -> Act
-    requires { IsBlockOf version prefix }
-    ensures act { result ≡ Act.Command (Command.Add (route_rule (route_rank version prefix) prefix answer)) }
+    requires { routes.IsBlockOf version prefix }
+    ensures act { result ≡ Act.Command (Command.Add (route_rule (routes.route_rank version prefix) prefix answer)) }
     ensures route { IsActOf (routes_of version) result }
 {
-    let rule = match version {
-        IpVersion::V4 => route_rule(prefix, answer),
-        IpVersion::V6 => ipv6_route_rule(prefix, answer),
-    };
-    rule_conditions(&rule);
-    Act::Command(Command::Add(rule))
-}
-
-/// The priority of a route of a version of IP.
-fn route_rank(prefix: &Prefix, version: IpVersion) -> Rank
-    ensures { result ≡ route_rank version prefix.now }
-{
-    match version {
-        IpVersion::V4 => ipv4_route_rank(prefix),
-        IpVersion::V6 => ipv6_route_rank(prefix),
-    }
+    Act::Command(Command::Add(route_of(prefix, answer, version)))
 }
 
 /// The act that a command of both kinds of script is.

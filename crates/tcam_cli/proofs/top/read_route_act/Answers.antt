@@ -1,5 +1,5 @@
 use Rattle.std.proofs.Common.{take, Ok, sym, ◌∙◌, ap}
-use Rattle.tcam_cli.proofs.RouteLines.{line-of}
+use Rattle.route_reader.proofs.RouteLines.{line-of}
 use Rattle.tcam_cli.proofs.top.read_route_act.Goals as goal
 
 pub route_act-requires : goal.route_act-requires

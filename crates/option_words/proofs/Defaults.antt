@@ -1,0 +1,49 @@
+-- What the arguments beside a number leave of it, and the number of slots of a subcommand whose first argument says it.
+use Rattle.std.proofs.Common.{◌≡◌, ◌∙◌, false, sym, subst, ap, List, [], ◌∷◌, ◌++◌}
+use Rattle.std.specs.Prelude.{ℕ, fold}
+use Rattle.std.specs.List.{list_any}
+use Rattle.std.specs.Str.{bytes_eq}
+use Rattle.slot_order.specs.Order.{most_slots}
+use Rattle.clap.specs.Walk.{Row, Rule, Text, nothing_held, rows_after, with_default}
+use Rattle.clap.specs.Simple.{Shape, filled}
+use Rattle.clap.specs.Faults.{level_fault}
+use Rattle.option_words.specs.Options.{slots_option}
+use Rattle.option_words.proofs.ArgumentRows.{AllKeep, Good, HasNumber, apart-keeps, has-apart, or_no, slots-default, slots-keep, slots_id}
+use Rattle.option_words.proofs.TakenRows.{level-taken}
+
+-- ---- other arguments
+
+-- these arguments are others
+abbrev pub AreOthers : Text → List Rule → Type 0
+AreOthers id rules = list_any (λ a. bytes_eq a.id id) rules ≡ false
+
+pub others-keep : (id : Text) (low high : ℕ) (rules : List Rule) → AreOthers id rules → AllKeep (Good id low high) rules
+others-keep id low high [] others = tt
+others-keep id low high (a ∷ rest) others =
+    let parts = or_no (bytes_eq a.id id) _ others in
+    (apart-keeps id low high a parts.0, others-keep id low high rest parts.1)
+
+-- their defaults leave a number
+pub has-still : (id : Text) (low high : ℕ) (rules : List Rule) → AreOthers id rules → (rows : List Row) → HasNumber id low high rows → HasNumber id low high (fold with_default rows rules)
+has-still id low high [] others rows has = has
+has-still id low high (a ∷ rest) others rows has =
+    let parts = or_no (bytes_eq a.id id) _ others in
+    has-still id low high rest parts.1 (with_default rows a) (has-apart id low high a parts.0 rows has)
+
+-- an argument behind others keeps what they keep
+pub all-behind : (P : List Row → Type 0) (front back : List Rule) → AllKeep P front → AllKeep P back → AllKeep P (front ++ back)
+all-behind P [] back ahead behind = behind
+all-behind P (a ∷ front) back ahead behind = (ahead.0, all-behind P front back ahead.1 behind)
+
+pub keep-defaults : (P : List Row → Type 0) (rules : List Rule) → AllKeep P rules → (rows : List Row) → P rows → P (fold with_default rows rules)
+keep-defaults P [] all rows good = good
+keep-defaults P (a ∷ rest) all rows good = keep-defaults P rest all.1 (with_default rows a) (all.0.by_default rows good)
+
+module _ (s : Shape) (rest : List Rule) (others : AreOthers slots_id rest) (are : s.rules ≡ filled slots_option ∷ rest) (once : s.args_override_self ≡ false) (words : List Text) (none : level_fault s [] nothing_held words false [] ≡ []) where
+  pub script-slots : HasNumber slots_id 1 most_slots (rows_after s.rules [] words)
+  script-slots =
+      let keep : AllKeep (Good slots_id 1 most_slots) s.rules =
+      subst (AllKeep (Good slots_id 1 most_slots)) (sym are) (slots-keep, others-keep slots_id 1 most_slots rest others) in
+      let taken = level-taken (Good slots_id 1 most_slots) s keep once tt words none in
+      subst (HasNumber slots_id 1 most_slots) (sym (taken.after ∙ ap (fold with_default taken.rows) are))
+      (has-still slots_id 1 most_slots rest others (with_default taken.rows (filled slots_option)) (slots-default taken.rows taken.good).0)

@@ -1,0 +1,4 @@
+mod NumberTaken
+mod Words
+mod CommandLines
+mod TopCall

@@ -1,0 +1,117 @@
+//! The words of the command line of a router's script, as `clap` takes them.
+
+ghost use Rattle.std.specs.Prelude.{◌≡◌, Err, IfOk, IsErrOf, IfSome, IsNone, codes, false, map, string_bytes};
+ghost use Rattle.clap.specs.Words.{app_of, rows_of, found_of, subcommand_rows_of, kind_of};
+ghost use Rattle.clap.specs.declared.builder.command.Command.TheViews.{out-Command};
+ghost use Rattle.slot_order.specs.Order.{most_slots};
+ghost use Rattle.option_words.specs.Options.{number_given};
+ghost use Rattle.router_cli.specs.CommandLine.{NoJob, router_job_of_fault, router_app, router_job, router_line};
+ghost use Rattle.router_cli.specs.Asked.{IsRouterAskedInRange, router_asked_by, tested_at, tested_router_job};
+
+use clap::error::ErrorKind;
+use clap::{ArgMatches, Command, Error};
+use option_words::{
+    Mode, Placement, WordsFault, mode_named, number_of, placement_arg, placement_of, ranges_arg,
+    slots_arg, text_of,
+};
+use slot_order::MOST_SLOTS;
+use std::alloc::{AllocError, Global};
+
+/// What a command line asks for.
+#[derive(Clone, Copy, Debug, PartialEq, Eq)]
+pub enum RouterAsked {
+    /// A router's script from the source, with so many slots of each device in use, 1 to 4,096, where port ranges are
+    /// tested as the mode says and each insertion aims as the placement says.
+    Script {
+        slots: u32,
+        mode: Mode,
+        placement: Placement,
+    },
+    /// The help.
+    Help,
+}
+
+/// The subcommand.
+fn router_command<'a>(alloc: Global) -> Result<Command<'a>, AllocError>
+    ensures app { IfOk result (λ c. app_of c ≡ router_app) }
+    ensures local { IfOk result (λ c. (out-Command c).has_globals ≡ false) }
+{
+    Ok(
+        Command::new(alloc, "router")
+            .arg(slots_arg(alloc))?
+            .arg(ranges_arg(alloc))?
+            .arg(placement_arg(alloc))?,
+    )
+}
+
+/// The declared command line: a required subcommand, and help by its flag alone.
+fn line_command<'a>(alloc: Global) -> Result<Command<'a>, AllocError>
+    ensures { IfOk result (λ c. app_of c ≡ router_line) }
+{
+    Ok(
+        Command::new(alloc, "tcam")
+            .subcommand_required(true)
+            .disable_help_subcommand(true)
+            .subcommand(router_command(alloc)?)?,
+    )
+}
+
+/// What the words ask for, the program's name first.
+///
+/// Usage: they are no command line. Memory: there was no room to read them in.
+pub fn read_router_words(alloc: Global, words: &[String]) -> Result<RouterAsked, WordsFault>
+    ensures asked { IfOk result (λ job. router_job (map string_bytes words.now) ≡ router_asked_by job) }
+    ensures usage { IsErrOf result WordsFault.Usage → router_job (map string_bytes words.now) ≡ NoJob }
+    ensures within { IfOk result IsRouterAskedInRange }
+{
+    let command = match line_command(alloc) {
+        Ok(command) => command,
+        Err(_) => return Err(WordsFault::Memory),
+    };
+    match command.try_get_matches_from(words) {
+        Ok(matches) => match job_of_matches(&matches) {
+            Some(job) => Ok(job),
+            None => Err(WordsFault::Usage),
+        },
+        Err(error) => job_of_error(&error),
+    }
+}
+
+/// The job of words that were taken, if they ask for one.
+fn job_of_matches(matches: &ArgMatches) -> Option<RouterAsked>
+    ensures asked { IfSome result (λ job. tested_router_job (subcommand_rows_of matches.now) ≡ router_asked_by job) }
+    ensures none { IsNone result → tested_router_job (subcommand_rows_of matches.now) ≡ NoJob }
+    ensures within { IfSome result IsRouterAskedInRange }
+{
+    match matches.subcommand() {
+        Some((name, found)) if name == "router" => job_of_script(found),
+        _ => None,
+    }
+}
+
+/// The job of the subcommand's arguments.
+fn job_of_script(found: &ArgMatches) -> Option<RouterAsked>
+    ensures asked { IfSome result (λ job. tested_at (number_given 1 most_slots (codes "slots") (rows_of (found_of found.now))) (rows_of (found_of found.now)) ≡ router_asked_by job) }
+    ensures none { IsNone result → tested_at (number_given 1 most_slots (codes "slots") (rows_of (found_of found.now))) (rows_of (found_of found.now)) ≡ NoJob }
+    ensures within { IfSome result IsRouterAskedInRange }
+{
+    Some(RouterAsked::Script {
+        slots: number_of(text_of(found, "slots"), 1, MOST_SLOTS)?,
+        mode: mode_named(text_of(found, "ranges"))?,
+        placement: placement_of(text_of(found, "placement"))?,
+    })
+}
+
+/// The job of words that weren't: help, or none.
+fn job_of_error(error: &Error) -> Result<RouterAsked, WordsFault>
+    ensures asked { IfOk result (λ job. router_job_of_fault (kind_of error.now) ≡ router_asked_by job) }
+    ensures usage { IsErrOf result WordsFault.Usage → router_job_of_fault (kind_of error.now) ≡ NoJob }
+    ensures memory { kind_of error.now ≡ ErrorKind.OutOfMemory → result ≡ Err WordsFault.Memory }
+    ensures within { IfOk result IsRouterAskedInRange }
+{
+    match error.kind() {
+        ErrorKind::DisplayHelp => Ok(RouterAsked::Help),
+        ErrorKind::OutOfMemory => Err(WordsFault::Memory),
+        _ => Err(WordsFault::Usage),
+    }
+}

@@ -1,0 +1,25 @@
+//! The command line of a router's scripts, `tcam router`, and its top call.
+//!
+//! # The one hard idea
+//! The promise is a clause of one function, [`run_router`], over any source, sink and devices, by what its words ask for: of a
+//! script it is `router_runs`' promise of a whole run, by the grammar of `router_reader`.
+//!
+//! # How it stands
+//! `command_line` says what `clap` is to take and what its answer asks for, `own_texts` what the program says about itself;
+//! `top` does what is asked for.
+//!
+//! # Decided
+//! - **`router` is declared here alone**, and is no command line of `tcam_cli::run`: so neither top call stands on the other,
+//!   and a program that leads one table needs none of two. `main` chooses by the first word behind the program's name, and
+//!   each of the two refuses what is the other's.
+//! - **`--help` prints this text, and `--version` is no word here**: name and version are the program's.
+//! - **There is no `--trace`, `--depth` or `--json`**: the report of a router has no line of a write, and its scripts no probe.
+#![tactic(auto)]
+
+mod command_line;
+mod own_texts;
+mod top;
+
+pub use command_line::{RouterAsked, read_router_words};
+pub use script_runs::Status;
+pub use top::run_router;
