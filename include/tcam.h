@@ -28,11 +28,11 @@
  * After any code any call may come.
  *
  * No call locks, waits, prints, calls back, or keeps a pointer that it is given. tcam_new and tcam_new_split, the
- * functions that put a change into the batch, and tcam_prepare take memory by malloc, realloc and free, and say so by
- * TCAM_MEMORY where it is wanting. No call takes memory between a tcam_prepare and the last tcam_made of its commit, but
- * those that put changes into the next batch: so a commit that is under way can't fail for memory, nor can want of it
- * keep one of whole entries from being taken back. The last tcam_made gives back what the commit took, or a tcam_abort
- * with nothing to undo.
+ * functions that put a change into the batch, tcam_prepare, and those of a restart take memory by malloc, realloc and
+ * free, and say so by TCAM_MEMORY where it is wanting. No call takes memory between a tcam_prepare and the last
+ * tcam_made of its commit, but those that put changes into the next batch: so a commit that is under way can't fail
+ * for memory, nor can want of it keep one of whole entries from being taken back. The last tcam_made gives back what
+ * the commit took, or a tcam_abort with nothing to undo.
  *
  * Addresses, ports and protocols are numbers as the processor has them: 10.0.0.0 is 0x0a000000. A result is any
  * number, and a look-up answers it: an output port, a next hop, permit or deny. Routes and rules of an access list
@@ -42,6 +42,14 @@
  * bit for the version: an address of IPv4 is that of IPv6 which has it in its upper 32 bits, and 0 below. So a packet
  * of one version meets a rule of the other where its address, taken so, is in the rule's prefixes, as any packet
  * meets the route of length 0. Where addresses don't keep the versions apart, each has a memory of its own.
+ *
+ * A memory may outlive the program. A driver that is to be restarted saves, where it outlives the program too, what it
+ * gave to tcam_new, the rules and the port ranges that bits stand for, as tcam_rules and tcam_ranges tell them between
+ * two commits, and before each tcam_prepare the changes of its batch. After a stop, at any moment, it makes a manager
+ * with the same numbers, and tells it by tcam_restart_begin and the tcam_restart_ functions behind it the rules, the
+ * ranges, each slot that isn't empty and each word that isn't 0; it puts the changes of the batch in again, none where
+ * no commit was begun, and calls tcam_restart. Then what is left of the commit is due, as ever, and packets may be
+ * looked up all along. Such a commit isn't turned round. With results beside the slots no restart is there.
  *
  * What the C side keeps, and nothing here can test:
  *  - A struct tcam_manager is set by TCAM_MANAGER_NONE (all zeros) before the first call, and after that changed by
@@ -53,7 +61,8 @@
  *    child of a process with threads.
  *  - malloc, realloc and free come from one allocator, and a block is aligned to 16 bytes.
  *  - The memory is blank when tcam_new or tcam_new_split is called: each slot empty, and each word of both tables 0.
- *    Nobody else writes it.
+ *    Nobody else writes it. Behind tcam_restart it holds what was told of it, no more and no less, and no look-up
+ *    whose word was made before the stop is still to be searched.
  *  - tcam_made comes where the write that tcam_next told was made, whole, behind those before it; and tcam_drained
  *    where no look-up is left that made its search word before, and has not been searched, nor one, with results
  *    beside the slots, that has not read its result word. */
@@ -73,6 +82,10 @@ extern "C" {
 #define TCAM_VERSION_MINOR 2
 #define TCAM_VERSION_PATCH 0
 #define TCAM_VERSION (TCAM_VERSION_MAJOR << 16 | TCAM_VERSION_MINOR << 8 | TCAM_VERSION_PATCH)
+
+/* The number that the shared library has in its name. It changes where a struct that stands does, or a function, so
+ * that a program finds no library which was made with another layout than it was compiled with. */
+#define TCAM_ABI 1
 
 /* What a function answers. */
 enum tcam_error {
@@ -102,7 +115,15 @@ enum tcam_error {
     TCAM_RESTARTED = 23,    /* a restart goes on with the commit: it can't be taken back */
     TCAM_BEGUN = 24,        /* the commit is made by parts and has begun: it can't be taken back */
     TCAM_NUMBER = 25,       /* a rule of an access list has number 0: they are 1 to 4,294,967,295 */
-    TCAM_NO_RULE = 26       /* there is no rule at the cursor */
+    TCAM_NO_RULE = 26,      /* there is no rule at the cursor */
+    TCAM_NO_RANGE = 27,     /* no port range has the bit */
+    TCAM_BESIDE = 28,       /* the results stand beside the slots: a restart isn't there */
+    TCAM_USED = 29,         /* the manager has rules, or a commit under way: it isn't restarted */
+    TCAM_NO_RESTART = 30,   /* no restart is begun */
+    TCAM_NO_BIT = 31,       /* there is no such bit, or no such table */
+    TCAM_RANGE_TWICE = 32,  /* the bit has a range already, the range has a bit, or it is one port */
+    TCAM_NO_SUCH_SLOT = 33, /* the manager has no such slot */
+    TCAM_STAGE = 34         /* the memory shows no stage of the batch's commit */
 };
 
 /* How port ranges are cut: into an entry for each pair of blocks of their covers, up to 900 a rule, or into one
@@ -111,9 +132,9 @@ enum tcam_error {
  * are drains: a memory without such tables takes TCAM_COVER. */
 enum tcam_mode { TCAM_COVER = 0, TCAM_BY_BITS = 1 };
 
-/* Where a new entry goes: to the middle of its gap, as routes want it; to the slot of its rank, as a table does that is
- * loaded in one commit; or by rank but at the ends of the list, where it goes right behind what is above it or right
- * before what is below it, as access lists want it that grow a line a commit. */
+/* Where a new entry goes: to the middle of its gap; to the slot of its rank, as routes want it; or by rank but at the
+ * ends of the list, where it goes right behind what is above it or right before what is below it, as access lists want
+ * it. docs/SCRIPT.md has figures (Placement). */
 enum tcam_placement { TCAM_MIDDLE = 0, TCAM_RANK = 1, TCAM_ENDS = 2 };
 
 /* What is due. Later kinds may come: a driver that meets one that it doesn't know makes nothing and tells nothing. */
@@ -281,6 +302,25 @@ struct tcam_refusal {
     uint32_t free;
 };
 
+/* Why a memory shows no stage of a commit, with TCAM_STAGE: its rules or ranges aren't those of this memory, or
+ * something else wrote it. What a kind doesn't name is 0. */
+enum tcam_restart_kind {
+    TCAM_BITS_DIFFER = 1, /* the ranges that were told of the field's bits aren't those of the rules: field */
+    TCAM_WRONG_WORD = 2,  /* a bit of a word doesn't say whether the port is in the bit's range: field, port */
+    TCAM_FOREIGN = 3,     /* the slot holds an entry that is none of the commit's: slot */
+    TCAM_CROSSED = 4,     /* a lesser slot holds an entry of lower priority that overlaps the one here: slot */
+    TCAM_TWIN = 5,        /* a lesser slot holds the entry too, with another result, or a third time: slot */
+    TCAM_GAP = 6          /* an entry of the rule is missing, or it was written before its turn: tag */
+};
+
+struct tcam_restart_fault {
+    uint32_t kind;
+    uint32_t slot;
+    uint32_t field;
+    uint32_t port;
+    struct tcam_tag tag;
+};
+
 /* The functions of the library, which test no pointer. Call those below. */
 uint32_t tcam_c_version(void);
 uint32_t tcam_c_new(struct tcam_manager *manager, uint32_t slots, uint32_t mode, uint32_t placement);
@@ -308,6 +348,15 @@ uint32_t tcam_c_add_rule6(struct tcam_manager *manager, const struct tcam_rule6 
 uint32_t tcam_c_answer6(struct tcam_manager *manager, const struct tcam_key6 *key, struct tcam_answer *answer);
 uint32_t tcam_c_rules(struct tcam_manager *manager, uint32_t *cursor, struct tcam_stored *rule);
 uint32_t tcam_c_free_slots(struct tcam_manager *manager, uint32_t *slots);
+uint32_t tcam_c_ranges(struct tcam_manager *manager, uint32_t field, uint8_t bit, uint16_t *first, uint16_t *last);
+uint32_t tcam_c_restart_begin(struct tcam_manager *manager);
+uint32_t tcam_c_restart_rule(struct tcam_manager *manager, const struct tcam_stored *rule);
+uint32_t tcam_c_restart_range(struct tcam_manager *manager, uint32_t field, uint8_t bit, uint16_t first, uint16_t last);
+uint32_t tcam_c_restart_slot(struct tcam_manager *manager, const struct tcam_write *entry);
+uint32_t tcam_c_restart_word(struct tcam_manager *manager, uint32_t field, uint16_t port, uint16_t word);
+uint32_t tcam_c_restart(struct tcam_manager *manager, uint64_t *left, struct tcam_refusal *refusal,
+                        struct tcam_restart_fault *fault);
+uint32_t tcam_c_restart_clear(struct tcam_manager *manager);
 
 /* The version of the library that the program runs with, which may be another than that of the header that it was
  * compiled with: the major version times 65,536, the minor one times 256, and the patch. */
@@ -315,16 +364,18 @@ static inline uint32_t tcam_version(void) {
     return tcam_c_version();
 }
 
-/* Makes a manager without rules, of a blank memory with so many slots, 0 to slots - 1. It belongs to the handle
- * until tcam_free. Other answers are TCAM_MADE_ALREADY, TCAM_SLOTS_RANGE, TCAM_NO_MODE, TCAM_NO_PLACEMENT and
- * TCAM_MEMORY, in this order. */
+/* Makes a manager without rules, of a blank memory with so many slots, 0 to slots - 1. It belongs to the handle until
+ * tcam_free, and takes 290,000 bytes and 616 a slot at once, 2.8 MB for 4,096, by TCAM_BY_BITS 262,144 more; its
+ * rules, batches and commits come on top (docs/C.md, "What a manager takes"). Other answers are TCAM_MADE_ALREADY,
+ * TCAM_SLOTS_RANGE, TCAM_NO_MODE, TCAM_NO_PLACEMENT and TCAM_MEMORY, in this order. */
 static inline enum tcam_error tcam_new(struct tcam_manager *manager, uint32_t slots, enum tcam_mode mode,
                                        enum tcam_placement placement) {
     return manager ? (enum tcam_error)tcam_c_new(manager, slots, (uint32_t)mode, (uint32_t)placement) : TCAM_NULL;
 }
 
 /* Makes a manager without rules, likewise, of a blank memory whose results stand beside the slots: each slot empty,
- * each result word 0. What is due of its commits are parts. The answers are those of tcam_new. */
+ * each result word 0. What is due of its commits are parts. It takes 306,000 bytes and 668 a slot at once, by
+ * TCAM_BY_BITS 262,144 more. The answers are those of tcam_new. */
 static inline enum tcam_error tcam_new_split(struct tcam_manager *manager, uint32_t slots, enum tcam_mode mode,
                                              enum tcam_placement placement) {
     return manager ? (enum tcam_error)tcam_c_new_split(manager, slots, (uint32_t)mode, (uint32_t)placement) : TCAM_NULL;
@@ -480,6 +531,72 @@ static inline enum tcam_error tcam_free_slots(struct tcam_manager *manager, uint
     return manager && slots ? (enum tcam_error)tcam_c_free_slots(manager, slots) : TCAM_NULL;
 }
 
+/* Tells the port range that a bit of a field stands for, bit 0 to 15, by its first and its last port. A driver that is
+ * to be restarted saves them beside the rules. While a commit is under way they are those before it. TCAM_NO_RANGE
+ * comes exactly where no range has the bit, as where there is no such field or bit and always by TCAM_COVER, and
+ * TCAM_BESIDE exactly with results beside the slots, where no restart is there; then neither is written. It takes no
+ * memory. */
+static inline enum tcam_error tcam_ranges(struct tcam_manager *manager, enum tcam_field field, uint8_t bit,
+                                          uint16_t *first, uint16_t *last) {
+    return manager && first && last ? (enum tcam_error)tcam_c_ranges(manager, (uint32_t)field, bit, first, last)
+                                    : TCAM_NULL;
+}
+
+/* Begins a restart of a manager by tcam_new that has no rules: what it leads is the memory that outlived another
+ * manager, and nothing is told of that yet. It takes 287,000 bytes and 252 a slot, until tcam_restart_clear or a
+ * tcam_restart that goes on, whose manager then leads them. Called again it begins anew. Other answers are
+ * TCAM_BESIDE with results beside the slots, TCAM_USED where there are rules or a commit is under way, and
+ * TCAM_MEMORY, in this order. */
+static inline enum tcam_error tcam_restart_begin(struct tcam_manager *manager) {
+    return manager ? (enum tcam_error)tcam_c_restart_begin(manager) : TCAM_NULL;
+}
+
+/* Tells what the other manager left, and what the memory holds, in any order: each rule, as tcam_rules told it, while
+ * a commit was under way those before it; the port range of each bit, as tcam_ranges did; each slot that isn't empty,
+ * of whose write slot, value, mask, tag and result are read; and each word of a table that isn't 0. What is told of a
+ * slot or a word a second time counts. Each answers TCAM_NO_RESTART exactly where no restart is begun, and with any
+ * code but TCAM_OK what was told stays as it was. The other answers, in this order: of a rule TCAM_PREFIX_LENGTH and
+ * TCAM_HOST_BITS of its source, then of its destination, TCAM_PORTS, TCAM_PROTOCOL, TCAM_TAKEN where one of its tag
+ * was told, TCAM_SLOTS where as many rules were told as there are slots, and TCAM_MEMORY; of a range TCAM_NO_BIT for
+ * a field or a bit that isn't there, as with any by TCAM_COVER, TCAM_PORTS and TCAM_RANGE_TWICE; of a slot
+ * TCAM_NO_SUCH_SLOT and TCAM_MEMORY; of a word TCAM_NO_BIT and TCAM_MEMORY. */
+static inline enum tcam_error tcam_restart_rule(struct tcam_manager *manager, const struct tcam_stored *rule) {
+    return manager && rule ? (enum tcam_error)tcam_c_restart_rule(manager, rule) : TCAM_NULL;
+}
+
+static inline enum tcam_error tcam_restart_range(struct tcam_manager *manager, enum tcam_field field, uint8_t bit,
+                                                 uint16_t first, uint16_t last) {
+    return manager ? (enum tcam_error)tcam_c_restart_range(manager, (uint32_t)field, bit, first, last) : TCAM_NULL;
+}
+
+static inline enum tcam_error tcam_restart_slot(struct tcam_manager *manager, const struct tcam_write *entry) {
+    return manager && entry ? (enum tcam_error)tcam_c_restart_slot(manager, entry) : TCAM_NULL;
+}
+
+static inline enum tcam_error tcam_restart_word(struct tcam_manager *manager, enum tcam_field field, uint16_t port,
+                                                uint16_t word) {
+    return manager ? (enum tcam_error)tcam_c_restart_word(manager, (uint32_t)field, port, word) : TCAM_NULL;
+}
+
+/* Goes on with the commit of the pending batch, which is the one that was put in before the stop, or an empty one
+ * where no commit was begun: how far it came the memory shows. With TCAM_OK the writes that are left are due, as many
+ * as are written to left, and a drain where one is needed; with none left it has finished. The batch is empty then,
+ * nothing is told any more, and tcam_abort answers TCAM_RESTARTED until the last tcam_made. Else it answers
+ * TCAM_BESIDE, TCAM_NO_RESTART, TCAM_USED; where the rules alone refuse the batch what tcam_prepare would, with the
+ * refusal; TCAM_STAGE, with the fault; or TCAM_MEMORY, which may come before it. Then all stays as it was, what was
+ * told too: the memory may be repaired, told of, and the call made again. Look-ups that were under way at the stop
+ * are gone. */
+static inline enum tcam_error tcam_restart(struct tcam_manager *manager, uint64_t *left, struct tcam_refusal *refusal,
+                                           struct tcam_restart_fault *fault) {
+    return manager && left && refusal && fault ? (enum tcam_error)tcam_c_restart(manager, left, refusal, fault)
+                                               : TCAM_NULL;
+}
+
+/* Takes all out again that was told, and gives its memory back. */
+static inline enum tcam_error tcam_restart_clear(struct tcam_manager *manager) {
+    return manager ? (enum tcam_error)tcam_c_restart_clear(manager) : TCAM_NULL;
+}
+
 /* The number of the rule of an access list that has this tag, 1 or more, or 0 where the tag is that of none. */
 static inline uint32_t tcam_rule_number(struct tcam_tag tag) {
     const uint64_t past = (uint64_t)1 << 32;
@@ -537,6 +654,14 @@ static inline const char *tcam_error_text(enum tcam_error error) {
     case TCAM_BEGUN: return "the commit has begun, and is made by parts";
     case TCAM_NUMBER: return "rules are numbered from 1";
     case TCAM_NO_RULE: return "no rule at the cursor";
+    case TCAM_NO_RANGE: return "no port range has the bit";
+    case TCAM_BESIDE: return "the results stand beside the slots";
+    case TCAM_USED: return "the manager has rules, or a commit under way";
+    case TCAM_NO_RESTART: return "no restart is begun";
+    case TCAM_NO_BIT: return "no such bit or table";
+    case TCAM_RANGE_TWICE: return "bit or range told twice, or one port";
+    case TCAM_NO_SUCH_SLOT: return "no such slot";
+    case TCAM_STAGE: return "the memory shows no stage of the commit";
     }
     return "no such answer";
 }

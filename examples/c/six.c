@@ -297,7 +297,7 @@ static void commits_at_random(enum tcam_mode mode, enum tcam_placement placement
 
 int main(void) {
     for (int mode = TCAM_COVER; mode <= TCAM_BY_BITS; mode++)
-        for (int placement = TCAM_MIDDLE; placement <= TCAM_RANK; placement++)
+        for (int placement = TCAM_MIDDLE; placement <= TCAM_ENDS; placement++)
             commits_at_random((enum tcam_mode)mode, (enum tcam_placement)placement);
     return 0;
 }

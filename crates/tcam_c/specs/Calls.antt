@@ -89,7 +89,7 @@ Told numbers numbers' refusal refusal' (Err fault) code =
 abbrev pub Prepared : TcamNumbers → TcamNumbers → TcamRefusal → TcamRefusal → Session → Session → ℕ → Type 0
 Prepared numbers numbers' refusal refusal' before after code =
     (judged : Result TcamNumbers Refusal) × PreparesTable before.batch judged before.table after.table
-    × OnOk judged (after.batch ≡ [])
+    × OnOk judged ((after.batch ≡ []) × (after.told ≡ before.told))
     × OnErr judged (after ≡ before)
     × Told numbers numbers' refusal refusal' judged code
 
@@ -99,7 +99,8 @@ Nexts write before after code = (code ≡ 0) × (after ≡ before) × TellsTable
 
 -- what is due was made, and the batch stays as it is
 abbrev pub PassesOn : Session → Session → ℕ → Type 0
-PassesOn before after code = (code ≡ 0) × PassesTable before.table after.table × (after.batch ≡ before.batch)
+PassesOn before after code =
+    (code ≡ 0) × PassesTable before.table after.table × (after.batch ≡ before.batch) × (after.told ≡ before.told)
 
 -- The write that is due was made. Where a drain is due, or nothing, the code says so, and nothing changes.
 abbrev pub MakesDue : DueKind → Session → Session → ℕ → Type 0
@@ -121,7 +122,8 @@ TellsDrain before after code = DrainsDue (kind_of_table before.table) before aft
 
 -- A commit under way is turned round, or its plan is dropped, and the batch stays as it is.
 abbrev pub TellsAbort : ℕ → ℕ → Session → Session → ℕ → Type 0
-TellsAbort left left' before after code = AbortsTable left left' code before.table after.table × (after.batch ≡ before.batch)
+TellsAbort left left' before after code =
+    AbortsTable left left' code before.table after.table × (after.batch ≡ before.batch) × (after.told ≡ before.told)
 
 -- a packet is answered by the writes that were made, and nothing changes
 abbrev pub AnswersPacket : Key → TcamAnswer → Session → Session → ℕ → Type 0
@@ -146,7 +148,7 @@ TellsFree free before after code = (code ≡ 0) × (after ≡ before) × (free �
 
 -- a manager without rules, of a blank memory of this kind
 abbrev pub fresh_session : TableKind → ℕ → Mode → Placement → Session
-fresh_session table_kind slots mode placement = record { table = fresh_table table_kind slots mode placement; batch = [] }
+fresh_session table_kind slots mode placement = record { table = fresh_table table_kind slots mode placement; batch = []; told = None }
 
 -- A manager is made of a blank memory, where the handle has none and the numbers are right.
 abbrev pub MakesOf : TableKind → ℕ → Option Mode → Option Placement → Option Session → ℕ → Type 0

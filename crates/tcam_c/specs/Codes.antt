@@ -1,5 +1,7 @@
 -- What plain numbers stand for: codes, and what is made of numbers that come from C.
 use Rattle.std.specs.Prelude.{◌≡◌, ◌≢◌, ℕ, ◌-◌, ◌%◌, ◌^◌, ◌<◌, ◌≤◌, ◌⊎◌, Result, Ok, Err, Option, Some, None, nat_eq, if◌then◌else◌}
+use Rattle.rule_model.specs.declared.Field.{Field}
+use Rattle.rule_model.specs.declared.Field.TheVariants.{Src, Dst}
 use Rattle.rule_model.specs.declared.Rule.{Rule}
 use Rattle.rule_model.specs.AddressBlock.{AddressBlock, ipv4_block}
 use Rattle.rule_model.specs.Rank.{ipv4_route_rank, list_rank}
@@ -131,3 +133,7 @@ mode_of_code number = if nat_eq number 0 then Some mode.Cover else (if nat_eq nu
 
 abbrev pub placement_by : ℕ → Option Placement
 placement_by number = if nat_eq number 0 then Some placement.Middle else (if nat_eq number 1 then Some placement.Rank else (if nat_eq number 2 then Some placement.Ends else None))
+
+-- the field of a number
+abbrev pub field_of_code : ℕ → Option Field
+field_of_code number = if nat_eq number 0 then Some Src else (if nat_eq number 1 then Some Dst else None)

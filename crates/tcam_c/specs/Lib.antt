@@ -6,3 +6,6 @@ pub mod Codes
 pub mod Codes6
 pub mod Tables
 pub mod Calls
+pub mod Ranges
+pub mod Told
+pub mod Restart

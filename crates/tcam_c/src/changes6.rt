@@ -19,7 +19,7 @@ pub(crate) fn whole_address(address: &TcamAddress) -> Addr
 }
 
 /// A prefix of IPv6, or the code of what is wrong with the numbers.
-fn prefix6_of(address: &TcamAddress, length: u8) -> Result<Prefix, u32>
+pub(crate) fn prefix6_of(address: &TcamAddress, length: u8) -> Result<Prefix, u32>
     ensures { IsPrefix6Or address.now length result }
 {
     match Prefix::v6(whole_address(address), length) {

@@ -1,9 +1,10 @@
 //! The codes that each function answers, and what is made of plain numbers.
 
 ghost use Rattle.std.specs.Prelude.{◌≡◌};
-ghost use Rattle.tcam_c.specs.Codes.{push_code, refusal_code, mode_of_code, placement_by};
+ghost use Rattle.tcam_c.specs.Codes.{push_code, refusal_code, mode_of_code, placement_by, field_of_code};
 
 use batch_order::{BatchFault, Mode, Placement, Refusal, Rejection};
+use rule_model::Field;
 use rule_store::PushFault;
 
 /// Done.
@@ -58,6 +59,22 @@ pub const BEGUN: u32 = 24;
 pub const NUMBER: u32 = 25;
 /// The set has no rule at the cursor.
 pub const NO_RULE: u32 = 26;
+/// No live range of ports has the bit.
+pub const NO_RANGE: u32 = 27;
+/// The results stand beside the slots, and a restart isn't there.
+pub const BESIDE: u32 = 28;
+/// The set has rules, or a commit is under way, so no restart is told to the manager.
+pub const USED: u32 = 29;
+/// No restart is begun.
+pub const NO_RESTART: u32 = 30;
+/// There is no such bit, or no such table.
+pub const NO_BIT: u32 = 31;
+/// The bit has another range, the range a bit, or it is one port.
+pub const RANGE_TWICE: u32 = 32;
+/// There is no such slot.
+pub const NO_SUCH_SLOT: u32 = 33;
+/// The memory shows no stage of the commit.
+pub const STAGE: u32 = 34;
 
 /// The code of a push.
 pub(crate) fn code_of_push(pushed: Result<(), PushFault>) -> u32
@@ -94,6 +111,17 @@ pub(crate) fn mode_of(number: u32) -> Option<Mode>
     match number {
         0 => Some(Mode::Cover),
         1 => Some(Mode::Bits),
+        _ => None,
+    }
+}
+
+/// The field of a number.
+pub(crate) fn field_of(number: u32) -> Option<Field>
+    ensures { result ≡ field_of_code number }
+{
+    match number {
+        0 => Some(Field::Src),
+        1 => Some(Field::Dst),
         _ => None,
     }
 }

@@ -1,7 +1,7 @@
 //! What crosses to C: plain structs of numbers, in the lanes of a memory's entries.
 
 ghost use Rattle.std.specs.Prelude.{◌≡◌, Some};
-ghost use Rattle.tcam_c.specs.Plain.{IsDuePart, IsDueWrite, IsResultWrite, IsAnswer, IsStoredTold, IsTag, IsRefusalTold, address_number, field_code, protocol_code, slot_number};
+ghost use Rattle.tcam_c.specs.Plain.{IsDuePart, IsDueWrite, IsResultWrite, IsAnswer, IsStoredTold, IsTag, IsRefusalTold, address_number, field_code, protocol_code, slot_number, tag_number};
 
 use batch_order::{BatchFault, Done, Refusal, Rejection};
 use rule_model::{Addr, Entry, Field, Rank, Rule, Word};
@@ -151,7 +151,7 @@ pub struct TcamRefusal {
     pub free: u32,
 }
 
-const NO_TAG: TcamTag = TcamTag {
+pub(crate) const NO_TAG: TcamTag = TcamTag {
     high: 0,
     low_upper: 0,
     low_lower: 0,
@@ -182,13 +182,23 @@ const NO_REFUSAL: TcamRefusal = TcamRefusal {
 };
 
 /// The tag of a priority.
-fn tag_of(rank: Rank) -> TcamTag
+pub(crate) fn tag_of(rank: Rank) -> TcamTag
     ensures { IsTag rank result }
 {
     TcamTag {
         high: rank.high,
         low_upper: (rank.low >> 64) as u64,
         low_lower: (rank.low % (1u128 << 64)) as u64,
+    }
+}
+
+/// The priority of a tag.
+pub(crate) fn rank_of(tag: &TcamTag) -> Rank
+    ensures { result ≡ tag_number tag.now }
+{
+    Rank {
+        high: tag.high,
+        low: (u128::from(tag.low_upper) << 64) + u128::from(tag.low_lower),
     }
 }
 
@@ -232,7 +242,7 @@ pub(crate) fn stored_of(rule: &Rule) -> TcamStored
 }
 
 /// A field as a number.
-fn field_number(field: Field) -> u32
+pub(crate) fn field_number(field: Field) -> u32
     ensures { result ≡ field_code field }
 {
     match field {

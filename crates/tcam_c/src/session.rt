@@ -1,16 +1,19 @@
 //! What stands behind a handle: a manager with its memory, and the batch that waits for it.
 
-ghost use Rattle.std.specs.Prelude.{◌≡◌, ◌≤◌, ◌<◌, ◌+◌, ◌^◌, ◌++◌, ◌∷◌, [], ◌↔◌, Err, IfOk, OnOk, OnErr, IsSome, length, slice_get};
+ghost use Rattle.std.specs.Prelude.{◌≡◌, ◌≤◌, ◌<◌, ◌+◌, ◌^◌, ◌++◌, ◌∷◌, [], ◌↔◌, Err, IfOk, OnOk, OnErr, IsSome, length, option_map, slice_get};
 ghost use Rattle.rule_store.specs.Batch.{most_pending};
 ghost use Rattle.rule_model.specs.RuleSet.{IsRuleSet};
 ghost use Rattle.tcam_c.specs.Calls.{fresh_session};
 ghost use Rattle.tcam_c.specs.Driven.{IsDue};
+ghost use Rattle.tcam_c.specs.Ranges.{bits_of_table, both_fields};
 ghost use Rattle.tcam_c.specs.Tables.{AbortsTable, IsServingTable, PassesTable, PreparesTable, TellsTable, answer_of_table, slots_left_of_table, fresh_table, kind_of_table, rules_of_table};
 
 use crate::plain::{TcamNumbers, TcamWrite};
 use crate::steps::DueKind;
 use crate::table::{Table, TableKind};
+use crate::told::Told;
 use batch_order::{Mode, Placement, Refusal};
+use range_bits::BitMap;
 use rule_model::{Key, Rank, Rule};
 use rule_store::{Batch, Command, PushFault};
 use slot_order::MOST_SLOTS;
@@ -19,8 +22,10 @@ use std::alloc::{AllocError, Global};
 /// What stands behind a handle.
 #[derive(Drop)]
 pub(crate) struct Session {
-    table: Table,
-    batch: Batch,
+    pub(crate) table: Table,
+    pub(crate) batch: Batch,
+    // What is told of a restart that is begun.
+    pub(crate) told: Option<Told>,
 }
 
 impl Session {
@@ -40,7 +45,11 @@ impl Session {
     {
         let table = Table::new(alloc, kind, slots, mode, placement)?;
         let batch = Batch::new(alloc);
-        Ok(Session { table, batch })
+        Ok(Session {
+            table,
+            batch,
+            told: None,
+        })
     }
 
     /// Puts a change behind the others of the batch.
@@ -64,6 +73,7 @@ impl Session {
     pub(crate) fn prepare(&mut self) -> Result<TcamNumbers, Refusal>
         ensures prepared { PreparesTable self.old.batch result self.old.table self.new.table }
         ensures taken { OnOk result (self.new.batch ≡ []) }
+        ensures told { self.new.told ≡ self.old.told }
         ensures refused { OnErr result (self.new ≡ self.old) }
     {
         let answer = self.table.prepare(&self.batch);
@@ -93,6 +103,7 @@ impl Session {
         requires { IsDue (kind_of_table self.old.table) }
         ensures on { PassesTable self.old.table self.new.table }
         ensures batch { self.new.batch ≡ self.old.batch }
+        ensures told { self.new.told ≡ self.old.told }
         ensures serves { IsServingTable self.new.table }
     {
         self.table.go_on();
@@ -102,6 +113,7 @@ impl Session {
     pub(crate) fn abort(&mut self, left: &mut u64) -> u32
         ensures turned { AbortsTable left.old left.new result self.old.table self.new.table }
         ensures batch { self.new.batch ≡ self.old.batch }
+        ensures told { self.new.told ≡ self.old.told }
     {
         self.table.abort(left)
     }
@@ -121,6 +133,14 @@ impl Session {
         ensures falling { IsRuleSet (rules_of_table self.now.table) }
     {
         self.table.rule_at_place(place)
+    }
+
+    /// The live port ranges of the set by their bits, of the source field and of the destination's. None comes where
+    /// results stand beside the slots.
+    pub(crate) fn bits(&self) -> Option<(BitMap, BitMap)>
+        ensures { option_map both_fields result ≡ bits_of_table self.now.table }
+    {
+        self.table.bits()
     }
 
     /// How many slots the entries of the set leave free.

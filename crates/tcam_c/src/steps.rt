@@ -115,7 +115,7 @@ pub(crate) fn go_on(manager: &mut Manager, device: &mut Shadowed<Outside>)
 }
 
 /// A commit under way that has nothing left comes to its end, forward or back.
-fn settle(manager: &mut Manager, device: &mut Shadowed<Outside>)
+pub(crate) fn settle(manager: &mut Manager, device: &mut Shadowed<Outside>)
     requires slots { device.old.slots ≡ manager.old.slots }
     requires on { IsOn manager.old.slots (writes_in device.old.events) manager.old }
     requires room { HasRoomBothWays manager.old.held device.old.spare }

@@ -1,8 +1,9 @@
 //! What a session leads: a memory of whole entries, or one whose results stand beside its slots, with its manager.
 
-ghost use Rattle.std.specs.Prelude.{◌≡◌, ◌≤◌, ◌<◌, ◌+◌, ◌^◌, IfOk, IsSome, OnOk, slice_get};
+ghost use Rattle.std.specs.Prelude.{◌≡◌, ◌≤◌, ◌<◌, ◌+◌, ◌^◌, IfOk, IsSome, OnOk, option_map, slice_get};
 ghost use Rattle.rule_model.specs.RuleSet.{IsRuleSet};
 ghost use Rattle.tcam_c.specs.Driven.{IsDue};
+ghost use Rattle.tcam_c.specs.Ranges.{bits_of_table, both_fields};
 ghost use Rattle.tcam_c.specs.Tables.{AbortsTable, IsServingTable, PassesTable, PreparesTable, TellsTable, answer_of_table, slots_left_of_table, fresh_table, kind_of_table, rules_of_table};
 
 use crate::codes::{BACK, BEGUN, NOTHING_DUE, OK, RESTARTED};
@@ -11,6 +12,7 @@ use crate::split::{Cancelled, SplitTable};
 use crate::steps::DueKind;
 use crate::whole::WholeTable;
 use batch_order::{AbortFault, Mode, Placement, Refusal};
+use range_bits::BitMap;
 use rule_model::{Key, Rank, Rule};
 use rule_store::Batch;
 use slot_order::MOST_SLOTS;
@@ -158,6 +160,17 @@ impl Table {
         match self {
             Table::Whole(table) => table.rule_at_place(place),
             Table::Split(table) => table.rule_at_place(place),
+        }
+    }
+
+    /// The live port ranges of the set by their bits, of the source field and of the destination's. None comes where
+    /// results stand beside the slots.
+    pub(crate) fn bits(&self) -> Option<(BitMap, BitMap)>
+        ensures { option_map both_fields result ≡ bits_of_table self.now }
+    {
+        match self {
+            Table::Whole(table) => Some(table.bits()),
+            Table::Split(_) => None,
         }
     }
 

@@ -1,13 +1,16 @@
 //! A manager of a memory whose slots hold whole entries, and the shadow of the caller's memory.
 
-ghost use Rattle.std.specs.Prelude.{◌≡◌, ◌≤◌, ◌<◌, ◌+◌, ◌^◌, IfOk, IsOk, IsSome, OnOk, OnErr, Some, slice_get};
+ghost use Rattle.std.specs.Prelude.{◌≡◌, ◌≤◌, ◌<◌, ◌+◌, ◌^◌, ◌↔◌, IsTrue, IfOk, IsOk, IsSome, OnOk, OnErr, Some, length, slice_get};
 ghost use Rattle.tcam_device.specs.State.{lookup, replay};
-ghost use Rattle.batch_order.specs.Managed.{Judges};
-ghost use Rattle.batch_order.specs.CarriedOut.{GoesForward};
+ghost use Rattle.tcam_device.specs.Flight.{writes_in};
+ghost use Rattle.commit_writes.specs.Bits as live_bits;
+ghost use Rattle.batch_order.specs.Managed.{Judges, Serves};
+ghost use Rattle.batch_order.specs.CarriedOut.{GoesForward, writes_left};
 ghost use Rattle.batch_order.specs.Steps.{ServesNow};
 ghost use Rattle.rule_model.specs.RuleSet.{IsRuleSet};
 ghost use Rattle.tcam_c.specs.Tables.{slots_left};
-ghost use Rattle.tcam_c.specs.Driven.{ComesFrom, Prepares, PassesOn, IsDue, IsEnded, KeepsLive, AbortsHeld, IsServing, IsServingAhead, due_of, fresh_driven, journal_of, kind_of_due};
+ghost use Rattle.tcam_c.specs.Restart.{IsUnused};
+ghost use Rattle.tcam_c.specs.Driven.{ComesFrom, Prepares, PassesOn, IsDue, IsEnded, KeepsLive, AbortsHeld, IsHandled, IsServing, IsServingAhead, due_of, fresh_driven, journal_of, kind_of_due};
 
 use crate::moved::slot_holding;
 use crate::outside::Outside;
@@ -15,6 +18,7 @@ use crate::steps::{DueKind, abort, due, go_on, kind_due, prepare};
 use crate::stored::rule_at_place;
 use batch_order::{AbortFault, Done, Manager, Mode, Placement, Refusal};
 use memory_tcam::Shadowed;
+use range_bits::BitMap;
 use rule_model::{Key, Rank, Rule};
 use rule_store::Batch;
 use slot_order::MOST_SLOTS;
@@ -144,6 +148,50 @@ impl WholeTable {
         ensures falling { IsRuleSet self.now.manager.rules }
     {
         rule_at_place(self.manager.rules(), place)
+    }
+
+    /// Over memory that holds what the manager takes it to hold.
+    pub(crate) fn led(manager: Manager, device: Shadowed<Outside>) -> WholeTable
+        requires driven { IsHandled manager device.slots device.events device.flight device.spare }
+        requires serves { Serves (replay manager.slots (writes_in device.events)) manager.rules manager.held }
+        ensures manager { result.manager ≡ manager }
+        ensures events { result.events ≡ device.events }
+        ensures serves { IsServing result }
+    {
+        WholeTable { manager, device }
+    }
+
+    /// How many writes are left of the commit under way.
+    pub(crate) fn left(&self) -> u64
+        ensures { result ≡ length (writes_left self.now.manager.held) }
+    {
+        match self.manager.left() {
+            None => 0,
+            Some(left) => left,
+        }
+    }
+
+    /// Whether there are no rules, and no commit is under way.
+    pub(crate) fn is_unused(&self) -> bool
+        ensures { IsTrue result ↔ IsUnused self.now.manager }
+    {
+        self.manager.rules().is_empty() && self.manager.left().is_none()
+    }
+
+    /// The slots, the mode and the placement.
+    pub(crate) fn setting(&self) -> (u32, Mode, Placement)
+        ensures slots { result.0 ≡ self.now.manager.slots }
+        ensures mode { result.1 ≡ self.now.manager.mode }
+        ensures placement { result.2 ≡ self.now.manager.placement }
+    {
+        self.manager.setting()
+    }
+
+    /// The live port ranges of the set by their bits, of the source field and of the destination's.
+    pub(crate) fn bits(&self) -> (BitMap, BitMap)
+        ensures { ◌≡◌ {A = live_bits.FieldBits} (record { src = result.0; dst = result.1 }) self.now.manager.bits }
+    {
+        self.manager.bits()
     }
 
     /// How many slots the entries of the set leave free.

@@ -1,4 +1,4 @@
-use Rattle.std.proofs.Common.{Ok, Err, le_refl, subst, sym}
+use Rattle.std.proofs.Common.{Ok, Err, le_refl, subst}
 use Rattle.split_order.specs.Prepared.{JudgesSplit}
 use Rattle.tcam_c.proofs.Parts.{handled_same, keeps_on, keeps_same, unsettled_planned}
 use Rattle.tcam_c.proofs.part_steps.prepare.Goals as goal

@@ -1,4 +1,4 @@
-use Rattle.std.proofs.Common.{◌∙◌, le_refl}
+use Rattle.std.proofs.Common.{le_refl}
 use Rattle.tcam_c.proofs.Parts.{cancel_told, handled_dropped, under_way_is}
 use Rattle.tcam_c.proofs.split.SplitTable.cancel.Goals as goal
 

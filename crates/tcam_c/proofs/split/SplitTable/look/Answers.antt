@@ -1,4 +1,4 @@
-use Rattle.std.proofs.Common.{◌≡◌, le_refl, ◌∙◌, ap, sym}
+use Rattle.std.proofs.Common.{le_refl, ◌∙◌, ap}
 use Rattle.split_device.specs.State.{split_lookup}
 use Rattle.split_device.specs.Flight.{state_of_events}
 use Rattle.tcam_c.proofs.split.SplitTable.look.Goals as goal
