@@ -148,6 +148,7 @@ static void commit(struct tcam_manager *manager, struct list *list, uint32_t see
 }
 
 static struct tally run(enum tcam_placement placement, bool backwards) {
+    static const char *const names[] = {"middle", "rank", "ends"};
     struct tcam_manager manager = TCAM_MANAGER_NONE;
     struct list list = {.there = {false}};
     struct tally tally = {0};
@@ -158,8 +159,8 @@ static struct tally run(enum tcam_placement placement, bool backwards) {
     }
     CHECK(chain_is_whole() && tcam_free(&manager) == TCAM_OK && chain_drop());
     printf("%s, placement %s: %u commits, %u taken back first, %u writes, %u packets, %u wrong\n",
-           backwards ? "turned round" : "in order", placement == TCAM_RANK ? "rank" : "middle", tally.commits, tally.back,
-           tally.writes, tally.packets, tally.wrong);
+           backwards ? "turned round" : "in order", names[placement], tally.commits, tally.back, tally.writes, tally.packets,
+           tally.wrong);
     fflush(stdout);
     return tally;
 }
@@ -174,7 +175,7 @@ int main(void) {
     if (!chain_open()) return leave("no libnftables");
     if (!packets_ready()) return leave("no leave to send packets");
     if (!chain_make() || !chain_drop()) return leave("no packet filter in the kernel");
-    for (int placement = TCAM_MIDDLE; placement <= TCAM_RANK; placement++) {
+    for (int placement = TCAM_MIDDLE; placement <= TCAM_ENDS; placement++) {
         CHECK(run((enum tcam_placement)placement, false).wrong == 0);
         CHECK(run((enum tcam_placement)placement, true).wrong > 0);
     }
