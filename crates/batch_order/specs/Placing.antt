@@ -1,4 +1,5 @@
--- Where the insertions of a commit aim, and that the insertions of a commit, or of what a restart found left of it, are so placed.
+-- Where the insertions of a commit aim, and that the insertions of a commit, or of what a restart found left of it, are so
+-- placed.
 use Rattle.std.specs.Prelude.{◌≡◌, ℕ, ◌+◌, ◌-◌, ◌*◌, ◌/◌, Bool, not, ◌&&◌, nat_lt, if◌then◌else◌, Option, List, [], ◌∷◌, ◌++◌, drop, length, map}
 use Rattle.std.specs.List.{list_any}
 use Rattle.slot_pool.specs.Arrangement.{Slots}
@@ -52,8 +53,8 @@ end_or_rank slots rules before all priority =
     else if not (has_higher rules priority) then aim.End
     else aim.At (rank_slot slots before all)
 
--- Where a piece aims that is inserted at a rank, of so many entries in all: at the middle of its gap; or at its slot by rank; or
--- by rank where the batch spreads or the piece is amid the set, and else at that end of its gap.
+-- Where a piece aims that is inserted at a rank, of so many entries in all: at the middle of its gap; or at its slot by rank;
+-- or by rank where the batch spreads or the piece is amid the set, and else at that end of its gap.
 abbrev pub aim_at : Placement → ℕ → List Rule → ℕ → ℕ → ℕ → ℕ → Aim
 aim_at Middle slots rules stood before all priority = aim.Middle
 aim_at Rank slots rules stood before all priority = aim.At (rank_slot slots before all)
@@ -105,8 +106,8 @@ abbrev pub aims_left : Placement → Mode → FieldBits → ℕ → List Rule �
 aims_left placement mode bits slots rules batch done =
     drop (length done) (aims_of placement mode slots rules (inserted_pieces mode (bits_with mode rules batch bits) rules batch))
 
--- The writes of a restart are those of a planned one whose insertions have the aims that the commit's have by the placement: the
--- old set's entries and all that the commit inserts share the slots, whatever stands already.
+-- The writes of a restart are those of a planned one whose insertions have the aims that the commit's have by the placement:
+-- the old set's entries and all that the commit inserts share the slots, whatever stands already.
 pub record IsRestPlacedBy (placement : Placement) (device_slots : ℕ) (mode : Mode) (bits : FieldBits) (rules : List Rule) (batch : List Command) (state : State) (done left : List Task) (twin : Option ℕ) (made : List Write) : Type 0 where
   pub live : List LivePiece
   pub arrangement : Slots

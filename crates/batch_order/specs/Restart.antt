@@ -94,7 +94,8 @@ pub record Resumes (slots : ℕ) (mode : Mode) (placement : Placement) (parts : 
   pub uncrossed : (version : IpVersion) → AllByRecursion (IsRoute version) parts.rules.rules → OnlyChangesRoutes version batch
       → IsUncrossed (prefix_lengths version) (rest_insertions goes_on.shape)
 
--- where a fault of a restart may come: a refusal exactly as the verdict, and a stage's only where it accepts and that one applies
+-- where a fault of a restart may come: a refusal exactly as the verdict, and a stage's only where it accepts and that one
+-- applies
 abbrev pub IsRestartFault : ℕ → Mode → Parts → List Command → State → RestartFault → Type 0
 IsRestartFault slots mode parts batch state (Refused rejection) = judgement (verdict slots mode parts.rules.rules batch) ≡ Err rejection
 IsRestartFault slots mode parts batch state (Stage fault) =

@@ -36,7 +36,8 @@ use Rattle.batch_order.specs.Planning.{IsSettled, IsWithin, as_writes, all_write
 use Rattle.batch_order.specs.Restart.{in_use}
 use Rattle.batch_order.specs.RestPlan.{IsRestPlan}
 
--- What a device shows that was stopped in a commit: a stage, with the piece of each slot and the pieces that the commit is about.
+-- What a device shows that was stopped in a commit: a stage, with the piece of each slot and the pieces that the commit is
+-- about.
 pub record IsStopped (slots : ℕ) (mode : Mode) (bits : FieldBits) (rules : List Rule) (batch : List Command) (state : State) (shown : Shown) : Type 0 where
   pub least : 1 ≤ slots
   pub most : slots ≤ most_slots
@@ -48,8 +49,8 @@ pub record IsStopped (slots : ℕ) (mode : Mode) (bits : FieldBits) (rules : Lis
   pub is_shown : IsShown (commit_pieces mode bits rules batch) state.slots shown
   pub encodable : AllByRecursion (λ ranked. IsEncodable ranked.piece) (known_pieces (commit_pieces mode bits rules batch))
 
--- Its pieces have ids again, each one, and the twin's slot has none. What is left to change or to go stands under an id. Where pieces are
--- left to be put in, so many stand as the old set has and were put in, and there is room for the others.
+-- Its pieces have ids again, each one, and the twin's slot has none. What is left to change or to go stands under an id.
+-- Where pieces are left to be put in, so many stand as the old set has and were put in, and there is room for the others.
 pub record IsReadAgain (mode : Mode) (bits : FieldBits) (rules : List Rule) (batch : List Command) (state : State) (shown : Shown) (kept : Entries) (slots : Slots) : Type 0 where
   pub read : AreReadIds (commit_pieces mode bits rules batch) (state_after (in_use (length slots) state) (twin_writes shown.stage.twin)).slots kept.live slots kept.entries
   pub settled : IsSettled kept slots
@@ -69,7 +70,8 @@ pub record IsAsFound (state : State) (kept : Entries) (slots : Slots) : Type 0 w
 abbrev pub counts_of : Plan → Done
 counts_of plan = record { writes = length (all_writes plan.writes); words = plan.words; most = plan.most; span = plan.span }
 
--- What is held of a plan before its first write, with its drain, its batch, and where the entries stand in the end: it isn't prepared.
+-- What is held of a plan before its first write, with its drain, its batch, and where the entries stand in the end: it isn't
+-- prepared.
 abbrev pub held_from : Rest → Bool → Bool → List Command → Slots → Vec PlannedWrite Global → Held
 held_from rest awaits drained batch slots undo = record {
   prepared = false;
@@ -89,7 +91,8 @@ held_from rest awaits drained batch slots undo = record {
   most_parts = rest.plan.most_parts;
 }
 
--- All that is left is planned, from the tasks that are done on, each insertion with its aim: the new ids are live, and the slots are arranged as they will stand.
+-- All that is left is planned, from the tasks that are done on, each insertion with its aim: the new ids are live, and the
+-- slots are arranged as they will stand.
 pub record IsPlannedOn (placement : Placement) (device_slots : ℕ) (mode : Mode) (bits : FieldBits) (rules : List Rule) (batch : List Command) (state : State) (shown : Shown) (old new : Entries) (slots slots' : Slots) (rest : Rest) : Type 0 where
   pub done : List Task
   pub left : List Task

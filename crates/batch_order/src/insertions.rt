@@ -147,7 +147,8 @@ pub(crate) fn forget_all(live: &mut LiveEntries, mut ids: Vec<u32>)
     }
 }
 
-/// Makes the entry of a piece live and plans its insertion, before those of these priorities. On want of memory the live entries are as they were.
+/// Makes the entry of a piece live and plans its insertion, before those of these priorities. On want of memory the live
+/// entries are as they were.
 fn plan_piece(
     alloc: Global,
     ranked: &Ranked,

@@ -1,4 +1,5 @@
--- Where the writes of a planned batch lead: the arrangement of the ids that are left, each with the entry of a piece of the new set.
+-- Where the writes of a planned batch lead: the arrangement of the ids that are left, each with the entry of a piece of the
+-- new set.
 use Rattle.std.proofs.Common.{◌≡◌, ◌<◌, ◌≤◌, arith, ℕ, length, take, Some, List, Contains, inl, inr, sym, ◌∙◌, subst, ap}
 use Rattle.std.proofs.Math.Seq.{take-length}
 use Rattle.slot_pool.specs.Arrangement.{Slots}

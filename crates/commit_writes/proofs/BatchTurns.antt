@@ -1,5 +1,5 @@
--- A planned batch goes onward with each of its writes: what comes to stand is of the new set, and of its pieces none goes. Where no
--- rule is replaced, no key matches two pieces that stand and have one rank.
+-- A planned batch goes onward with each of its writes: what comes to stand is of the new set, and of its pieces none goes.
+-- Where no rule is replaced, no key matches two pieces that stand and have one rank.
 use Rattle.std.proofs.Common.{◌≡◌, ℕ, ◌≤◌, take, List, ◌++◌, Contains, inl, inr, ◌⊎◌, sym, ◌∙◌, subst, ap, arith, refl}
 use Rattle.std.proofs.lemmas.List.Elements.{Contains-append_left, Contains-append_right, Contains-append_cases}
 use Rattle.slot_order.proofs.Lists.{contains_take, take_contains, map_in}

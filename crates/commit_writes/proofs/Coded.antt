@@ -1,4 +1,5 @@
--- The distinct port ranges of some rules that are no single block, as one rule more is added, and those of them that have no bit.
+-- The distinct port ranges of some rules that are no single block, as one rule more is added, and those of them that have no
+-- bit.
 use Rattle.std.proofs.Common.{◌≡◌, ◌≢◌, ℕ, ◌+◌, Bool, true, false, not, ◌&&◌, ◌||◌, cond, Option, Some, None, List, [], ◌∷◌, ◌++◌, length, map, filter, take, slice_get, option_to_list, length-append, refl, ap, sym, ◌∙◌, subst, arith}
 use Rattle.std.specs.Cmp.{both_ways}
 use Rattle.std.specs.List.{list_any, filter_map, cons_option}

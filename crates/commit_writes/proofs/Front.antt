@@ -1,5 +1,5 @@
--- The words of the tables in front of a commit's other writes: while they are written the slots hold what they held, each bit that
--- is tested is translated as before, and every key has the old answer; so the whole is a segment.
+-- The words of the tables in front of a commit's other writes: while they are written the slots hold what they held, each bit
+-- that is tested is translated as before, and every key has the old answer; so the whole is a segment.
 use Rattle.std.proofs.Common.{◌≡◌, ℕ, ◌<◌, ◌≤◌, ◌⊎◌, ◌+◌, ◌-◌, max, fold, map, List, ◌++◌, length, take, slice_get, Contains, append_assoc, refl, inl, inr, sym, ◌∙◌, ap, subst, arith}
 use Rattle.std.specs.Prelude.{flat_map}
 use Rattle.std.specs.List.{AllByRecursion, AllZip}

@@ -1,5 +1,5 @@
--- The writes of a planned batch are hitless: after each of them every key has its best rule of the old set or of the new one; and where
--- no rule is replaced, it turns from the one to the other once.
+-- The writes of a planned batch are hitless: after each of them every key has its best rule of the old set or of the new one;
+-- and where no rule is replaced, it turns from the one to the other once.
 use Rattle.std.proofs.Common.{sym, ◌≡◌, ℕ, suc, ◌≤◌, List, length, take, Contains, Option, option_map, inl, inr, ap, ◌∙◌}
 use Rattle.std.proofs.Math.Seq.{take-length}
 use Rattle.std.specs.Prelude.{IsFalse}
@@ -125,8 +125,8 @@ module _ (mode : Mode) (bits : FieldBits) (state : State) (rules : List Rule) (b
     after = shows_new;
   }
 
-  -- where no rule is replaced, a key with the new answer keeps it with the next write: where both answers are one it has no other,
-  -- and else it found the best of the new pieces
+  -- where no rule is replaced, a key with the new answer keeps it with the next write: where both answers are one it has no
+  -- other, and else it found the best of the new pieces
   turned_stays : ReplacesNone batch → (n : ℕ) (key : Key) → IsKey key → lookup (now n) key ≡ answer later key → lookup (now (suc n)) key ≡ answer later key
   turned_stays none n key valid turned = let f = found_after n key valid in elim f.either [
     | inl best ↦ elim (old_or_new (suc n) key valid) [

@@ -1,4 +1,5 @@
--- The ranges of the rules keep their bits while a commit is made, and those of the new set when it has finished: their pieces are the same.
+-- The ranges of the rules keep their bits while a commit is made, and those of the new set when it has finished: their pieces
+-- are the same.
 use Rattle.std.proofs.Common.{◌≡◌, ℕ, Option, Some, List, [], ◌∷◌, ◌++◌, Contains, refl, ap, sym, ◌∙◌, subst, inl, inr}
 use Rattle.std.specs.Prelude.{flat_map}
 use Rattle.std.proofs.lemmas.Bool.{not-true}

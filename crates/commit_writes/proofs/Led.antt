@@ -98,8 +98,8 @@ pub live_drained : (before meanwhile : FieldBits) (writes : List Write) (rest : 
 live_drained before meanwhile [] rest = refl
 live_drained before meanwhile (write ∷ writes) rest = live_drained before meanwhile writes rest
 
--- what the states serve that some writes pass: some ranges up to the last write of a table, and others from there on; and the first
--- ones all the way, with no other in the end, where nothing is drained
+-- what the states serve that some writes pass: some ranges up to the last write of a table, and others from there on; and the
+-- first ones all the way, with no other in the end, where nothing is drained
 pub record ArePassed (before meanwhile : FieldBits) (drains : Bool) (state : State) (made : List Write) : Type 0 where
   pub early : (n : ℕ) → n ≤ table_writes made → ServesLive before (state_after state (take n made))
   pub late : (n : ℕ) → table_writes made ≤ n → ServesLive meanwhile (state_after state (take n made))

@@ -1,5 +1,5 @@
--- The pieces that a rule is cut into, by covers or whole: each has right conditions and no bits, and matches what the rule does; no two
--- are the same, and no two overlap. And with bits they are told apart as without.
+-- The pieces that a rule is cut into, by covers or whole: each has right conditions and no bits, and matches what the rule
+-- does; no two are the same, and no two overlap. And with bits they are told apart as without.
 use Rattle.std.proofs.Common.{◌≡◌, true, List, [], ◌∷◌, Option, None, ℕ, IsTrue, Contains, AllPairs, inl, inr, refl, sym, ap, subst, ◌∙◌, arith}
 use Rattle.std.proofs.lemmas.List.Elements.{All-contains}
 use Rattle.slot_order.proofs.Lists.{contains_head, contains_cases, contains_none, any_is}

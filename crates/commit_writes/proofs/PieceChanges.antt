@@ -1,5 +1,5 @@
--- Which pieces a sound batch inserts, rewrites and erases: those of the new set that the old one hasn't, those that both have where
--- the batch names their rule, and those of the old set that the new one hasn't.
+-- Which pieces a sound batch inserts, rewrites and erases: those of the new set that the old one hasn't, those that both have
+-- where the batch names their rule, and those of the old set that the new one hasn't.
 use Rattle.std.proofs.Common.{◌≡◌, ℕ, Bool, not, List, filter, reverse, Option, Some, None, IsTrue, IsFalse, Contains, inl, inr, refl, sym, ap, subst, ◌∙◌}
 use Rattle.std.specs.Prelude.{nat_eq}
 use Rattle.std.specs.List.{list_any}

@@ -1,5 +1,5 @@
--- The pieces that stand while a batch is inserted are of the old rules and the added ones, so their chains are no longer, and those of
--- routes are nested.
+-- The pieces that stand while a batch is inserted are of the old rules and the added ones, so their chains are no longer, and
+-- those of routes are nested.
 use Rattle.std.proofs.Common.{◌≡◌, ℕ, ◌<◌, List, [], ◌∷◌, ◌++◌, length, IsTrue, Contains, inl, inr, refl, sym, ap, subst, ◌∙◌, arith}
 use Rattle.std.specs.List.{AllByRecursion}
 use Rattle.std.proofs.lemmas.List.Elements.{Contains-append_cases, Contains-append_left, Contains-append_right}

@@ -1,4 +1,5 @@
--- Where exactly the ranges of some rules are live: what a batch needs bits for, and how many are in use, told by the rules alone.
+-- Where exactly the ranges of some rules are live: what a batch needs bits for, and how many are in use, told by the rules
+-- alone.
 use Rattle.std.proofs.Common.{◌≡◌, ◌≢◌, ℕ, ◌≤◌, Some, None, is_some, not, List, [], ◌∷◌, length, map, filter, Contains, set, ap, ap₂, sym, ◌∙◌, subst, arith}
 use Rattle.std.specs.Prelude.{AllPairs}
 use Rattle.std.specs.Cmp.{both_ways}

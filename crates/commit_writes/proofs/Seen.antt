@@ -90,8 +90,8 @@ old_or_new old new [] looks keys shows = tt
 old_or_new old new (one ∷ seen) looks keys shows =
     (elim (shows.0 one.1 keys.0) [ inl was ↦ inl (looks.0 ∙ was) | inr is ↦ inr (looks.0 ∙ is) ], old_or_new old new seen looks.1 keys.1 shows.1)
 
--- Searches answer as look-ups do while the words in flight are current, and with the old or the new set's answer where each state that is
--- passed shows one of them.
+-- Searches answer as look-ups do while the words in flight are current, and with the old or the new set's answer where each
+-- state that is passed shows one of them.
 pub seen : (bits last : FieldBits) (old new : List Rule) (line : Pipeline) (events : List Event)
     → ServingTo bits line.state (actions_in events) last → AreCurrent bits line.flight → MayGo line events
     → ((n : ℕ) → n ≤ length (writes_in (actions_in events)) → ShowsOldOrNew (state_after line.state (take n (writes_in (actions_in events)))) old new)

@@ -1,5 +1,5 @@
--- Tables that serve some rules serve the pieces of each of them: a range that is no block has a bit, and a bit is set exactly at the
--- ports of its range.
+-- Tables that serve some rules serve the pieces of each of them: a range that is no block has a bit, and a bit is set exactly
+-- at the ports of its range.
 use Rattle.std.proofs.Common.{◌≡◌, ℕ, ◌<◌, Option, None, Some, List, length, IsTrue, IsFalse, IsSome, IfNone, IfSome, Contains, inl, inr, refl, sym, subst, arith}
 use Rattle.std.proofs.lemmas.Bool.{cases_Bool}
 use Rattle.std.proofs.lemmas.List.Elements.{All-contains}

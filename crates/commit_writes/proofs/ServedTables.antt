@@ -1,5 +1,5 @@
--- The words of a commit's new bits make the tables serve its additions too, and keep what they served before; when it has finished, the
--- bits that are left are those of the new set.
+-- The words of a commit's new bits make the tables serve its additions too, and keep what they served before; when it has
+-- finished, the bits that are left are those of the new set.
 use Rattle.std.proofs.Common.{◌≡◌, ℕ, ◌+◌, ◌≤◌, List, [], ◌++◌, length, take, refl, ap, sym, ◌∙◌, subst}
 use Rattle.std.specs.List.{AllByRecursion}
 use Rattle.std.proofs.Math.Seq.{take-length}

@@ -1,4 +1,5 @@
--- The pieces of rules with their bits: each stands once and is served by tables that serve its rule, and a set's match what its rules match.
+-- The pieces of rules with their bits: each stands once and is served by tables that serve its rule, and a set's match what
+-- its rules match.
 use Rattle.std.proofs.Common.{◌≡◌, ℕ, ◌<◌, Bool, true, ◌&&◌, List, length, get_or, IsTrue, Contains, ◌⊎◌, inl, inr, refl, sym, ap, subst, ◌∙◌, arith, eqb-true, eq-eqb}
 use Rattle.std.specs.Prelude.{AllPairs, flat_map, nat_eq}
 use Rattle.std.specs.List.{AllByRecursion, list_any}

@@ -1,4 +1,5 @@
--- Writes of tables in front of others: they write no slot and belong to no insertion, and the words of new bits are such writes.
+-- Writes of tables in front of others: they write no slot and belong to no insertion, and the words of new bits are such
+-- writes.
 use Rattle.std.proofs.Common.{◌≡◌, ℕ, List, [], ◌∷◌, ◌++◌, length, IsTrue, inl, inr, refl, ap, ◌∙◌, arith}
 use Rattle.std.specs.List.{AllByRecursion}
 use Rattle.slot_order.proofs.Lists.{AllByRecursion-member}

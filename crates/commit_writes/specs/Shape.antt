@@ -59,7 +59,8 @@ abbrev pub common_pieces : Mode → Option Rule → Rule → List Piece
 common_pieces mode None new = []
 common_pieces mode (Some old) new = filter (has_piece (pieces_of mode old)) (pieces_of mode new)
 
--- the pieces that get a new result, by falling priority: a changed rule's, and those that a replaced one shares with its new one
+-- the pieces that get a new result, by falling priority: a changed rule's, and those that a replaced one shares with its new
+-- one
 abbrev pub rewritten_pieces : Mode → FieldBits → List Rule → List Command → List RankedPiece
 rewritten_pieces mode bits rules batch =
     flat_map (λ new. ranked_pieces bits new (common_pieces mode (replaced_rule rules new) new))

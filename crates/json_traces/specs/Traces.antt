@@ -30,8 +30,8 @@ abbrev pub trace_version : List TraceLine → IpVersion
 trace_version (Head version acl bits slots ∷ lines) = version
 trace_version lines = V4
 
--- A report is an orderly trace: it is the text of its lines, their numbers are within the limits of a trace, so many commits are
--- accepted, and these are its device writes.
+-- A report is an orderly trace: it is the text of its lines, their numbers are within the limits of a trace, so many commits
+-- are accepted, and these are its device writes.
 pub record IsOrderlyReport (fault report : List ℕ) (commits : ℕ) (made : List Write) : Type 0 where
   pub lines : List TraceLine
   pub text_is : report ≡ trace_text (trace_version lines) fault lines
@@ -63,8 +63,8 @@ pub record WantsTrace (setting : Setting) (device_slots : ℕ) : Type 0 where
 abbrev pub accepted_in : Setting → List Act → ℕ
 accepted_in setting acts = length (sets_through setting [] [] [] acts) - 1
 
--- Where all acts are carried out the report is an orderly trace, whose writes are those of the journal: with the line that tells of
--- the end of the acts, and with one that tells of a fault.
+-- Where all acts are carried out the report is an orderly trace, whose writes are those of the journal: with the line that
+-- tells of the end of the acts, and with one that tells of a fault.
 abbrev pub JsonRunsAreOrderly : Type 0
 JsonRunsAreOrderly =
     (setting : Setting) (device_slots : ℕ) (acts : List Act) (body : List Effect) (last : Progress) → WantsTrace setting device_slots → AreTraceActs (family_version setting.family) 0 acts

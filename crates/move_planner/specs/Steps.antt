@@ -269,7 +269,8 @@ cleared cut slot =
 abbrev pub IsFurther : Sides → Cut → Option Cut → Type 0
 IsFurther sides cut next = MatchOption next (Unit {0}) (λ further. further.low + (sides.end - further.high) < cut.low + (sides.end - cut.high))
 
--- all that stands on the wrong side of the best boundary has passed it: the moves so far are the first part of a placement with any aim
+-- all that stands on the wrong side of the best boundary has passed it: the moves so far are the first part of a placement
+-- with any aim
 pub record UndoesCrossing (index : LivePieces) (id : ℕ) (slots slots' : Slots) (plan plan' : List Move) : Type 0 where
   pub moves : List Move
   pub gained : plan' ≡ plan ++ moves

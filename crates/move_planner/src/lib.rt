@@ -118,9 +118,9 @@
 //!   saved writes in some counts and took more in others; to plan the old way too and take the better one gained up to
 //!   5 % for twice the work. So `landed` is for the chain of the new entry alone.
 //! - **What comes later is told by its priorities** (`coming`), since the shares are those of all entries that there are
-//!   to be. Where only those that stand were counted, half of a firewall list that was replaced in one commit took half
-//!   as many writes more. Entries of one priority, the pieces of a rule, have one place: where they were told apart the
-//!   counts were the same.
+//!   to be. Where only those that stand were counted, half of a firewall list that was replaced in one commit took up to
+//!   twice the writes (`docs/DECISIONS.md`). Entries of one priority, the pieces of a rule, have one place: where they
+//!   were told apart the counts were about the same.
 //! - **A chain's next member is looked for along the list and along the slots at once** (`step_down`, `step_up`). Where
 //!   each entry overlaps hundreds its list lies all over the memory, and each node costs a miss of the cache. Over a
 //!   firewall list of 4,096 entries, 90 % full, planning took 818 and 941 µs in the mean by the lists alone, and 159

@@ -165,8 +165,8 @@ placing_ends over tag P Known above {priority} {aiming} id slots moves reads up 
       parts = map-append write_of (moves_along slots to (upper ∷ chain.rest)) (Put upper id ∷ []) ∙ ap (λ xs. xs ++ (upper, Some id) ∷ []) d.moves;
     }
 
--- a plan in slot_order's words: no more turns than entries stand on the wrong side of any boundary of the crossed stretch that has room,
--- and on that of the best one no more than the span has slots
+-- a plan in slot_order's words: no more turns than entries stand on the wrong side of any boundary of the crossed stretch
+-- that has room, and on that of the best one no more than the span has slots
 pub record IsPlanned (over : ℕ → ℕ → Type 0) (tag : ℕ → ℕ) (P Known : ℕ → Type 0) (above : Above) (id : ℕ) (slots : Slots) (moves : List Move) : Type 0 where
   pub whole : IsWhole over tag P Known slots id (map write_of moves)
   pub fewest : (behind before : ℕ → Bool) (other : ℕ) → AreSides above slots id behind before → gap_end above slots id ≤ other → other ≤ gap_start above slots id

@@ -189,7 +189,8 @@ pub data Leads (above : Above) (slots : Slots) : ℕ → ℕ → Type 0 where
   through : {upper lower : ℕ} (at between : ℕ) → slot slots at ≡ Some between
       → IsTrue (above upper between) → Leads above slots between lower → Leads above slots upper lower
 
--- which of the entries that stand must stand behind an id, and which before it: those that it leads to, and those that lead to it
+-- which of the entries that stand must stand behind an id, and which before it: those that it leads to, and those that lead
+-- to it
 pub record AreSides (above : Above) (slots : Slots) (id : ℕ) (behind before : ℕ → Bool) : Type 0 where
   pub after_it : (at other : ℕ) → slot slots at ≡ Some other → IsTrue (behind other) ↔ Leads above slots id other
   pub before_it : (at other : ℕ) → slot slots at ≡ Some other → IsTrue (before other) ↔ Leads above slots other id
@@ -220,7 +221,8 @@ pub record IsFirstFrom (test : ℕ → Bool) (cut : ℕ) (slots : Slots) (at : �
 pub data Pass (above : Above) (behind before : ℕ → Bool) (cut : ℕ) : Slots → List Move → Type 0 where
   -- none is left
   passed : {slots : Slots} → early behind cut slots ≡ 0 → late before cut slots ≡ 0 → Pass above behind before cut slots []
-  -- the last one that must stand behind it goes to the least free slot there, unless the first one that must stand before it has a shorter chain
+  -- the last one that must stand behind it goes to the least free slot there, unless the first one that must stand before it
+  -- has a shorter chain
   pass_down : {slots : Slots} {moves : List Move} (lower : ℕ)
       → IsLastBefore behind cut slots lower
       → (down : DownChain above slots lower (next_free_above slots (cut - 1)))

@@ -14,8 +14,8 @@ use Rattle.commit_writes.specs.Segments.{live_behind}
 use Rattle.commit_writes.proofs.Led.{same_part, front_of_writes, front_of_drained, live_writes, live_drained}
 use Rattle.commit_writes.proofs.WritesIn.{writes_of_map}
 
--- Some ranges that are told by what stands behind the first of some writes are live there: those that are live meanwhile only once the
--- drain is made, where one is due.
+-- Some ranges that are told by what stands behind the first of some writes are live there: those that are live meanwhile only
+-- once the drain is made, where one is due.
 module _ (bits before meanwhile : FieldBits) (drains : Bool) (state : State) (made : List Write) (stands : State → Bool) (inner : ArePartOf bits before) (outer : ArePartOf bits meanwhile)
     (part : drains ≡ false → ArePartOf meanwhile before) (none : drains ≡ true → (n : ℕ) → n ≤ table_writes made → stands (state_after state (take n made)) ≡ false) where
   abbrev Lives : List Action → Type 0

@@ -105,8 +105,8 @@ module _ (slots : ℕ) (mode : Mode) (bits : FieldBits) (rules : List Rule) (bat
   abbrev base : State
   base = state_after start inserted
 
-  -- What is asked of their states: while pieces are inserted order, empty slots past those in use, one twin at most and tables that
-  -- serve all bits; no twin where the last is in; and all inserted pieces in the end.
+  -- What is asked of their states: while pieces are inserted order, empty slots past those in use, one twin at most and
+  -- tables that serve all bits; no twin where the last is in; and all inserted pieces in the end.
   pub record KeepsInvariant : Type 0 where
     pub in_order : (n : ℕ) → n ≤ length inserted → (k : ℕ) × IsOrdered (state_after start (take n inserted)) (Contains (p.old ++ take k p.inserted))
     pub unused : (n at : ℕ) → n ≤ length inserted → slots ≤ at → slot (state_after start (take n inserted)).slots at ≡ None

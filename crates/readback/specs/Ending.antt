@@ -20,8 +20,9 @@ use Rattle.readback.specs.Tasks.{Task}
 use Rattle.readback.specs.PlannedRest.{rest_words, restart_writes}
 use Rattle.readback.specs.Restart.{IsPlannedRestart}
 
--- Some writes write slots in use alone, and are no more than the plan allows. Behind them the ids that are left stand where they were planned, those that got a result with their new entries, under the
--- tables with the words of the new bits; and they are those of the new set's pieces, each with its entry.
+-- Some writes write slots in use alone, and are no more than the plan allows. Behind them the ids that are left stand where
+-- they were planned, those that got a result with their new entries, under the tables with the words of the new bits; and
+-- they are those of the new set's pieces, each with its entry.
 pub record LeadsOn (mode : Mode) (bits : FieldBits) (rules : List Rule) (batch : List Command) (state : State) (live : List LivePiece) (slots : Slots) (entries : IdEntries) (planned : List Planned) (rewrites : List Rewrite) (erased : List ℕ) (writes : List Write) : Type 0 where
   pub in_use : AllByRecursion (IsInUse (length state.slots)) writes
   pub few : length writes ≤ length (rest_words mode bits rules batch state) + 1 + (most_slots * (1 + most_slots) * length planned + length rewrites + length erased)

@@ -41,8 +41,8 @@ pub record CanCommit (mode : Mode) (bits : FieldBits) (rules : List Rule) (batch
 abbrev pub HasUnused : ℕ → State → Type 0
 HasUnused slots state = (at : ℕ) → slots ≤ at → slot state.slots at ≡ None
 
--- While insertions that are left are made: the slots past those in use are empty, and at most one slot is a twin; order for the old
--- pieces and the first of the inserted ones; in the end all of these stand, and no slot is a twin.
+-- While insertions that are left are made: the slots past those in use are empty, and at most one slot is a twin; order for
+-- the old pieces and the first of the inserted ones; in the end all of these stand, and no slot is a twin.
 pub record KeepsRest (slots : ℕ) (pieces : CommitPieces) (start : State) (left : List Task) (inserted : List Write) : Type 0 where
   pub unused : (n : ℕ) → n ≤ length inserted → HasUnused slots (state_after start (take n inserted))
   pub twins : (n : ℕ) → n ≤ length inserted → HasOneTwin (state_after start (take n inserted)).slots
@@ -83,8 +83,8 @@ pub record PassesStages (slots : ℕ) (mode : Mode) (bits : FieldBits) (rules : 
   pub ended : (done : List Task) × IsCommitAt slots mode bits rules batch (state_after state writes) done []
   pub alone : IsTwinSlot (state_after state writes).slots None
 
--- from a stage the writes that go on, with insertions that keep the order, pass only stages, and end at one with no task left and
--- no twin
+-- from a stage the writes that go on, with insertions that keep the order, pass only stages, and end at one with no task left
+-- and no twin
 abbrev pub RestsPassStages : Type 0
 RestsPassStages =
     (slots device_slots : ℕ) (mode : Mode) (bits : FieldBits) (rules : List Rule) (batch : List Command) (state : State) (done left : List Task) (twin : Option ℕ) (writes : List Write)

@@ -44,8 +44,8 @@ StagesServe =
     → CanCommit mode bits rules batch → IsState (length state.slots) state → IsCommitAt slots mode bits rules batch state done left
     → ServesLive (stopped_ranges mode bits rules batch state) state
 
--- and the writes and the drain of a planned restart, all of them or the first, serve them on, from the drain on those that are live
--- meanwhile, and behind all of them these.
+-- and the writes and the drain of a planned restart, all of them or the first, serve them on, from the drain on those that
+-- are live meanwhile, and behind all of them these.
 abbrev pub PlannedRestartsServe : Type 0
 PlannedRestartsServe =
     (device_slots : ℕ) (mode : Mode) (bits : FieldBits) (rules : List Rule) (batch : List Command) (state : State) (done left : List Task) (twin : Option ℕ)
@@ -57,9 +57,9 @@ PlannedRestartsServe =
     ((front : List Action) → IsFrontOf front actions → LeadsTo before wide front (live_behind before (bits_with mode rules batch bits) front))
     × LeadsTo before wide actions (bits_with mode rules batch bits)
 
--- So packets see the old or the new set's answer all through a restart: while its writes and its drain are made in their order, all of
--- them or the first, each search answers what an undivided look-up of its key would answer in the state at that moment, and that is
--- the old or the new set's answer. Translations and searches stand anywhere between.
+-- So packets see the old or the new set's answer all through a restart: while its writes and its drain are made in their
+-- order, all of them or the first, each search answers what an undivided look-up of its key would answer in the state at that
+-- moment, and that is the old or the new set's answer. Translations and searches stand anywhere between.
 abbrev pub PlannedRestartsShowOldOrNew : Type 0
 PlannedRestartsShowOldOrNew =
     (device_slots : ℕ) (mode : Mode) (bits : FieldBits) (rules : List Rule) (batch : List Command) (state : State) (done left : List Task) (twin : Option ℕ)
@@ -71,8 +71,8 @@ PlannedRestartsShowOldOrNew =
     → AreCurrent (stopped_ranges mode bits rules batch wide) flight → MayGo line events
     → AllByRecursion IsLookUp (searches line events) × AllByRecursion (IsOldOrNew rules (set_after rules batch)) (searches line events)
 
--- And words are in flight as a restart asks for it: where a commit was stopped, after any of its writes or its drain, those in flight
--- are current for these ranges;
+-- And words are in flight as a restart asks for it: where a commit was stopped, after any of its writes or its drain, those
+-- in flight are current for these ranges;
 abbrev pub StoppedCommitsAreCurrent : Type 0
 StoppedCommitsAreCurrent =
     (mode : Mode) (bits : FieldBits) (rules : List Rule) (batch : List Command) (line : Pipeline) (made : List Write) (events : List Event)

@@ -15,7 +15,8 @@ use Rattle.readback.specs.Stage.{IsTwinSlot}
 use Rattle.readback.specs.Tasks.{CommitPieces, known_pieces, tasks_of, stands_in}
 
 -- What the walks over the slots find where nothing is wrong: each entry is in a slot in use and has a piece, the pieces are in
--- order, one entry at most stands in two slots, each old piece that isn't taken out stands, and the tasks are done in their turn.
+-- order, one entry at most stands in two slots, each old piece that isn't taken out stands, and the tasks are done in their
+-- turn.
 pub record AreSorted (slots : ℕ) (held : List (Option Entry)) (pieces : CommitPieces) (found : Stage) : Type 0 where
   pub places : List (Option RankedPiece)
   pub are : AreIn held (known_pieces pieces) places

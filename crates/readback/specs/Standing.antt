@@ -18,8 +18,8 @@ use Rattle.readback.specs.Stage.{IsCommitAt, IsTwinSlot}
 use Rattle.readback.specs.Going.{twin_writes}
 use Rattle.readback.specs.Laws.{CanCommit}
 
--- Some pieces stand in order, each under an id of its own with its entry: each is one of the commit's, and no two are one piece of
--- one rank.
+-- Some pieces stand in order, each under an id of its own with its entry: each is one of the commit's, and no two are one
+-- piece of one rank.
 pub record HaveStandingIds (pieces : CommitPieces) (live : List LivePiece) (slots : Slots) (entries : IdEntries) : Type 0 where
   pub standing : List RankedPiece
   pub known : (ranked : RankedPiece) → Contains standing ranked → Contains (known_pieces pieces) ranked

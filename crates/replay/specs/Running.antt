@@ -282,8 +282,8 @@ IsActOf family Commit = Unit {0}
 IsActOf family (Trial most) = Unit {0}
 IsActOf family (Crash after) = Unit {0}
 
--- An act that a report can tell. In JSON a command is one of a trace of this version, whose numbers are within their limits, and there
--- is no line for a trial and for a crash.
+-- An act that a report can tell. In JSON a command is one of a trace of this version, whose numbers are within their limits,
+-- and there is no line for a trial and for a crash.
 abbrev pub IsToldIn : Bool → IpVersion → Act → Type 0
 IsToldIn json version (Command change) = json ≡ true → IsTraceLineOf version (change_line change)
 IsToldIn json version (Probe key) = Unit {0}

@@ -89,8 +89,8 @@ pub(crate) fn write_shared<K: Sink>(sink: &mut K, line: &TraceLine) -> Result<()
     write_json(sink, IpVersion::V4, line)
 }
 
-/// Writes a line without a rank behind the head, where that is due, with the text of the fault of a line at fault, which has at most
-/// 32 bytes. Takes no memory. Where the sink fails, a part of this was taken, perhaps none or all of it.
+/// Writes a line without a rank behind the head, where that is due, with the text of the fault of a line at fault, which has
+/// at most 32 bytes. Takes no memory. Where the sink fails, a part of this was taken, perhaps none or all of it.
 pub(crate) fn write_behind<K: Sink>(
     sink: &mut K,
     head: Option<TraceLine>,

@@ -7,8 +7,8 @@
 //! # Decided
 //! - **A crate of its own**, below `replay` and `router`: a router's report has other lines of the same words, and its
 //!   crate stands on no run over one table.
-//! - **What a call hands to a sink is said once** (`HandsOver`, `WritesLine` in `specs/Outside`): that a line is taken whole, or
-//!   in part where the sink fails, by either count; and that the failure is counted.
+//! - **What a call hands to a sink is said once** (`HandsOver`, `WritesLine` in `specs/Outside`): that a line is taken whole,
+//!   or in part where the sink fails, by either count; and that the failure is counted.
 //! - **A line has room for 400 bytes.** The longest has 295: a trace line of IPv6. The proofs know no address to be below
 //!   `2^32` in the text of an IPv4 one, so two answers in one line ask for more room than they ever fill.
 #![tactic(auto)]

@@ -1,4 +1,5 @@
--- The pieces of a rule by covers, one by one: the test of two is exact, they are apart, they have no bits, and they match no other keys.
+-- The pieces of a rule by covers, one by one: the test of two is exact, they are apart, they have no bits, and they match no
+-- other keys.
 use Rattle.std.proofs.Common.{◌≡◌, ℕ, ◌+◌, ◌^◌, ◌<◌, true, ◌&&◌, length, get_or, Option, Some, None, IsTrue, Contains, refl, sym, ap, subst, ◌∙◌, arith, eqb-true, eq-eqb, nat_eq, All, AllPairs}
 use Rattle.std.proofs.lemmas.Bool.{and_parts, and_from}
 use Rattle.std.proofs.lemmas.Nat.{pow_pos}

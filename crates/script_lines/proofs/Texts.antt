@@ -101,7 +101,8 @@ fault-from size before m n line (byte ∷ bytes) fault short room same =
     (ap (λ b. lines_from limits b m (line ++ byte ∷ []) bytes) size_is ∙ later)) read in
     (ap (λ f. picks f (byte == line_feed) two second) (fault-within size before n (length line) byte here) ∙ step.0, step.1)
 
--- Where the first line of a script is at fault, the same line of a text is, by its own number; and it is no fault of the whole text.
+-- Where the first line of a script is at fault, the same line of a text is, by its own number; and it is no fault of the
+-- whole text.
 pub text-fault : (size before number : ℕ) (bytes : List ℕ) (fault : LineFault) → before + length bytes ≤ size → lines_of bytes ≡ ends_at (Faulty fault)
     → (text_lines_from size before number bytes ≡ ends_at (Faulty (at_line number fault))) × IsOfLine fault
 text-fault size before number bytes fault room same =

@@ -31,7 +31,8 @@ pub record Left : Type 0 where
   pub bytes : List ℕ
   pub given : List (List ℕ)
 
--- what a failing source has: the bytes left, the pieces that it gave, the most bytes of a read, how often a read failed, and its calls
+-- what a failing source has: the bytes left, the pieces that it gave, the most bytes of a read, how often a read failed, and
+-- its calls
 pub record FailingLeft : Type 0 where
   pub bytes : List ℕ
   pub given : List (List ℕ)

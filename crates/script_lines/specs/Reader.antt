@@ -9,7 +9,8 @@ use Rattle.script_lines.specs.declared.Over.{Over}
 use Rattle.script_lines.specs.declared.Over.TheVariants as over
 use Rattle.script_lines.specs.Lines.{limits, NumberedLine, ScriptLines, EndOfInput, Faulty, line_feed, is_allowed, lines_from, ends_at, onto_lines, numbered}
 
--- the bytes taken and not handed out, how many bytes of the script stand before them, the number of the line that they begin, and whether more comes
+-- the bytes taken and not handed out, how many bytes of the script stand before them, the number of the line that they begin,
+-- and whether more comes
 pub record HeldBytes : Type 0 where
   pub pending : List ℕ
   pub before : ℕ

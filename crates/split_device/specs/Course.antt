@@ -18,16 +18,16 @@ pub record Commit : Type 0 where
 abbrev pub ShowsOneOf : List Commit → SplitState → Type 0
 ShowsOneOf commits state = (commit : Commit) × Contains commits commit × ShowsEither commit.old commit.new state
 
--- Commits one after the other: each event may happen when it does, and before and after it the state shows each key the old or the
--- new answer of its commit.
+-- Commits one after the other: each event may happen when it does, and before and after it the state shows each key the old
+-- or the new answer of its commit.
 abbrev pub ComeInTurn : Pipeline → SinceDrain → List Commit → Type 0
 ComeInTurn line since [] = Unit {0}
 ComeInTurn line since (commit ∷ commits) =
     MayAllHappen line since commit.events × HoldsOfStates (ShowsEither commit.old commit.new) line commit.events
     × ComeInTurn (after_events line commit.events) (since_events since commit.events) commits
 
--- The look-up is one of a moment, and old or new by a commit of that moment, one of these: an undivided look-up of its key would
--- have answered so then, and the state showed the commit's old or new answers.
+-- The look-up is one of a moment, and old or new by a commit of that moment, one of these: an undivided look-up of its key
+-- would have answered so then, and the state showed the commit's old or new answers.
 pub record IsByACommit (commits : List Commit) (read : Answered) : Type 0 where
   pub moment : SplitState
   pub member : Contains read.moments moment

@@ -21,8 +21,8 @@ ReadsAreOfAMoment =
     × AreWaiting (after_events line events).state (since_events since events) (after_events line events).looks
 
 -- In the course of commits one after the other each read is of a moment between its search and its read, and old or new by the
--- commit of that moment: one between the commit that it is searched in and the one that it is read in. The moments of look-ups that
--- wait at the beginning are of some commits before: of none where no look-up waits then.
+-- commit of that moment: one between the commit that it is searched in and the one that it is read in. The moments of
+-- look-ups that wait at the beginning are of some commits before: of none where no look-up waits then.
 abbrev pub ReadsAreByCommits : Type 0
 ReadsAreByCommits =
     (past : List Commit) (line : Pipeline) (since : SinceDrain) (commits : List Commit)

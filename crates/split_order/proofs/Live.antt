@@ -1,4 +1,5 @@
--- The ranges that words in flight are current for: the device serves them between any two parts, and a step leaves the words current.
+-- The ranges that words in flight are current for: the device serves them between any two parts, and a step leaves the words
+-- current.
 use Rattle.std.proofs.Common.{◌≡◌, ℕ, zero, suc, ◌+◌, ◌<◌, ◌≤◌, ◌⊎◌, inl, inr, Bool, true, false, Option, None, Some, List, [], ◌∷◌, length, take, set, length-set, get_or-set_other, refl, sym, ◌∙◌, ap, subst, arith}
 use Rattle.std.specs.Prelude.{IfSome}
 use Rattle.std.proofs.lemmas.Bool.{cases_eq, cases_lt}

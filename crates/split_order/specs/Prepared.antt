@@ -31,8 +31,8 @@ JudgesSplit slots manager None batch result =
     AnswersSplit (judgement (verdict manager.whole.slots manager.whole.mode manager.whole.rules batch)) result
 
 -- A batch is taken: on a device with the slots in use or more what is left is a segment by parts, of routes uncrossed, with so
--- many parts, so many words of the tables among them, so many parts of its longest insertion, and this greatest crossing span of
--- one. It is under way from there on: each look-up, of one event or three, gets the old or the new answer.
+-- many parts, so many words of the tables among them, so many parts of its longest insertion, and this greatest crossing span
+-- of one. It is under way from there on: each look-up, of one event or three, gets the old or the new answer.
 pub record HoldsOn (slots : ℕ) (old : SplitManaged) (batch : List Command) (counts : SplitDone) (new : SplitManaged) : Type 0 where
   pub segment : IsSplitSegment old.whole.mode old.whole.bits old.whole.rules batch (state_on slots old) (since_of old) (left_of slots new)
   pub routes : (version : IpVersion) → IsOfRoutes version old.whole.rules batch (state_on slots old) (left_of slots new)

@@ -25,8 +25,8 @@ made_by step.Idle = []
 abbrev pub commit_aim : HeldCommit → List Rule × FieldBits × FieldBits
 commit_aim held = (held.rules, held.bits, held.during)
 
--- All of the planner that a part or a drain leaves as it was: in the place of what its slots and tables hold, what they will hold
--- once all is made; and where the commit leads.
+-- All of the planner that a part or a drain leaves as it was: in the place of what its slots and tables hold, what they will
+-- hold once all is made; and where the commit leads.
 abbrev pub outline : Managed → Managed × Option (List Rule × FieldBits × FieldBits)
 outline whole =
     (record whole { state = state_after whole.state (writes_left whole.held); held = None }, option_map commit_aim whole.held)

@@ -18,8 +18,8 @@
 //!   A plan that is dropped leaves it.
 //! - **No plan is turned round, and none is gone on with behind a restart**: nothing here leads there, so the planner's plan
 //!   goes forward always.
-//! - **`most` is the planner's count** (`Manager::most_parts`): three parts for each entry that an insertion puts, less one, which
-//!   is what each insertion takes (`exact`, in `split_writes/specs/Segment`).
+//! - **`most` is the planner's count** (`Manager::most_parts`): three parts for each entry that an insertion puts, less one,
+//!   which is what each insertion takes (`exact`, in `split_writes/specs/Segment`).
 //! - **What was made is a history** (`History`), which takes no memory: the result words of empty slots are known by it alone.
 #![tactic(auto)]
 

@@ -121,8 +121,8 @@ impl SplitManager {
 
     /// Judges a batch of changes to the rules as `batch_order::Manager::prepare` does, over a device with at least the slots
     /// in use. Where the batch is taken, what is to be made of it is planned, and the device is reserved for all parts and
-    /// drains. The answer has the numbers of the parts. With `m` a bound on overlap chains of the old rules and the additions, an
-    /// insertion takes at most `2 + 3(m - 1)(1 + c)` of them, `c` its crossing span.
+    /// drains. The answer has the numbers of the parts. With `m` a bound on overlap chains of the old rules and the
+    /// additions, an insertion takes at most `2 + 3(m - 1)(1 + c)` of them, `c` its crossing span.
     ///
     /// Refusals are tried in the same order; `Busy` tells the parts that are left. A refusal makes nothing, and leaves rules,
     /// manager and device as they were, but for their memory. Words in flight that were current are so still.

@@ -1,5 +1,5 @@
--- An insertion puts an entry over another one only where that one stands in another slot too: so its slot can be erased first, and
--- the device stays in order for the same pieces.
+-- An insertion puts an entry over another one only where that one stands in another slot too: so its slot can be erased
+-- first, and the device stays in order for the same pieces.
 use Rattle.std.proofs.Common.{◌≡◌, ℕ, ◌≤◌, suc, true, false, Option, None, Some, List, [], ◌∷◌, ◌++◌, length, take, set, Contains, inl, inr, sym, ◌∙◌, subst, arith}
 use Rattle.std.proofs.lemmas.Bool.{cases_eq}
 use Rattle.std.proofs.lemmas.List.Elements.{Contains-append_left, Contains-append_right, Contains-append_cases}

@@ -1,5 +1,5 @@
--- While pieces are inserted, a device in order for the old ones and the first of the inserted ones shows each key its old or its new
--- answer.
+-- While pieces are inserted, a device in order for the old ones and the first of the inserted ones shows each key its old or
+-- its new answer.
 use Rattle.std.proofs.Common.{◌≡◌, List, ◌++◌, length, take, Contains, inl, inr, ◌∙◌}
 use Rattle.std.proofs.lemmas.List.Elements.{Contains-append_left}
 use Rattle.slot_order.proofs.Lists.{AllByRecursion-member}

@@ -1,5 +1,5 @@
--- Words in flight on a device with split results: while it serves the live ranges that they are current for, each finds the slot
--- that its key finds.
+-- Words in flight on a device with split results: while it serves the live ranges that they are current for, each finds the
+-- slot that its key finds.
 use Rattle.std.specs.Prelude.{◌≡◌, ◌+◌, ◌<◌, List, [], ◌∷◌, length}
 use Rattle.rule_model.specs.Key.{IsKey}
 use Rattle.tcam_device.specs.Flight.{most_in_flight}

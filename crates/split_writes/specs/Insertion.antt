@@ -65,8 +65,8 @@ put_writes (whole.Slot at None ∷ writes) = put_writes writes
 put_writes (whole.Slot at (Some entry) ∷ writes) = suc (put_writes writes)
 put_writes (whole.Table field port word ∷ writes) = put_writes writes
 
--- An insertion by parts takes exactly three writes for each entry that the undivided one puts, but one: three for each that is put
--- over another one, and two for each that fills an empty slot, of which there is one more than erases.
+-- An insertion by parts takes exactly three writes for each entry that the undivided one puts, but one: three for each that
+-- is put over another one, and two for each that fills an empty slot, of which there is one more than erases.
 abbrev pub TakesThreeEach : Insertion → SplitInsertion → Type 0
 TakesThreeEach undivided split = length split.writes + 1 ≡ 3 * put_writes undivided.writes
 

@@ -32,15 +32,16 @@ use Rattle.split_writes.specs.UnderWay.{IsUnderWay, IsInFlight}
 abbrev pub IsFrontOf : List SplitAction → List SplitAction → Type 0
 IsFrontOf front made = (back : List SplitAction) × (made ≡ front ++ back)
 
--- what is known of a commit before its first write: it may begin, and its undivided writes are its segment, of slots that there are
+-- what is known of a commit before its first write: it may begin, and its undivided writes are its segment, of slots that
+-- there are
 pub record IsBegun (mode : Mode) (bits : FieldBits) (rules : List Rule) (batch : List Command) (state : SplitState) (writes : List Write) : Type 0 where
   pub sized : IsSized state
   pub in_use : AllByRecursion (IsInUse (length state.slots)) writes
   pub may_begin : MayBegin mode bits rules batch (undivided state)
   pub segment : IsSegment mode bits rules batch (undivided state) writes
 
--- The writes of a commit are those of a plan, on a device with the slots in use or more: the words of its new bits, and then the
--- insertions, new results and erases of a planned batch.
+-- The writes of a commit are those of a plan, on a device with the slots in use or more: the words of its new bits, and then
+-- the insertions, new results and erases of a planned batch.
 pub record ArePlannedOn (mode : Mode) (bits : FieldBits) (rules : List Rule) (batch : List Command) (state : State) (writes : List Write) : Type 0 where
   pub device_slots : ℕ
   pub own : State
@@ -56,7 +57,8 @@ pub record ArePlannedOn (mode : Mode) (bits : FieldBits) (rules : List Rule) (ba
   pub writes_are : writes
       ≡ bit_writes own (new_bits bits (bits_with mode rules batch bits)) ++ batch_writes entries arrangement planned rewrites erased
 
--- The parts of a commit's writes are hitless too: an undivided look-up of any key gets the old or the new answer after each part.
+-- The parts of a commit's writes are hitless too: an undivided look-up of any key gets the old or the new answer after each
+-- part.
 abbrev pub PartsAreHitless : Type 0
 PartsAreHitless =
     (mode : Mode) (bits : FieldBits) (rules : List Rule) (batch : List Command) (state : SplitState) (writes : List Write)
@@ -78,9 +80,10 @@ CommitsAreUnderWay =
     → IsBegun mode bits rules batch state writes
     → IsUnderWay rules (set_after rules batch) bits (bits_with mode rules batch bits) state since (made_of state since (commit_actions mode bits rules batch writes))
 
--- and from any point of it, while what is left is made in its order, all of it or the first, each read is one of its key at a moment
--- between its search and its read, whatever look-ups stand between. It gets the old or the new set's answer, where those that waited
--- before have seen no others: one that was searched in an earlier commit may get an answer of that one's sets.
+-- and from any point of it, while what is left is made in its order, all of it or the first, each read is one of its key at a
+-- moment between its search and its read, whatever look-ups stand between. It gets the old or the new set's answer, where
+-- those that waited before have seen no others: one that was searched in an earlier commit may get an answer of that one's
+-- sets.
 abbrev pub SeesOldOrNewOnTheWay : Type 0
 SeesOldOrNewOnTheWay =
     (old new : List Rule) (bits last : FieldBits) (line : Pipeline) (since : SinceDrain) (left : List SplitAction) (events : List Event)
@@ -88,8 +91,8 @@ SeesOldOrNewOnTheWay =
     → IsFrontOf (made_in events) left → MayGo line events
     → AllByRecursion IsOfAMoment (reads line events) × (AreBetweenSets old new line.looks → AllByRecursion (IsOldOrNew old new) (reads line events))
 
--- A commit as packets see it whose look-ups are three events: the same from its beginning on. Translations, searches and reads stand
--- anywhere between its parts and drains.
+-- A commit as packets see it whose look-ups are three events: the same from its beginning on. Translations, searches and
+-- reads stand anywhere between its parts and drains.
 abbrev pub SeesOldOrNew : Type 0
 SeesOldOrNew =
     (mode : Mode) (bits : FieldBits) (rules : List Rule) (batch : List Command) (line : Pipeline) (since : SinceDrain) (writes : List Write) (events : List Event)

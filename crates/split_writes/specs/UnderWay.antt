@@ -15,8 +15,8 @@ use Rattle.split_device.specs.Waiting.{AreWaiting}
 use Rattle.split_device.specs.Hitless.{AreBetweenSets}
 use Rattle.split_writes.specs.InFlight.{ServingTo, MayGo, made_in}
 
--- What is left leads to the new set: an undivided look-up of any key gets the old or the new answer after each write, each write
--- stands in its time, and the device serves the live ranges that the words in flight are current for.
+-- What is left leads to the new set: an undivided look-up of any key gets the old or the new answer after each write, each
+-- write stands in its time, and the device serves the live ranges that the words in flight are current for.
 pub record IsUnderWay (old new : List Rule) (bits last : FieldBits) (state : SplitState) (since : SinceDrain) (left : List SplitAction) : Type 0 where
   pub timely : AreTimely state since left
   pub serving : ServingTo bits state left last
@@ -36,8 +36,8 @@ GoesOnByDrains =
     (old new : List Rule) (bits last : FieldBits) (state : SplitState) (since : SinceDrain) (left : List SplitAction)
     → IsUnderWay old new bits last state since (Drained ∷ left) → (next : FieldBits) × IsUnderWay old new next last state nothing_since left
 
--- What is in flight while a commit is under way: words that are current for the ranges that are live now, and look-ups that wait
--- as they may.
+-- What is in flight while a commit is under way: words that are current for the ranges that are live now, and look-ups that
+-- wait as they may.
 pub record IsInFlight (bits : FieldBits) (since : SinceDrain) (line : Pipeline) : Type 0 where
   pub words : AreCurrent bits line.words
   pub waiting : AreWaiting line.state since line.looks

@@ -1,5 +1,5 @@
--- The writes and drains of an orderly trace, or of its first lines, serve live ranges all the way: within a commit those before it, and
--- from the drain before its first put on those that are live meanwhile, where a piece comes that is put in.
+-- The writes and drains of an orderly trace, or of its first lines, serve live ranges all the way: within a commit those
+-- before it, and from the drain before its first put on those that are live meanwhile, where a piece comes that is put in.
 use Rattle.std.proofs.Common.{◌≡◌, ℕ, ◌+◌, Bool, true, false, Option, None, Some, List, [], ◌∷◌, inl, inr, ◌⊎◌, refl, sym, ◌∙◌, subst}
 use Rattle.std.specs.Prelude.{◌||◌, nat_eq, nat_lt, Contains}
 use Rattle.std.specs.List.{AllByRecursion, list_any}
@@ -147,8 +147,8 @@ comes_right (Refused n ∷ lines) now stage keeps none some = right_now now stag
 comes_right (End writes ∷ lines) now stage keeps none some = right_now now stage some
 comes_right (Fault line ∷ lines) now stage keeps none some = right_now now stage some
 
--- Among the events of a commit: where no bit is given, or the tables serve the new ranges and no word is to be written, those that are
--- live meanwhile;
+-- Among the events of a commit: where no bit is given, or the tables serve the new ranges and no word is to be written, those
+-- that are live meanwhile;
 abbrev Late : Tracing → List TraceLine → FieldBits → Type 0
 Late now lines last =
     ((gives now ≡ false) ⊎ (AreTranslated now.state (meanwhile now) × (has_table lines ≡ false))) → ServingTo (meanwhile now) now.state (trace_actions lines) last

@@ -1,4 +1,5 @@
--- What is known of an orderly trace at each place of it: between commits its set is at rest, and within one it was stopped there.
+-- What is known of an orderly trace at each place of it: between commits its set is at rest, and within one it was stopped
+-- there.
 use Rattle.std.proofs.Common.{◌≡◌, ℕ, ◌+◌, Bool, true, false, Option, None, Some, List, [], ◌∷◌, length, Contains, inl, inr, refl, sym, ◌∙◌, subst, ap, arith, length-set}
 use Rattle.std.specs.Prelude.{nat_eq, nat_lt, slice_set}
 use Rattle.std.specs.List.{AllByRecursion}

@@ -1,4 +1,5 @@
--- Look-ups of two events over a trace: a key's word is made by the tables at one moment, and searched in the slots at a later one.
+-- Look-ups of two events over a trace: a key's word is made by the tables at one moment, and searched in the slots at a later
+-- one.
 use Rattle.std.specs.Prelude.{◌≡◌, ◌≢◌, ◌⊎◌, ℕ, Bool, Some, None, List, [], ◌∷◌, ◌++◌}
 use Rattle.std.specs.List.{AllByRecursion}
 use Rattle.rule_model.specs.declared.IpVersion.{IpVersion}
@@ -39,16 +40,16 @@ HasNoDrain lines = AllByRecursion (λ line. line ≢ Drain) lines
 abbrev pub late_answer : State → State → Key → Answer
 late_answer made now key = word_answer now (search_word made key)
 
--- A look-up whose word was made at one moment of a trace and is searched at another one: it answers as an undivided one does now.
--- That is the answer of the set before the commit that is under way now or of the set after it, by its commands so far; between
--- two commits both are the set that there is.
+-- A look-up whose word was made at one moment of a trace and is searched at another one: it answers as an undivided one does
+-- now. That is the answer of the set before the commit that is under way now or of the set after it, by its commands so far;
+-- between two commits both are the set that there is.
 pub record AnswersAsNow (made now : Tracing) (key : Key) : Type 0 where
   pub as_look_up : late_answer made.state now.state key ≡ lookup now.state key
   pub old_or_new :
       (late_answer made.state now.state key ≡ answer now.rules key) ⊎ (late_answer made.state now.state key ≡ answer (set_after now.rules now.batch) key)
 
--- Each look-up of two events over a trace is served so: the word of any key is made behind the first lines, whichever these are, and
--- searched behind some more, among which no drain stands.
+-- Each look-up of two events over a trace is served so: the word of any key is made behind the first lines, whichever these
+-- are, and searched behind some more, among which no drain stands.
 abbrev pub ServesLookUps : List TraceLine → Type 0
 ServesLookUps lines =
     (first between later : List TraceLine) (key : Key) → lines ≡ first ++ (between ++ later) → HasNoDrain between → IsKey key
@@ -73,25 +74,25 @@ trace_actions (Table field port word ∷ lines) = Written (write.Table field por
 trace_actions (Drain ∷ lines) = Drained ∷ trace_actions lines
 trace_actions (line ∷ lines) = trace_actions lines
 
--- In the words of what the device serves: the writes and drains of an orderly trace, or of its first lines, serve live ranges all the
--- way, and those of the set that is known behind them in the end.
+-- In the words of what the device serves: the writes and drains of an orderly trace, or of its first lines, serve live ranges
+-- all the way, and those of the set that is known behind them in the end.
 abbrev pub OrderlyTracesServe : Type 0
 OrderlyTracesServe =
     (version : IpVersion) (acl bits : Bool) (slots : ℕ) (lines : List TraceLine) → AllByRecursion IsTraceLine (Head version acl bits slots ∷ lines)
     → BeginTrace (Head version acl bits slots ∷ lines) → IsOrderly (Head version acl bits slots ∷ lines)
     → ServingTo no_bits (blank slots) (trace_actions lines) (known_behind untraced (Head version acl bits slots ∷ lines)).bits
 
--- a search has the answer of the set before the commit that is under way, or of the set after it, at a moment of the trace at which the
--- device is as at the search
+-- a search has the answer of the set before the commit that is under way, or of the set after it, at a moment of the trace at
+-- which the device is as at the search
 abbrev pub IsOldOrNewOver : List TraceLine → State × Key × Answer → Type 0
 IsOldOrNewOver lines (state, key, found) =
     (first : List TraceLine) × (later : List TraceLine) × (lines ≡ first ++ later) × ((known_behind untraced first).state ≡ state)
     × ((found ≡ answer (known_behind untraced first).rules key)
     ⊎ (found ≡ answer (set_after (known_behind untraced first).rules (known_behind untraced first).batch) key))
 
--- So over a device without a word in flight at first: while these are made in their order, all of them or the first, and translations
--- and searches stand anywhere between, each search answers what an undivided look-up of its key would answer at that moment, and that
--- is the old or the new set's answer.
+-- So over a device without a word in flight at first: while these are made in their order, all of them or the first, and
+-- translations and searches stand anywhere between, each search answers what an undivided look-up of its key would answer at
+-- that moment, and that is the old or the new set's answer.
 abbrev pub OrderlyTracesAnswerAsLookUps : Type 0
 OrderlyTracesAnswerAsLookUps =
     (version : IpVersion) (acl bits : Bool) (slots : ℕ) (lines : List TraceLine) (events : List Event) → AllByRecursion IsTraceLine (Head version acl bits slots ∷ lines)

@@ -41,7 +41,8 @@ module _ (placement : Placement) (mode : Mode) (slots : ℕ) (rules : List Rule)
   aims_among a b place [] same = refl
   aims_among a b place (one ∷ pieces) same = ap (λ (all : ℕ). aims_from placement mode slots rules all place (one ∷ pieces)) (same (omega arith))
 
-  -- So the pieces that are left aim as they did among all: where there are some, as many entries stand as the set has and were inserted.
+  -- So the pieces that are left aim as they did among all: where there are some, as many entries stand as the set has and
+  -- were inserted.
   pub aims_rest : (stood n : ℕ) (pieces : List RankedPiece) → (length (drop n pieces) ≡ 0) ⊎ (stood ≡ entries_of mode rules + n)
       → aims_from placement mode slots rules (stood + length (drop n pieces)) n (drop n pieces) ≡ drop n (aims_of placement mode slots rules pieces)
   aims_rest stood n pieces standing =

@@ -1,5 +1,5 @@
--- What a plan of a batch leads to: its writes are the segment of the batch, the entries behind them those of the new set, and the
--- tables serve its ranges.
+-- What a plan of a batch leads to: its writes are the segment of the batch, the entries behind them those of the new set, and
+-- the tables serve its ranges.
 use Rattle.std.proofs.Common.{◌≡◌, ℕ, ◌+◌, ◌*◌, ◌^◌, ◌≤◌, List, [], ◌∷◌, ◌++◌, length, map, Option, Some, None, IsTrue, refl, sym, ap, ap₂, subst, ◌∙◌, arith}
 use Rattle.std.specs.Prelude.{nat_eq}
 use Rattle.std.specs.List.{AllByRecursion, AllZip, IsDistinct}

@@ -1,5 +1,5 @@
--- Where each word of the tables has the bits of live ranges right none is to be written, and what the tasks that are done tell of the
--- pieces that stand.
+-- Where each word of the tables has the bits of live ranges right none is to be written, and what the tasks that are done
+-- tell of the pieces that stand.
 use Rattle.std.proofs.Common.{◌≡◌, ℕ, zero, suc, ◌+◌, ◌-◌, ◌*◌, ◌<◌, ◌^◌, Bool, true, false, List, [], ◌∷◌, ◌++◌, length, map, Some, None, Contains, bit_or, inl, inr, refl, sym, ◌∙◌, ap, ap₂, subst, arith, eq-eqb, eqb-true}
 use Rattle.std.specs.Int.{bit_at}
 use Rattle.std.specs.Int.Bits.{or_add_and}

@@ -1,4 +1,5 @@
--- The ids that a stopped device's pieces have again are settled; what is left to change or go has one, and what is left to come has room.
+-- The ids that a stopped device's pieces have again are settled; what is left to change or go has one, and what is left to
+-- come has room.
 use Rattle.std.proofs.Common.{◌≡◌, ℕ, ◌+◌, ◌-◌, ◌≤◌, Option, Some, None, List, [], ◌∷◌, Contains, drop, length, map, take, inl, inr, ◌⊎◌, refl, sym, ◌∙◌, subst, ap, arith}
 use Rattle.std.proofs.lemmas.List.{length-drop, length-map, take-append-drop}
 use Rattle.std.proofs.lemmas.List.Elements.{Contains-append_right}

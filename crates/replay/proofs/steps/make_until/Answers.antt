@@ -1,5 +1,5 @@
--- It stops at a crash, and a trial is turned round where it is time; a step makes the next action that is left, and one that fails leaves it;
--- each is told.
+-- It stops at a crash, and a trial is turned round where it is time; a step makes the next action that is left, and one that
+-- fails leaves it; each is told.
 use Rattle.std.proofs.Common.{refl, inl, inr, sym, ap, arith, append-nil, ◌≡◌, ◌+◌, ◌-◌, ◌≤◌, ◌∙◌, length, ◌++◌, ◌∷◌, [], subst, append_assoc}
 use Rattle.std.specs.Io.KnownBytes.{Appends}
 use Rattle.std.proofs.KnownBytes.{Appends-nil}
