@@ -4,14 +4,15 @@ _tcam() {
     case $before in
     --ranges) words="cover bits" ;;
     --placement) words="middle rank ends" ;;
-    --slots | --depth) ;; # a number
-    tcam | */tcam) words="route acl route6 acl6 gen verify --help --version" ;;
+    --slots | --depth | --commit | --commits) ;; # a number, or two
+    tcam | */tcam) words="route acl route6 acl6 router gen verify draw --help --version" ;;
     *)
         case $command in
         route | route6) words="--slots --placement --trace --depth --json --help" ;;
         acl | acl6) words="--slots --ranges --placement --trace --depth --json --help" ;;
-        gen) words="--slots --ranges --placement --help" ;;
+        router | gen) words="--slots --ranges --placement --help" ;;
         verify) words="--help" ;;
+        draw) words="--commit --commits --occupancy --help" ;;
         esac
         ;;
     esac
