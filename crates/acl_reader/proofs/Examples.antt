@@ -44,6 +44,9 @@ comment = refl
 no-sequence : read (codes "acl del 0") ≡ Err BadSequence
 no-sequence = refl
 
+by-number : read (codes "acl set 1 =7") ≡ Ok (Some (Set 1 7))
+by-number = refl
+
 no-action : read (codes "acl set 1 Permit") ≡ Err BadAction
 no-action = refl
 

@@ -1,7 +1,7 @@
 //! The kinds of words that are no addresses, and packet keys.
 
 ghost use Rattle.std.specs.Prelude.{◌≡◌, ◌≤◌, ◌∷◌, length};
-ghost use Rattle.line_words.specs.Kinds.{result_of, sequence_of, count_of, action_of, proto_of, proto_choice, port_of, parts_at, port_parts, ports_of, key_of, frame_key};
+ghost use Rattle.line_words.specs.Kinds.{result_of, sequence_of, count_of, action_of, named_action, proto_of, proto_choice, port_of, parts_at, port_parts, ports_of, key_of, frame_key};
 ghost use Rattle.line_words.specs.Notations.{notation_for};
 
 use crate::WordFault;
@@ -39,9 +39,20 @@ pub fn count_of(word: &[u8]) -> Result<u32, WordFault>
     number_up_to(u32::MAX, word).ok_or(WordFault::BadCount)
 }
 
-/// The result of a rule of an access list: 1 for `permit` and 0 for `deny`, or BadAction.
+/// The result of a rule of an access list: 1 for `permit`, 0 for `deny`, and the number of 32 bits behind `=`, or
+/// BadAction.
 pub fn action_of(word: &[u8]) -> Result<u32, WordFault>
     ensures { result ≡ action_of word.now }
+{
+    match word {
+        [b'=', number @ ..] => number_up_to(u32::MAX, number).ok_or(WordFault::BadAction),
+        _ => named_action(word),
+    }
+}
+
+/// 1 for `permit` and 0 for `deny`, or BadAction.
+fn named_action(word: &[u8]) -> Result<u32, WordFault>
+    ensures { result ≡ named_action word.now }
 {
     match word {
         b"permit" => Ok(1),

@@ -71,7 +71,7 @@ pub enum WordFault {
     BadSequence,
     /// The word is no number of 32 bits.
     BadCount,
-    /// The word is neither `permit` nor `deny`.
+    /// The word is neither `permit` nor `deny`, nor `=` with a number of 32 bits behind it.
     BadAction,
     /// The word is neither a protocol's name nor a number of 8 bits.
     BadProtocol,

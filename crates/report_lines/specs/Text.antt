@@ -50,9 +50,9 @@ rule_name Acl rank = sequence_text rank
 rule_name Route6 rank = ipv6_prefix_text rank
 rule_name Acl6 rank = sequence_text rank
 
--- the action of a rule of an access list
+-- the action of a rule of an access list: a name, or the result's number behind an equals sign
 abbrev pub action_text : ℕ → List ℕ
-action_text answer = if answer == 1 then codes "permit" else codes "deny"
+action_text answer = if answer == 1 then codes "permit" else if answer == 0 then codes "deny" else 61 ∷ decimal answer
 
 -- a result: the number of a route, or the action of a rule of an access list
 abbrev pub result_name : Family → ℕ → List ℕ

@@ -169,14 +169,14 @@ impl ReportLine {
 
     // The line with the action of an access list, behind a space.
     fn action(self, answer: u32) -> ReportLine
-        requires { length self + 6 < LINE_ROOM }
+        requires { length self + 11 < LINE_ROOM }
         ensures text { result ≡ self ++ 32 ∷ action_text answer }
-        ensures len { length result ≤ length self + 7 }
+        ensures len { length result ≤ length self + 12 }
     {
-        if answer == 1 {
-            self.word("permit")
-        } else {
-            self.word("deny")
+        match answer {
+            0 => self.word("deny"),
+            1 => self.word("permit"),
+            number => self.text(" =").digits(number),
         }
     }
 
@@ -236,8 +236,8 @@ impl ReportLine {
             .hex_digit(lane)
     }
 
-    // The line with the lanes of a word that a version has, behind a space.
-    fn lanes(self, version: IpVersion, word: &Word) -> ReportLine
+    /// The line with the lanes of a word that a version has, behind a space.
+    pub fn lanes(self, version: IpVersion, word: &Word) -> ReportLine
         requires { length self + 89 ≤ LINE_ROOM }
         ensures text { result ≡ self ++ 32 ∷ word_text version word.now }
         ensures len { length result ≤ length self + 89 }
@@ -300,8 +300,8 @@ impl ReportLine {
         }
     }
 
-    // The line with a tag, behind a space: of IPv4 as one number, of IPv6 as the rule's name.
-    fn tag(self, family: Family, tag: Rank) -> ReportLine
+    /// The line with a tag, behind a space: of IPv4 as one number, of IPv6 as the rule's name.
+    pub fn tag(self, family: Family, tag: Rank) -> ReportLine
         requires { length self + 81 ≤ LINE_ROOM }
         ensures text { result ≡ self ++ 32 ∷ tag_text family tag }
         ensures len { length result ≤ length self + 81 }

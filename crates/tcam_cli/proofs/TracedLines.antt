@@ -12,10 +12,10 @@ use Rattle.rule_model.specs.PortRange.{PortRange, IsPortRange, any_port}
 use Rattle.rule_model.specs.Rank.{list_rank}
 use Rattle.rule_model.specs.Rule.{route_rule}
 use Rattle.line_words.specs.declared.WordFault.{WordFault}
-use Rattle.line_words.specs.declared.WordFault.TheVariants.{BadPrefix, BadResult, BadSequence, BadProtocol, BadPorts}
+use Rattle.line_words.specs.declared.WordFault.TheVariants.{BadAction, BadPrefix, BadResult, BadSequence, BadProtocol, BadPorts}
 use Rattle.line_words.specs.declared.commands.CommonCommand.{CommonCommand}
 use Rattle.line_words.specs.Words.{◌>>=◌, words_of}
-use Rattle.line_words.specs.Kinds.{ipv4_number, ipv4_prefix, four_bytes, numbers_up_to, number_up_to, nonzero, block_of, parts_at, side_of, result_of, sequence_of, action_of, proto_of, proto_choice, port_of, port_parts, ports_of}
+use Rattle.line_words.specs.Kinds.{ipv4_number, ipv4_prefix, four_bytes, numbers_up_to, number_up_to, nonzero, block_of, parts_at, side_of, result_of, sequence_of, action_of, named_action, proto_of, proto_choice, port_of, port_parts, ports_of}
 use Rattle.line_words.specs.Notations.{notation_for}
 use Rattle.line_words.specs.Commands.{common_command}
 use Rattle.route_reader.specs.declared.RouteCommand.{RouteCommand}
@@ -157,8 +157,8 @@ some-number (Some value) number is = elim (cases_Bool (value == 0)) [
 sequence-some : (word : List ℕ) (number : ℕ) → sequence_of word ≡ Ok number → 1 ≤ number
 sequence-some word number is = some-number (number_up_to 4294967295 word) number is
 
-action-fits : (word : List ℕ) (number : ℕ) → action_of word ≡ Ok number → number < 2 ^ 32
-action-fits word number is = elim (cases_Bool (bytes_eq word (codes "permit"))) [
+named-fits : (word : List ℕ) (number : ℕ) → named_action word ≡ Ok number → number < 2 ^ 32
+named-fits word number is = elim (cases_Bool (bytes_eq word (codes "permit"))) [
   | inl permits ↦
       let read = rw permits at is in
       let same : 1 ≡ number = cc in omega (arith, same)
@@ -168,6 +168,15 @@ action-fits word number is = elim (cases_Bool (bytes_eq word (codes "permit"))) 
         let same : 0 ≡ number = cc in omega (arith, same)
     | inr neither ↦ let bad = rw (other, neither) at is in absurd (cc)
   ]
+]
+
+action-fits : (word : List ℕ) (number : ℕ) → action_of word ≡ Ok number → number < 2 ^ 32
+action-fits [] number is = absurd (cc)
+action-fits (sign ∷ rest) number is = elim (cases_Bool (sign == 61)) [
+  | inl equals ↦
+      let most : number ≤ 4294967295 = up-to rest 4294967295 number BadAction (number_up_to 4294967295 rest) refl (rw equals at is) in
+      omega (arith, most)
+  | inr other ↦ named-fits (sign ∷ rest) number (rw other at is)
 ]
 
 proto-fits : (word : List ℕ) (number : ℕ) → proto_of word ≡ Ok number → number < 2 ^ 8

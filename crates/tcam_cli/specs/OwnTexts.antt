@@ -14,6 +14,7 @@ help_text = codes "tcam: the table manager of a ternary content-addressable memo
     ++ 10 ∷ codes "    tcam route6 [OPTIONS] < FILE   a script of IPv6 routes"
     ++ 10 ∷ codes "    tcam acl6 [OPTIONS] < FILE     a script of an IPv6 access list"
     ++ 10 ∷ codes "    tcam router [OPTIONS] < FILE   a script of two tables, a list and routes"
+    ++ 10 ∷ codes "    tcam router6 [OPTIONS] < FILE  likewise, of IPv6"
     ++ 10 ∷ codes "    tcam gen SEED RULES BATCHES [OPTIONS]"
     ++ 10 ∷ codes "                                   changes of an access list, made from SEED"
     ++ 10 ∷ codes "    tcam verify < FILE             a check of a trace of device writes"
@@ -41,7 +42,7 @@ help_text = codes "tcam: the table manager of a ternary content-addressable memo
     ++ 10 ∷ codes "                     loaded in one commit; or ends, for a list that grows: by"
     ++ 10 ∷ codes "                     rank, but what is lower than all goes right behind what it"
     ++ 10 ∷ codes "                     must stand behind, and what is higher right before it"
-    ++ 10 ∷ codes "    --trace          a line for each device write and drain; not for gen, router"
+    ++ 10 ∷ codes "    --trace          a line for each device write and drain; not for gen"
     ++ 10 ∷ codes "    --json           of scripts of one table, a report in JSON: a value a line"
     ++ 10 ∷ codes "                     for each command, device write and drain of a commit"
     ++ 10 ∷ codes "    --depth K        of these, after how many further writes the words of the"
@@ -167,7 +168,7 @@ acl_help_of command rules named = codes "tcam " ++ command ++ codes ": carries o
     ++ 10 ∷ codes "    acl del SEQ                the rule of this number goes"
     ++ 10 ∷ script_commands named
     ++ 10 ∷ 10 ∷ codes "    SEQ            the rule's place in the list, from 1 to 4294967295"
-    ++ 10 ∷ codes "    ACTION         permit or deny"
+    ++ 10 ∷ codes "    ACTION         permit, deny or =NUMBER"
     ++ 10 ∷ codes "    SIDE           any, or a prefix as " ++ named.prefix ++ codes " or " ++ named.host
     ++ 10 ∷ codes "    PROTOSPEC      any, or a PROTO: icmp, tcp, udp, or a number up to 255"
     ++ 10 ∷ codes "    PORTSPEC       any, a port up to 65535, or two of them as 1024-65535"

@@ -32,6 +32,7 @@ output. Or it checks a trace of writes, its own or another driver's.
     tcam route6 [OPTIONS] < FILE   a script of IPv6 routes
     tcam acl6 [OPTIONS] < FILE     a script of an IPv6 access list
     tcam router [OPTIONS] < FILE   a script of two tables, a list and routes
+    tcam router6 [OPTIONS] < FILE  likewise, of IPv6
     tcam gen SEED RULES BATCHES [OPTIONS]
                                    changes of an access list, made from SEED
     tcam verify < FILE             a check of a trace of device writes
@@ -60,7 +61,7 @@ Options:
                      loaded in one commit; or ends, for a list that grows: by
                      rank, but what is lower than all goes right behind what it
                      must stand behind, and what is higher right before it
-    --trace          a line for each device write and drain; not for gen, router
+    --trace          a line for each device write and drain; not for gen
     --json           of scripts of one table, a report in JSON: a value a line
                      for each command, device write and drain of a commit
     --depth K        of these, after how many further writes the words of the
@@ -142,7 +143,7 @@ Commands of a script, one a line, with the source's side and ports first:
     # TEXT                              a comment
 
     SEQ            the rule's place in the list, from 1 to 4294967295
-    ACTION         permit or deny
+    ACTION         permit, deny or =NUMBER
     SIDE           any, or a prefix as 10.0.0.0/8 or 10.0.0.1/32
     PROTOSPEC      any, or a PROTO: icmp, tcp, udp, or a number up to 255
     PORTSPEC       any, a port up to 65535, or two of them as 1024-65535
@@ -226,7 +227,7 @@ Commands of a script, one a line, with the source's side and ports first:
     # TEXT                              a comment
 
     SEQ            the rule's place in the list, from 1 to 4294967295
-    ACTION         permit or deny
+    ACTION         permit, deny or =NUMBER
     SIDE           any, or a prefix as 2001:db8::/32 or ::1/128
     PROTOSPEC      any, or a PROTO: icmp, tcp, udp, or a number up to 255
     PORTSPEC       any, a port up to 65535, or two of them as 1024-65535

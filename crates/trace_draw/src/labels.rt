@@ -31,6 +31,8 @@ pub(crate) enum Name {
 pub(crate) enum Answer {
     Permit,
     Deny,
+    /// A list's result that is neither.
+    Other(u32),
     Number(u32),
 }
 
@@ -82,6 +84,7 @@ fn answer_of(head: &Head, number: u32) -> Answer {
     match number {
         0 if head.acl => Answer::Deny,
         1 if head.acl => Answer::Permit,
+        _ if head.acl => Answer::Other(number),
         _ => Answer::Number(number),
     }
 }
@@ -109,6 +112,7 @@ impl fmt::Display for Answer {
         match self {
             Answer::Permit => write!(f, "permit"),
             Answer::Deny => write!(f, "deny"),
+            Answer::Other(number) => write!(f, "={number}"),
             Answer::Number(number) => write!(f, "{number}"),
         }
     }

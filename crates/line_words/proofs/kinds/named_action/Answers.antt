@@ -1,7 +1,7 @@
 use Rattle.std.proofs.Common.{refl, rules, arith}
 use Rattle.std.proofs.lemmas.Slice.Eq.{text_from_reads}
 use Rattle.std.specs.Prelude.{codes}
-use Rattle.line_words.proofs.kinds.action_of.Goals as goal
+use Rattle.line_words.proofs.kinds.named_action.Goals as goal
 
 pub returns-in-permit : goal.returns-in-permit
 returns-in-permit c =
