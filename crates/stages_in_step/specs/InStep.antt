@@ -1,0 +1,21 @@
+-- The stages of a commit are in step, as any driver's writes must be.
+use Rattle.std.specs.Prelude.{ℕ, List, Contains}
+use Rattle.rule_model.specs.declared.Rule.{Rule}
+use Rattle.rule_store.specs.declared.Mode.{Mode}
+use Rattle.rule_store.specs.declared.Command.{Command}
+use Rattle.rule_model.specs.Entry.{RankedPiece}
+use Rattle.tcam_device.specs.State.{State, IsState}
+use Rattle.tcam_device.specs.Order.{IsOrdered}
+use Rattle.commit_writes.specs.Bits.{FieldBits}
+use Rattle.commit_writes.specs.Commit.{old_pieces, new_pieces}
+use Rattle.readback.specs.Laws.{CanCommit}
+use Rattle.readback.specs.Stage.{IsStage}
+use Rattle.any_order.specs.AnyOrder.{AreInStep}
+
+-- In each stage some pieces stand, in order, and in step with those of the old set and of the new one.
+abbrev pub StagesAreInStep : Type 0
+StagesAreInStep =
+    (slots device_slots : ℕ) (mode : Mode) (bits : FieldBits) (rules : List Rule) (batch : List Command) (state : State)
+    → CanCommit mode bits rules batch → IsState device_slots state → IsStage slots mode bits rules batch state
+    → (standing : List RankedPiece) × IsOrdered state (Contains standing)
+    × AreInStep (Contains (old_pieces mode bits rules batch)) (Contains (new_pieces mode bits rules batch)) (Contains standing)
